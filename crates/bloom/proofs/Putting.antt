@@ -104,7 +104,8 @@ module _ (keys : List (List ℕ)) (n : ℕ) (old new : List ℕ) (hashes : ℕ �
       HasBit new p ↔ (HasBit old p ⊎ IsProbeOf (8 * length old) h p)) is by
 
   -- a probe of a key is one of the keys
-  to_more : (p : ℕ) → IsProbe (8 * length old) (take n keys) p ⊎ IsProbeOf (8 * length old) (hashes_of key) p →
+  to_more : (p : ℕ) → IsProbe (8 * length old) (take n keys) p
+      ⊎ IsProbeOf (8 * length old) (hashes_of key) p →
       IsProbe (8 * length old) (take n keys ++ key ∷ []) p
   to_more p (inl probe) =
       (probe.0, Contains-append_left (take n keys) (key ∷ []) probe.0 probe.1, probe.2)
@@ -114,7 +115,8 @@ module _ (keys : List (List ℕ)) (n : ℕ) (old new : List ℕ) (hashes : ℕ �
       IsProbe (8 * length old) (take n keys) p ⊎ IsProbeOf (8 * length old) (hashes_of key) p
   from_more p probe = elim (Contains-push_cases (take n keys) key probe.0 probe.1) [
     | inl among ↦ inl (probe.0, among, probe.2)
-    | inr last ↦ inr (subst (λ (k : List ℕ). IsProbeOf (8 * length old) (hashes_of k) p) (sym last) probe.2)
+    | inr last ↦ inr (subst (λ (k : List ℕ). IsProbeOf (8 * length old) (hashes_of k) p)
+        (sym last) probe.2)
   ]
 
   exact : (p : ℕ) → p < 8 * length old →

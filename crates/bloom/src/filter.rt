@@ -1,5 +1,6 @@
 // The filter of a list of keys: its construction and its lookup.
-ghost use Rattle.std.specs.Prelude.{◌≡◌, ◌⊎◌, ◌↔◌, ◌*◌, ◌<◌, ◌^◌, ℕ, List, length, map, IfOk, IsTrue};
+ghost use Rattle.std.specs.Prelude.{◌≡◌, ◌⊎◌, ◌↔◌, ◌*◌, ◌<◌, ◌^◌, ℕ, List, length, map, IfOk};
+ghost use Rattle.std.specs.Prelude.{IsTrue};
 ghost use Rattle.bloom.specs.Filters.{HasBit, IsProbeOf, IsFilter, bytes_for, hashes_of};
 ghost use Rattle.bloom.specs.Filters.{Covers, CoversAll, CoversHashed};
 

@@ -250,8 +250,8 @@ fn strikes(
     struck
 }
 
-// Faults at the first call of the disk in the rewrite that is due, at the second, and so on, as long
-// as they strike. Answers how many tends that were.
+// Faults at the first call of the disk in the rewrite that is due, at the second, and so on, as
+// long as they strike. Answers how many tends that were.
 fn sweep(rt: &impl Abort, alloc: Global, disk: &MemDisk, tables: u64, way: Way) -> u64 {
     for call in 1..100 {
         let disk = disk.clone().expect(rt, "memory");

@@ -1,5 +1,5 @@
-//! Configurations of a chain: its nodes from head to tail. The configuration service has one list of
-//! them.
+//! Configurations of a chain: its nodes from head to tail. The configuration service has one list
+//! of them.
 #![tactic(auto)]
 
 mod config;

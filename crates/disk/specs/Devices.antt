@@ -1,4 +1,5 @@
--- The device behind a disk in memory: its failures, the states that the disk has had, and its marks.
+-- The device behind a disk in memory: its failures, the states that the disk has had, and its
+-- marks.
 use Rattle.std.specs.Prelude.{◌≡◌, ℕ, suc, ◌-◌, List, ◌∷◌, length}
 use Rattle.std.specs.Prelude.{Option, Some, Result, Err}
 use Rattle.std.specs.Option.{option_map}

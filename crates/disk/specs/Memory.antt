@@ -8,8 +8,8 @@ use Rattle.disk.specs.Faults.{Marks}
 use Rattle.disk.specs.Moments.{IsLastLeft}
 use Rattle.disk.specs.States.{Slot, Absent, Fresh, Kept, State, AgreesOutside}
 
--- the slots by number, the count of failed calls, the slots that it had at first and after each call
--- and crash, the latest first, and its marks
+-- the slots by number, the count of failed calls, the slots that it had at first and after each
+-- call and crash, the latest first, and its marks
 pub record Slots : Type 0 where
   pub slots : List (ℕ × Slot)
   pub failures : ℕ

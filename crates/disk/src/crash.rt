@@ -25,8 +25,8 @@ pub trait Crash: Disk {
         ensures last { Self.is_honest self.now →
             IsLastLeft (Self.past self.now) (Self.state self.now) };
 
-    /// Crashes and restarts the machine. A fault is forgotten. What the crash left is a moment of the
-    /// disk. It allocates no memory.
+    /// Crashes and restarts the machine. A fault is forgotten. What the crash left is a moment of
+    /// the disk. It allocates no memory.
     fn crash(&mut self, junk: Junk)
         ensures honest { Self.is_honest self.new ↔ Self.is_honest self.old }
         ensures count { Self.failures self.new ≡ Self.failures self.old }

@@ -29,8 +29,8 @@ pub trait Disk {
     /// A moment is this list as it was then.
     ghost past: { Self → List State };
 
-    /// The faults that it was armed with and the crashes, the latest first, each with the length that
-    /// the past had then.
+    /// The faults that it was armed with and the crashes, the latest first, each with the length
+    /// that the past had then.
     ghost marks: { Self → Marks };
 
     /// Whether `length`, `read`, `sync` and `remove` may allocate memory; `files`, `write_at` and
@@ -43,7 +43,8 @@ pub trait Disk {
             self.new result ⊥ IsSame }
         ensures files { is_honest self.old → FilesAnswer (state self.old) result }
         ensures passes { is_honest self.old → CallPasses (past self.old) (past self.new)
-            (fault_of (marks self.old)) (is_reliable self.old) result (state self.old) (state self.new)
+            (fault_of (marks self.old)) (is_reliable self.old) result (state self.old)
+            (state self.new)
             (λ _. IsSame (state self.old)) };
 
     /// The length of the file in bytes.
@@ -53,7 +54,8 @@ pub trait Disk {
         ensures memory { IsErrOf result DiskError.Memory → allocates }
         ensures length { is_honest self.old → LengthAnswer (state self.old) file result }
         ensures passes { is_honest self.old → CallPasses (past self.old) (past self.new)
-            (fault_of (marks self.old)) (is_reliable self.old) result (state self.old) (state self.new)
+            (fault_of (marks self.old)) (is_reliable self.old) result (state self.old)
+            (state self.new)
             (λ _. IsSame (state self.old)) };
 
     /// Fills the buffer with the bytes from a place on. After a refusal its content is unspecified.
@@ -64,7 +66,8 @@ pub trait Disk {
         ensures reads { is_honest self.old →
             ReadAnswer (state self.old) file at (length into.old) result into.new }
         ensures passes { is_honest self.old → CallPasses (past self.old) (past self.new)
-            (fault_of (marks self.old)) (is_reliable self.old) result (state self.old) (state self.new)
+            (fault_of (marks self.old)) (is_reliable self.old) result (state self.old)
+            (state self.new)
             (λ _. IsSame (state self.old)) };
 
     /// Overwrites bytes from a place on, and extends the file. At place 0 it creates an absent
@@ -78,7 +81,8 @@ pub trait Disk {
         ensures writes { is_honest self.old →
             WriteOutcome (state self.old) file at bytes.now result (state self.new) }
         ensures passes { is_honest self.old → CallPasses (past self.old) (past self.new)
-            (fault_of (marks self.old)) (is_reliable self.old) result (state self.old) (state self.new)
+            (fault_of (marks self.old)) (is_reliable self.old) result (state self.old)
+            (state self.new)
             (BegunWrite (state self.old) file at bytes.now) };
 
     /// Truncates the file to a length.
@@ -88,7 +92,8 @@ pub trait Disk {
         ensures cuts { is_honest self.old →
             CutOutcome (state self.old) file length result (state self.new) }
         ensures passes { is_honest self.old → CallPasses (past self.old) (past self.new)
-            (fault_of (marks self.old)) (is_reliable self.old) result (state self.old) (state self.new)
+            (fault_of (marks self.old)) (is_reliable self.old) result (state self.old)
+            (state self.new)
             (CutOutcome (state self.old) file length) };
 
     /// Makes the file durable: a crash leaves exactly the bytes that a read returns.
@@ -99,7 +104,8 @@ pub trait Disk {
         ensures syncs { is_honest self.old →
             SyncOutcome (state self.old) file result (state self.new) }
         ensures passes { is_honest self.old → CallPasses (past self.old) (past self.new)
-            (fault_of (marks self.old)) (is_reliable self.old) result (state self.old) (state self.new)
+            (fault_of (marks self.old)) (is_reliable self.old) result (state self.old)
+            (state self.new)
             (λ _. IsSame (state self.old)) };
 
     /// Removes the file. Until the next crash, a file that was synced may reappear after a crash.
@@ -110,6 +116,7 @@ pub trait Disk {
         ensures removes { is_honest self.old →
             RemoveOutcome (state self.old) file result (state self.new) }
         ensures passes { is_honest self.old → CallPasses (past self.old) (past self.new)
-            (fault_of (marks self.old)) (is_reliable self.old) result (state self.old) (state self.new)
+            (fault_of (marks self.old)) (is_reliable self.old) result (state self.old)
+            (state self.new)
             (RemoveOutcome (state self.old) file) };
 }

@@ -235,7 +235,8 @@ module _ (disk : State) (files : StoreFiles) (list : List BatchContent)
               (λ line has. subst IsDurable (sym (table_stays line has))
               (All-contains (λ (one : TableLine). IsDurable (disk one.file)) version.tables line
               h.known.durable has)) version.tables (All-contains_itself version.tables);
-          store = subst (λ (t : ℕ). StoreRepresents longer (store_of_version version t h.known.tables))
+          store = subst (λ (t : ℕ). StoreRepresents longer
+              (store_of_version version t h.known.tables))
               (sym trimmed_is) (keeps list (known_store files h.known.tables) batch h.known.store);
           entries = λ entry. subst (λ (t : ℕ). TableHolds memtable entry
               ↔ memory_entries longer (store_of_version version t h.known.tables) entry)

@@ -1,5 +1,6 @@
 -- How a manifest's refusals are told, and what the first files hold.
-use Rattle.std.proofs.Common.{◌≡◌, ◌≢◌, ◌↔◌, ◌≤◌, ◌∙◌, ℕ, suc, List, [], ◌∷◌, ◌-◌, drop, arith, refl}
+use Rattle.std.proofs.Common.{◌≡◌, ◌≢◌, ◌↔◌, ◌≤◌, ◌∙◌, ℕ, suc, List, [], ◌∷◌, ◌-◌, drop, arith}
+use Rattle.std.proofs.Common.{refl}
 use Rattle.std.proofs.Common.{Option, Some, None, Result, Ok, Err, ap, inl, inr, subst, sym}
 use Rattle.std.specs.Prelude.{All, Contains, IsErrAnd, IsNone}
 use Rattle.std.proofs.lemmas.List.Elements.{All-nil}
@@ -148,7 +149,8 @@ module _ (files : StoreFiles) (one : BatchLog) (id : ℕ) (ids : List ℕ)
       manifest = subst (ManifestHolds disk files.manifest) (sym f.known) manifest;
       logs = first_logs disk part;
       tables = [];
-      read = subst (λ (lines : List TableLine). AreTablesOf (contents disk) lines []) (sym no_tables)
+      read = subst (λ (lines : List TableLine). AreTablesOf (contents disk) lines [])
+          (sym no_tables)
           tt;
       served = served;
       durable = subst (All (λ (line : TableLine). IsDurable (disk line.file))) (sym no_tables)
@@ -228,4 +230,5 @@ no_file_ends disk file alone = absent_ends (seen (disk file)) (alone file (λ ha
 pub no_slot_yet : (begun logged : State) (slot : ℕ) → IsSameBut 3 begun logged → AreAlone [] begun →
     slot ≢ 3 → IsNone (seen (logged slot))
 no_slot_yet begun logged slot same alone apart =
-    subst (λ (it : Slot). IsNone (seen it)) (sym (same slot apart)) (alone slot (λ has. none_in has))
+    subst (λ (it : Slot). IsNone (seen it)) (sym (same slot apart))
+    (alone slot (λ has. none_in has))

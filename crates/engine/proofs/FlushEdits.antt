@@ -1,11 +1,13 @@
 -- A version may take the edit of a flush.
 use Rattle.std.proofs.Common.{◌≡◌, ℕ, suc, ◌+◌, ◌<◌, ◌≤◌, List, [], ◌∷◌, ◌++◌, length, map, All}
-use Rattle.std.proofs.Common.{Bool, true, false, arith, refl, sym, ap, subst, ◌∙◌, inl, inr, append_assoc}
+use Rattle.std.proofs.Common.{Bool, true, false, arith, refl, sym, ap, subst, ◌∙◌, inl, inr}
+use Rattle.std.proofs.Common.{append_assoc}
 use Rattle.std.specs.Prelude.{not, ◌&&◌, ◌||◌, ◌==◌}
 use Rattle.std.specs.List.{list_all, list_any}
 use Rattle.std.proofs.lemmas.Bool.{and_from, and_parts, le-leb, lt-ltb, ne_eqb}
 use Rattle.std.proofs.lemmas.List.{length-append, map-append}
-use Rattle.std.proofs.lemmas.List.Elements.{All-append, All-cons, All-head, All-map, All-nil, All-tail}
+use Rattle.std.proofs.lemmas.List.Elements.{All-append, All-cons, All-head, All-map, All-nil}
+use Rattle.std.proofs.lemmas.List.Elements.{All-tail}
 use Rattle.std.proofs.lemmas.List.Elements.{All-weaker}
 use Rattle.std.proofs.lemmas.List.Folds.{list_all-append, list_any-append, list_any_none}
 use Rattle.kv_types.specs.declared.bounds.TheConstants.{MAX_NUMBER}
@@ -14,7 +16,8 @@ use Rattle.manifest.specs.declared.line.TheConstants.{MAX_NEXT}
 use Rattle.manifest.specs.declared.LogLine.{LogLine}
 use Rattle.manifest.specs.declared.TableLine.{TableLine}
 use Rattle.manifest.specs.Lawful.{IsGiven, IsVersion}
-use Rattle.manifest.specs.Versions.{all_apart, are_apart, are_once, files_of, is_new_file, keeps_ids}
+use Rattle.manifest.specs.Versions.{all_apart, are_apart, are_once, files_of, is_new_file}
+use Rattle.manifest.specs.Versions.{keeps_ids}
 use Rattle.manifest.specs.Versions.{AreLawful, log_is_before, placed, table_is_before, with_log}
 use Rattle.manifest.specs.Versions.{with_table}
 use Rattle.manifest.specs.VersionsLemmas.{all_logs_left, all_tables_left}

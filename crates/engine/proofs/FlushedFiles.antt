@@ -47,7 +47,8 @@ one_more_log left number (old ∷ lines) batches line first log h =
 pub firsts_within : (left : Contents) (number : ℕ) (lines : List LogLine)
     (batches : List BatchContent) → HaveBatches left number lines batches
     → All (λ (line : LogLine). line.first ≤ number + length batches) lines
-firsts_within left number [] batches h = All-nil (λ (line : LogLine). line.first ≤ number + length batches)
+firsts_within left number [] batches h =
+    All-nil (λ (line : LogLine). line.first ≤ number + length batches)
 firsts_within left number (old ∷ lines) batches h =
     let long = ap (λ (l : List BatchContent). length l) h.2 ∙ length-append h.0 h.1 in
     let first = h.3.0 in
@@ -81,7 +82,8 @@ one_more_table : (left : Contents) (lines : List TableLine) (tables : List Level
 one_more_table left [] [] line table h is = record {
   after = table ∷ [];
   read = (is, tt);
-  only = λ t has. elim (contains_cases table [] t has) [ inl same ↦ inr same | inr none ↦ inl none ];
+  only = λ t has. elim (contains_cases table [] t has)
+      [ inl same ↦ inr same | inr none ↦ inl none ];
   old = λ t has. contains_next table [] t has;
   new = contains_head table [];
 }

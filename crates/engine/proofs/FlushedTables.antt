@@ -35,7 +35,8 @@ lines_with (it ∷ items) one = elim (either (it.line.level == 0)) [
 module _ (line : TableLine) (level : line.level ≡ 0) where
   flushed_behind : (other : TableLine) → other.level ≡ 0 → other.file < line.file
       → table_is_before line other ≡ false
-  flushed_behind other zeroth lt = rw (level, zeroth, le-ltb line.file other.file (omega (arith, lt))) refl
+  flushed_behind other zeroth lt =
+      rw (level, zeroth, le-ltb line.file other.file (omega (arith, lt))) refl
 
   flushed_before : (other : TableLine) → (other.level == 0) ≡ false
       → table_is_before line other ≡ true
@@ -89,7 +90,8 @@ flushed_read left (other ∷ lines) (t ∷ tables) line table h is =
 module _ (table : LevelTable) where
   flushed_only : (tables : List LevelTable) (t : LevelTable)
       → Contains (with_flushed tables table) t → Contains tables t ⊎ (table ≡ t)
-  flushed_only [] t has = elim (contains_cases table [] t has) [ inl is ↦ inr is | inr none ↦ inl none ]
+  flushed_only [] t has = elim (contains_cases table [] t has)
+      [ inl is ↦ inr is | inr none ↦ inl none ]
   flushed_only (u ∷ tables) t has = elim (either (u.level == 0)) [
     | inl zeroth ↦
         let same : with_flushed (u ∷ tables) table ≡ u ∷ with_flushed tables table =

@@ -22,7 +22,8 @@ log_failed called log.TooLong (Err s) is told = (λ f. cc, λ f. cc)
 log_failed called log.Failed (Err s) is told = (λ f. cc, λ f. cc)
 
 -- a refusal is passed on
-pub passed_on : {T U : Type 0} (called : Result T EngineError) (e : EngineError) (result : Result U EngineError) →
+pub passed_on : {T U : Type 0} (called : Result T EngineError) (e : EngineError)
+    (result : Result U EngineError) →
     called ≡ Err e → IsErrAnd result (λ s. s ≡ e) → FailsDevice called ↔ FailsDevice result
 passed_on called e (Ok x) is told = absurd told
 passed_on called e (Err s) is told = (λ f. cc, λ f. cc)
@@ -35,7 +36,8 @@ bytes_only (Err e) (inl told) fails = cc
 bytes_only (Err e) (inr told) fails = cc
 
 -- a refusal for another cause is none
-pub refused : {T : Type 0} {e : EngineError} → (e ≡ engine.Disk → ⊥) → FailsDevice {T = T} (Err e) → ⊥
+pub refused : {T : Type 0} {e : EngineError} → (e ≡ engine.Disk → ⊥) → FailsDevice {T = T} (Err e)
+    → ⊥
 refused {e = e} other fails =
     let is : e ≡ engine.Disk = cc in
     other is

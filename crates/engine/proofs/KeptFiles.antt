@@ -1,6 +1,7 @@
 -- The files that a version names: what a crash leaves of them represents what was read of them, and
 -- where they stay and no other exists, the open files hold it.
-use Rattle.std.proofs.Common.{◌≡◌, ◌<◌, ◌≤◌, ◌+◌, ◌∙◌, ℕ, suc, List, [], ◌∷◌, ◌++◌, map, drop, length}
+use Rattle.std.proofs.Common.{◌≡◌, ◌<◌, ◌≤◌, ◌+◌, ◌∙◌, ℕ, suc, List, [], ◌∷◌, ◌++◌, map, drop}
+use Rattle.std.proofs.Common.{length}
 use Rattle.std.proofs.Common.{arith, inl, inr, refl, subst, sym, ap}
 use Rattle.std.specs.Prelude.{All, Contains, IsNone}
 use Rattle.std.specs.List.{AllZip}

@@ -1,6 +1,7 @@
 -- What a lookup in memory and tables finds is what the map has.
 use Rattle.std.proofs.Common.{◌≡◌, ◌↔◌, ℕ, ◌≤◌, ◌<◌, List, [], ◌∷◌, length, Option, Some, None}
-use Rattle.std.proofs.Common.{Contains, Err, Ok, Result, ap, arith, inl, inr, subst, suc, sym, zero, ◌+◌, ◌-◌, ◌∙◌}
+use Rattle.std.proofs.Common.{Contains, Err, Ok, Result, ap, arith, inl, inr, subst, suc, sym, zero}
+use Rattle.std.proofs.Common.{◌+◌, ◌-◌, ◌∙◌}
 use Rattle.std.specs.Prelude.{IfErr, drop, slice_get, IfOk, IfSome, IsSomeAnd, MatchResult, take}
 use Rattle.std.specs.Option.{option_flatten, option_map}
 use Rattle.std.proofs.lemmas.List.Elements.{All-contains}
@@ -131,7 +132,8 @@ pub found_behind : (list : List BatchContent) (trimmed number : ℕ)
     → MatchResult result (λ b. place list number ≡ Some b) IsEngineExternal
 found_behind list trimmed number (Ok b) behind found =
     let there : trimmed + (number - suc trimmed) ≡ number - 1 = omega (arith, behind) in
-    let is = ap (slice_get list) (sym there) ∙ sym (slice_get-drop trimmed list (number - suc trimmed))
+    let is = ap (slice_get list) (sym there)
+    ∙ sym (slice_get-drop trimmed list (number - suc trimmed))
     ∙ found in
     batch_found list number (Ok b) (omega (arith, behind)) is
 found_behind list trimmed number (Err e) behind machine = machine

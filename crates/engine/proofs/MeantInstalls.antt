@@ -87,7 +87,8 @@ written_in old new files line w same = record {
 module _ (files : StoreFiles) (u : AreUsableFiles files) (line : TableLine)
     (place : LacksPlace (known_version files).version files.free_file → ⊥)
     (next : IsNextTable files line) (file : ℕ) (at : file ≡ files.free_file + 1) (edit : Change)
-    (is : edit ≡ flush_change (known_version files).version files.free_file (batch_count files) line)
+    (is : edit ≡ flush_change (known_version files).version files.free_file
+    (batch_count files) line)
     (s1 : State) (list : List BatchContent) (one : OpenTable)
     (ms : MeantAndSpilled s1 files list (record { line = line; table = one })) where
   abbrev version : StoreVersion

@@ -1,5 +1,6 @@
 -- The logs of a version, opened: the last of them is the newest.
-use Rattle.std.proofs.Common.{◌≡◌, ◌≢◌, ◌↔◌, false, ◌-◌, ℕ, suc, ◌+◌, ◌<◌, ◌≤◌, List, [], ◌∷◌, ◌++◌, length}
+use Rattle.std.proofs.Common.{◌≡◌, ◌≢◌, ◌↔◌, false, ◌-◌, ℕ, suc, ◌+◌, ◌<◌, ◌≤◌, List, [], ◌∷◌, ◌++◌}
+use Rattle.std.proofs.Common.{length}
 use Rattle.std.proofs.Common.{refl, sym, ap, subst, ◌∙◌, arith, length-append, map}
 use Rattle.std.specs.Prelude.{All, IsTrue, slice_index_or, not, ◌==◌}
 use Rattle.std.specs.List.{list_any}
@@ -208,7 +209,8 @@ module _ (lines : List LogLine) (before count : ℕ) (items : List BatchLog) (me
         let have : HaveBatches (contents old) (suc before) lines batches =
         subst (λ (n : ℕ). HaveBatches (contents old) n lines batches) is had.have in
         let same : read.batches ≡ batches =
-        same_parts law spell (contents old) (suc before) lines read.batches batches read.each had.each
+        same_parts law spell (contents old)
+        (suc before) lines read.batches batches read.each had.each
         read.had have in
         subst (λ (n : ℕ). LogsHold new logs n batches × HasReplayed memtable n flushed batches)
         (sym is) (subst (λ (l : List BatchContent).

@@ -1,6 +1,7 @@
 -- What a crash leaves at each moment of an opening: where a property looks at the files of a store
 -- alone, removals of other files keep it.
-use Rattle.std.proofs.Common.{◌≡◌, ◌≢◌, ℕ, List, [], ◌∷◌, Contains, arith, eq-eqb, eqb, false, inl, inr}
+use Rattle.std.proofs.Common.{◌≡◌, ◌≢◌, ℕ, List, [], ◌∷◌, Contains, arith, eq-eqb, eqb, false, inl}
+use Rattle.std.proofs.Common.{inr}
 use Rattle.std.proofs.Common.{refl, subst, sym, ◌∙◌}
 use Rattle.std.specs.Prelude.{if◌then◌else◌, ◌==◌}
 use Rattle.std.proofs.lemmas.Bool.{cases_eq}

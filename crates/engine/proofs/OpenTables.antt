@@ -116,7 +116,8 @@ fit_same old new line same fit =
 -- the length that was read is the line's, and so is the greatest key, by the index and the entries
 pub fit_read : (file : Option (List ℕ)) (line : TableLine) (len : ℕ)
     → IsSomeAnd file (λ bytes. (len ≡ length bytes) × (len < 2 ^ 63)) → len ≡ line.length
-    → (table : Table) → IsSomeAnd file (λ bytes. HasTail bytes (index_lines table) (table_filter table))
+    → (table : Table) → IsSomeAnd file
+    (λ bytes. HasTail bytes (index_lines table) (table_filter table))
     → last_line_key (index_lines table) ≡ Some line.greatest
     → ((entries : List Entry) → IsSomeAnd file (λ bytes. TableRepresents bytes entries)
     → greatest_key entries ≡ Some line.greatest)

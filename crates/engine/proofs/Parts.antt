@@ -2,7 +2,8 @@
 use Rattle.std.proofs.Common.{◌≡◌, ◌≢◌, ◌⊎◌, ℕ, zero, suc, ◌+◌, ◌-◌, ◌≤◌, List, [], ◌∷◌, ◌++◌}
 use Rattle.std.proofs.Common.{length, map, drop, inl, inr, refl, sym, ap, subst, ◌∙◌, arith}
 use Rattle.std.proofs.Common.{length-append, Option, Some, None, Ok, Err, Result}
-use Rattle.std.specs.Prelude.{All, Contains, IfErr, IfOk, IsErrOf, IsSomeAnd, MatchResult, slice_get}
+use Rattle.std.specs.Prelude.{All, Contains, IfErr, IfOk, IsErrOf, IsSomeAnd, MatchResult}
+use Rattle.std.specs.Prelude.{slice_get}
 use Rattle.std.proofs.lemmas.List.{append-nil, append_assoc}
 use Rattle.std.proofs.lemmas.List.Elements.{All-contains, All-cons, All-head, All-nil}
 use Rattle.std.proofs.lemmas.List.Elements.{Contains-append_left, Contains-push}
@@ -19,7 +20,8 @@ use Rattle.engine.specs.declared.batch_logs.BatchLog.{BatchLog}
 use Rattle.engine.specs.declared.batch_logs.BatchLogs.{BatchLogs}
 use Rattle.engine.specs.declared.error.EngineError.{EngineError}
 use Rattle.engine.specs.declared.error.EngineError.TheVariants as engine
-use Rattle.engine.specs.BatchLogs.{AreBeside, AreJoined, AreLeftWith, AreParted, AreUsable, HasPart, HaveBatches}
+use Rattle.engine.specs.BatchLogs.{AreBeside, AreJoined, AreLeftWith, AreParted, AreUsable, HasPart}
+use Rattle.engine.specs.BatchLogs.{HaveBatches}
 use Rattle.engine.specs.BatchLogs.{HoldsPart, IsWorking, LogsHold, oldest_first, line_of, lines_of}
 use Rattle.engine.specs.BatchLogs.{newest_file, next_number, end_of_log, with_line}
 use Rattle.engine.specs.Errors.{IsEngineExternal}
@@ -115,7 +117,8 @@ kept_beside old new file logs same apart =
 
 pub all_kept : (old new : State) (logs : List BatchLog) → ((file : ℕ) → new file ≡ old file) →
     AreKept old new logs
-all_kept old new [] same = All-nil (λ (one : BatchLog). new (file_of one.log) ≡ old (file_of one.log))
+all_kept old new [] same = All-nil
+    (λ (one : BatchLog). new (file_of one.log) ≡ old (file_of one.log))
 all_kept old new (one ∷ logs) same =
     All-cons (λ (other : BatchLog). new (file_of other.log) ≡ old (file_of other.log)) one logs
     (same (file_of one.log)) (all_kept old new logs same)
@@ -154,7 +157,8 @@ pub parted_left : DurableFileIsLeft → (disk : State) (left : Contents) (file n
     AreBeside file logs → AreParted (HoldsPart disk) number logs batches →
     AreParted (HasPart left) number (map line_of logs) batches
 parted_left law disk left file number [] batches leaves apart none = none
-parted_left law disk left file number (one ∷ logs) batches leaves apart (here, later, is, has, others) =
+parted_left law disk left file number (one ∷ logs) batches leaves apart
+    (here, later, is, has, others) =
     let P : BatchLog → Type 0 = λ other. file_of other.log ≢ file in (
       here,
       later,
@@ -232,7 +236,8 @@ module _ (disk : State) (logs : BatchLogs) (first : ℕ) (batches : List BatchCo
 
   one_more : records_from at h.here ++ one ∷ [] ≡ records_from at (h.here ++ batch ∷ [])
   one_more =
-      let next : next_number logs ≡ at + length h.here = part_ends disk at logs.newest h.here h.newest in
+      let next : next_number logs ≡ at + length h.here =
+      part_ends disk at logs.newest h.here h.newest in
       ap (λ (r : List ℕ). records_from at h.here ++ r ∷ [])
       (is ∙ ap (λ (n : ℕ). batch_record n batch) next)
       ∙ sym (records_from-push at h.here batch)
@@ -297,7 +302,8 @@ module _ (disk : State) (logs : BatchLogs) (first : ℕ) (batches : List BatchCo
                   subst (λ (o : Option (List ℕ)). IsLog o (records_from at (h.here ++ batch ∷ [])))
                       (sym same)
                       (subst (λ (r : List (List ℕ)). Represents it r) one_more
-                      (subst (λ (k : ℕ). Represents (drop k it) (records_from at h.here ++ one ∷ []))
+                      (subst (λ (k : ℕ). Represents (drop k it)
+                      (records_from at h.here ++ one ∷ []))
                       h.newest.from new)),
                 )))
           ]
@@ -328,7 +334,8 @@ batch_placed law number (x ∷ list) zero batch each is got =
     record_is ∙ ap (λ (n : ℕ). batch_record n batch) (omega arith) in
     let texts : batch_bytes x ≡ batch_bytes batch = ap (drop 8) same in
     let is_x = All-head IsBatch x list each in
-    ap (λ (b : BatchContent). Some b) (law x batch [] is_x is (append-nil (batch_bytes x) ∙ texts)).0
+    ap (λ (b : BatchContent). Some b)
+    (law x batch [] is_x is (append-nil (batch_bytes x) ∙ texts)).0
 batch_placed law number (x ∷ list) (suc i) batch each is got =
     let next : number + suc i ≡ suc number + i = omega arith in
     batch_placed law (suc number) list i batch (All-tail IsBatch x list each) is
@@ -489,7 +496,8 @@ pub in_turn : (number next : ℕ) (logs : List BatchLog) → AreJoined number lo
 in_turn number next [] joined = cc
 in_turn number next (one ∷ logs) joined =
     let first : number ≡ one.first = cc in
-    let others : end_of_log one ∷ map end_of_log logs ≡ map (λ one. one.first) logs ++ next ∷ [] = cc in
+    let others : end_of_log one ∷ map end_of_log logs ≡ map (λ one. one.first) logs ++ next ∷ [] =
+    cc in
     (sym first, in_turn (end_of_log one) next logs others)
 
 pub joined_of : (number next : ℕ) (logs : List BatchLog) → AreInTurn number logs next →
@@ -539,7 +547,8 @@ walk_back older rest last newest is joined =
     ap (λ (l : List BatchLog). oldest_first l newest) is ∙ first_kept rest last newest in
     let at : AreJoined (oldest_first rest last) (rest ++ last ∷ []) newest.first =
     subst (λ (n : ℕ). AreJoined n (rest ++ last ∷ []) newest.first) same
-    (subst (λ (l : List BatchLog). AreJoined (oldest_first older newest) l newest.first) is joined) in
+    (subst (λ (l : List BatchLog). AreJoined (oldest_first older newest) l newest.first) is joined)
+    in
     let both = last_in_turn (oldest_first rest last) newest.first rest last
     (in_turn (oldest_first rest last) newest.first (rest ++ last ∷ []) at) in
     (same, joined_of (oldest_first rest last) last.first rest both.0, both.1)
@@ -637,7 +646,8 @@ module _ (logs after : BatchLogs) (file : ℕ) (b : AreBegun logs after file) wh
       let older : AreParted (HoldsPart new) first logs.older.items h.before =
       parted_in old new first logs.older.items h.before
       (kept_beside old new file logs.older.items others beside) h.older in
-      let number : next_number logs ≡ first + length batches = held_count old logs first batches h in
+      let number : next_number logs ≡ first + length batches =
+      held_count old logs first batches h in
       record {
         before = batches;
         here = [];

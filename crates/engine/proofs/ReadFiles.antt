@@ -1,6 +1,7 @@
 -- The files of a store as an opening has read them.
 use Rattle.std.proofs.Common.{◌≡◌, ◌≢◌, ◌⊎◌, ◌↔◌, ℕ, suc, ◌+◌, ◌-◌, ◌≤◌, List, [], All, Contains}
-use Rattle.std.proofs.Common.{Option, Some, ap, arith, drop, inl, inr, length, refl, subst, sym, ◌∙◌}
+use Rattle.std.proofs.Common.{Option, Some, ap, arith, drop, inl, inr, length, refl, subst, sym}
+use Rattle.std.proofs.Common.{◌∙◌}
 use Rattle.std.specs.Prelude.{IsSomeAnd}
 use Rattle.std.proofs.lemmas.Bool.{cases_eq}
 use Rattle.std.proofs.lemmas.List.{length-drop}

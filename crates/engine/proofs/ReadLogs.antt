@@ -6,7 +6,8 @@ use Rattle.std.specs.Prelude.{All, slice_index_or}
 use Rattle.std.proofs.lemmas.Bool.{cases_eq}
 use Rattle.std.proofs.lemmas.Bool.Decides.{eqb_tells}
 use Rattle.std.proofs.lemmas.List.{append_assoc, map-append, take-append-drop, take_more}
-use Rattle.std.proofs.lemmas.List.Elements.{All-append, All-cons, All-head, All-nil, All-push, All-same}
+use Rattle.std.proofs.lemmas.List.Elements.{All-append, All-cons, All-head, All-nil, All-push}
+use Rattle.std.proofs.lemmas.List.Elements.{All-same}
 use Rattle.std.proofs.lemmas.List.Elements.{All-tail}
 use Rattle.kv_types.specs.declared.bounds.TheConstants.{MAX_NUMBER}
 use Rattle.kv_types.specs.{BatchContent, Entry, IsBatch, SpellingsDiffer}
@@ -31,7 +32,8 @@ use Rattle.engine.specs.Stores.{IsNumberedTo}
 use Rattle.engine.proofs.Entries.{none_numbered}
 use Rattle.engine.proofs.Settles.{settles_twice}
 use Rattle.engine.proofs.Records.{same_batches, stands_once}
-use Rattle.engine.proofs.Parts.{all_before, all_behind, joined_push, kept_beside, part_ends, parted_in}
+use Rattle.engine.proofs.Parts.{all_before, all_behind, joined_push, kept_beside, part_ends}
+use Rattle.engine.proofs.Parts.{parted_in}
 use Rattle.engine.proofs.Parts.{parted_push}
 use Rattle.engine.proofs.Replays.{none_replayed, replayed_behind, replayed_either, replayed_front}
 
@@ -90,7 +92,11 @@ pub record HasSynced {D : Type 0} (g : Ghosts D) (lines : List LogLine) (old new
 
 pub none_synced : {D : Type 0} (g : Ghosts D) (disk : D) → HasSynced g [] disk disk
 none_synced g disk = record {
-  kept = unchanged g (λ state. record { adds = λ file left leaves. leaves; others = λ file apart. refl });
+  kept = unchanged g (λ state. record {
+    adds = λ file left leaves. leaves;
+    others =
+        λ file apart. refl;
+  });
   still = λ honest. still (g.state disk) (g.past disk);
 }
 
@@ -118,7 +124,8 @@ module _ {D : Type 0} (g : Ghosts D) (lines : List LogLine) (old mid : D)
 
   -- the calls end, and none failed
   pub synced_all : {told : Type 0} → (told → ⊥) → KeepsDisk g old mid told ⊥ AddsNothing
-  synced_all ends = kept_as g (neither (λ fails. fails) ends) (λ a b synced. synced.adds) before.kept
+  synced_all ends = kept_as g (neither (λ fails. fails) ends)
+      (λ a b synced. synced.adds) before.kept
 
 -- ---- the batches of files
 
@@ -200,7 +207,8 @@ none_read disk before flushed logs memtable none empty = record {
   had = refl;
   settles = λ file. inl refl;
   each = All-nil IsBatch;
-  holds = subst (λ (l : List BatchLog). AreParted (HoldsPart disk) (suc before) l []) (sym none) refl;
+  holds = subst (λ (l : List BatchLog). AreParted (HoldsPart disk) (suc before) l [])
+      (sym none) refl;
   counted = omega arith;
   entries = λ entry. (
     λ holds. absurd (empty entry holds),
@@ -267,7 +275,8 @@ module _ (passed : List LogLine) (line : LogLine) (before count : ℕ) (logs : L
               (All-push IsWorking logs one was.working opened.works);
           joined = subst (λ (l : List BatchLog). AreJoined (suc before) l (suc next)) (sym pushed)
               (joined_push (suc before) (suc next) logs one
-              (subst (λ (n : ℕ). AreJoined (suc before) logs n) (sym opened.first) was.joined) ends);
+              (subst (λ (n : ℕ). AreJoined (suc before) logs n) (sym opened.first) was.joined)
+              ends);
           numbered = subst (λ (n : ℕ). IsNumberedTo after n) (sym number) opened.numbered;
           few = omega (arith, counts, opened.few);
         }
@@ -282,7 +291,8 @@ module _ (passed : List LogLine) (line : LogLine) (before count : ℕ) (logs : L
         let at : suc count ≡ suc before + length read.batches = omega (arith, read.counted) in
         let stood : IsLog (seen (old line.file)) (records_from (suc before + length read.batches)
         it.here) = subst (λ (n : ℕ). IsLog (seen (old line.file)) (records_from n it.here)) at
-        (subst (λ (slot : Slot). IsLog (seen slot) (records_from (suc count) it.here)) same it.had) in
+        (subst (λ (slot : Slot). IsLog (seen slot) (records_from (suc count) it.here)) same it.had)
+        in
         let first : line.first ≡ suc before + length read.batches = omega (arith, follows, at) in
         let ends = part_ends new (suc count) one it.here it.holds in
         record {

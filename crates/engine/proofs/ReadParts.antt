@@ -1,6 +1,7 @@
 -- What an opening reads of the tables and logs of a version.
 use Rattle.std.proofs.Common.{◌≡◌, ◌≢◌, ℕ, ◌+◌, List, [], ◌∷◌, All, Contains}
-use Rattle.std.proofs.Common.{None, Option, Some, ap, arith, inl, inr, length, refl, subst, sym, ◌∙◌}
+use Rattle.std.proofs.Common.{None, Option, Some, ap, arith, inl, inr, length, refl, subst, sym}
+use Rattle.std.proofs.Common.{◌∙◌}
 use Rattle.std.specs.Prelude.{IsSome, IsSomeAnd}
 use Rattle.std.proofs.lemmas.List.Elements.{All-cons, All-contains, All-contains_itself, All-nil}
 use Rattle.std.proofs.lemmas.List.Elements.{All-weaker}
@@ -108,7 +109,8 @@ module _ (version : StoreVersion) (is : IsVersion version) (s1 s2 s3 : State)
 
   table_reads : (line : TableLine) → Contains version.tables line
       → contents s3 line.file ≡ contents s1 line.file
-  table_reads line has = ap seen (table_stays line has) ∙ synced_reads s1 s2 version.tables synced line.file
+  table_reads line has = ap seen (table_stays line has)
+      ∙ synced_reads s1 s2 version.tables synced line.file
 
   pub tables_then : (tables : List LevelTable) → AreTablesOf (contents s1) version.tables tables
       → AreTablesOf (contents s3) version.tables tables

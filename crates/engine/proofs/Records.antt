@@ -1,6 +1,7 @@
 -- The records of batches that are numbered without a gap.
 use Rattle.std.proofs.Common.{◌≡◌, ℕ, zero, suc, ◌+◌, ◌≤◌, List, [], ◌∷◌, ◌++◌, length, take}
-use Rattle.std.proofs.Common.{None, Some, false, true, refl, sym, ap, ◌∙◌, drop, length-append, arith}
+use Rattle.std.proofs.Common.{None, Some, false, true, refl, sym, ap, ◌∙◌, drop, length-append}
+use Rattle.std.proofs.Common.{arith}
 use Rattle.std.specs.Prelude.{All, Option, SomeIff, slice_get}
 use Rattle.std.proofs.lemmas.List.{append-nil}
 use Rattle.std.proofs.lemmas.List.Elements.{All-head, All-tail}

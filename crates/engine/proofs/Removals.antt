@@ -1,5 +1,6 @@
 -- Removals of several files, one behind another.
-use Rattle.std.proofs.Common.{◌≡◌, ◌<◌, ℕ, suc, AllPairs, List, [], ◌∷◌, get_or, length, Option, Some, None}
+use Rattle.std.proofs.Common.{◌≡◌, ◌<◌, ℕ, suc, AllPairs, List, [], ◌∷◌, get_or, length, Option}
+use Rattle.std.proofs.Common.{Some, None}
 use Rattle.std.proofs.Common.{arith, inl, inr, refl, subst, sym, ◌∙◌}
 use Rattle.std.specs.Prelude.{Contains, IsNone, IsSome}
 use Rattle.std.proofs.Common.{Bool, Decides, eqb, false, true}
@@ -10,7 +11,8 @@ use Rattle.std.proofs.lemmas.List.Elements.{Decides-contains, contains_decides}
 use Rattle.std.proofs.lemmas.List.Kept.{AllPairs-from_increasing}
 use Rattle.store_model.specs.PlacesLemmas.{contains_cases, contains_next, contains_none}
 use Rattle.disk.specs.declared.Disk.{Ghosts}
-use Rattle.disk.specs.{Absent, AlwaysLeaves, Fresh, IsFileOutcome, IsSame, IsSameBut, Kept, KeepsDisk}
+use Rattle.disk.specs.{Absent, AlwaysLeaves, Fresh, IsFileOutcome, IsSame, IsSameBut, Kept}
+use Rattle.disk.specs.{KeepsDisk}
 use Rattle.disk.specs.{OnlyLeaves, Passes, Slot, State, seen}
 use Rattle.disk.specs.Calls.{ListsFiles}
 use Rattle.disk.specs.MomentsLemmas.{goes_on, started}

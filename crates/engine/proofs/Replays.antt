@@ -53,7 +53,8 @@ in_either (y ∷ a) b (suc i) x got =
 none_at : {P : Type 0} (i : ℕ) (b : BatchContent) → slice_get [] i ≡ Some b → P
 none_at i b got = absurd cc
 
-pub none_replayed : (before flushed : ℕ) (entry : Entry) → replayed_entries before flushed [] entry →
+pub none_replayed : (before flushed : ℕ) (entry : Entry)
+    → replayed_entries before flushed [] entry →
     ⊥
 none_replayed before flushed entry it = none_at it.0 it.1 it.2
 
@@ -112,10 +113,11 @@ takes_more old mid new before flushed a b first second entry = (to, back)
 
     back : Both → TableHolds new entry
     back (inl older) = (second entry).1 (inl ((first entry).1 (inl older)))
-    back (inr it) = elim (replayed_either before flushed a b entry it) as (λ _. TableHolds new entry) [
-      | inl front ↦ (second entry).1 (inl ((first entry).1 (inr front)))
-      | inr behind ↦ (second entry).1 (inr behind)
-    ]
+    back (inr it) = elim (replayed_either before flushed a b entry it) as
+        (λ _. TableHolds new entry) [
+          | inl front ↦ (second entry).1 (inl ((first entry).1 (inr front)))
+          | inr behind ↦ (second entry).1 (inr behind)
+        ]
 
 only_first : (x b : BatchContent) (i : ℕ) → slice_get (x ∷ []) i ≡ Some b → (i ≡ 0) × (x ≡ b)
 only_first x b zero got =
@@ -156,7 +158,8 @@ takes_one old new number before flushed batch is takes entry = (to, back)
           it.4,
         ))
 
-pub takes_none : (table : Memtable) (before flushed : ℕ) → TakesBatches table table before flushed []
+pub takes_none : (table : Memtable) (before flushed : ℕ)
+    → TakesBatches table table before flushed []
 takes_none table before flushed entry = (
   λ holds. inl holds,
   λ either. elim either as (λ _. TableHolds table entry) [

@@ -1,6 +1,7 @@
 -- Syncs of several files, one behind another.
 use Rattle.std.proofs.Common.{◌≡◌, ◌↔◌, ◌⊎◌, ◌<◌, ℕ, ◌+◌, List, [], length, get_or, take}
-use Rattle.std.proofs.Common.{Some, None, Option, Result, Ok, Err, ap, inl, inr, refl, subst, sym, ◌∙◌, arith}
+use Rattle.std.proofs.Common.{Some, None, Option, Result, Ok, Err, ap, inl, inr, refl, subst, sym}
+use Rattle.std.proofs.Common.{◌∙◌, arith}
 use Rattle.std.specs.Prelude.{IsErrAnd, IsErrOf, IsNone, IsSome, IsSomeAnd}
 use Rattle.std.proofs.lemmas.Bool.{cases_eq}
 use Rattle.std.proofs.lemmas.List.Elements.{All-more, All-nil, All-weaker}
@@ -80,7 +81,8 @@ pub settled_there : (old new : State) (file : ℕ) → SlotSettles old new file 
     IsSome (seen (old file)) → IsSome (seen (new file))
 settled_there old new file (inl same) there =
     subst (λ (slot : Slot). IsSome (seen slot)) (sym same) there
-settled_there old new file (inr is) there = subst (λ (slot : Slot). IsSome (seen slot)) (sym is.2) refl
+settled_there old new file (inr is) there =
+    subst (λ (slot : Slot). IsSome (seen slot)) (sym is.2) refl
 
 -- a slot that a sync has made durable
 made_durable : (slot : Slot) → IsSome (seen slot) →

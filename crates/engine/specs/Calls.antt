@@ -41,7 +41,8 @@ IsNoDamage result = IsErrOf result engine.Damaged → ⊥
 -- An engine that has ended answers `Failed`, and no other does. External refusals and `Damaged` end
 -- it, and no others do; those others change nothing.
 pub record KeepsEngine {D T : Type 0} (g : Ghosts D) (old new : Engine D g)
-    (result : Result T EngineError) (cause : Type 0) (IsKept : State → State → Type 0) : Type 0 where
+    (result : Result T EngineError) (cause : Type 0) (IsKept : State → State
+    → Type 0) : Type 0 where
   pub disk : KeepsDisk g (engine_disk old) (engine_disk new) (FailsDevice result) cause IsKept
   pub closed : IsErrOf result engine.Failed ↔ HasEnded old
   pub ends : HasEnded new ↔ (HasEnded old ⊎ EndsEngine result)

@@ -142,8 +142,8 @@ pub record EngineWasMeant {D : Type 0} (g : Ghosts D) (engine : Engine D g)
 
 -- ---- long files
 
--- a file of the disk is so long that one more record of the greatest length behind it would end past
--- the greatest place of a file
+-- a file of the disk is so long that one more record of the greatest length behind it would end
+-- past the greatest place of a file
 abbrev pub HasLongFile : State → Type 0
 HasLongFile disk =
     (file : ℕ) × IsSomeAnd (seen (disk file)) (λ it. EndsOutOfRange (length it) (MAX_RECORD + 6))

@@ -14,7 +14,8 @@ use Rattle.sorted_table.specs.{AreAsMeant, FileRepresents, HasTail, IsOpenOn, Ta
 use Rattle.sorted_table.specs.{found_entry, greatest_key, index_lines, last_line_key, table_file}
 use Rattle.sorted_table.specs.declared.Table.{Table}
 use Rattle.sorted_table.specs.declared.FoundVersion.{FoundVersion}
-use Rattle.store_model.specs.{KeyRange, LevelTable, NewestHas, StoreFinds, StoreRepresents, StoreState}
+use Rattle.store_model.specs.{KeyRange, LevelTable, NewestHas, StoreFinds, StoreRepresents}
+use Rattle.store_model.specs.{StoreState}
 use Rattle.store_model.specs.{TableLacks, level_entries, memory_entries}
 use Rattle.manifest.specs.declared.TableLine.{TableLine}
 use Rattle.manifest.specs.Versions.{AreInOrder, table_is_before}
@@ -42,8 +43,8 @@ line_range line = record { least = line.least; greatest = line.greatest }
 abbrev pub least_key : List Entry → Option StoredKey
 least_key entries = option_map (λ entry. entry.key) (first_entry entries)
 
--- The line names the table: its file has the line's length, and represents the table's entries, which
--- run from the line's least key to its greatest.
+-- The line names the table: its file has the line's length, and represents the table's entries,
+-- which run from the line's least key to its greatest.
 pub record IsTableOf (left : Contents) (line : TableLine) (table : LevelTable) : Type 0 where
   pub level : table.level ≡ line.level
   pub file : table.file ≡ line.file
@@ -162,8 +163,8 @@ abbrev pub EntriesFind : ℕ → (Entry → Type 0) → StoredKey → Option Fou
 EntriesFind at entries key None = IsUnseen at entries key
 EntriesFind at entries key (Some found) = IsNewest at entries (found_entry key found)
 
--- of these entries the newest of the key that is seen at the number has this value or is a deletion,
--- or there is none
+-- of these entries the newest of the key that is seen at the number has this value or is a
+-- deletion, or there is none
 abbrev pub EntriesHave : ℕ → (Entry → Type 0) → StoredKey → Option (Option (List ℕ)) → Type 0
 EntriesHave at entries key None = IsUnseen at entries key
 EntriesHave at entries key (Some value) = NewestHas at entries key value

@@ -44,7 +44,8 @@ pub record AreBatchesOf (left : Contents) (lines : List LogLine) (first : ℕ)
   pub each : All IsBatch batches
   pub few : first - 1 + length batches ≤ MAX_NUMBER
 
--- what was read of the logs that lines name: all their batches, and the entries above those in tables
+-- what was read of the logs that lines name: all their batches, and the entries above those in
+-- tables
 pub record AreReplayed (left : Contents) (lines : List LogLine) (flushed : ℕ) (logs : BatchLogs)
     (memtable : Memtable) : Type 0 where
   pub batches : List BatchContent
@@ -133,9 +134,10 @@ pub record AreUsableFiles (files : StoreFiles) : Type 0 where
 
 -- ---- what the open files hold
 
--- The open files know what the disk durably represents: the list of batches, and the facts. Files of
--- any other number may exist.
-pub record FilesAreRead (disk : State) (files : StoreFiles) (list : List BatchContent) : Type 0 where
+-- The open files know what the disk durably represents: the list of batches, and the facts. Files
+-- of any other number may exist.
+pub record FilesAreRead (disk : State) (files : StoreFiles)
+    (list : List BatchContent) : Type 0 where
   pub usable : AreUsableFiles files
   pub manifest : ManifestHolds disk files.manifest (known_version files)
   pub logs : LogsHold disk files.logs (suc (trimmed_count files)) (drop (trimmed_count files) list)
@@ -149,8 +151,8 @@ pub record FilesAreRead (disk : State) (files : StoreFiles) (list : List BatchCo
   pub count : batch_count files ≡ length list
   pub each : All IsBatch list
 
--- the open files hold it: besides, no file exists with the number of the first free one or a greater
--- one
+-- the open files hold it: besides, no file exists with the number of the first free one or a
+-- greater one
 pub record FilesHold (disk : State) (files : StoreFiles) (list : List BatchContent) : Type 0 where
   pub known : FilesAreRead disk files list
   pub unused : (file : ℕ) → files.free_file ≤ file → IsNone (seen (disk file))

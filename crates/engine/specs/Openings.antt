@@ -1,4 +1,5 @@
--- What an opening has read of the files of a store, before the files that no version names are removed.
+-- What an opening has read of the files of a store, before the files that no version names are
+-- removed.
 use Rattle.std.specs.Prelude.{◌≡◌, ℕ, ◌+◌, ◌-◌, List, ◌∷◌, All, length}
 use Rattle.kv_types.specs.{BatchContent}
 use Rattle.disk.specs.{Contents, IsDurable, State, contents}
@@ -35,8 +36,8 @@ pub record HasParts (left : Contents) (version : StoreVersion) : Type 0 where
   pub fits : All (FileFits left) version.tables
   pub ordered : AreOrderedNumbers version (first - 1) (first - 1 + length batches)
 
--- The files had the batches of the logs, and tables that fit their lines. No file has changed, but for
--- a sync.
+-- The files had the batches of the logs, and tables that fit their lines. No file has changed, but
+-- for a sync.
 pub record WereParts (old new : State) (version : StoreVersion) (parts : ReadParts) : Type 0 where
   pub had : AreReplayed (contents old) version.logs version.flushed parts.logs parts.memtable
   pub fits : All (FileFits (contents old)) version.tables

@@ -1,5 +1,6 @@
 -- What is read of the logs that lines name: their batches, and the entries that a memtable takes.
-use Rattle.std.specs.Prelude.{◌≡◌, ◌≢◌, ◌↔◌, ◌⊎◌, ℕ, suc, ◌+◌, ◌<◌, ◌≤◌, List, ◌∷◌, ◌++◌, length, map, All}
+use Rattle.std.specs.Prelude.{◌≡◌, ◌≢◌, ◌↔◌, ◌⊎◌, ℕ, suc, ◌+◌, ◌<◌, ◌≤◌, List, ◌∷◌, ◌++◌, length}
+use Rattle.std.specs.Prelude.{map, All}
 use Rattle.kv_types.specs.declared.bounds.TheConstants.{MAX_NUMBER}
 use Rattle.kv_types.specs.{BatchContent, Entry, IsBatch, entries_of}
 use Rattle.disk.specs.{State, contents, seen}
@@ -42,7 +43,8 @@ pub record AreTaken (records : List (List ℕ)) (before flushed : ℕ) (old new 
     pub each : All IsBatch batches
     pub entries : TakesBatches old new before flushed batches
 
--- the file had batches behind this number and settles, its log holds them, and the memtable took them
+-- the file had batches behind this number and settles, its log holds them, and the memtable took
+-- them
 pub record IsReadLog (old new : State) (file before flushed : ℕ) (one : BatchLog)
     (was now : Memtable) : Type 0 where
   pub here : List BatchContent

@@ -1,4 +1,5 @@
--- What slots, logs and tables of a store represent together: a list of batches, and facts beside it.
+-- What slots, logs and tables of a store represent together: a list of batches, and facts beside
+-- it.
 use Rattle.std.specs.Prelude.{◌≡◌, ◌≢◌, ◌⊎◌, ℕ, suc, ◌+◌, ◌-◌, ◌<◌, ◌≤◌, List, [], ◌∷◌, ◌++◌}
 use Rattle.std.specs.Prelude.{length, take, drop, All, Contains, Option}
 use Rattle.std.specs.Option.{option_flatten}
@@ -15,7 +16,8 @@ use Rattle.store_model.specs.{IsFlush}
 use Rattle.manifest.specs.declared.LogLine.{LogLine}
 use Rattle.manifest.specs.declared.TableLine.{TableLine}
 use Rattle.record_log.specs.{IsDurableAs}
-use Rattle.manifest.specs.{HasFirstSlots, IsNotCreated, IsSlotFile, ManifestRepresents, NodeVersion, StoreVersion}
+use Rattle.manifest.specs.{HasFirstSlots, IsNotCreated, IsSlotFile, ManifestRepresents, NodeVersion}
+use Rattle.manifest.specs.{StoreVersion}
 use Rattle.manifest.specs.{Change, changed, first_version}
 use Rattle.engine.specs.Files.{Facts, IsLog}
 use Rattle.engine.specs.BatchLogs.{HaveBatches}
@@ -184,8 +186,8 @@ pub record HasFirstFiles (disk : State) (id : ℕ) (ids : List ℕ) : Type 0 whe
 abbrev pub begun_log : ℕ → ℕ → LogLine
 begun_log free count = record { file = free + 1; first = suc count }
 
--- the edit of a flush, where this file is free: the batches so far are in tables, of which this is a
--- new one, and a new log takes the next batches
+-- the edit of a flush, where this file is free: the batches so far are in tables, of which this is
+-- a new one, and a new log takes the next batches
 abbrev pub flush_change : StoreVersion → ℕ → ℕ → TableLine → Change
 flush_change version free count line = record {
   next_file = free + 2;
@@ -199,8 +201,8 @@ flush_change version free count line = record {
   tables_added = line ∷ [];
 }
 
--- The files have what a flush writes, where this file is free: the table of the memtable in level 0,
--- and a log without records. The other logs and tables of the version are as they were.
+-- The files have what a flush writes, where this file is free: the table of the memtable in level
+-- 0, and a log without records. The other logs and tables of the version are as they were.
 pub record HasFlushed (list : List BatchContent) (store : StoreState) (version : StoreVersion)
     (free : ℕ) (line : TableLine) (left other : Contents) : Type 0 where
   pub table : LevelTable

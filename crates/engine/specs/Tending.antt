@@ -53,14 +53,15 @@ IsSameBeside files old new = (file : ℕ) → (Contains files file → ⊥) → 
 abbrev pub IsNextTable : StoreFiles → TableLine → Type 0
 IsNextTable files = IsNewLine files.free_file
 
--- the version is the one after the edit of a flush with this table, recorded in the slot that counts
+-- the version is the one after the edit of a flush with this table, recorded in the slot that
+-- counts
 pub record IsFlushedBy (line : TableLine) (old new : StoreFiles) : Type 0 where
   pub version : known_version new ≡ node_version_after (known_version old)
       (flush_change (known_version old).version old.free_file (batch_count old) line)
   pub slots : HasSameSlots old.manifest new.manifest
 
--- The entries in memory are durably in a table of level 0, in the first free file, which is open. No
--- other file changed.
+-- The entries in memory are durably in a table of level 0, in the first free file, which is open.
+-- No other file changed.
 pub record HasSpilled (old new : State) (files : StoreFiles) (it : Flushed) : Type 0 where
   pub spares : IsSameBut files.free_file old new
   pub written : IsWrittenTable new files.memtable files.free_file it.line
@@ -91,8 +92,8 @@ TellsRewrite old new tended.Worked =
     × (known_version new ≡ known_version old) × (RewriteIsDue new → ⊥)
 TellsRewrite old new tended.Full = (MAX_NUMBER ≤ generation_of old.manifest) × (new ≡ old)
 
--- a flush that is due: the version has one table of level 0 more, a log for the next batches, and all
--- batches so far in tables; or it had no place
+-- a flush that is due: the version has one table of level 0 more, a log for the next batches, and
+-- all batches so far in tables; or it had no place
 abbrev pub TellsFlush : StoreFiles → StoreFiles → Tended → Type 0
 TellsFlush old new tended.Idle = ⊥
 TellsFlush old new tended.Worked =

@@ -66,7 +66,8 @@ fn batch_in<D: Disk>(
 /// The log that has the batch of this number, of joined logs that have it.
 fn log_with<'a>(older: &'a [BatchLog], newest: &'a BatchLog, number: u64) -> &'a BatchLog
     requires joined { AreJoined (oldest_first older.now newest.now) older.now newest.now.first }
-    requires there { (oldest_first older.now newest.now ≤ number) × (number < end_of_log newest.now) }
+    requires there { (oldest_first older.now newest.now ≤ number)
+        × (number < end_of_log newest.now) }
     ensures among { Contains older.now result.now ⊎ (newest.now ≡ result.now) }
     ensures has { (result.now.first ≤ number) × (number < end_of_log result.now) }
 {

@@ -77,7 +77,8 @@ impl<D: Disk + Drop> Engine<D> {
         config: &Config,
         limits: &Limits,
     ) -> Result<Engine<D>, (EngineError, D)>
-        ensures kept { KeepsDisk D.Disk disk (disk_after result) (RefusedByDevice result) ⊥ IsOwned }
+        ensures kept { KeepsDisk D.Disk disk (disk_after result)
+            (RefusedByDevice result) ⊥ IsOwned }
         ensures created { D.is_honest disk →
             MatchResult result (λ engine. EngineHolds D.Disk engine [])
             (λ refused. IsEngineExternal refused.0) }
@@ -104,7 +105,8 @@ impl<D: Disk + Drop> Engine<D> {
     /// of which memory gets the entries that no table has, and the other files are removed. A
     /// refusal returns the disk.
     pub fn open(alloc: Global, disk: D, limits: &Limits) -> Result<Engine<D>, (EngineError, D)>
-        ensures kept { KeepsDisk D.Disk disk (disk_after result) (RefusedByDevice result) ⊥ IsOwned }
+        ensures kept { KeepsDisk D.Disk disk (disk_after result)
+            (RefusedByDevice result) ⊥ IsOwned }
         ensures opened { (facts : Facts) (list : List BatchContent) → D.is_honest disk →
             OpensEngineFor D.Disk facts list (contents (D.state disk)) result }
         ensures told { D.is_honest disk →
@@ -271,9 +273,9 @@ impl<D: Disk + Drop> Engine<D> {
         answer
     }
 
-    /// Does the first that is due: a rewrite of the manifest, where its slot is longer than twice its
-    /// first edit and 65,536 bytes; or a flush, where the newest log is longer than the limit and
-    /// entries are in memory. `Full` where that has no place.
+    /// Does the first that is due: a rewrite of the manifest, where its slot is longer than twice
+    /// its first edit and 65,536 bytes; or a flush, where the newest log is longer than the limit
+    /// and entries are in memory. `Full` where that has no place.
     pub fn tend(&mut self, alloc: Global) -> Result<Tended, EngineError>
         ensures keeps { KeepsEngine D.Disk self.old self.new result
             (IsNearlyFull self.old ⊎ IsAdrift D.Disk self.old)

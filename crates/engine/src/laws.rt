@@ -18,8 +18,8 @@ use manifest::laws::{slots_reach_gates, version_is_one};
 use record_log::{gates_are_in_files, records_are_unique};
 use store_model::{appends_keep, empty_represents, flushes_keep, look_ups_are_maps};
 
-/// Where an engine's log or its manifest is nearly full, its disk has a file nearly as long as a file
-/// can be.
+/// Where an engine's log or its manifest is nearly full, its disk has a file nearly as long as a
+/// file can be.
 pub fn full_logs_are_long<D: Disk + Drop>()
     ensures { (engine : Engine D D.Disk) (list : List BatchContent) →
         EngineReads D.Disk engine list → IsNearlyFull engine →

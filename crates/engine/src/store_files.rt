@@ -148,8 +148,8 @@ impl StoreFiles {
         self.logs.batch(alloc, disk, number)
     }
 
-    /// The value of a key in the map of the first `at` batches: looked up in memory, and then in the
-    /// tables. `Damaged` only where a block of a table is damaged.
+    /// The value of a key in the map of the first `at` batches: looked up in memory, and then in
+    /// the tables. `Damaged` only where a block of a table is damaged.
     pub(crate) fn get<D: Disk + Drop>(
         &self,
         alloc: Global,

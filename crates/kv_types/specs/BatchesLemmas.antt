@@ -15,8 +15,10 @@ use Rattle.kv_types.specs.Spelling.{text_bytes, edit_bytes, batch_bytes, IsEdit,
 use Rattle.kv_types.specs.Spelling.{SpellingsDiffer}
 use Rattle.kv_types.specs.Reading.{◌>>=◌, length_at, text_at, edit_at, edits_at, batch_at}
 use Rattle.kv_types.specs.Reading.{batch_of}
-use Rattle.kv_types.specs.FieldsLemmas.{IsBytes, IsBytes-rest, bind_some, guard_some, some_is, Takes}
-use Rattle.kv_types.specs.FieldsLemmas.{Takes-then, number_takes, number_again, text_takes, text_again}
+use Rattle.kv_types.specs.FieldsLemmas.{IsBytes, IsBytes-rest, bind_some, guard_some, some_is}
+use Rattle.kv_types.specs.FieldsLemmas.{Takes}
+use Rattle.kv_types.specs.FieldsLemmas.{Takes-then, number_takes, number_again, text_takes}
+use Rattle.kv_types.specs.FieldsLemmas.{text_again}
 
 guard_ended : {A : Type 0} (b : Bool) (x y : A) → cond b (Some x) None ≡ Some y
     → (b ≡ true) × (x ≡ y)

@@ -31,7 +31,8 @@ use Rattle.lab.specs.Disks.{junk_of, HasGrown, IsCrashOf, IsEndOf, IsStopOf, Dis
 use Rattle.lab.specs.Disks.{DisksFollow, IsMarkedBy}
 use Rattle.lab.specs.Disks.{before_crash, has_reached, junk_at_end, past_of_step}
 use Rattle.lab.specs.Events.{reported_cause, told_cause}
-use Rattle.lab.specs.SimNodes.{Choice, StateRefines, IsDown, disk_in, is_honest, state, failures, marks}
+use Rattle.lab.specs.SimNodes.{Choice, StateRefines, IsDown, disk_in, is_honest, state, failures}
+use Rattle.lab.specs.SimNodes.{marks}
 use Rattle.lab.specs.SimNodes.{IsUnarmed}
 use Rattle.lab.proofs.Faults.{idle}
 use Rattle.lab.proofs.Outcomes.{StopsSo}
@@ -133,7 +134,8 @@ module _ {g : Ghosts Slots} (old : Slots) (new : NodeState Slots g) (may : MayRi
   -- a stop is that of the event, or by itself for the cause that was chosen
   stop_of : (kind : EventKind) (it : Fault) (choice : Choice) (traced : Option Cause) →
       reported_cause kind it choice ≡ traced → (choice.struck ≡ true → choice.cause ≡ Disk) →
-      DiskFits state failures past_states (junk_of kind) it choice.struck (done.Stopped traced) old new →
+      DiskFits state failures past_states (junk_of kind) it choice.struck
+      (done.Stopped traced) old new →
       IsExplained (state old) choice.struck (done.Stopped traced) →
       IsStopOf state failures past_states (junk_of kind) it choice old (disk_in new)
   stop_of (Stop x junk) it choice traced is device left why = crash_of junk old new
@@ -221,13 +223,15 @@ module _ {g : Ghosts Slots} (old : Slots) (new : NodeState Slots g) (may : MayRi
     marked_as : {A B : Type 0} → (A → B) → (ends stops : Bool) → stops ≡ ends →
         IsMarkedBy state past_states marks A (junk_of event.kind) event.fault choice.struck ends old
         (disk_in new) →
-        IsMarkedBy state past_states marks B (junk_of event.kind) event.fault choice.struck stops old
+        IsMarkedBy state past_states marks B
+        (junk_of event.kind) event.fault choice.struck stops old
         (disk_in new)
     marked_as {A} {B} to ends stops is m =
         subst (λ (b : Bool). IsMarkedBy state past_states marks B (junk_of event.kind) event.fault
         choice.struck b old (disk_in new)) (sym is) (by m)
       where
-        by : IsMarkedBy state past_states marks A (junk_of event.kind) event.fault choice.struck ends
+        by : IsMarkedBy state past_states marks A
+            (junk_of event.kind) event.fault choice.struck ends
             old (disk_in new) →
             IsMarkedBy state past_states marks B (junk_of event.kind) event.fault choice.struck ends
             old (disk_in new)
@@ -236,7 +240,8 @@ module _ {g : Ghosts Slots} (old : Slots) (new : NodeState Slots g) (may : MayRi
 
     -- where it struck, the node stopped, and for its device
     pub stops_so : (did : StepOutcome) → StopsSo event choice did o →
-        DiskFits state failures past_states (junk_of event.kind) event.fault choice.struck did old new →
+        DiskFits state failures past_states
+        (junk_of event.kind) event.fault choice.struck did old new →
         choice.struck ≡ true → (o.stopped ≡ true) × (choice.cause ≡ Disk)
     stops_so (done.Answered output) ends left e = absurd (false≢true (sym left.spared ∙ e))
     stops_so (done.Started epoch count committed) ends left e =
@@ -247,8 +252,10 @@ module _ {g : Ghosts Slots} (old : Slots) (new : NodeState Slots g) (may : MayRi
     -- what the node left is what the event's outcome leaves
     pub follows : (did : StepOutcome) → StateRefines is_honest state new x n → StruckSo →
         StopsSo event choice did o →
-        DiskFits state failures past_states (junk_of event.kind) event.fault choice.struck did old new →
-        MarksFit state past_states marks (junk_of event.kind) event.fault choice.struck did old new →
+        DiskFits state failures past_states
+        (junk_of event.kind) event.fault choice.struck did old new →
+        MarksFit state past_states marks
+        (junk_of event.kind) event.fault choice.struck did old new →
         IsExplained (state old) choice.struck did → HasGrown past_states old (disk_in new) →
         DiskFollows state failures past_states marks event choice o n old (disk_in new)
     follows (done.Answered output) is struck ends left marked why grown = record {
@@ -310,9 +317,11 @@ all_follow event choice o x n disks own came follow = record {
   at = λ y m is.
       let both : Some (x, n) ≡ Some (y, m) = sym came ∙ is in
       let same : (x, n) ≡ (y, m) = cc in
-      subst (λ (q : ℕ × Machine). DiskFollows state failures past_states marks event choice o q.1 (disks q.0)
+      subst (λ (q : ℕ × Machine). DiskFollows state failures past_states marks event choice o q.1
+      (disks q.0)
       (with_disk disks x own q.0)) same
-      (subst (λ (d : Slots). DiskFollows state failures past_states marks event choice o n (disks x) d)
+      (subst (λ (d : Slots). DiskFollows state failures past_states marks event choice o n
+      (disks x) d)
       (sym (disk_here disks x own)) follow);
   others = λ y none. cond_both (y == x) own (disks y) (λ (d : Slots). d ≡ disks y)
       (λ same. absurd (none n (subst (λ (z : ℕ). o.acted_on ≡ Some (z, n))

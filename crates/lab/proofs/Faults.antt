@@ -1,5 +1,6 @@
 -- What a fault makes of the disk that was armed with it, once a step made its calls.
-use Rattle.std.proofs.Common.{◌≡◌, ◌↔◌, ℕ, zero, suc, ◌+◌, ◌≤◌, Bool, List, [], ◌∷◌, ◌++◌, Option, Some, None}
+use Rattle.std.proofs.Common.{◌≡◌, ◌↔◌, ℕ, zero, suc, ◌+◌, ◌≤◌, Bool, List, [], ◌∷◌, ◌++◌, Option}
+use Rattle.std.proofs.Common.{Some, None}
 use Rattle.std.proofs.Common.{length, ap₂}
 use Rattle.std.proofs.Common.{true, false, refl, sym, ap, subst, ◌∙◌, arith, le-leb, leb-true}
 use Rattle.std.proofs.Common.{◌⊎◌, inl, inr}
@@ -52,7 +53,8 @@ not_true true none = absurd (none refl)
 not_true false none = refl
 
 -- .. and a disk has reached none of its calls
-idle_by : (it : Fault) (calls now : ℕ) → now ≤ calls → has_reached (struck_call it) calls now ≡ false
+idle_by : (it : Fault) (calls now : ℕ) → now ≤ calls
+    → has_reached (struck_call it) calls now ≡ false
 idle_by it calls now none = not_true (has_reached (struck_call it) calls now)
     (λ e. not_yet it calls now none ((reached_is (struck_call it) calls now).0 e))
 
@@ -69,7 +71,8 @@ pub idle_in : {D : Type 0} (g : Ghosts D) (it : Fault) (old : NodeState D g) →
     has_struck_in g.past it (disk_in old) old ≡ false
 idle_in g it (Up node) = idle it (length (g.past (disk_of node)))
 idle_in g it (Down disk) =
-    idle_by it (length (g.past disk)) (length (before_crash (g.past disk))) (no_longer (g.past disk))
+    idle_by it (length (g.past disk)) (length (before_crash (g.past disk)))
+    (no_longer (g.past disk))
 
 -- a test holds, or else what follows where it fails
 true_or : (b : Bool) {P : Type 0} → (b ≡ false → P) → (b ≡ true) ⊎ P
@@ -144,7 +147,8 @@ module _ {D : Type 0} (g : Ghosts D) (it : Fault) (old : D) where
       at = ap fault_of (arms.marks honest)
 
       strikes : (struck_at left ≡ true) ↔ HasStruck g.marks g.past left
-      strikes = subst (λ (o : Option ℕ). (struck_at left ≡ true) ↔ HasStruckBy o (length (g.past left)))
+      strikes = subst (λ (o : Option ℕ). (struck_at left ≡ true)
+          ↔ HasStruckBy o (length (g.past left)))
           (sym (ap fault_of keeps.fault ∙ at))
           (reached_is (struck_call it) (length (g.past old)) (length (g.past left)))
 
@@ -213,7 +217,8 @@ module _ {D : Type 0} (g : Ghosts D) (it : Fault) (old : D) where
   -- .. and tells what the fault lets it tell
   tells : (fault_of : Fault) (struck : Bool) (stop : Cause) (new : NodeState D g) →
       (struck ≡ true → stop ≡ Disk) → IsDown new →
-      DiskEnds g.state g.failures g.past (junk_at_end fault_of struck) struck stop old (disk_in new) →
+      DiskEnds g.state g.failures g.past (junk_at_end fault_of struck) struck stop old
+      (disk_in new) →
       DiskFits g.state g.failures g.past None fault_of struck
       (done.Stopped (told_cause fault_of struck stop)) old new
   tells fault.None struck stop new device down ends = (down, ends)

@@ -112,7 +112,8 @@ HasFresh earlier t key o =
 abbrev read_by : ℕ → ℕ → Machine → Answer BatchContent
 read_by t i n = ask t n i (Request.Read None)
 
-module _ (cs : Configurations) (law : (es : List (ModelEvent BatchContent)) → ReadsFresh cs es) where
+module _ (cs : Configurations) (law : (es : List (ModelEvent BatchContent))
+    → ReadsFresh cs es) where
   -- where the tail runs, its value is of the whole list
   ended : (es : List (ModelEvent BatchContent)) (t i : ℕ) (key : List ℕ)
       (earlier : List (List Line)) → IsBounded (reached cs es) earlier →
@@ -166,7 +167,8 @@ module _ (cs : Configurations) (law : (es : List (ModelEvent BatchContent)) → 
         epoch = read.epoch;
       })) in
       All-from_recursion (LineIsFresh earlier) (lines_of_event (length w.frames) event ch o)
-      (lines_have (LineIsFresh earlier) (quiet_fresh earlier) o.acted_on (length w.frames) event ch o
+      (lines_have (LineIsFresh earlier) (quiet_fresh earlier) o.acted_on
+      (length w.frames) event ch o
       replies)
 
   -- a run of one event more
@@ -191,7 +193,8 @@ module _ (cs : Configurations) (law : (es : List (ModelEvent BatchContent)) → 
         subst (λ (v : SystemState BatchContent). AreFresh cs (suc i) events chs v
             (earlier ++ lines ∷ []) (lines_from cs (suc i) events chs v)) next
             (all_fresh (suc i) events chs (es ++ e ∷ []) (earlier ++ lines ∷ []) (omega arith)
-            (subst (λ (v : SystemState BatchContent). IsBounded v (earlier ++ lines ∷ [])) (sym next)
+            (subst (λ (v : SystemState BatchContent). IsBounded v (earlier ++ lines ∷ []))
+            (sym next)
             (bounded_more cs w i event ch earlier bounded))),
       )
 

@@ -73,7 +73,8 @@ module _ (cs : Configurations) (e : Event) (ch : Choice) where
       (old disks new : ℕ → Slots) → length chs ≡ length es → k ≡ i + length es →
       AllFollow state failures past_states marks cs i es chs w old disks →
       let u = run cs (modelled_from i es chs) w in
-      DisksFollow state failures past_states marks e ch (outcome u cs (modelled k e.kind ch)) disks new →
+      DisksFollow state failures past_states marks e ch
+      (outcome u cs (modelled k e.kind ch)) disks new →
       AllFollow state failures past_states marks cs i (es ++ e ∷ []) (chs ++ ch ∷ []) w old new
   follow-push i k [] [] w old disks new same at all one = (
     new,

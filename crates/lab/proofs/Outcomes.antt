@@ -140,7 +140,8 @@ with_fault kind it = record { kind = kind; fault = it }
 
 -- an event's outcome with its lines: the node that it was for, and the state of that node now,
 -- where the fault struck or did not
-pub record IsOutcome {g : Ghosts Slots} (cs : Configurations) (w : SystemState BatchContent) (i x : ℕ)
+pub record IsOutcome {g : Ghosts Slots} (cs : Configurations) (w : SystemState BatchContent)
+    (i x : ℕ)
     (kind : EventKind) (it : Fault) (struck : Bool) (new : NodeState Slots g) (did : StepOutcome)
     : Type 0 where
   pub choice : Choice
@@ -304,7 +305,8 @@ shows_so inp kind (r ∷ replies) each =
 
 -- an input, as the model has it
 module _ {g : Ghosts Slots} (cs : Configurations) (w : SystemState BatchContent) (i x : ℕ)
-    (kind : EventKind) (it : Fault) (struck : Bool) (inp : Input) (new : NodeState Slots g) (did : StepOutcome)
+    (kind : EventKind) (it : Fault) (struck : Bool) (inp : Input) (new : NodeState Slots g)
+    (did : StepOutcome)
     (at : (choice : Choice) → outcome w cs (modelled i kind choice)
     ≡ cond (w.nodes x).running
     (as_completed x (w.nodes x) (answer_to x (w.nodes x) inp) choice.went)

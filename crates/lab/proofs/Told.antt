@@ -1,5 +1,6 @@
 -- The last disks of a run tell the faults of its events.
-use Rattle.std.proofs.Common.{◌≡◌, ℕ, zero, suc, ◌+◌, List, [], ◌∷◌, ◌++◌, length, map, Option, Some, None}
+use Rattle.std.proofs.Common.{◌≡◌, ℕ, zero, suc, ◌+◌, List, [], ◌∷◌, ◌++◌, length, map, Option}
+use Rattle.std.proofs.Common.{Some, None}
 use Rattle.std.proofs.Common.{Bool, true, false, ◌==◌, refl, sym, ap, subst, ◌∙◌, arith, eqb-true}
 use Rattle.std.proofs.Common.{inl, inr, ◌⊎◌, length-append}
 use Rattle.std.specs.Prelude.{IsSome}
@@ -18,7 +19,8 @@ use Rattle.chain_model.specs.declared.DropReason.{DropReason}
 use Rattle.chain_core.specs.{Machine}
 use Rattle.lab.specs.declared.event.Event.{Event}
 use Rattle.lab.specs.declared.event.EventKind.{EventKind}
-use Rattle.lab.specs.Disks.{AllFollow, DiskFollows, IsMarkedBy, junk_at_end, junk_of, marks_of_event}
+use Rattle.lab.specs.Disks.{AllFollow, DiskFollows, IsMarkedBy, junk_at_end, junk_of}
+use Rattle.lab.specs.Disks.{marks_of_event}
 use Rattle.lab.specs.Disks.{IsStopOf, before_crash, marks_of_step}
 use Rattle.lab.specs.Disks.{IsDiskOf, past_of_step}
 use Rattle.lab.specs.Runs.{IsRun}
@@ -221,7 +223,8 @@ stop_marks : (event : Event) (choice : Choice) (o : model.Outcome BatchContent) 
     (marks new ≡ (length (past_states old), Crashed junk) ∷ marks old)
     × (past_states old ≡ before_crash (past_states new))
 stop_marks event choice o n junk old new is stops follows =
-    let crashed = subst (λ (j : Option Junk). IsStopOf state failures past_states j event.fault choice
+    let crashed = subst (λ (j : Option Junk).
+    IsStopOf state failures past_states j event.fault choice
     old new) is (follows.stops stops) in
     let past : past_states old ≡ before_crash (past_states new) =
     ap (λ (l : List State). before_crash l) (sym crashed.moment.2) in
@@ -267,7 +270,8 @@ stops_told event event' choice choice' o n junk junk' old old' new is is' stops 
     let past : past_states old ≡ past_states old' = one.1 ∙ sym other.1 in
     let all : (length (past_states old), Crashed junk) ∷ marks old
     ≡ (length (past_states old'), Crashed junk') ∷ marks old' = sym one.0 ∙ other.0 in
-    let first : (length (past_states old), Crashed junk) ≡ (length (past_states old'), Crashed junk')
+    let first : (length (past_states old), Crashed junk) ≡
+    (length (past_states old'), Crashed junk')
     = cc in
     let crashed : Crashed junk ≡ Crashed junk' = ap (λ (m : ℕ × Mark). m.1) first in
     let same : junk ≡ junk' = cc in

@@ -1,5 +1,6 @@
 -- A step of the lab's world is a step of the model's.
-use Rattle.std.proofs.Common.{◌≡◌, ℕ, suc, ◌+◌, ◌≤◌, ◌<◌, List, [], ◌∷◌, ◌++◌, length, get_or, slice_set}
+use Rattle.std.proofs.Common.{◌≡◌, ℕ, suc, ◌+◌, ◌≤◌, ◌<◌, List, [], ◌∷◌, ◌++◌, length, get_or}
+use Rattle.std.proofs.Common.{slice_set}
 use Rattle.std.proofs.Common.{Bool, true, false}
 use Rattle.std.proofs.Common.{refl, sym, ap, subst, ◌∙◌, arith, append-nil}
 use Rattle.std.proofs.Math.Seq.{map-set_same}
@@ -8,7 +9,8 @@ use Rattle.std.specs.Prelude.{All, Option, Some, None, MatchOption}
 use Rattle.std.proofs.lemmas.Bool.{false≢true}
 use Rattle.std.proofs.lemmas.Option.{MatchOption-at_none, MatchOption-at_some}
 use Rattle.std.specs.List.{AllZip, AllByRecursion}
-use Rattle.std.proofs.lemmas.List.Elements.{recursion_from_All, All-from_recursion, All-get_or, All-weaker}
+use Rattle.std.proofs.lemmas.List.Elements.{recursion_from_All, All-from_recursion, All-get_or}
+use Rattle.std.proofs.lemmas.List.Elements.{All-weaker}
 use Rattle.std.proofs.lemmas.List.Elements.{All-set}
 use Rattle.std.proofs.lemmas.Slice.Zip.{AllZip-long}
 use Rattle.kv_types.specs.declared.bounds.TheConstants.{MAX_NUMBER}
@@ -97,14 +99,17 @@ place_of world cs events choices steps run n i long fits is = record {
 }
 
 -- a running node that was stopped is down, and its disk is a crash of the one that it had
-crash_of : {g : Ghosts Slots} (junk : Junk) (own : Node Slots g) (old new : NodeState Slots g) → old ≡ Up own →
+crash_of : {g : Ghosts Slots} (junk : Junk) (own : Node Slots g) (old new : NodeState Slots g)
+    → old ≡ Up own →
     StateFollows is_honest state failures past_states old (to_node.Stop junk) new →
     IsCrashOf state failures past_states junk (disk_of own) (disk_in new)
 crash_of {g = g} junk own old new runs follows =
-    crashed new (subst (λ (m : NodeState Slots g). StateFollows is_honest state failures past_states m
+    crashed new (subst (λ (m : NodeState Slots g).
+    StateFollows is_honest state failures past_states m
     (to_node.Stop junk) new) runs follows tt)
   where
-    crashed : (left : NodeState Slots g) → HasCrashed state failures past_states junk (disk_of own) left →
+    crashed : (left : NodeState Slots g)
+        → HasCrashed state failures past_states junk (disk_of own) left →
         IsCrashOf state failures past_states junk (disk_of own) (disk_in left)
     crashed (Up other) has = absurd has
     crashed (Down disk) has = has
@@ -164,7 +169,8 @@ moved old i x between was was' now node_input it did at out id refines disk only
       id = id;
       refines = subst (λ (s : SimNode). (y : ℕ) (n : Machine) →
           StateRefines is_honest state s.state y n →
-          OutcomeRefines is_honest state it (struck_by it s now) y n node_input s.state now.state did)
+          OutcomeRefines is_honest state it
+          (struck_by it s now) y n node_input s.state now.state did)
           is
           refines;
       disk = subst (λ (s : SimNode). DiskFits state failures past_states (input_junk node_input) it
@@ -284,25 +290,31 @@ module _ (in_order : AlwaysInOrder) (cs : Configurations) (events : List Event)
       (made.each t.took.index sim t.took.at.within).disk ∙ ap made.disks was in
       let own = disk_in sim.state in
       let struck = struck_by event.fault old sim in
-      let out = refined cs w i x event.fault struck old.state sim.state t.did event.kind node_input brings
+      let out = refined cs w i x event.fault struck old.state sim.state t.did event.kind node_input
+      brings
       (t.took.refines x (w.nodes x) before) in
       let so : out.choice.struck ≡ has_struck_in past_states event.fault (made.disks x) sim.state =
       out.chose
       ∙ ap (λ (d : Slots). has_struck_in past_states event.fault d sim.state) slots in
-      let left : DiskFits state failures past_states (junk_of event.kind) event.fault out.choice.struck
+      let left : DiskFits state failures past_states
+      (junk_of event.kind) event.fault out.choice.struck
       t.did (made.disks x) sim.state =
-      subst (λ (b : Bool). DiskFits state failures past_states (junk_of event.kind) event.fault b t.did
+      subst (λ (b : Bool). DiskFits state failures past_states
+      (junk_of event.kind) event.fault b t.did
       (made.disks x) sim.state) (sym out.chose)
-      (subst (λ (d : Slots). DiskFits state failures past_states (junk_of event.kind) event.fault struck
+      (subst (λ (d : Slots). DiskFits state failures past_states
+      (junk_of event.kind) event.fault struck
       t.did d sim.state) slots
       (subst (λ (j : Option Junk). DiskFits state failures past_states j event.fault struck t.did
       (disk_in old.state) sim.state)
       (junk_same w.frames i x event.kind node_input brings) t.took.disk)) in
-      let marked : MarksFit state past_states marks (junk_of event.kind) event.fault out.choice.struck
+      let marked : MarksFit state past_states marks
+      (junk_of event.kind) event.fault out.choice.struck
       t.did (made.disks x) sim.state =
       subst (λ (b : Bool). MarksFit state past_states marks (junk_of event.kind) event.fault b t.did
       (made.disks x) sim.state) (sym out.chose)
-      (subst (λ (d : Slots). MarksFit state past_states marks (junk_of event.kind) event.fault struck
+      (subst (λ (d : Slots). MarksFit state past_states marks
+      (junk_of event.kind) event.fault struck
       t.did d sim.state) slots
       (subst (λ (j : Option Junk). MarksFit state past_states marks j event.fault struck t.did
       (disk_in old.state) sim.state)
@@ -317,7 +329,8 @@ module _ (in_order : AlwaysInOrder) (cs : Configurations) (events : List Event)
       let grows = subst (λ (d : Slots). HasGrown past_states d own) slots
       (t.took.grows x (w.nodes x) before) in
       let o = outcome w cs (modelled i event.kind out.choice) in
-      let follow = follows (made.disks x) sim.state may event out.choice o x out.node t.did out.is so
+      let follow = follows (made.disks x) sim.state may event out.choice o x out.node t.did out.is
+      so
       out.ends left marked why grows in
       let id : sim.id ≡ x = t.took.id in
       let long = AllZip-long PostedRefines posted w.frames made.frames in
@@ -369,7 +382,8 @@ module _ (in_order : AlwaysInOrder) (cs : Configurations) (events : List Event)
               sim = sim;
               others = t.took.others;
               id = t.took.id;
-              disk = subst (λ (d : Slots). DiskFollows state failures past_states marks event out.choice o
+              disk = subst (λ (d : Slots). DiskFollows state failures past_states marks event
+                  out.choice o
                   out.node d own) (sym slots) follow;
               stops = λ junk is own runs.
                   let stop = subst (λ (k : EventKind). IsDeliveryOf w.frames i k x node_input) is
@@ -567,7 +581,8 @@ module _ (in_order : AlwaysInOrder) (cs : Configurations) (events : List Event)
           kept = p.keeps.kept ∙ ap (λ (a : List (List Line)). a ++ (Nothing ∷ []) ∷ []) run.kept;
           taken = p.keeps.taken ∙ ap (λ (l : List Event). l ++ event ∷ []) run.taken;
           made = ran;
-          came = came_next cs events choices steps (steps ++ lines ∷ []) old new run event choice ran
+          came = came_next cs events choices steps
+              (steps ++ lines ∷ []) old new run event choice ran
               follow (passed_keeps old new event p);
         };
         nodes = follow;
@@ -601,5 +616,6 @@ module _ (in_order : AlwaysInOrder) (cs : Configurations) (events : List Event)
   pub ignored_after : (it : ℕ × NodeInput) → found ≡ Some it → HasNoNode sims it.0 →
       HasStayed old new cs events choices steps → HasApplied old new cs events choices steps event
   ignored_after it is none unchanged =
-      Ignores (λ names. node_after in_order cs events choices steps sims posted run.made i next event
+      Ignores (λ names. node_after in_order cs events choices steps sims posted run.made i next
+      event
       found fits it is names none) unchanged

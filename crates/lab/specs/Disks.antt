@@ -76,7 +76,8 @@ pub record IsEndOf {D : Type 0} (state : D → State) (failures : D → ℕ) (pa
   pub crashes : CrashOutcome junk left (state new)
 
 -- a node stopped: its disk crashed with the junk of the event, or else it stopped by itself
-abbrev pub IsStopOf : {D : Type 0} → (D → State) → (D → ℕ) → (D → List State) → Option Junk → Fault → Choice
+abbrev pub IsStopOf : {D : Type 0} → (D → State) → (D → ℕ) → (D → List State) → Option Junk → Fault
+    → Choice
     → D → D → Type 0
 IsStopOf state failures past (Some junk) fault choice old new =
     IsCrashOf state failures past junk old new
@@ -87,8 +88,9 @@ IsStopOf state failures past None fault choice old new =
 abbrev pub HasGrown : {D : Type 0} → (D → List State) → D → D → Type 0
 HasGrown past old new = (since : List State) × (past new ≡ since ++ past old)
 
--- The marks of a step, from a past of one length to one of another, in front of those before it: its
--- fault was armed at first, and forgotten at the end; or the node stopped, and its disk crashed.
+-- The marks of a step, from a past of one length to one of another, in front of those before it:
+-- its fault was armed at first, and forgotten at the end; or the node stopped, and its disk
+-- crashed.
 abbrev pub marks_of_step : Fault → Bool → Bool → ℕ → ℕ → Marks → Marks
 marks_of_step fault struck false before now old =
     (now, Armed None) ∷ (before, Armed (struck_call fault)) ∷ old
@@ -145,7 +147,8 @@ pub record DisksFollow {D : Type 0} (state : D → State) (failures : D → ℕ)
 
 -- what the events from place i on leave of all disks, one event after another, from a world on
 abbrev pub AllFollow : {D : Type 0} → (D → State) → (D → ℕ) → (D → List State) → (D → Marks)
-    → Configurations → ℕ → List Event → List Choice → model.SystemState BatchContent → (ℕ → D) → (ℕ → D) → Type 0
+    → Configurations → ℕ → List Event → List Choice → model.SystemState BatchContent → (ℕ → D)
+    → (ℕ → D) → Type 0
 AllFollow state failures past marks cs i [] choices w old new = new ≡ old
 AllFollow state failures past marks cs i (event ∷ events) [] w old new = ⊥
 AllFollow {D} state failures past marks cs i (event ∷ events) (choice ∷ choices) w old new =
@@ -167,7 +170,8 @@ pub record AreDisksAfter {D : Type 0} (state : D → State) (failures : D → �
     pub first : ℕ → D
     pub begun : (x : ℕ) → failures (first x) ≡ 0
     pub marked : (x : ℕ) → IsNewDisk state past marks (first x)
-    pub follow : AllFollow state failures past marks cs 1 events choices (model.first_state cs) first
+    pub follow : AllFollow state failures past marks cs 1 events choices
+        (model.first_state cs) first
         disks
 
 -- the node's disk is this one, and represents its machine's whole list, as it reads and whatever a

@@ -54,8 +54,8 @@ LineIsFresh earlier (line.Acknowledged place from to epoch committed have) = Uni
 LineIsFresh earlier (line.Stopped node cause) = Unit {0}
 LineIsFresh earlier (line.Tended did) = Unit {0}
 
--- In this state of the model an event reads a key without a number at node t, which is the tail of the
--- last configuration, and its machine is at that epoch.
+-- In this state of the model an event reads a key without a number at node t, which is the tail of
+-- the last configuration, and its machine is at that epoch.
 pub record IsTailRead (cs : Configurations) (w : model.SystemState BatchContent) (kind : EventKind)
     (t : ℕ) : Type 0 where
   pub key : List ℕ
@@ -76,8 +76,8 @@ AreFresh cs i (event ∷ events) (choice ∷ choices) w earlier (lines ∷ steps
     (earlier ++ lines ∷ []) steps
 
 -- Reads at the last tail are fresh. Behind each event its machine, while it runs, shows its whole
--- list to such a read, and every number that was acknowledged or read is of that list. So no earlier
--- line has a greater number than the value that it shows.
+-- list to such a read, and every number that was acknowledged or read is of that list. So no
+-- earlier line has a greater number than the value that it shows.
 pub record ReadsAreFresh (cs : Configurations) (events : List Event) (choices : List Choice)
     (steps : List (List Line)) : Type 0 where
   pub machines : (k : ℕ) → ReadsFresh cs (modelled_from 1 (take k events) choices)
@@ -85,4 +85,5 @@ pub record ReadsAreFresh (cs : Configurations) (events : List Event) (choices : 
 
 -- Behind each event no node has given up a batch that another one of its configuration may lack.
 abbrev pub NodesKeepEnough : Configurations → List Event → List Choice → Type 0
-NodesKeepEnough cs events choices = (k : ℕ) → KeepsEnough cs (modelled_from 1 (take k events) choices)
+NodesKeepEnough cs events choices = (k : ℕ)
+    → KeepsEnough cs (modelled_from 1 (take k events) choices)

@@ -79,13 +79,15 @@ HasAnswered did P = (output : Output) × (did ≡ done.Answered output) × P out
 
 -- ---- the fault of an event
 
--- the states that a node's disk had when its step ended: one of a node that is down has crashed since
+-- the states that a node's disk had when its step ended: one of a node that is down has crashed
+-- since
 abbrev pub past_in : {D : Type 0} {g : Ghosts D} → (D → List State) → NodeState D g → List State
 past_in past (Up node) = past (disk_of node)
 past_in past (Down disk) = before_crash (past disk)
 
 -- whether the fault struck a call of a node's disk
-abbrev pub has_struck_in : {D : Type 0} {g : Ghosts D} → (D → List State) → Fault → D → NodeState D g
+abbrev pub has_struck_in : {D : Type 0} {g : Ghosts D} → (D → List State) → Fault → D
+    → NodeState D g
     → Bool
 has_struck_in past fault old new =
     has_reached (struck_call fault) (length (past old)) (length (past_in past new))
@@ -106,7 +108,8 @@ IsExplained disk struck did = did ≡ done.Stopped (Some Disk) → (struck ≡ t
 
 -- an input of a step: the node ran and answered; or it stopped by itself, as before the step or as
 -- after it; or it is down
-pub data HasHandled {D : Type 0} {g : Ghosts D} (is_honest : D → Type 0) (state : D → State) (fault : Fault)
+pub data HasHandled {D : Type 0} {g : Ghosts D} (is_honest : D → Type 0) (state : D
+    → State) (fault : Fault)
     (struck : Bool) (x : ℕ) (n : Machine) (inp : Input) (new : NodeState D g) (did : StepOutcome)
     : Type 0 where
   Answers : n.running ≡ true → StateRefines is_honest state new x (answer_to x n inp).node
@@ -121,15 +124,18 @@ pub data HasHandled {D : Type 0} {g : Ghosts D} (is_honest : D → Type 0) (stat
       → HasHandled is_honest state fault struck x n inp new did
 
 -- a node that was up, and is, tells what its tend did
-abbrev pub TellsTended : {D : Type 0} {g : Ghosts D} → NodeState D g → NodeState D g → Tended → Type 0
+abbrev pub TellsTended : {D : Type 0} {g : Ghosts D} → NodeState D g → NodeState D g → Tended
+    → Type 0
 TellsTended (Up old) (Up new) answer = TellsTend (engine_of old) (engine_of new) answer
 TellsTended (Up old) (Down disk) answer = ⊥
 TellsTended (Down disk) new answer = ⊥
 
 -- a tend, which raises no floor and gives up no batch: the node ran, and tells what it did; or it
 -- stopped by itself; or it is down
-pub data HasTended {D : Type 0} {g : Ghosts D} (is_honest : D → Type 0) (state : D → State) (fault : Fault)
-    (struck : Bool) (x : ℕ) (n : Machine) (old new : NodeState D g) (did : StepOutcome) : Type 0 where
+pub data HasTended {D : Type 0} {g : Ghosts D} (is_honest : D → Type 0) (state : D
+    → State) (fault : Fault)
+    (struck : Bool) (x : ℕ) (n : Machine) (old new : NodeState D g)
+    (did : StepOutcome) : Type 0 where
   Tends : n.running ≡ true → StateRefines is_honest state new x (tend n false 0).node
       → (answer : Tended) × (did ≡ done.Tended answer) × TellsTended old new answer
       → HasTended is_honest state fault struck x n old new did
@@ -141,7 +147,8 @@ pub data HasTended {D : Type 0} {g : Ghosts D} (is_honest : D → Type 0) (state
       → HasTended is_honest state fault struck x n old new did
 
 -- a node was started: it runs as the machine that was started, or stopped by itself; or it ran
-pub data HasStarted {D : Type 0} {g : Ghosts D} (is_honest : D → Type 0) (state : D → State) (fault : Fault)
+pub data HasStarted {D : Type 0} {g : Ghosts D} (is_honest : D → Type 0) (state : D
+    → State) (fault : Fault)
     (struck : Bool) (x : ℕ) (n : Machine) (new : NodeState D g) (did : StepOutcome) : Type 0 where
   Starts : n.running ≡ false → StateRefines is_honest state new x (started x n)
       → did ≡ done.Started n.epoch (length n.list) (started x n).committed
@@ -164,7 +171,8 @@ pub data HasStopped {D : Type 0} {g : Ghosts D} (is_honest : D → Type 0) (stat
       → HasStopped is_honest state x n new did
 
 -- what is no frame between nodes is dropped, for this reason if the node runs
-pub data HasDropped {D : Type 0} {g : Ghosts D} (is_honest : D → Type 0) (state : D → State) (x : ℕ) (n : Machine)
+pub data HasDropped {D : Type 0} {g : Ghosts D} (is_honest : D → Type 0) (state : D
+    → State) (x : ℕ) (n : Machine)
     (why : DropReason) (new : NodeState D g) (did : StepOutcome) : Type 0 where
   Drops : n.running ≡ true → StateRefines is_honest state new x n → HasAnswered did (IsDrop why)
       → HasDropped is_honest state x n why new did
@@ -174,7 +182,8 @@ pub data HasDropped {D : Type 0} {g : Ghosts D} (is_honest : D → Type 0) (stat
 
 -- this input left node x, which was machine n, in this state with this outcome, where a fault
 -- struck or did not
-abbrev pub OutcomeRefines : {D : Type 0} {g : Ghosts D} → (D → Type 0) → (D → State) → Fault → Bool → ℕ → Machine
+abbrev pub OutcomeRefines : {D : Type 0} {g : Ghosts D} → (D → Type 0) → (D → State) → Fault → Bool
+    → ℕ → Machine
     → NodeInput → NodeState D g → NodeState D g → StepOutcome → Type 0
 OutcomeRefines is_honest state fault struck x n (to_node.Step inp) old new did =
     HasHandled is_honest state fault struck x n inp new did
@@ -198,20 +207,22 @@ input_junk to_node.Tend = None
 input_junk to_node.Start = None
 
 -- no call of the disk failed, so no fault struck, and a node that is down has the same one
-pub record DiskStays {D : Type 0} {g : Ghosts D} (failures : D → ℕ) (struck : Bool) (old : D) (new : NodeState D g)
+pub record DiskStays {D : Type 0} {g : Ghosts D} (failures : D
+    → ℕ) (struck : Bool) (old : D) (new : NodeState D g)
     : Type 0 where
   pub spared : struck ≡ false
   pub count : failures (disk_in new) ≡ failures old
   pub same : IsDown new → disk_in new ≡ old
 
 -- a node that was stopped is down, and its disk crashed with this junk
-abbrev pub HasCrashed : {D : Type 0} {g : Ghosts D} → (D → State) → (D → ℕ) → (D → List State) → Junk → D → NodeState D g
+abbrev pub HasCrashed : {D : Type 0} {g : Ghosts D} → (D → State) → (D → ℕ) → (D → List State)
+    → Junk → D → NodeState D g
     → Type 0
 HasCrashed state failures past junk old (Up node) = ⊥
 HasCrashed state failures past junk old (Down disk) = IsCrashOf state failures past junk old disk
 
--- A node stopped by itself: a call of the disk failed if that is the cause, and else none. The state
--- that the step left of the disk crashed with this junk.
+-- A node stopped by itself: a call of the disk failed if that is the cause, and else none. The
+-- state that the step left of the disk crashed with this junk.
 pub record DiskEnds {D : Type 0} (state : D → State) (failures : D → ℕ) (past : D → List State)
     (junk : Junk) (struck : Bool) (cause : Cause) (old new : D) : Type 0 where
   pub failed : cause ≡ Disk → RisesByOne (failures old) (failures new)
@@ -221,7 +232,8 @@ pub record DiskEnds {D : Type 0} (state : D → State) (failures : D → ℕ) (p
   pub last : IsLastLeft (before_crash (past new)) left
 
 -- a node stopped and tells no cause: the event stopped it with its junk, or else the fault did
-abbrev pub HasCrashedWith : {D : Type 0} {g : Ghosts D} → (D → State) → (D → ℕ) → (D → List State) → Option Junk → Fault
+abbrev pub HasCrashedWith : {D : Type 0} {g : Ghosts D} → (D → State) → (D → ℕ) → (D → List State)
+    → Option Junk → Fault
     → Bool → D → NodeState D g → Type 0
 HasCrashedWith state failures past (Some junk) fault struck old new =
     HasCrashed state failures past junk old new
@@ -230,7 +242,8 @@ HasCrashedWith state failures past None fault struck old new =
     × DiskEnds state failures past (junk_at_end fault struck) struck Disk old (disk_in new)
 
 -- the disk that a node had and the one behind its outcome
-abbrev pub DiskFits : {D : Type 0} {g : Ghosts D} → (D → State) → (D → ℕ) → (D → List State) → Option Junk → Fault → Bool
+abbrev pub DiskFits : {D : Type 0} {g : Ghosts D} → (D → State) → (D → ℕ) → (D → List State)
+    → Option Junk → Fault → Bool
     → StepOutcome → D → NodeState D g → Type 0
 DiskFits state failures past junk fault struck (done.Answered output) old new =
     DiskStays failures struck old new
@@ -264,7 +277,8 @@ MarksFit state past marks junk fault struck (done.Stopped cause) old new =
 
 -- an input that the node ignores leaves its state as it was, and one that stops a running node
 -- leaves a crash of its disk with the junk
-abbrev pub StateFollows : {D : Type 0} {g : Ghosts D} → (D → Type 0) → (D → State) → (D → ℕ) → (D → List State)
+abbrev pub StateFollows : {D : Type 0} {g : Ghosts D} → (D → Type 0) → (D → State) → (D → ℕ)
+    → (D → List State)
     → NodeState D g → NodeInput → NodeState D g → Type 0
 StateFollows is_honest state failures past (Up node) (to_node.Step inp) new = Unit {0}
 StateFollows is_honest state failures past (Up node) (to_node.BadFrame why) new = new ≡ Up node

@@ -37,7 +37,8 @@ AreSame cs i f f' (kind ∷ kinds) (choice ∷ choices) w =
     × AreSame cs (suc i) (λ j. f (suc j)) (λ j. f' (suc j)) kinds choices (model.after w o)
 
 -- a node worked for its event: it stopped by itself, or runs and took it
-pub record HasWorked (kind : EventKind) (o : model.Outcome BatchContent) (n : Machine) : Type 0 where
+pub record HasWorked (kind : EventKind) (o : model.Outcome BatchContent)
+    (n : Machine) : Type 0 where
   pub took : (o.stopped ≡ true) ⊎ ((n.running ≡ true) × (o.dropped ≡ None))
   pub no_stop : junk_of kind ≡ None
 
@@ -67,8 +68,8 @@ FaultsAreTold = (cs : Configurations) (kinds : List EventKind) (f f' : ℕ → F
     IsRun cs (with_faults f' kinds) choices report →
     AreSame cs 1 f f' kinds choices (model.first_state cs)
 
--- what two stop events with this junk and that left of a disk is one disk: then the junk is the same,
--- and so is what the disk had had
+-- what two stop events with this junk and that left of a disk is one disk: then the junk is the
+-- same, and so is what the disk had had
 abbrev pub StopsAreTold : Type 0
 StopsAreTold = (event event' : Event) (choice choice' : Choice) (o : model.Outcome BatchContent)
     (n : Machine) (junk junk' : Junk) (old old' new : Slots) → junk_of event.kind ≡ Some junk →

@@ -99,8 +99,8 @@ pub record SimNodeRefines (nodes : ℕ → Machine) (disks : ℕ → Slots) (sim
   pub is : StateRefines is_honest state sim.state sim.id (nodes sim.id)
   pub disk : disk_in sim.state ≡ disks sim.id
 
--- a node that was just created with this configuration: no call of its disk failed, and it was armed
--- with no fault
+-- a node that was just created with this configuration: no call of its disk failed, and it was
+-- armed with no fault
 pub record IsCreated (config : List ℕ) (sim : SimNode) : Type 0 where
   pub is : StateRefines is_honest state sim.state sim.id (created config)
   pub count : failures (disk_in sim.state) ≡ 0
@@ -131,8 +131,8 @@ abbrev pub HasTablesIn : {D : Type 0} {g : Ghosts D} → NodeState D g → Numbe
 HasTablesIn (Up node) numbers = HasTablesOf node numbers
 HasTablesIn (Down disk) numbers = ⊥
 
--- the report of this node has its id and its very disk, and numbers where it is up: they say how many
--- tables its store has
+-- the report of this node has its id and its very disk, and numbers where it is up: they say how
+-- many tables its store has
 pub record IsReportOf (sim : SimNode) (report : NodeReport) : Type 0 where
   pub id : report.id ≡ sim.id
   pub disk : report.disk ≡ disk_in sim.state
@@ -163,7 +163,8 @@ pub record HasMoved (sims : List SimNode) (x : ℕ) (node_input : NodeInput) (fa
   pub refines : (y : ℕ) (n : Machine) →
       StateRefines is_honest state (get_or sims index sim).state y n →
       OutcomeRefines is_honest state fault
-      (has_struck_in past_states fault (disk_in (get_or sims index sim).state) sim.state) y n node_input
+      (has_struck_in past_states fault (disk_in (get_or sims index sim).state) sim.state) y n
+      node_input
       (get_or sims index sim).state sim.state did
   pub disk : DiskFits state failures past_states (input_junk node_input) fault
       (has_struck_in past_states fault (disk_in (get_or sims index sim).state) sim.state) did
@@ -173,7 +174,8 @@ pub record HasMoved (sims : List SimNode) (x : ℕ) (node_input : NodeInput) (fa
       IsReliable (disk_in (get_or sims index sim).state) →
       IsExplained (state (disk_in (get_or sims index sim).state))
       (has_struck_in past_states fault (disk_in (get_or sims index sim).state) sim.state) did
-  pub follows : StateFollows is_honest state failures past_states (get_or sims index sim).state node_input
+  pub follows : StateFollows is_honest state failures past_states
+      (get_or sims index sim).state node_input
       sim.state
   pub grows : (y : ℕ) (n : Machine) →
       StateRefines is_honest state (get_or sims index sim).state y n →
@@ -192,8 +194,8 @@ pub record HasStepped (sims : List SimNode) (posted : List Posted) (x : ℕ) (no
   pub sent : HasPosted posted (sent_by did) more
   pub traced : lines ≡ outcome_lines x (length posted) did
 
--- An event acted on node x, which is machine n after it, and the disk that the node has follows from
--- the one that it had. Every other node is as it was.
+-- An event acted on node x, which is machine n after it, and the disk that the node has follows
+-- from the one that it had. Every other node is as it was.
 pub record HasActedOn (event : Event) (choice : Choice) (o : model_frame.Outcome BatchContent)
     (x : ℕ) (n : Machine) (old new : List SimNode) : Type 0 where
   pub index : ℕ
@@ -249,8 +251,9 @@ abbrev pub NodesRefine : (ℕ → Machine) → List SimNode → Type 0
 NodesRefine machines sims =
     All (λ sim. StateRefines is_honest state sim.state sim.id (machines sim.id)) sims
 
--- What the events from place i on leave of these nodes, one event after another, from a state of the
--- model on. Behind each of them those that are up have these limits, and all refine their machines.
+-- What the events from place i on leave of these nodes, one event after another, from a state of
+-- the model on. Behind each of them those that are up have these limits, and all refine their
+-- machines.
 abbrev pub AllNodesFollow : Configurations → Limits → ℕ → List Event → List Choice
     → model_frame.SystemState BatchContent → List SimNode → List SimNode → Type 0
 AllNodesFollow cs limits i [] choices w old new = new ≡ old
@@ -351,8 +354,8 @@ abbrev pub HasEnded : World → Type 0
 HasEnded world = world.ended ≡ true
 
 -- the lines so far are those of a run of the model over these events, and each node has the disk
--- that they left, which represents its machine's whole list, and which has no fault; reads at the last
--- tail are fresh, and no node gives up what another one may lack
+-- that they left, which represents its machine's whole list, and which has no fault; reads at the
+-- last tail are fresh, and no node gives up what another one may lack
 pub record IsRunSoFar (world : World) (cs : Configurations) (events : List Event)
     (choices : List Choice) (steps : List (List Line)) : Type 0 where
   pub trace : IsTrace cs events choices steps

@@ -35,8 +35,8 @@ pub struct EventRecord {
     pub event: Event,
 }
 
-/// What happens, apart from a fault of the disk: a client's request, a frame that arrives, a turn of a
-/// node, or a start or stop of its machine.
+/// What happens, apart from a fault of the disk: a client's request, a frame that arrives, a turn
+/// of a node, or a start or stop of its machine.
 #[derive(Drop)]
 pub enum EventKind {
     /// A client's batch.

@@ -19,7 +19,8 @@ ghost use Rattle.lab.specs.Worlds.{HasRun, HasApplied, HasEnded, AreCreated, Are
 ghost use Rattle.lab.specs.Worlds.{IsLeft, IsReportOf, IsRunSoFar, HasFollowed, HasHistory};
 ghost use Rattle.lab.specs.Worlds.{HasStayed, HaveLimits, IsIndexOf, WorldHasLimits};
 ghost use Rattle.lab.specs.Worlds.{WorldKeepsLimits};
-ghost use Rattle.lab.specs.Worlds.{HasDelivered, HasMoved, HasNoNode, HasPassed, HasTablesOf, TellsTables};
+ghost use Rattle.lab.specs.Worlds.{HasDelivered, HasMoved, HasNoNode, HasPassed, HasTablesOf};
+ghost use Rattle.lab.specs.Worlds.{TellsTables};
 ghost use Rattle.lab.specs.Worlds.{events_in, frames_in_steps};
 
 use crate::delivery::{Posted, delivery_of};
@@ -263,7 +264,8 @@ impl World {
     }
 
     /// Applies an event to the node that it is for. One that names a node which the world does not
-    /// have does nothing. After an error the world is at its end: every later step is refused, and what
+    /// have does nothing. After an error the world is at its end: every later step is refused, and
+    /// what
     /// `sent`, `numbers`, `report` and `events` say of it is left open.
     pub fn step(&mut self, alloc: Global, event: &Event) -> Result<(), LabError>
         ensures ran { (cs : Configurations) (events : List Event) (choices : List Choice)
@@ -300,7 +302,8 @@ impl World {
         self.frames.len() as u64
     }
 
-    /// The numbers of a node as it is now: none of one that is down, or that the world does not have.
+    /// The numbers of a node as it is now: none of one that is down, or that the world does not
+    /// have.
     pub fn numbers(&self, id: NodeId) -> Option<Numbers>
         ensures run { (cs : Configurations) (events : List Event) (choices : List Choice)
             (steps : List (List Line)) →
@@ -324,7 +327,8 @@ impl World {
             HasRun self.now cs events choices steps → result.now ≡ steps }
         ensures run { (cs : Configurations) (events : List Event) (choices : List Choice)
             (steps : List (List Line)) →
-            HasRun self.now cs events choices steps → IsRunSoFar self.now cs events choices result.now }
+            HasRun self.now cs events choices steps
+            → IsRunSoFar self.now cs events choices result.now }
         ensures history { (cs : Configurations) (events : List Event) (choices : List Choice)
             (steps : List (List Line)) →
             HasRun self.now cs events choices steps → HasHistory self.now cs events result.now }
@@ -353,7 +357,8 @@ impl World {
     pub fn finish(self, alloc: Global) -> Result<Report, LabError>
         ensures steps { (cs : Configurations) (events : List Event) (choices : List Choice)
             (steps : List (List Line)) →
-            HasRun self cs events choices steps → IfOk result (λ report. report.steps.items ≡ steps) }
+            HasRun self cs events choices steps
+            → IfOk result (λ report. report.steps.items ≡ steps) }
         ensures run { (cs : Configurations) (events : List Event) (choices : List Choice)
             (steps : List (List Line)) →
             HasRun self cs events choices steps → IfOk result (IsRun cs events choices) }

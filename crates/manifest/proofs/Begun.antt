@@ -38,7 +38,8 @@ module _ (id : ℕ) (one : List ℕ) (short : length one < 2 ^ 32) where
 
   pub held_begun : (new : State) (slots : SlotPair) (was : Option (List ℕ)) → slots.slot ≡ 1
       → slots.generation ≡ 1 → slots.id ≡ id → slots.other_is_open ≡ false
-      → IsAt 1 head_length slots.log → LogHolds new slots.log (one ∷ []) → IsDurableAs new 1 (1 ∷ behind)
+      → IsAt 1 head_length slots.log → LogHolds new slots.log (one ∷ [])
+      → IsDurableAs new 1 (1 ∷ behind)
       → IsDurableAs new 2 (begun was) → SlotsHold new slots id (one ∷ [])
   held_begun new slots was s g i o at log sure other =
       let there : IsDurableAs new 1 log.bytes =

@@ -246,16 +246,19 @@ grouped : (c : Change) → to_be_bytes w64 c.next_file ++ (to_be_bytes w64 c.flo
     ++ (config_text c.ids
     ++ (counted_bytes (λ file. to_be_bytes w64 file) c.logs_gone
     ++ (counted_bytes log_line_bytes c.logs_added
-    ++ (counted_bytes table_name_bytes c.tables_gone ++ counted_bytes table_line_bytes c.tables_added)))))))
+    ++ (counted_bytes table_name_bytes c.tables_gone
+    ++ counted_bytes table_line_bytes c.tables_added)))))))
     ≡ change_text c
 unfolding change_text
 grouped c =
     regrouped (to_be_bytes w64 c.next_file) (to_be_bytes w64 c.floor) (to_be_bytes w64 c.flushed)
     (to_be_bytes w32 c.epoch) (config_text c.ids)
-    (counted_bytes (λ file. to_be_bytes w64 file) c.logs_gone) (counted_bytes log_line_bytes c.logs_added)
+    (counted_bytes (λ file. to_be_bytes w64 file) c.logs_gone)
+    (counted_bytes log_line_bytes c.logs_added)
     (counted_bytes table_name_bytes c.tables_gone) (counted_bytes table_line_bytes c.tables_added)
 
-spelled_reads : {A : Type 0} {Is : A → Type 0} {spell : A → List ℕ} {read : List ℕ → Option (A × List ℕ)}
+spelled_reads : {A : Type 0} {Is : A → Type 0} {spell : A → List ℕ} {read : List ℕ
+    → Option (A × List ℕ)}
     (other : A → List ℕ) → ((a : A) → spell a ≡ other a) → Reads Is spell read
     → Reads Is other read
 spelled_reads {A} {Is} {spell} {read} other same r =
@@ -308,11 +311,14 @@ change_reads decides =
 
 -- all of the bytes
 
-again_whole : TestDecidesConfig → (change : Change) → IsChange change → change_front (change_text change) ≡ Some (change, [])
+again_whole : TestDecidesConfig → (change : Change) → IsChange change
+    → change_front (change_text change) ≡ Some (change, [])
 again_whole decides change is =
-    ap change_front (sym (append-nil (change_text change))) ∙ (change_reads decides).again change [] is
+    ap change_front (sym (append-nil (change_text change)))
+    ∙ (change_reads decides).again change [] is
 
-pub change_again : TestDecidesConfig → (change : Change) → IsChange change → change_of (change_text change) ≡ Some change
+pub change_again : TestDecidesConfig → (change : Change) → IsChange change
+    → change_of (change_text change) ≡ Some change
 unfolding change_of
 change_again decides change is = rw (again_whole decides change is) refl
 
@@ -322,7 +328,8 @@ is_ended rest change found e =
     let p = passed (length rest == 0) change found e in
     (nil_from_length rest (eqb-true (length rest) 0 p.0), p.1)
 
-pub change_takes : TestDecidesConfig → (bytes : List ℕ) (change : Change) → IsBytes bytes → change_of bytes ≡ Some change
+pub change_takes : TestDecidesConfig → (bytes : List ℕ) (change : Change) → IsBytes bytes
+    → change_of bytes ≡ Some change
     → (bytes ≡ change_text change) × IsChange change
 unfolding change_of
 change_takes decides bytes change fits e =
@@ -336,14 +343,17 @@ change_takes decides bytes change fits e =
 
 pub one_spelling : TestDecidesConfig → ChangesDiffer
 one_spelling decides a b is_a is_b same =
-    some_is a b (sym (change_again decides a is_a) ∙ ap change_of same ∙ change_again decides b is_b)
+    some_is a b (sym (change_again decides a is_a) ∙ ap change_of same
+    ∙ change_again decides b is_b)
 
 -- ---- what a reader of an edit returns
 
-pub change_found : TestDecidesConfig → (result : Result Change ManifestError) (bytes : List ℕ) → IsBytes bytes
+pub change_found : TestDecidesConfig → (result : Result Change ManifestError) (bytes : List ℕ)
+    → IsBytes bytes
     → ReadsChange result (change_of bytes)
     → IfOk result (λ change. IsChange change × (bytes ≡ change_text change))
-change_found decides (Ok change) bytes fits e = let t = change_takes decides bytes change fits e in (t.1, t.0)
+change_found decides (Ok change) bytes fits e = let t = change_takes decides bytes change fits e in
+    (t.1, t.0)
 change_found decides (Err e) bytes fits h = tt
 
 pub change_bad : TestDecidesConfig → (result : Result Change ManifestError) (bytes : List ℕ)

@@ -1,12 +1,14 @@
 -- A version, by its edits.
-use Rattle.std.proofs.Common.{◌≡◌, ◌≢◌, ℕ, List, [], ◌∷◌, ◌++◌, map, refl, sym, ap, subst, ◌∙◌, inl, inr}
+use Rattle.std.proofs.Common.{◌≡◌, ◌≢◌, ℕ, List, [], ◌∷◌, ◌++◌, map, refl, sym, ap, subst, ◌∙◌, inl}
+use Rattle.std.proofs.Common.{inr}
 use Rattle.std.specs.Prelude.{All, ◌⊎◌}
 use Rattle.std.proofs.lemmas.List.Elements.{All-append, All-cons, All-nil}
 use Rattle.disk.specs.{State, Contents}
 use Rattle.disk.specs.{LeavesSince}
 use Rattle.disk.specs.MomentsLemmas.{started, weaker}
 use Rattle.manifest.specs.declared.manifest.Manifest.{Manifest}
-use Rattle.manifest.specs.Versions.{StoreVersion, NodeVersion, Change, empty, changed, IsFit, AreFit, after_all}
+use Rattle.manifest.specs.Versions.{StoreVersion, NodeVersion, Change, empty, changed, IsFit}
+use Rattle.manifest.specs.Versions.{AreFit, after_all}
 use Rattle.manifest.specs.Versions.{node_version_after}
 use Rattle.manifest.specs.Lawful.{IsWholeEdit}
 use Rattle.manifest.specs.Edits.{IsChange, change_text}
@@ -41,7 +43,8 @@ not_empty [] one same = absurd cc
 not_empty (first ∷ others) one same = absurd cc
 
 module _ (disk : State) (manifest : Manifest) (named : NodeVersion) (one : Change)
-    (h : ManifestHolds disk manifest named) (fit : IsFit named.version one) (is : IsChange one) where
+    (h : ManifestHolds disk manifest named) (fit : IsFit named.version one)
+    (is : IsChange one) where
   abbrev more : List Change
   more = h.changes ++ one ∷ []
 
@@ -92,11 +95,13 @@ module _ (disk : State) (manifest : Manifest) (named : NodeVersion) (one : Chang
       (λ left. SlotsRepresent named.id (map change_text h.changes) left
       ⊎ SlotsRepresent named.id (map change_text h.changes ++ text ∷ []) left))
       → LeavesSince disk past new since (SlotsAreLeft disk
-      (λ left. ManifestRepresents named left ⊎ ManifestRepresents (node_version_after named one) left))
+      (λ left. ManifestRepresents named left
+      ⊎ ManifestRepresents (node_version_after named one) left))
   version_since text same new past since run =
       weaker (SlotsAreLeft disk (λ left. SlotsRepresent named.id (map change_text h.changes) left
       ⊎ SlotsRepresent named.id (map change_text h.changes ++ text ∷ []) left))
-      (SlotsAreLeft disk (λ left. ManifestRepresents named left ⊎ ManifestRepresents (node_version_after named one) left))
+      (SlotsAreLeft disk (λ left. ManifestRepresents named left
+      ⊎ ManifestRepresents (node_version_after named one) left))
       disk past new since
       (λ left has. record {
         here = elim has.here [
@@ -109,9 +114,11 @@ module _ (disk : State) (manifest : Manifest) (named : NodeVersion) (one : Chang
 
   -- before the first call
   pub version_start : (past : List State) → LeavesSince disk past disk past (SlotsAreLeft disk
-      (λ left. ManifestRepresents named left ⊎ ManifestRepresents (node_version_after named one) left))
+      (λ left. ManifestRepresents named left
+      ⊎ ManifestRepresents (node_version_after named one) left))
   version_start past =
-      started (SlotsAreLeft disk (λ left. ManifestRepresents named left ⊎ ManifestRepresents (node_version_after named one) left))
+      started (SlotsAreLeft disk (λ left. ManifestRepresents named left
+      ⊎ ManifestRepresents (node_version_after named one) left))
       disk past
       (λ left now. record {
         here = inl (old_version left
@@ -154,7 +161,8 @@ module _ (disk : State) (manifest : Manifest) (named : NodeVersion) (text : List
   gives_whole = ap (λ (n : NodeVersion). n.version) (sym h.knows) ∙ sym w.whole
 
   -- the new record gives the same version
-  whole_version : (left : Contents) → SlotsRepresent named.id (text ∷ []) left → ManifestRepresents named left
+  whole_version : (left : Contents) → SlotsRepresent named.id (text ∷ []) left
+      → ManifestRepresents named left
   whole_version left has =
       record {
         id = h.id;
@@ -237,7 +245,8 @@ whole_start disk past manifest named h =
     })
 
 -- slots with one edit that gives a version whole
-pub held_whole : (disk : State) (manifest : Manifest) (named : NodeVersion) (text : List ℕ) → IsId named.id
+pub held_whole : (disk : State) (manifest : Manifest) (named : NodeVersion) (text : List ℕ)
+    → IsId named.id
     → (w : IsWholeEdit named text) → (ManifestHasFailed manifest → ⊥) → manifest.version ≡ named
     → SlotsHold disk manifest.slots named.id (text ∷ []) → ManifestHolds disk manifest named
 held_whole disk manifest named text id w works knows held =

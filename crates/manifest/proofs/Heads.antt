@@ -1,5 +1,6 @@
 -- The bytes of a slot's head.
-use Rattle.std.proofs.Common.{◌≡◌, ◌^◌, ℕ, List, [], ◌∷◌, ◌++◌, Some, ap, arith, drop, get_or, length}
+use Rattle.std.proofs.Common.{◌≡◌, ◌^◌, ℕ, List, [], ◌∷◌, ◌++◌, Some, ap, arith, drop, get_or}
+use Rattle.std.proofs.Common.{length}
 use Rattle.std.proofs.Common.{◌∙◌, length-append, Result, Ok, Err, inr}
 use Rattle.std.specs.Prelude.{MatchResult, ◌⊎◌}
 use Rattle.std.proofs.lemmas.List.{nil_from_length}

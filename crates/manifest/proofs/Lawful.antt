@@ -13,7 +13,8 @@ use Rattle.kv_types.specs.{text_bytes}
 use Rattle.manifest.specs.declared.line.LogLine.{LogLine}
 use Rattle.manifest.specs.declared.line.TableName.{TableName}
 use Rattle.manifest.specs.declared.line.TableLine.{TableLine}
-use Rattle.manifest.specs.Versions.{StoreVersion, NodeVersion, Change, empty, changed, IsFit, AreFit, after_all}
+use Rattle.manifest.specs.Versions.{StoreVersion, NodeVersion, Change, empty, changed, IsFit}
+use Rattle.manifest.specs.Versions.{AreFit, after_all}
 use Rattle.manifest.specs.Versions.{logs_left, tables_left, log_is_before, table_is_before, placed}
 use Rattle.manifest.specs.Versions.{first_version, is_new_file, names_file, names_log, version_in}
 use Rattle.manifest.specs.Versions.{AreLawful, IsNew, IsThere, NumbersRise, keeps_ids}
@@ -45,7 +46,8 @@ empty_lines = record {
   tables_in_order = tt;
 }
 
-module _ (v : StoreVersion) (c : Change) (lines : AreLines v) (fit : IsFit v c) (is : IsChange c) where
+module _ (v : StoreVersion) (c : Change) (lines : AreLines v) (fit : IsFit v c)
+    (is : IsChange c) where
   abbrev new : StoreVersion
   new = changed v c
 
@@ -75,7 +77,8 @@ module _ (v : StoreVersion) (c : Change) (lines : AreLines v) (fit : IsFit v c) 
   lines_kept = record {
     logs = fold_all IsLogLine log_is_before (logs_left c.logs_gone v.logs) c.logs_added
         (All-filter _ IsLogLine v.logs lines.logs) is.logs_added.1;
-    tables = fold_all IsTableLine table_is_before (tables_left c.tables_gone v.tables) c.tables_added
+    tables = fold_all IsTableLine table_is_before
+        (tables_left c.tables_gone v.tables) c.tables_added
         (All-filter _ IsTableLine v.tables lines.tables) is.tables_added.1;
     log_files = fold_all (λ (line : LogLine). IsGiven new line.file) log_is_before
         (logs_left c.logs_gone v.logs) c.logs_added
@@ -317,8 +320,10 @@ change_is_short c is few_logs few_tables =
     let n = lengths (to_be_bytes w64 c.next_file) (to_be_bytes w64 c.floor)
     (to_be_bytes w64 c.flushed) (to_be_bytes w32 c.epoch)
     (config_text c.ids)
-    (counted_bytes (λ file. to_be_bytes w64 file) c.logs_gone) (counted_bytes log_line_bytes c.logs_added)
-    (counted_bytes table_name_bytes c.tables_gone) (counted_bytes table_line_bytes c.tables_added) in
+    (counted_bytes (λ file. to_be_bytes w64 file) c.logs_gone)
+    (counted_bytes log_line_bytes c.logs_added)
+    (counted_bytes table_name_bytes c.tables_gone)
+    (counted_bytes table_line_bytes c.tables_added) in
     let ids : length (flat_map (λ id. to_be_bytes w16 id) c.ids) ≤ 2 * length c.ids =
     flat_bound 2 (λ id. to_be_bytes w16 id) c.ids (λ k d lt. omega arith) in
     let config : length (config_text c.ids) ≤ 33 =
@@ -334,15 +339,19 @@ change_is_short c is few_logs few_tables =
     counted_bound 8 (λ file. to_be_bytes w64 file) c.logs_gone (λ k d lt. omega arith) in
     let logs : length (counted_bytes log_line_bytes c.logs_added) ≤ 2 + 16 * length c.logs_added =
     counted_bound 16 log_line_bytes c.logs_added (λ k d lt. omega arith) in
-    let names : length (counted_bytes table_name_bytes c.tables_gone) ≤ 2 + 9 * length c.tables_gone =
+    let names : length (counted_bytes table_name_bytes c.tables_gone) ≤ 2 + 9 * length c.tables_gone
+    =
     counted_bound 9 table_name_bytes c.tables_gone (λ k d lt. omega arith) in
-    let tables : length (counted_bytes table_line_bytes c.tables_added) ≤ 2 + 2069 * length c.tables_added =
+    let tables : length (counted_bytes table_line_bytes c.tables_added) ≤ 2 + 2069 * length
+    c.tables_added =
     counted_bound 2069 table_line_bytes c.tables_added
-    (All-weaker IsTableLine (λ line. length (table_line_bytes line) ≤ 2069) table_bound c.tables_added
+    (All-weaker IsTableLine (λ line.
+    length (table_line_bytes line) ≤ 2069) table_bound c.tables_added
     is.tables_added.1) in
     let total : 8 + 8 + 8 + 4 + length (config_text c.ids)
     + length (counted_bytes (λ file. to_be_bytes w64 file) c.logs_gone)
-    + length (counted_bytes log_line_bytes c.logs_added) + length (counted_bytes table_name_bytes c.tables_gone)
+    + length (counted_bytes log_line_bytes c.logs_added) + length
+    (counted_bytes table_name_bytes c.tables_gone)
     + length (counted_bytes table_line_bytes c.tables_added) ≤ MAX_RECORD =
     omega (
       arith,
@@ -362,7 +371,11 @@ change_is_short c is few_logs few_tables =
 pub few_added : (v : StoreVersion) (c : Change) → IsFit v c
     → (length c.logs_added ≤ 4096) × (length c.tables_added ≤ 4096)
 few_added v c fit = (
-  omega (arith, fit.lawful.few_logs, fold_length log_is_before (logs_left c.logs_gone v.logs) c.logs_added),
+  omega (
+    arith,
+    fit.lawful.few_logs,
+    fold_length log_is_before (logs_left c.logs_gone v.logs) c.logs_added,
+  ),
   omega (
     arith,
     fit.lawful.few_tables,
@@ -376,7 +389,8 @@ pub whole_is_short : (v : StoreVersion) → IsVersion v → (bytes : List ℕ)
     → bytes ≡ change_text (whole_change v) → length bytes ≤ MAX_RECORD
 whole_is_short v is bytes same =
     subst (λ (t : List ℕ). length t ≤ MAX_RECORD) (sym same)
-    (change_is_short (whole_change v) (whole_change_is v is) is.lawful.few_logs is.lawful.few_tables)
+    (change_is_short (whole_change v)
+    (whole_change_is v is) is.lawful.few_logs is.lawful.few_tables)
 
 pub whole_is_whole : (named : NodeVersion) → IsVersion named.version → (bytes : List ℕ)
     → bytes ≡ change_text (whole_change named.version) → IsWholeEdit named bytes

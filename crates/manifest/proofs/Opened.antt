@@ -107,7 +107,8 @@ is_open (Some (b ∷ bytes)) g id a =
 
 -- so a store was created
 made : (left : Contents) (slot g id : ℕ) → IsSlotFile slot
-    → IsSomeAnd (left slot) (λ bytes. take head_length bytes ≡ slot_head g id) → IsNotCreated left → ⊥
+    → IsSomeAnd (left slot) (λ bytes. take head_length bytes ≡ slot_head g id) → IsNotCreated left
+    → ⊥
 made left slot g id one head blank =
     elim one [ inl s ↦ blank.first (at 1 s) | inr s ↦ blank.second (at 2 s) ]
   where
@@ -278,7 +279,8 @@ module _ (it : CountingSlot) (left : Contents) (old new : State) (c : SlotCounts
       let here : IsDurableAs new it.slot holds.bytes =
       subst (λ (f : ℕ). IsDurableAs new f holds.bytes) at.in_file holds.sure in
       let same : holds.bytes ≡ own.0 =
-      same_bytes old new it.slot own.0 holds.bytes (kept.durable it.slot c.one own.0 own.1) here adds in
+      same_bytes old new it.slot own.0 holds.bytes
+      (kept.durable it.slot c.one own.0 own.1) here adds in
       subst (λ (s : SlotPair). SlotsHold new s it.id records) (sym is) (record {
         one = c.one;
         is_id = refl;
@@ -300,7 +302,8 @@ module _ (it : CountingSlot) (left : Contents) (old new : State) (c : SlotCounts
       let here : IsDurableAs new it.slot holds.bytes =
       subst (λ (f : ℕ). IsDurableAs new f holds.bytes) at.in_file holds.sure in
       let same : holds.bytes ≡ own.0 =
-      same_bytes old new it.slot own.0 holds.bytes (kept.durable it.slot c.one own.0 own.1) here adds in
+      same_bytes old new it.slot own.0 holds.bytes
+      (kept.durable it.slot c.one own.0 own.1) here adds in
       elim (cases_eq slot it.slot) [
         | inl is ↦ subst (λ (f : ℕ). seen (new f) ≡ left f) (sym is)
             (ap seen here ∙ ap Some same ∙ sym own.1)

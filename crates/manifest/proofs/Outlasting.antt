@@ -46,7 +46,8 @@ version_is_left disk manifest named left h outcomes = record {
   each = h.each;
   fit = h.fit;
   is = h.is;
-  records = has_old disk manifest.slots named.id (map change_text h.changes) h.records left outcomes;
+  records = has_old disk manifest.slots named.id
+      (map change_text h.changes) h.records left outcomes;
 }
 
 pub version_stays : HeldVersionStays
@@ -59,5 +60,6 @@ version_stays disk other manifest named h same = record {
   each = h.each;
   fit = h.fit;
   is = h.is;
-  records = slots_stay disk manifest.slots named.id (map change_text h.changes) h.records other same;
+  records = slots_stay disk manifest.slots named.id
+      (map change_text h.changes) h.records other same;
 }

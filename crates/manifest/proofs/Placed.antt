@@ -1,6 +1,8 @@
 -- Lists kept in order.
-use Rattle.std.proofs.Common.{◌≡◌, ◌⊎◌, ℕ, suc, ◌+◌, ◌<◌, ◌≤◌, Bool, true, false, cond, ◌||◌, ◌&&◌, ltb, eqb}
-use Rattle.std.proofs.Common.{List, [], ◌∷◌, ◌++◌, length, All, refl, sym, ap, subst, ◌∙◌, arith, inl, inr}
+use Rattle.std.proofs.Common.{◌≡◌, ◌⊎◌, ℕ, suc, ◌+◌, ◌<◌, ◌≤◌, Bool, true, false, cond, ◌||◌, ◌&&◌}
+use Rattle.std.proofs.Common.{ltb, eqb}
+use Rattle.std.proofs.Common.{List, [], ◌∷◌, ◌++◌, length, All, refl, sym, ap, subst, ◌∙◌, arith}
+use Rattle.std.proofs.Common.{inl, inr}
 use Rattle.std.proofs.Common.{append_assoc, zero, take, get_or}
 use Rattle.std.proofs.lemmas.List.{append-nil}
 use Rattle.std.specs.List.{fold, filter, insert}
@@ -195,7 +197,13 @@ is_before a b e =
           let same = eqb-true a.level b.level p.0 in
           elim (cond_true (eqb a.level 0) file key p.1) [
             | inl top ↦ inr (same, inl (eqb-true a.level 0 top.0, ltb-true a.file b.file top.1))
-            | inr deep ↦ inr (same, inr (eqb_zero a.level deep.0, (lt_below a.least b.least).0 deep.1))
+            | inr deep ↦ inr (
+              same,
+              inr (
+                eqb_zero a.level deep.0,
+                (lt_below a.least b.least).0 deep.1,
+              ),
+            )
           ]
     ]
 

@@ -13,13 +13,15 @@ use Rattle.std.specs.Prelude.{MatchResult}
 use Rattle.record_log.specs.declared.LogError.{LogError}
 use Rattle.record_log.specs.declared.log.Log.{Log}
 use Rattle.record_log.specs.declared.log.TheConstants.{MAX_RECORD}
-use Rattle.record_log.specs.{LogHolds, file_of, start_of, IsAt, IsOldOrNewFrom, Appended, IsExpected}
+use Rattle.record_log.specs.{LogHolds, file_of, start_of, IsAt, IsOldOrNewFrom, Appended}
+use Rattle.record_log.specs.{IsExpected}
 use Rattle.record_log.specs.{HasFailed, IsExternal}
 use Rattle.record_log.specs.declared.LogError.TheVariants as errors
 use Rattle.std.proofs.Common.{length}
 use Rattle.std.specs.Prelude.{IfErr}
 use Rattle.manifest.specs.declared.slot_pair.SlotPair.{SlotPair}
-use Rattle.manifest.specs.Slots.{IsSlotFile, other_slot, slot_head, head_length, IsSlot, IsSuperseded, SlotsRepresent}
+use Rattle.manifest.specs.Slots.{IsSlotFile, other_slot, slot_head, head_length, IsSlot}
+use Rattle.manifest.specs.Slots.{IsSuperseded, SlotsRepresent}
 use Rattle.manifest.specs.Slots.{SlotsAreLeft}
 use Rattle.std.proofs.Common.{◌≤◌, Bool}
 use Rattle.kv_types.specs.declared.bounds.TheConstants.{MAX_NUMBER}
@@ -67,7 +69,8 @@ module _ (disk : State) (slots : SlotPair) (id : ℕ) (records : List (List ℕ)
       ]
 
   -- the other one yields
-  yields : (left : Contents) → IsFileOutcome (disk (other_slot slots.slot)) (left (other_slot slots.slot))
+  yields : (left : Contents) → IsFileOutcome (disk (other_slot slots.slot))
+      (left (other_slot slots.slot))
       → IsSomeAnd (left (other_slot slots.slot)) (IsSuperseded slots.generation)
   yields left now =
       let Q : Option (List ℕ) → Type 0 = λ l. IsSomeAnd l (IsSuperseded slots.generation) in
@@ -185,7 +188,8 @@ held_after disk new past since slots later id records one h s g i o at log run o
     }
 
 -- whatever an append answers
-pub recorded : {T : Type 0} (untouched : Type 0) (disk new : State) (past since : List State) (slots : SlotPair)
+pub recorded : {T : Type 0} (untouched : Type 0) (disk new : State) (past since : List State)
+    (slots : SlotPair)
     (log : Log) (id : ℕ) (records : List (List ℕ)) (one : List ℕ)
     (h : SlotsHold disk slots id records) (result : Result T LogError)
     → Appended MAX_RECORD result slots.log log one untouched
@@ -196,19 +200,22 @@ pub recorded : {T : Type 0} (untouched : Type 0) (disk new : State) (past since 
     → MatchResult result
     (λ _. SlotsHold new (record slots { log = log }) id (records ++ one ∷ [])) IsExpected
 recorded untouched disk new past since slots log id records one h (Ok x) told held run others =
-    held_after disk new past since slots (record slots { log = log }) id records one h refl refl refl
+    held_after disk new past since slots
+    (record slots { log = log }) id records one h refl refl refl
     refl
     (record {
       in_file = told.0.file ∙ h.at.in_file;
       from = told.0.start ∙ h.at.from;
       works = told.1.2;
     }) held run others
-recorded untouched disk new past since slots log id records one h (Err e) told held run others = held
+recorded untouched disk new past since slots log id records one h (Err e) told held run others =
+    held
 
 -- a log that works, and a record that is not too long
 pub machine_only : {T : Type 0} (untouched : Type 0) (old log : Log) (one : List ℕ)
     (result : Result T LogError) → Appended MAX_RECORD result old log one untouched
-    → (HasFailed old → ⊥) → length one ≤ MAX_RECORD → IfErr result IsExpected → IfErr result IsExternal
+    → (HasFailed old → ⊥) → length one ≤ MAX_RECORD → IfErr result IsExpected
+    → IfErr result IsExternal
 machine_only untouched old log one (Ok x) told works short met = tt
 machine_only untouched old log one (Err (errors.Disk e)) told works short met = elim met [
   | inl machine ↦ machine
@@ -217,7 +224,8 @@ machine_only untouched old log one (Err (errors.Disk e)) told works short met = 
 machine_only untouched old log one (Err errors.Memory) told works short met = inr refl
 machine_only untouched old log one (Err errors.TooLong) told works short met =
     let long = told.1.1 in absurd (omega (arith, long, short))
-machine_only untouched old log one (Err errors.Failed) told works short met = absurd (works told.1.0)
+machine_only untouched old log one (Err errors.Failed) told works short met =
+    absurd (works told.1.0)
 
 -- what is said of each answer is said of a refusal
 pub errors_of : {T : Type 0} (P : T → Type 0) (Q : LogError → Type 0) (result : Result T LogError)

@@ -1,11 +1,13 @@
 -- Records that are replayed one after the other.
-use Rattle.std.proofs.Common.{◌≡◌, ◌≢◌, ℕ, zero, suc, ◌+◌, ◌≤◌, List, [], ◌∷◌, ◌++◌, length, map, take}
+use Rattle.std.proofs.Common.{◌≡◌, ◌≢◌, ℕ, zero, suc, ◌+◌, ◌≤◌, List, [], ◌∷◌, ◌++◌, length, map}
+use Rattle.std.proofs.Common.{take}
 use Rattle.std.proofs.Common.{Option, Some, None, All, refl, sym, ap, subst, ◌∙◌, arith}
 use Rattle.std.specs.Prelude.{Err, IsErrOf, slice_get}
 use Rattle.std.proofs.lemmas.List.{take_all}
 use Rattle.std.proofs.lemmas.List.Elements.{All-append, All-cons, All-head, All-nil, All-tail}
 use Rattle.record_log.specs.{ends_from}
-use Rattle.manifest.specs.Versions.{StoreVersion, NodeVersion, Change, IsFit, AreFit, after_all, changed}
+use Rattle.manifest.specs.Versions.{StoreVersion, NodeVersion, Change, IsFit, AreFit, after_all}
+use Rattle.manifest.specs.Versions.{changed}
 use Rattle.manifest.specs.Versions.{empty, version_in}
 use Rattle.manifest.specs.Edits.{IsChange, ChangesDiffer, change_text}
 use Rattle.manifest.specs.Replays.{IsEditHistory, IsReplayed, version_after_all}
@@ -56,7 +58,8 @@ replayed_next id draft records i bytes one version r got spelled is fit gives =
       changes = r.changes ++ one ∷ [];
       each = All-append IsChange r.changes (one ∷ []) r.each
           (All-cons IsChange one [] is (All-nil IsChange));
-      fit = fit_push empty r.changes one r.fit (subst (λ (v : StoreVersion). IsFit v one) before fit);
+      fit = fit_push empty r.changes one r.fit
+          (subst (λ (v : StoreVersion). IsFit v one) before fit);
       spelled = take_got records i bytes got
           ∙ ap (λ (b : List ℕ). take i records ++ b ∷ []) spelled
           ∙ ap (λ (l : List (List ℕ)). l ++ change_text one ∷ []) r.spelled
@@ -123,7 +126,8 @@ no_records : (cs : List Change) → map change_text cs ≡ [] → cs ≡ []
 no_records [] e = refl
 no_records (c ∷ cs) e = absurd cc
 
-pub some_replayed : (id : ℕ) (cs : List Change) (n : ℕ) → IsReplayed id None (take n (map change_text cs))
+pub some_replayed : (id : ℕ) (cs : List Change) (n : ℕ)
+    → IsReplayed id None (take n (map change_text cs))
     → length (map change_text cs) ≤ n → IsEditHistory cs → ⊥
 some_replayed id cs n r all history =
     history.some (no_records cs (sym (take_all n (map change_text cs) all) ∙ r.spelled

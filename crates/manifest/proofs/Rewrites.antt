@@ -1,5 +1,6 @@
 -- What the two slots represent while the one that does not count is written anew.
-use Rattle.std.proofs.Common.{◌≡◌, ◌≢◌, ℕ, ◌+◌, ◌<◌, ◌≤◌, ◌^◌, List, [], ◌∷◌, ◌++◌, length, take, drop}
+use Rattle.std.proofs.Common.{◌≡◌, ◌≢◌, ℕ, ◌+◌, ◌<◌, ◌≤◌, ◌^◌, List, [], ◌∷◌, ◌++◌, length, take}
+use Rattle.std.proofs.Common.{drop}
 use Rattle.std.proofs.Common.{Option, Some, None, refl, sym, ap, subst, ◌∙◌, inl, inr, arith}
 use Rattle.std.proofs.Common.{append_assoc, append-nil}
 use Rattle.std.specs.Prelude.{IsSomeAnd, ◌⊎◌}
@@ -16,7 +17,8 @@ use Rattle.record_log.specs.{Represents}
 use Rattle.record_log.specs.{IsDurableAs}
 use Rattle.record_log.specs.{file_of, LogHolds, IsAt}
 use Rattle.manifest.specs.declared.slot_pair.SlotPair.{SlotPair}
-use Rattle.manifest.specs.Slots.{IsSlotFile, other_slot, slot_head, head_length, IsSlot, IsSuperseded, SlotsRepresent}
+use Rattle.manifest.specs.Slots.{IsSlotFile, other_slot, slot_head, head_length, IsSlot}
+use Rattle.manifest.specs.Slots.{IsSuperseded, SlotsRepresent}
 use Rattle.manifest.specs.Slots.{SlotsAreLeft}
 use Rattle.manifest.specs.Holds.{SlotsHold, slot_behind}
 use Rattle.manifest.proofs.Replaces.{OnTheWay}
@@ -155,10 +157,12 @@ module _ (disk : State) (slots : SlotPair) (id : ℕ) (records : List (List ℕ)
       → file ≡ other_slot slots.slot
       → LeavesSince disk past new since (IsLeftAt disk file (OnTheWay h.other_bytes behind))
       → LeavesSince disk past new since
-      (SlotsAreLeft disk (λ left. SlotsRepresent id records left ⊎ SlotsRepresent id (one ∷ []) left))
+      (SlotsAreLeft disk (λ left. SlotsRepresent id records left
+      ⊎ SlotsRepresent id (one ∷ []) left))
   either_since new past since file is run =
       weaker (IsLeftAt disk file (OnTheWay h.other_bytes behind))
-      (SlotsAreLeft disk (λ left. SlotsRepresent id records left ⊎ SlotsRepresent id (one ∷ []) left))
+      (SlotsAreLeft disk (λ left. SlotsRepresent id records left
+      ⊎ SlotsRepresent id (one ∷ []) left))
       disk past new since
       (λ left at. record {
         here = has_either file is left at;
@@ -184,9 +188,11 @@ module _ (disk : State) (slots : SlotPair) (id : ℕ) (records : List (List ℕ)
 
   -- so no moment has passed
   pub unmoved : (past : List State) → LeavesSince disk past disk past
-      (SlotsAreLeft disk (λ left. SlotsRepresent id records left ⊎ SlotsRepresent id (one ∷ []) left))
+      (SlotsAreLeft disk (λ left. SlotsRepresent id records left
+      ⊎ SlotsRepresent id (one ∷ []) left))
   unmoved past =
-      started (SlotsAreLeft disk (λ left. SlotsRepresent id records left ⊎ SlotsRepresent id (one ∷ []) left))
+      started (SlotsAreLeft disk (λ left. SlotsRepresent id records left
+      ⊎ SlotsRepresent id (one ∷ []) left))
       disk past
       (λ left now. record {
         here = inl (has_old left now);

@@ -1,5 +1,6 @@
 -- A slot that was written anew is short.
-use Rattle.std.proofs.Common.{◌≡◌, ◌<◌, ◌≤◌, ◌^◌, ◌+◌, ◌*◌, ℕ, List, [], ◌∷◌, append-nil, arith, drop}
+use Rattle.std.proofs.Common.{◌≡◌, ◌<◌, ◌≤◌, ◌^◌, ◌+◌, ◌*◌, ℕ, List, [], ◌∷◌, append-nil, arith}
+use Rattle.std.proofs.Common.{drop}
 use Rattle.std.proofs.Common.{length, length-append, refl, subst}
 use Rattle.disk.specs.{Kept, State}
 use Rattle.record_log.specs.declared.log.TheConstants.{MAX_RECORD}
@@ -13,7 +14,8 @@ use Rattle.manifest.proofs.Rewrites.{new_slot}
 -- whatever the disk, the log of a slot with one record ends behind that record
 pub new_is_short : GatesAreInFiles → FirstLengthIs → (file generation id : ℕ) (one : List ℕ)
     (log : Log) → length one ≤ MAX_RECORD →
-    ((disk : State) → IsDurableLog disk file head_length (one ∷ []) → LogHolds disk log (one ∷ [])) →
+    ((disk : State) → IsDurableLog disk file head_length (one ∷ [])
+    → LogHolds disk log (one ∷ [])) →
     2 * first_length log + 65536 < gate_of log + 1 → ⊥
 new_is_short gates first file generation id one log short holds long =
     let behind = slot_behind generation id one in

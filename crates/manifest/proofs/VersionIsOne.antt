@@ -12,7 +12,8 @@ use Rattle.record_log.specs.{RecordsAreUnique}
 use Rattle.manifest.specs.Versions.{StoreVersion, NodeVersion, Change, empty, after_all}
 use Rattle.manifest.specs.Edits.{IsChange, ChangesDiffer, change_text}
 use Rattle.manifest.specs.Lawful.{IsVersion}
-use Rattle.manifest.specs.Slots.{other_slot, head_length, slot_head, IsSlot, IsSuperseded, SlotsRepresent}
+use Rattle.manifest.specs.Slots.{other_slot, head_length, slot_head, IsSlot, IsSuperseded}
+use Rattle.manifest.specs.Slots.{SlotsRepresent}
 use Rattle.manifest.specs.Laws.{VersionIsOne, VersionsAreLawful}
 use Rattle.manifest.proofs.Lawful.{after_version, empty_lines}
 
@@ -35,7 +36,8 @@ same_id g h id other is are same =
     ∙ from_be_bytes-to_be_bytes_2 other (omega (arith, are))
 
 -- one open slot has one head and one list
-same_slot : RecordsAreUnique → (file : Option (List ℕ)) (g h id other : ℕ) (records others : List (List ℕ))
+same_slot : RecordsAreUnique → (file : Option (List ℕ)) (g h id other : ℕ)
+    (records others : List (List ℕ))
     → IsId id → IsId other → IsSomeAnd file (IsSlot g id records)
     → IsSomeAnd file (IsSlot h other others) → (id ≡ other) × (records ≡ others)
 same_slot unique None g h id other records others is are a b = absurd a
@@ -82,7 +84,8 @@ not_both id other records others left a b at_a at_b =
     (subst (λ (f : ℕ). IsSomeAnd (left f) (IsSuperseded b.generation)) (sym at_a) b.other) in
     omega (arith, less, more)
 
-pub one_records : RecordsAreUnique → (id other : ℕ) (records others : List (List ℕ)) (left : Contents) → IsId id
+pub one_records : RecordsAreUnique
+    → (id other : ℕ) (records others : List (List ℕ)) (left : Contents) → IsId id
     → IsId other → SlotsRepresent id records left → SlotsRepresent other others left
     → (id ≡ other) × (records ≡ others)
 one_records unique id other records others left is are a b =
@@ -123,7 +126,8 @@ one_list_of differ (c ∷ cs) (d ∷ ds) each all same =
 
 pub one_version : ChangesDiffer → RecordsAreUnique → VersionIsOne
 one_version differ unique a b left h k =
-    let same = one_records unique a.id b.id (map change_text h.changes) (map change_text k.changes) left
+    let same = one_records unique a.id b.id (map change_text h.changes)
+    (map change_text k.changes) left
     h.id k.id h.records k.records in
     let changes : h.changes ≡ k.changes =
     one_list_of differ h.changes k.changes h.each k.each same.1 in

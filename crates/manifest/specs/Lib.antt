@@ -16,7 +16,12 @@ pub mod Examples
 -- What crates above name.
 pub use Rattle.manifest.specs.Edits.{IsChange, IsLogLine, IsTableLine, change_text}
 pub use Rattle.manifest.specs.Errors.{IsManifestExternal, ManifestFailsDevice}
-pub use Rattle.manifest.specs.Laws.{EditsKeepVersions, HeldVersionIsLeft, HeldVersionStays, VersionIsOne}
+pub use Rattle.manifest.specs.Laws.{
+  EditsKeepVersions,
+  HeldVersionIsLeft,
+  HeldVersionStays,
+  VersionIsOne,
+}
 pub use Rattle.manifest.specs.Laws.{VersionsAreLawful}
 pub use Rattle.manifest.specs.Lawful.{IsVersion}
 pub use Rattle.manifest.specs.Holds.{first_slot}

@@ -17,7 +17,8 @@ placed_last {A} before (y ∷ ys) x all =
 
 -- a log that begins behind all others stands last
 pub log_behind : (logs : List LogLine) (line : LogLine)
-    → All (λ (other : LogLine). other.first ≤ line.first) logs → with_log logs line ≡ logs ++ line ∷ []
+    → All (λ (other : LogLine). other.first ≤ line.first) logs
+    → with_log logs line ≡ logs ++ line ∷ []
 log_behind logs line all =
     placed_last log_is_before logs line
     (All-weaker (λ (other : LogLine). other.first ≤ line.first)

@@ -36,8 +36,8 @@ pub fn version_is_one()
     records_are_unique(); // law: bytes represent one list of records at most
 }
 
-/// Whatever a crash leaves of the slots of an open manifest represents its version, and with the same
-/// slots it holds the same one.
+/// Whatever a crash leaves of the slots of an open manifest represents its version, and with the
+/// same slots it holds the same one.
 pub fn held_versions_are_left()
     ensures left { HeldVersionIsLeft }
     ensures same { HeldVersionStays }

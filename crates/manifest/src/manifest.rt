@@ -81,8 +81,8 @@ impl Manifest {
         self.slots.generation()
     }
 
-    /// Whether the slot that counts is so long that a rewrite is due: longer, up to its closed gate,
-    /// than twice its first edit and 65,536 bytes.
+    /// Whether the slot that counts is so long that a rewrite is due: longer, up to its closed
+    /// gate, than twice its first edit and 65,536 bytes.
     pub fn has_long_slot(&self) -> bool
         ensures due { (disk : State) (named : NodeVersion) → ManifestHolds disk self.now named →
             IsTrue result ↔ HasLongSlot self.now }
@@ -182,8 +182,8 @@ impl Manifest {
         Ok(())
     }
 
-    /// Writes the other slot anew, with one edit that gives the version whole, so that it counts. It
-    /// needs six device calls, and one more where that slot's gate is open.
+    /// Writes the other slot anew, with one edit that gives the version whole, so that it counts.
+    /// It needs six device calls, and one more where that slot's gate is open.
     pub fn rewrite<D: Disk>(&mut self, alloc: Global, disk: &mut D) -> Result<(), ManifestError>
         requires room { generation_of self.old < MAX_NUMBER }
         ensures kept { KeepsDisk D.Disk disk.old disk.new (ManifestFailsDevice result) ⊥

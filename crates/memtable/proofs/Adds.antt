@@ -1,6 +1,7 @@
 -- The entries of a map with the entries of a batch.
 use Rattle.std.proofs.Common.{◌≡◌, ◌↔◌, ◌⊎◌, inl, inr, ℕ, ◌<◌, ◌≤◌, sym, ap, ◌∙◌, subst, List, []}
-use Rattle.std.proofs.Common.{◌∷◌, length, Bool, true, false, cond, Option, Some, None, IfSome, refl, All}
+use Rattle.std.proofs.Common.{◌∷◌, length, Bool, true, false, cond, Option, Some, None, IfSome}
+use Rattle.std.proofs.Common.{refl, All}
 use Rattle.std.specs.List.{slice_get}
 use Rattle.std.specs.Option.{option_or}
 use Rattle.std.specs.Str.{bytes_eq}

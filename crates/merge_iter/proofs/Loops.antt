@@ -40,14 +40,16 @@ sum_set f (y ∷ xs) (suc i) x v e =
 up_to : (j i : ℕ) → j < i + 1 → (j < i) ⊎ (j ≡ i)
 up_to j i l = grind arith
 
-module _ {C S : Type 0} (holds : C → S → Entry → Type 0) (sound : C → S → Type 0) (suits : C → S → S → Type 0)
+module _ {C S : Type 0} (holds : C → S → Entry → Type 0) (sound : C → S → Type 0) (suits : C → S → S
+    → Type 0)
     (keeps : S → S → Type 0) (left : C → Direction → ℕ) (most : C → ℕ) where
   -- the first i children were moved
   pub record Passed (i : ℕ) (old : List C) (before : S) (new : List C) (now : S) : Type 0 where
     pub moved : ChildrenKeep holds sound suits keeps most old before new now
     pub rest : (j : ℕ) (c : C) → i ≤ j → slice_get new j ≡ Some c → slice_get old j ≡ Some c
 
-  pub none_moved : IsLawful holds sound suits keeps left most → (old : List C) (before : S) → ChildrenKeep
+  pub none_moved : IsLawful holds sound suits keeps left most → (old : List C) (before : S)
+      → ChildrenKeep
       holds sound suits keeps most old before old before
   none_moved laws old before = record {
     source = laws.itself before;
@@ -57,13 +59,16 @@ module _ {C S : Type 0} (holds : C → S → Entry → Type 0) (sound : C → S 
         (sym (one old i c d p q)) (stays_same holds sound suits c before);
   }
 
-  pub begins : IsLawful holds sound suits keeps left most → (old : List C) (before : S) → Passed 0 old
+  pub begins : IsLawful holds sound suits keeps left most → (old : List C) (before : S)
+      → Passed 0 old
       before old before
   begins laws old before = record { moved = none_moved laws old before; rest = λ j c l h. h }
 
-  pub move_one : IsLawful holds sound suits keeps left most → (old new : List C) (before now later : S)
+  pub move_one : IsLawful holds sound suits keeps left most
+      → (old new : List C) (before now later : S)
       (i : ℕ) (x v : C) → slice_get new i ≡ Some x
-      → ChildrenKeep holds sound suits keeps most old before new now → MoveKeeps holds sound suits keeps most x
+      → ChildrenKeep holds sound suits keeps most old before new now
+      → MoveKeeps holds sound suits keeps most x
       now v later → ChildrenKeep holds sound suits keeps most old before (slice_set new i v) later
   move_one laws old new before now later i x v at m step = record {
     source = laws.through before now later m.source step.source;
@@ -80,7 +85,8 @@ module _ {C S : Type 0} (holds : C → S → Entry → Type 0) (sound : C → S 
     ];
   }
 
-  pub passes : IsLawful holds sound suits keeps left most → (old new : List C) (before now later : S)
+  pub passes : IsLawful holds sound suits keeps left most
+      → (old new : List C) (before now later : S)
       (i : ℕ) (x v : C) → slice_get new i ≡ Some x
       → Passed i old before new now → MoveKeeps holds sound suits keeps most x now v later
       → Passed (i + 1) old before (slice_set new i v) later
@@ -101,7 +107,8 @@ module _ {C S : Type 0} (holds : C → S → Entry → Type 0) (sound : C → S 
     pub brings : IsLawful holds sound suits keeps left most → (way : Direction) (start : WalkStart)
         (Given : Type 0) (old new : List C) (before now later : S) (i : ℕ) (x v : C)
         (r : Result (Unit {0}) CursorError) → slice_get new i ≡ Some x
-        → ChildrenKeep holds sound suits keeps most old before new now → MoveKeeps holds sound suits keeps most
+        → ChildrenKeep holds sound suits keeps most old before new now
+        → MoveKeeps holds sound suits keeps most
         x now v later → r ≡ Ok tt
         → (Given → EachChild (λ c. sound c before) old)
         → (Given → sound x now → MoveFinds way start (holds x now) r (position v))

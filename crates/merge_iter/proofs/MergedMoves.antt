@@ -49,9 +49,11 @@ child_at position xs at was k x e can is =
 flip : (P Q : Entry → Type 0) → IsAlike P Q → IsAlike Q P
 flip P Q same entry = ((same entry).1, (same entry).0)
 
-module _ {C S : Type 0} (holds : C → S → Entry → Type 0) (sound : C → S → Type 0) (suits : C → S → S → Type 0)
+module _ {C S : Type 0} (holds : C → S → Entry → Type 0) (sound : C → S → Type 0) (suits : C → S → S
+    → Type 0)
     (keeps : S → S → Type 0) (most : C → ℕ) (position : C → Position) where
-  pub merge_after : (old new : List C) (before now : S) (was at : Place) → ChildrenKeep holds sound suits
+  pub merge_after : (old new : List C) (before now : S) (was at : Place)
+      → ChildrenKeep holds sound suits
       keeps most old before new now → IsPlaced (λ c. holds c now) position new at
       → IsMerge (λ c. holds c before) position (λ c. sound c before) old was
       → IsMerge (λ c. holds c now) position (λ c. sound c now) new at
@@ -61,7 +63,8 @@ module _ {C S : Type 0} (holds : C → S → Entry → Type 0) (sound : C → S 
     placed = placed;
   }
 
-  pub finds_after : (old new : List C) (before now : S) → ChildrenKeep holds sound suits keeps most old
+  pub finds_after : (old new : List C) (before now : S)
+      → ChildrenKeep holds sound suits keeps most old
       before new now → EachChild (λ c. sound c before) old
       → (way : Direction) (start : WalkStart) (s : Position) → IsFirst way
       (λ p. UnionHolds (λ c. holds c now) new p × WalkMeets way start p) s → IsFirst way
@@ -73,7 +76,8 @@ module _ {C S : Type 0} (holds : C → S → Entry → Type 0) (sound : C → S 
 
   -- what a move of the union keeps
   pub union_moves : {M : Type 0} (children : M → List C) (at : M → Place) (old new : M)
-      (before now : S) → ChildrenKeep holds sound suits keeps most (children old) before (children new)
+      (before now : S) → ChildrenKeep holds sound suits keeps most (children old) before
+      (children new)
       now
       → (IsMerge (λ c. holds c before) position (λ c. sound c before) (children old) (at old)
       → IsMerge (λ c. holds c now) position (λ c. sound c now) (children new) (at new))

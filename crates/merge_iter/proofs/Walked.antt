@@ -12,7 +12,8 @@ use Rattle.merge_iter.specs.Order.{IsAlike, IsApart, EntryPrecedes, spot}
 use Rattle.merge_iter.specs.Positions.{Position, On, Off, Broken, IsOn, IsBroken, IfOn, IsFirst}
 use Rattle.merge_iter.specs.Positions.{WalkStart, At, After, WalkMeets}
 use Rattle.disk.specs.{RisesByOne}
-use Rattle.merge_iter.specs.Moves.{MoveKeeps, Moved, ErrorCauses, MoveFinds, AreCursorLaws, IsLawful}
+use Rattle.merge_iter.specs.Moves.{MoveKeeps, Moved, ErrorCauses, MoveFinds, AreCursorLaws}
+use Rattle.merge_iter.specs.Moves.{IsLawful}
 use Rattle.merge_iter.specs.Unions.{first_kept, stays_same, stays_through}
 use Rattle.kv_types.specs.{IsShown}
 use Rattle.merge_iter.specs.ShownEntries.{IsBefore, IsHidden, IsAhead, IsJudged, IsJudgedBack}
@@ -23,7 +24,8 @@ use Rattle.merge_iter.specs.OrderLemmas.{by_parts}
 use Rattle.merge_iter.specs.Searches.{seek_itself, judged_step, shown_here, shown_none, judged_back}
 use Rattle.merge_iter.specs.Searches.{settled_left, settled_end}
 
-module _ {C S : Type 0} (holds : C → S → Entry → Type 0) (sound : C → S → Type 0) (suits : C → S → S → Type 0)
+module _ {C S : Type 0} (holds : C → S → Entry → Type 0) (sound : C → S → Type 0) (suits : C → S → S
+    → Type 0)
     (keeps : S → S → Type 0) (left : C → Direction → ℕ) (most : C → ℕ)
     (laws : IsLawful holds sound suits keeps left most) where
   pub moves_itself : (c : C) (a : S) → MoveKeeps holds sound suits keeps most c a c a
@@ -34,7 +36,8 @@ module _ {C S : Type 0} (holds : C → S → Entry → Type 0) (sound : C → S 
         refl;
   }
 
-  pub moves_through : (c d e : C) (a b z : S) → MoveKeeps holds sound suits keeps most c a d b → MoveKeeps
+  pub moves_through : (c d e : C) (a b z : S) → MoveKeeps holds sound suits keeps most c a d b
+      → MoveKeeps
       holds sound suits keeps most d b e z → MoveKeeps holds sound suits keeps most c a e z
   moves_through c d e a b z m n = record {
     source = laws.through a b z m.source n.source;
@@ -46,7 +49,8 @@ module _ {C S : Type 0} (holds : C → S → Entry → Type 0) (sound : C → S 
 module _ {C S K : Type 0} (holds : K → C → S → Entry → Type 0) (sound : K → C → S → Type 0)
     (suits : C → S → S → Type 0) (keeps : S → S → Type 0) (left : C → Direction → ℕ) (most : C → ℕ)
     {as_is : S → K} {is_intact : K → S → Type 0}
-    {makes : Bool → S → S → Type 0} (laws : AreCursorLaws as_is is_intact holds sound suits keeps makes left most) where
+    {makes : Bool → S → S → Type 0}
+    (laws : AreCursorLaws as_is is_intact holds sound suits keeps makes left most) where
   pub all_itself : (c : C) (a : S) → Moved holds sound suits keeps most c a c a
   all_itself c a = record {
     source = laws.itself a;

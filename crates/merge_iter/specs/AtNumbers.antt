@@ -60,7 +60,8 @@ module _ {C S : Type 0} (holds : C → S → Entry → Type 0) (sound : C → S 
 module _ {C S K : Type 0} {as_is : S → K} {is_intact : K → S → Type 0}
     (holds : K → C → S → Entry → Type 0) (sound : K → C → S → Type 0) (suits : C → S → S → Type 0)
     (keeps : S → S → Type 0) (left : C → Direction → ℕ) (most : C → ℕ) (position : C → Position)
-    {makes : Bool → S → S → Type 0} (laws : AreCursorLaws as_is is_intact holds sound suits keeps makes
+    {makes : Bool → S → S → Type 0}
+    (laws : AreCursorLaws as_is is_intact holds sound suits keeps makes
     left most) where
   -- no more steps are left than from end to end
   all_within : (c : C) (m : Mode) (way : Direction) → left_in (left c) (most c) m way ≤ most c + 2

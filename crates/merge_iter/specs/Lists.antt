@@ -45,7 +45,8 @@ left_within xs at Forward = omega arith
 left_within xs at Backward = behind at (length xs)
 
 -- the laws of a cursor hold of one over a list
-pub list_laws : AreCursorLaws {C = ListCursor} {S = Unit {0}} {K = Unit {0}} (λ _. tt) (λ _ _. Unit {0})
+pub list_laws : AreCursorLaws {C = ListCursor} {S = Unit {0}} {K =
+    Unit {0}} (λ _. tt) (λ _ _. Unit {0})
     (λ _ c _. ListHolds c.entries.items) (λ _ c _. IsSortedList c.entries.items)
     (λ _ _ _. Unit {0}) (λ _ _. Unit {0}) (λ _ _ _. Unit {0})
     (λ c. entries_left c.entries.items c.at)

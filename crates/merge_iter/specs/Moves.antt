@@ -99,7 +99,8 @@ module _ {C S K : Type 0} {as_is : S → K} {is_intact : K → S → Type 0}
     {keeps : S → S → Type 0} {makes : Bool → S → S → Type 0} {left : C → Direction → ℕ}
     {most : C → ℕ} where
   -- what they have in common for one content that was meant
-  pub law_at : AreCursorLaws as_is is_intact holds is_sound suits keeps makes left most → (meant : K)
+  pub law_at : AreCursorLaws as_is is_intact holds is_sound suits keeps makes left most
+      → (meant : K)
       → IsLawful (holds meant) (is_sound meant) suits keeps left most
   law_at laws meant = record {
     itself = laws.itself;

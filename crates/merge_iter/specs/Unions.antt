@@ -100,7 +100,8 @@ module _ {C S : Type 0} (holds : C → S → Entry → Type 0) (sound : C → S 
       (m.each j o.0 c o.1 e (each j o.0 o.1)).2 v w (all j o.0 o.1)
 
   -- children that keep their entries stay apart
-  pub children_apart : (old new : List C) (before now : S) → ChildrenKeep holds sound suits keeps most
+  pub children_apart : (old new : List C) (before now : S)
+      → ChildrenKeep holds sound suits keeps most
       old
       before new now → EachChild (λ c. sound c before) old → AreApart (λ c. holds c before) old
       → AreApart (λ c. holds c now) new
@@ -204,7 +205,8 @@ module _ {C S : Type 0} (holds : C → S → Entry → Type 0) (sound : C → S 
 module _ {C S K : Type 0} {as_is : S → K} {is_intact : K → S → Type 0}
     (holds : K → C → S → Entry → Type 0) (sound : K → C → S → Type 0) (suits : C → S → S → Type 0)
     (keeps : S → S → Type 0) (most : C → ℕ) (left : C → Direction → ℕ) (position : C → Position)
-    {makes : Bool → S → S → Type 0} (laws : AreCursorLaws as_is is_intact holds sound suits keeps makes
+    {makes : Bool → S → S → Type 0}
+    (laws : AreCursorLaws as_is is_intact holds sound suits keeps makes
     left most) where
   -- no child has more steps left than from end to end
   every_left : (way : Direction) (xs : List C) → sum_by (λ c. left c way) xs ≤ sum_by most xs

@@ -1,5 +1,6 @@
 -- A running node after its store's part and after a start, and what its disk leaves.
-use Rattle.std.proofs.Common.{◌≡◌, ◌↔◌, ℕ, ◌+◌, ◌<◌, ◌≤◌, List, [], ◌∷◌, ◌++◌, length, true, inl, inr}
+use Rattle.std.proofs.Common.{◌≡◌, ◌↔◌, ℕ, ◌+◌, ◌<◌, ◌≤◌, List, [], ◌∷◌, ◌++◌, length, true, inl}
+use Rattle.std.proofs.Common.{inr}
 use Rattle.std.proofs.Common.{suc, arith, map, Some, None, refl, sym, ap, subst, ◌∙◌}
 use Rattle.std.proofs.Common.{replicate, length-append}
 use Rattle.std.specs.Prelude.{◌⊎◌, Result, Ok, Err, IfOk, IfErr, IsErrAnd, MatchResult, OnOk}
@@ -164,7 +165,8 @@ refuses (Err s) P Q told q = subst Q (sym told) q
 
 -- an engine that answered works on
 pub still_works : {ended was told : Type 0} → ended ↔ (was ⊎ told) → (was → ⊥) → ended → told
-still_works iff works ended = elim (iff.0 ended) [ inl before ↦ absurd (works before) | inr now ↦ now ]
+still_works iff works ended = elim
+    (iff.0 ended) [ inl before ↦ absurd (works before) | inr now ↦ now ]
 
 -- an external refusal of an engine is a cause of the environment
 pub env_of : (e : EngineError) → IsEngineExternal e → IsEnvironmental (engine_stop e)

@@ -63,7 +63,8 @@ pub record CallRefines {D T : Type 0} (g : Ghosts D) (old new : Node D g) (x : �
   pub any_moment : AlwaysRefines g (disk_of old) (disk_of new) x n a.node
 
 -- node x, which refined machine n, ends a step as the machine does in this answer to an input
-abbrev pub StepEnds : {D : Type 0} → (g : Ghosts D) → (old new : Node D g) → Result Output Stop → ℕ →
+abbrev pub StepEnds : {D : Type 0} → (g : Ghosts D) → (old new : Node D g) → Result Output Stop
+    → ℕ →
     Machine → Input → Answer BatchContent → Type 0
 StepEnds g old new result x n input a = NodeRefines g.is_honest g.state old x n →
     CallRefines g old new x n a (StepRefines g.is_honest g.state new x input a) result

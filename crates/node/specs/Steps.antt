@@ -110,7 +110,8 @@ AreReplies input of_machine replies = replies ≡ replies_of input of_machine
 -- A node that answered refines the machine after the step. Its drop, frames and replies are those
 -- of the machine.
 pub record StepRefines {D : Type 0} {g : Ghosts D} (is_honest : D → Type 0) (state : D → State)
-    (new : Node D g) (x : ℕ) (input : Input) (a : model.Answer BatchContent) (output : Output) : Type 0 where
+    (new : Node D g) (x : ℕ) (input : Input) (a : model.Answer BatchContent)
+    (output : Output) : Type 0 where
   pub runs : NodeRefines is_honest state new x a.node
   pub dropped : output.dropped ≡ a.dropped
   pub frames : AreFrames output.frames.items a.frames

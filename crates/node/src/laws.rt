@@ -10,14 +10,16 @@ use disk::Disk;
 
 /// The disk of a running node represents it, as it reads and in every crash outcome.
 pub fn disks_represent<D: Disk + Drop>()
-    ensures { (node : Node D D.Disk) (x : ℕ) (n : Machine) → NodeRefines D.is_honest D.state node x n →
+    ensures { (node : Node D D.Disk) (x : ℕ) (n : Machine)
+        → NodeRefines D.is_honest D.state node x n →
         DiskAlwaysRefines (D.state (disk_of node)) x n }
 {}
 
-/// Where the newest log or the manifest of a running node is nearly full, its disk has a file nearly
-/// as long as a file can be.
+/// Where the newest log or the manifest of a running node is nearly full, its disk has a file
+/// nearly as long as a file can be.
 pub fn full_logs_are_long<D: Disk + Drop>()
-    ensures { (node : Node D D.Disk) (x : ℕ) (n : Machine) → NodeRefines D.is_honest D.state node x n →
+    ensures { (node : Node D D.Disk) (x : ℕ) (n : Machine)
+        → NodeRefines D.is_honest D.state node x n →
         IsNearlyFull (engine_of node) → HasLongFile (D.state (disk_of node)) }
 {
     engine::laws::full_logs_are_long::<D>(); // law: where a log is nearly full, a file is long

@@ -6,7 +6,8 @@ ghost use Rattle.disk.specs.{contents, IsArmed, IsSame, IsStill, KeepsDisk};
 ghost use Rattle.chain_model.specs.{created, started, accept, append, forwards, on_ack, resend};
 ghost use Rattle.chain_model.specs.{reply_read};
 ghost use Rattle.chain_model.specs.Rules.{tend};
-ghost use Rattle.engine.specs.{EngineHolds, HasEnded, IsAdrift, IsJustOpened, IsNearlyFull, IsOwned};
+ghost use Rattle.engine.specs.{EngineHolds, HasEnded, IsAdrift, IsJustOpened, IsNearlyFull};
+ghost use Rattle.engine.specs.{IsOwned};
 ghost use Rattle.engine.specs.{TellsTend, TendsAlike, engine_disk, facts_of, look_ups};
 ghost use Rattle.engine.specs.{table_count};
 ghost use Rattle.node.specs.Starts.{IsStarted, StartRefusal, disk_behind};
@@ -297,8 +298,8 @@ impl<D: Disk + Drop> Node<D> {
         self.perform(alloc, decision)
     }
 
-    /// Does the first that is due in its store: a rewrite of the manifest, or a flush. After a `Stop`
-    /// the node has ended.
+    /// Does the first that is due in its store: a rewrite of the manifest, or a flush. After a
+    /// `Stop` the node has ended.
     pub fn tend(&mut self, alloc: Global) -> Result<Tended, Stop>
         requires { IsReady self.old }
         ensures kept { KeepsDisk D.Disk (disk_of self.old) (disk_of self.new) (IsDeviceStop result)

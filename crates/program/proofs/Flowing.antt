@@ -30,7 +30,8 @@ use Rattle.program.specs.declared.statement_result.Note.{Note}
 use Rattle.program.specs.declared.statement_result.Note.TheVariants as note
 use Rattle.program.specs.Runs.{HasRunStatements}
 use Rattle.program.specs.ScriptRuns.{places_after, delivery, deliveries, left_after}
-use Rattle.program.specs.ScriptRuns.{left_after_event, HasRunTo, HasSettled, HasTurned, HasToldNumbers}
+use Rattle.program.specs.ScriptRuns.{left_after_event, HasRunTo, HasSettled, HasTurned}
+use Rattle.program.specs.ScriptRuns.{HasToldNumbers}
 use Rattle.program.specs.ScriptRuns.{IsResultOfAction, Stretch, has_worked, followed_by, no_stretch}
 use Rattle.program.specs.ScriptRuns.{one_step}
 use Rattle.program.specs.ScriptRuns.{most, busy, shown, tending, IsRising, AreResults}
@@ -84,7 +85,8 @@ abbrev pub all_left : List ℕ → List (List Line) → List (List Line) → Lis
 all_left left steps own = left ++ places_after (frames_in_steps steps) (frames_in_steps own)
 
 -- stretches of a run are followed_by as lists are
-pub joined_assoc : (a b c : Stretch) → followed_by (followed_by a b) c ≡ followed_by a (followed_by b c)
+pub joined_assoc : (a b c : Stretch)
+    → followed_by (followed_by a b) c ≡ followed_by a (followed_by b c)
 joined_assoc a b c = rw (
   append_assoc a.events b.events c.events,
   append_assoc a.choices b.choices c.choices,
@@ -163,7 +165,8 @@ module _ (setup : Setup) (past : Stretch) (old : List ℕ) where
   pub flows_on : (world after : World) (left rest next : List ℕ) (count p : ℕ)
       (f : Flows world setup past old left count) → left ≡ p ∷ rest → suc count ≤ most →
       (choice : Choice) (lines : List Line) →
-      HasRunTo after setup (followed_by (followed_by past f.own) (one_step (delivery p) choice lines)) →
+      HasRunTo after setup (followed_by (followed_by past f.own)
+      (one_step (delivery p) choice lines)) →
       next ≡ rest ++ places_after (frames_in_steps (past.steps ++ f.own.steps))
       (frames_of_step lines) → Flows after setup past old next (suc count)
   flows_on world after left rest next count p f first few choice lines run is =
@@ -219,7 +222,8 @@ length-take (x ∷ xs) (suc k) le = ap suc (length-take xs k (omega (arith, le))
 
 -- what a flow promises
 abbrev pub HasFlowed : World → Setup → Stretch → List ℕ → List ℕ → ℕ → Type 0
-HasFlowed world setup past old left count = (own : Stretch) × HasRunTo world setup (followed_by past own)
+HasFlowed world setup past old left count =
+    (own : Stretch) × HasRunTo world setup (followed_by past own)
     × (own.events ≡ deliveries (all_left old past.steps own.steps))
     × (count ≡ length own.steps) × (count ≡ length own.events)
     × (left ≡ drop most (all_left old past.steps own.steps))
@@ -321,7 +325,8 @@ HasSettledSo world setup past node old left count = (own : Stretch)
 module _ (setup : Setup) (past : Stretch) (node : ℕ) (old : List ℕ) (world after : World)
     (left next : List ℕ) (count : ℕ) (s : Settles world setup past node old left count)
     (few : suc count ≤ most) (choice : Choice) (lines : List Line)
-    (run : HasRunTo after setup (followed_by (followed_by past s.own) (one_step (tending node) choice lines)))
+    (run : HasRunTo after setup (followed_by (followed_by past s.own)
+    (one_step (tending node) choice lines)))
     (is : next ≡ left ++ places_after (frames_in_steps (past.steps ++ s.own.steps))
     (frames_of_step lines)) where
   abbrev more : Stretch
@@ -473,7 +478,8 @@ goes_on old new setup it behind all turns turn g t = record {
         record { world = old.world; run = g.run; numbers = t.shown },
         refl,
         refl,
-        subst (λ (l : List ℕ). AreResults setup (followed_by g.past t.own) l behind ts rest) t.left c,
+        subst (λ (l : List ℕ). AreResults setup (followed_by g.past t.own) l behind ts rest) t.left
+            c,
       ) in
       subst (λ (l : List StatementResult). AreResults setup no_stretch [] all l
       (followed_by (followed_by g.past t.own) rest)) (sym (append_assoc turns (turn ∷ []) ts))
@@ -522,7 +528,8 @@ never_shown world setup past (place ∷ places) = tt
 -- what statements have done, by their results
 module _ (setup : Setup) (past : Stretch) (it : Statement) (old new : ScriptRun) where
   pub turned_by_event : (event : lab.Event) (choice : Choice) (lines : List Line) →
-      it.action ≡ Event event → HasRunTo new.world setup (followed_by past (one_step event choice lines)) →
+      it.action ≡ Event event → HasRunTo new.world setup
+      (followed_by past (one_step event choice lines)) →
       new.left.items ≡ left_after_event event.kind (old.left.items
       ++ places_after (frames_in_steps past.steps) (frames_of_step lines)) →
       HasTurned setup past it
@@ -549,13 +556,15 @@ module _ (setup : Setup) (past : Stretch) (it : Statement) (old new : ScriptRun)
     own = no_stretch;
     did = record { line = refl; count = refl; each = refl; did = did };
     shown = told;
-    run = rw same (subst (λ (s : Stretch). HasRunTo old.world setup s) (sym (joined_nothing past)) run);
+    run = rw same (subst (λ (s : Stretch). HasRunTo old.world setup s)
+        (sym (joined_nothing past)) run);
     left = rw (same, append-nil old.left.items) (sym leaves);
   }
 
   pub turned_by_show : (node : ℕ) (numbers : Option Numbers) (said : Note) →
       it.action ≡ Show node → said ≡ shown node numbers → new ≡ old →
-      HasRunTo old.world setup past → AreNumbersOf setup.configs past.events past.choices node numbers →
+      HasRunTo old.world setup past → AreNumbersOf setup.configs past.events past.choices node
+      numbers →
       IfSome numbers (TellsTables old.world.nodes.items node) → HasTurned setup past it
       (record { line = it.line; events = 0; silent = 0; note = said }) old new
   turned_by_show node numbers said is same stays run told tables =
@@ -620,7 +629,8 @@ module _ (setup : Setup) (past : Stretch) (it : Statement) (old new : ScriptRun)
         left = rw is settles.5;
       }
     where
-      quiet : (b : Bool) → HasToldNumbers old.world setup.configs past (if b then note.Busy else note.Nothing)
+      quiet : (b : Bool) → HasToldNumbers old.world setup.configs past
+          (if b then note.Busy else note.Nothing)
       quiet true = tt
       quiet false = tt
 
@@ -659,7 +669,8 @@ pub gone : (world : World) (setup : Setup) (left : List ℕ) (all behind : List 
     HasRunStatements setup all turns report
 gone world setup left all behind turns report g none steps run history own =
     let last : AreResults setup g.past left behind [] no_stretch =
-    subst (λ (b : List Statement). AreResults setup g.past left b [] no_stretch) (sym none) (refl, refl)
+    subst (λ (b : List Statement). AreResults setup g.past left b [] no_stretch) (sym none)
+    (refl, refl)
     in
     record {
       all = g.past;

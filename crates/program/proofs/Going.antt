@@ -12,7 +12,8 @@ use Rattle.lab.specs.{NamesNode}
 use Rattle.program.specs.declared.script.setup.Setup.{Setup}
 use Rattle.program.specs.declared.script.statement.ParserState.{ParserState}
 use Rattle.program.specs.declared.script.statement.LineItem.{LineItem}
-use Rattle.program.specs.declared.script.statement.LineItem.TheVariants.{Skipped, Limit, Config, Asks}
+use Rattle.program.specs.declared.script.statement.LineItem.TheVariants.{Skipped, Limit, Config}
+use Rattle.program.specs.declared.script.statement.LineItem.TheVariants.{Asks}
 use Rattle.program.specs.declared.script.statement.Statement.{Statement}
 use Rattle.program.specs.Actions.{error_of}
 use Rattle.program.specs.declared.script.statement.Action.TheVariants.{Event, Invalid}

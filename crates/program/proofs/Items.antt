@@ -13,7 +13,8 @@ use Rattle.program.specs.declared.script.error.ScriptError.{ScriptError}
 use Rattle.program.specs.declared.script.statement.Action.{Action}
 use Rattle.program.specs.declared.script.statement.Action.TheVariants.{Event, Invalid}
 use Rattle.program.specs.declared.script.statement.LineItem.{LineItem}
-use Rattle.program.specs.declared.script.statement.LineItem.TheVariants.{Asks, Config, Limit, Skipped}
+use Rattle.program.specs.declared.script.statement.LineItem.TheVariants.{Asks, Config, Limit}
+use Rattle.program.specs.declared.script.statement.LineItem.TheVariants.{Skipped}
 use Rattle.program.specs.declared.script.statement.ParserState.{ParserState}
 use Rattle.program.specs.Actions.{error_of}
 use Rattle.program.specs.Reading.{Places, ReadsLine, ReadsWords, begins}

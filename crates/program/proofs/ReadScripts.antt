@@ -90,7 +90,8 @@ good_statement cs begun log event name args spells named =
 passes : (cs : Configurations) (begun : Bool) (log : ℕ) (event : lab.Event) (words : List (List ℕ))
     (name : List ℕ)
     (args : List (List ℕ)) → words ≡ name ∷ args → bytes_eq name (codes "config") ≡ false →
-    bytes_eq name (codes "limit") ≡ false → 97 ≤ first_byte (name ∷ args) → SpellsEvent words event →
+    bytes_eq name (codes "limit") ≡ false → 97 ≤ first_byte (name ∷ args)
+    → SpellsEvent words event →
     NamesNode cs event.kind → IsPassed cs begun log words
 passes cs begun log event words name args e other third letter spells named = record {
   good = rw (e, other, third) (good_statement cs begun log event name args
@@ -128,7 +129,8 @@ lettered (Tend node) args = omega arith
 lettered (Start node) args = omega arith
 lettered (Stop node junk) args = omega arith
 
-event_passes : (cs : Configurations) (begun : Bool) (log : ℕ) (event : lab.Event) (words : List (List ℕ)) →
+event_passes : (cs : Configurations) (begun : Bool) (log : ℕ) (event : lab.Event)
+    (words : List (List ℕ)) →
     SpellsEvent words event → NamesNode cs event.kind → IsPassed cs begun log words
 event_passes cs begun log event words spells named =
     let front = opens event.kind spells.first spells.kind in
@@ -256,7 +258,8 @@ limit_good log size words (e, good, small) =
       rw (e, back) refl,
     )
 
-lines_read : TestDecidesConfig → (log n : ℕ) (lines : List (List ℕ)) (setup : Setup) (statements : List Statement) →
+lines_read : TestDecidesConfig
+    → (log n : ℕ) (lines : List (List ℕ)) (setup : Setup) (statements : List Statement) →
     AreShort lines → n + length lines ≤ 100001 → IsScriptWith log n lines setup statements →
     script_fault (before_configs log) n lines ≡ None
 lines_read decides log n [] setup statements short few is = absurd is
@@ -272,7 +275,8 @@ lines_read decides log n (line ∷ lines) setup statements short few (inr (inl (
     (rw sets.0 (omega arith)) good.0 good.1
     (lines_read decides size (suc n) lines setup statements
     (All-tail (λ l. length l ≤ 262144) line lines short) (omega (arith, few)) more)
-lines_read decides log n (line ∷ lines) setup statements short few (inr (inr (ids, e, is, up, more))) =
+lines_read decides log n (line ∷ lines) setup statements short few
+    (inr (inr (ids, e, is, up, more))) =
     let good = config_good decides log ids (words_of line) is e in
     stated (before_configs log) (behind_configs (ids ∷ []) false log) n line lines
     (All-head (λ l. length l ≤ 262144) line lines short) (omega (arith, few))
@@ -280,7 +284,8 @@ lines_read decides log n (line ∷ lines) setup statements short few (inr (inr (
     (statements_read (ids ∷ []) false log (suc n) lines statements
     (All-tail (λ l. length l ≤ 262144) line lines short) (omega (arith, few)) more)
 
-pub script_read : TestDecidesConfig → (lines : List (List ℕ)) (setup : Setup) (statements : List Statement) →
+pub script_read : TestDecidesConfig
+    → (lines : List (List ℕ)) (setup : Setup) (statements : List Statement) →
     AreShort lines → length lines ≤ 100000 → IsScript 1 lines setup statements →
     script_fault start 1 lines ≡ None
 script_read decides lines setup statements short few is =

@@ -11,7 +11,8 @@ use Rattle.lab.specs.Configs.{is_config}
 use Rattle.program.specs.declared.script.error.ScriptError.{ScriptError}
 use Rattle.program.specs.declared.script.error.ScriptError.TheVariants.{LineTooLong, BadNumber}
 use Rattle.program.specs.declared.script.error.ScriptError.TheVariants.{UnknownStatement}
-use Rattle.program.specs.declared.script.error.ScriptError.TheVariants.{WrongNumberOfWords, BadLimit}
+use Rattle.program.specs.declared.script.error.ScriptError.TheVariants.{WrongNumberOfWords}
+use Rattle.program.specs.declared.script.error.ScriptError.TheVariants.{BadLimit}
 use Rattle.program.specs.declared.script.error.ScriptError.TheVariants.{BadFault, OutOfPlace}
 use Rattle.program.specs.declared.script.error.ScriptError.TheVariants.{BadConfiguration}
 use Rattle.program.specs.declared.script.error.ScriptError.TheVariants.{UnknownNode}
@@ -41,14 +42,15 @@ limit_size [] = 0
 limit_size (name ∷ []) = 0
 limit_size (name ∷ word ∷ words) = digits_value 10 word
 
--- the least fault of the words of a limit, where a fault stands behind them or not: it stands before
--- the configuration, and only the size of logs can be set
+-- the least fault of the words of a limit, where a fault stands behind them or not: it stands
+-- before the configuration, and only the size of logs can be set
 abbrev pub limit_words_fault : ParserState → Bool → List (List ℕ) → Option ScriptError
 limit_words_fault before faulty (name ∷ word ∷ []) =
     if not (is_number word) then Some BadNumber else
     if faulty then Some BadFault else
     if is_some before.configs then Some OutOfPlace else
-    if bytes_eq name (codes "log") && is_log_size (digits_value 10 word) then None else Some BadLimit
+    if bytes_eq name (codes "log") && is_log_size
+    (digits_value 10 word) then None else Some BadLimit
 limit_words_fault before faulty words = Some WrongNumberOfWords
 
 -- the least fault of a limit, by its words and by the fault that it bears
@@ -98,7 +100,12 @@ abbrev pub after_words : ParserState → List (List ℕ) → ParserState
 after_words before [] = before
 after_words before (name ∷ args) =
     if bytes_eq name (codes "config")
-    then record { configs = Some (numbers_of args ∷ []); begun = before.begun; log = before.log } else
+    then record {
+      configs = Some (numbers_of args ∷ []);
+      begun = before.begun;
+      log =
+          before.log;
+    } else
     if bytes_eq name (codes "limit")
     then record { configs = before.configs; begun = before.begun; log = limit_size args }
     else record {
@@ -135,8 +142,8 @@ pub record LineIsBegun (lines : List (List ℕ)) (line : ℕ) : Type 0 where
   pub below : line ≤ length lines
   pub sound : (n : ℕ) (e : ScriptError) → script_fault start 1 lines ≡ Some (n, e) → line ≤ n
 
--- what is reported of these lines: the least fault of the first faulty one, or want of memory at one
--- that was begun
+-- what is reported of these lines: the least fault of the first faulty one, or want of memory at
+-- one that was begun
 pub record IsReported (lines : List (List ℕ)) (line : ℕ) (error : ScriptError) : Type 0 where
   pub least : error ≢ OutOfMemory → script_fault start 1 lines ≡ Some (line, error)
   pub begun : error ≡ OutOfMemory → LineIsBegun lines line

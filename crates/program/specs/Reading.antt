@@ -1,5 +1,6 @@
 -- What the parts of the script's reader promise.
-use Rattle.std.specs.Prelude.{◌≡◌, ◌≢◌, ◌≤◌, ℕ, Bool, ◌||◌, true, false, List, [], ◌∷◌, ◌++◌, map, codes}
+use Rattle.std.specs.Prelude.{◌≡◌, ◌≢◌, ◌≤◌, ℕ, Bool, ◌||◌, true, false, List, [], ◌∷◌, ◌++◌, map}
+use Rattle.std.specs.Prelude.{codes}
 use Rattle.std.specs.Prelude.{Some, None, Result, Ok, Err, ◌⊎◌, ◌<◌, ◌^◌}
 use Rattle.std.specs.Fmt.{decimal}
 use Rattle.lab.specs.Fault.{Fault}
@@ -15,7 +16,8 @@ use Rattle.program.specs.declared.script.command.Command.TheVariants.{Submit, Ge
 use Rattle.program.specs.declared.script.command.Command.TheVariants.{Stop, Start}
 use Rattle.program.specs.declared.script.statement.ParserState.{ParserState}
 use Rattle.program.specs.declared.script.statement.LineItem.{LineItem}
-use Rattle.program.specs.declared.script.statement.LineItem.TheVariants.{Skipped, Limit, Config, Asks}
+use Rattle.program.specs.declared.script.statement.LineItem.TheVariants.{Skipped, Limit, Config}
+use Rattle.program.specs.declared.script.statement.LineItem.TheVariants.{Asks}
 use Rattle.program.specs.declared.script.statement.Action.{Action}
 use Rattle.program.specs.declared.script.statement.Action.TheVariants.{Event, Invalid, Flow}
 use Rattle.program.specs.declared.script.statement.Action.TheVariants.{Settle, Show}

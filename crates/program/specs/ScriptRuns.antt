@@ -158,8 +158,8 @@ pub record HasRunTo (world : World) (setup : Setup) (past : Stretch) : Type 0 wh
   pub run : HasRun world setup.configs past.events past.choices past.steps
   pub limits : WorldHasLimits world setup.limits
 
--- what is shown of a node are its numbers after all that happened, and how many tables its store has
--- in this world
+-- what is shown of a node are its numbers after all that happened, and how many tables its store
+-- has in this world
 abbrev pub HasToldNumbers : World → Configurations → Stretch → Note → Type 0
 HasToldNumbers world cs past note.Nothing = Unit {0}
 HasToldNumbers world cs past (note.Invalid e) = Unit {0}

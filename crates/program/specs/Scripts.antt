@@ -88,13 +88,14 @@ SetsLog words size =
     (words ≡ codes "limit" ∷ codes "log" ∷ decimal size ∷ []) × (is_log_size size ≡ true)
     × (size < 2 ^ 63)
 
--- lines that are a script, the first with number n, behind lines that set this size of logs: skipped
--- ones and limits, then a configuration, then what may stand behind it
+-- lines that are a script, the first with number n, behind lines that set this size of logs:
+-- skipped ones and limits, then a configuration, then what may stand behind it
 abbrev pub IsScriptWith : ℕ → ℕ → List (List ℕ) → Setup → List Statement → Type 0
 IsScriptWith log n [] setup statements = ⊥
 IsScriptWith log n (line ∷ lines) setup statements =
     ((is_skipped line ≡ true) × IsScriptWith log (suc n) lines setup statements)
-    ⊎ (((size : ℕ) × SetsLog (words_of line) size × IsScriptWith size (suc n) lines setup statements)
+    ⊎ (((size : ℕ) × SetsLog (words_of line) size
+    × IsScriptWith size (suc n) lines setup statements)
     ⊎ ((ids : List ℕ) × (words_of line ≡ codes "config" ∷ map decimal ids) × IsConfig ids
     × SetsUp setup log (ids ∷ []) × AreStatements (ids ∷ []) (suc n) lines statements))
 

@@ -200,8 +200,8 @@ note_text here note.Busy = numbered_line here (codes "busy")
 note_text here (note.Running node numbers) = numbered_line here (numbers_text node numbers)
 note_text here (note.Down node) = numbered_line here (stopped_text node None)
 
--- what is printed at a statement: the lines of its steps, but of the silent first ones, then what is
--- said of it
+-- what is printed at a statement: the lines of its steps, but of the silent first ones, then what
+-- is said of it
 abbrev pub result_text : List ℕ → StatementResult → List (List Line) → List ℕ
 result_text events turn steps =
     flat_map (step_text events turn.line) (drop turn.silent (take turn.events steps))

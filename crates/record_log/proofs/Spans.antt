@@ -146,7 +146,8 @@ module _ (disk : State) (log : Log) (records : List (List ℕ)) (i begin len at 
       let P : List ℕ → Type 0 = λ it. (at + len ≤ length it) × (part ≡ take len (drop at it)) in
       let parts : P h.bytes = subst (λ (slot : Slot). IsSomeAnd (seen slot) P) h.sure read in
       let moved : drop at h.bytes ≡ drop begin (drop log.start h.bytes) =
-      ap (λ (k : ℕ). drop k h.bytes) (sym in_file.start) ∙ sym (drop-drop begin log.start h.bytes) in
+      ap (λ (k : ℕ). drop k h.bytes) (sym in_file.start)
+      ∙ sym (drop-drop begin log.start h.bytes) in
       taken (drop log.start h.bytes) log.ends.items records i begin len h.stands h.ends short
       within begin_is len_is part (parts.1 ∙ ap (take len) moved)
 

@@ -210,8 +210,8 @@ impl Log {
         }
     }
 
-    /// The place of the closed gate, in the file; what stands behind it means nothing. It is at most
-    /// 2^64 - 2.
+    /// The place of the closed gate, in the file; what stands behind it means nothing. It is at
+    /// most 2^64 - 2.
     pub fn gate(&self) -> u64
         ensures below { result + 1 < 2 ^ 64 }
         ensures gate { gate_of self.now + 1 < 2 ^ 64 → result ≡ gate_of self.now }

@@ -8,7 +8,8 @@ use Rattle.kv_types.specs.FieldsLemmas.{IsBytes}
 use Rattle.kv_types.specs.{Entry}
 use Rattle.table_format.specs.EntriesLemmas.{entry_reads}
 use Rattle.table_format.specs.FrontsLemmas.{entry_long}
-use Rattle.table_format.specs.PassedLemmas.{After, Passed, all_read, never_none, passed_next, split_of}
+use Rattle.table_format.specs.PassedLemmas.{After, Passed, all_read, never_none, passed_next}
+use Rattle.table_format.specs.PassedLemmas.{split_of}
 use Rattle.table_format.specs.RisingLemmas.{last_push}
 use Rattle.table_format.specs.{IsTableEntry, entries_bytes, entry_bytes, last_entry, table_entry_at}
 
@@ -79,7 +80,8 @@ pub none_read : (all : List Entry) (text : List ℕ) → All IsTableEntry all
     → text ≡ entries_bytes all → table_entry_at text ≡ None → length all ≡ 0
 none_read [] text each is none = refl
 none_read (x ∷ all) text each is none =
-    let size : length (entries_bytes (x ∷ all)) ≡ length (entry_bytes x) + length (entries_bytes all) =
+    let size : length (entries_bytes (x ∷ all)) ≡ length (entry_bytes x) + length
+    (entries_bytes all) =
     ap length (flat_map-cons entry_bytes x all)
     ∙ length-append (entry_bytes x) (entries_bytes all) in
     absurd (never_none entry_reads text (x ∷ all)

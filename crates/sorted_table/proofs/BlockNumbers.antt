@@ -1,5 +1,6 @@
 -- The blocks of a table, by their numbers.
-use Rattle.std.proofs.Common.{◌≡◌, ℕ, zero, suc, ◌+◌, ◌≤◌, ◌<◌, List, [], ◌∷◌, ◌++◌, length, take, drop}
+use Rattle.std.proofs.Common.{◌≡◌, ℕ, zero, suc, ◌+◌, ◌≤◌, ◌<◌, List, [], ◌∷◌, ◌++◌, length, take}
+use Rattle.std.proofs.Common.{drop}
 use Rattle.std.proofs.Common.{Some, refl, sym, ap, subst, ◌∙◌, arith, length-append}
 use Rattle.std.specs.List.{slice_get}
 use Rattle.std.proofs.lemmas.List.Concat.{flat_map-cons}
@@ -48,7 +49,8 @@ pub record BlockNumber (bytes : List ℕ) (blocks : List Block) (line : IndexLin
   pub is_block : IsBlock (take line.len (drop line.place bytes)) (block_entries block)
   pub within : line.place + line.len ≤ length bytes
 
-pub some_of : {A : Type 0} (xs : List A) (n : ℕ) → n < length xs → (x : A) × (slice_get xs n ≡ Some x)
+pub some_of : {A : Type 0} (xs : List A) (n : ℕ) → n < length xs
+    → (x : A) × (slice_get xs n ≡ Some x)
 some_of [] n lt = absurd (omega (arith, lt))
 some_of (x ∷ xs) zero lt = (x, refl)
 some_of (x ∷ xs) (suc n) lt = some_of xs n (omega (arith, lt))
@@ -60,7 +62,8 @@ block_number bytes entries s n line within at =
     let b = some_of s.blocks n within in
     let is : block_line (length (data_bytes (take n s.blocks))) b.0 ≡ line =
     some_is (block_line (length (data_bytes (take n s.blocks))) b.0) line
-    (sym (ap (λ p. Some (block_line p b.0)) (omega arith)) ∙ sym (line_of 0 s.blocks n b.0 b.1) ∙ at)
+    (sym (ap (λ p. Some (block_line p b.0)) (omega arith)) ∙ sym (line_of 0 s.blocks n b.0 b.1)
+    ∙ at)
     in
     let here = block_in bytes entries s (take n s.blocks) b.0 (drop (suc n) s.blocks)
     (around s.blocks n b.0 b.1) in

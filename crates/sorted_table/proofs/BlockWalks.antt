@@ -7,7 +7,8 @@ use Rattle.kv_types.specs.OrderLemmas.{All-among, Among}
 use Rattle.kv_types.specs.{Entry}
 use Rattle.table_format.specs.EntriesLemmas.{entry_reads}
 use Rattle.table_format.specs.FrontsLemmas.{entry_long}
-use Rattle.table_format.specs.PassedLemmas.{After, Passed, all_read, never_none, next_of, passed_next, split_of}
+use Rattle.table_format.specs.PassedLemmas.{After, Passed, all_read, never_none, next_of}
+use Rattle.table_format.specs.PassedLemmas.{passed_next, split_of}
 use Rattle.table_format.specs.RisingLemmas.{among_push}
 use Rattle.table_format.specs.{IsTableEntry, entries_bytes, entry_bytes, table_entry_at}
 use Rattle.sorted_table.specs.Searches.{IsEarlier, IsFirstWithout}

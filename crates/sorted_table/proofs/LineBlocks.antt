@@ -1,6 +1,7 @@
 -- The block of an index line, in the file and among the entries.
 use Rattle.std.proofs.Common.{◌≡◌, ℕ, ◌+◌, ◌≤◌, List, [], ◌∷◌, ◌++◌, length, take, drop}
-use Rattle.std.proofs.Common.{refl, sym, ap, subst, ◌∙◌, arith, append_assoc, length-append, ◌⊎◌, inl, inr}
+use Rattle.std.proofs.Common.{refl, sym, ap, subst, ◌∙◌, arith, append_assoc, length-append, ◌⊎◌}
+use Rattle.std.proofs.Common.{inl, inr}
 use Rattle.std.specs.List.{AllByRecursion}
 use Rattle.std.proofs.lemmas.List.{take_at, drop_at}
 use Rattle.std.proofs.lemmas.Grind.{flat_map-append}
@@ -10,9 +11,12 @@ use Rattle.kv_types.specs.OrderLemmas.{Among, Rises, rises_from_AllPairs, AllPai
 use Rattle.kv_types.specs.{Entry, StoredKey}
 use Rattle.merge_iter.specs.{EntryPrecedes, chain, spot}
 use Rattle.merge_iter.specs.declared.Direction.TheVariants.{Forward}
-use Rattle.table_format.specs.FrontsLemmas.{IsShortBlock, few_entries, length-block_part, split_each}
-use Rattle.table_format.specs.{Block, IsBlock, IsTableEntry, TableRepresents, block_bytes, block_entries, block_line, block_lines}
-use Rattle.table_format.specs.{data_bytes, entries_of_blocks, filter_part, footer_part, index_part, table_footer}
+use Rattle.table_format.specs.FrontsLemmas.{IsShortBlock, few_entries, length-block_part}
+use Rattle.table_format.specs.FrontsLemmas.{split_each}
+use Rattle.table_format.specs.{Block, IsBlock, IsTableEntry, TableRepresents, block_bytes}
+use Rattle.table_format.specs.{block_entries, block_line, block_lines}
+use Rattle.table_format.specs.{data_bytes, entries_of_blocks, filter_part, footer_part, index_part}
+use Rattle.table_format.specs.{table_footer}
 use Rattle.table_format.specs.declared.IndexLine.{IndexLine}
 use Rattle.sorted_table.specs.Searches.{EndsEarlier, IsEarlier}
 
@@ -67,7 +71,8 @@ pub record BlockOf (place : ℕ) (blocks : List Block) (before : List IndexLine)
 data_size : (b : Block) (blocks : List Block)
     → length (data_bytes (b ∷ blocks)) ≡ length (block_bytes b) + length (data_bytes blocks)
 data_size b blocks =
-    ap length (flat_map-cons block_bytes b blocks) ∙ length-append (block_bytes b) (data_bytes blocks)
+    ap length (flat_map-cons block_bytes b blocks)
+    ∙ length-append (block_bytes b) (data_bytes blocks)
 
 pub block_of : (place : ℕ) (blocks : List Block) (before : List IndexLine) (line : IndexLine)
     (after : List IndexLine) → block_lines place blocks ≡ before ++ line ∷ after
@@ -151,10 +156,12 @@ block_in bytes entries s done block others parted =
     ∙ ap (λ (l : List Entry). entries_of_blocks done ++ l)
     (flat_map-cons block_entries block others) in
     let rises = subst (Rises Up) all (rises_from_AllPairs Up entries s.rising) in
-    let back = (rising_parts (entries_of_blocks done) (one ++ entries_of_blocks others) rises).back in
+    let back = (rising_parts (entries_of_blocks done) (one ++ entries_of_blocks others) rises).back
+    in
     let each = split_each IsTableEntry (entries_of_blocks done) (one ++ entries_of_blocks others)
     (subst (AllByRecursion IsTableEntry) all (recursion_from_All IsTableEntry entries s.each)) in
-    let small = (split_each IsShortBlock done (block ∷ others) (subst (AllByRecursion IsShortBlock) parted
+    let small = (split_each IsShortBlock done (block ∷ others)
+    (subst (AllByRecursion IsShortBlock) parted
     (recursion_from_All IsShortBlock s.blocks s.fits.each))).1.0 in
     record {
       split = all;
@@ -223,8 +230,10 @@ pub early_entries : (place : ℕ) (done : List Block) (key : StoredKey) (at : �
 early_entries place [] key at rises early z a = absurd a
 early_entries place (b ∷ done) key at rises early z a =
     let cut = flat_map-cons block_entries b done in
-    let parts = rising_parts (block_entries b) (entries_of_blocks done) (subst (Rises Up) cut rises) in
+    let parts = rising_parts (block_entries b) (entries_of_blocks done)
+    (subst (Rises Up) cut rises) in
     elim (in_two (block_entries b) (entries_of_blocks done) z (subst (Among z) cut a)) [
       | inl mine ↦ early_in b key at parts.front early.0 z mine
-      | inr below ↦ early_entries (place + length (block_bytes b)) done key at parts.back early.1 z below
+      | inr below ↦ early_entries (place + length (block_bytes b)) done key at parts.back early.1 z
+          below
     ]

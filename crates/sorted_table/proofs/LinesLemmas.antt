@@ -1,12 +1,14 @@
 -- The place of a spot among the lines of an index.
-use Rattle.std.proofs.Common.{◌≡◌, ◌⊎◌, inl, inr, ℕ, suc, ◌≤◌, ◌<◌, Bool, true, false, List, ◌∷◌, ◌++◌, length, map}
+use Rattle.std.proofs.Common.{◌≡◌, ◌⊎◌, inl, inr, ℕ, suc, ◌≤◌, ◌<◌, Bool, true, false, List, ◌∷◌}
+use Rattle.std.proofs.Common.{◌++◌, length, map}
 use Rattle.std.proofs.Common.{take, drop, get_or, Some, None, refl, sym, ap, subst, ◌∙◌, arith}
 use Rattle.std.specs.List.Sorted.{IsPartitionedBy, IsPartitionPoint}
 use Rattle.std.specs.Ordering.{is_lt}
 use Rattle.std.specs.List.{slice_get}
 use Rattle.std.proofs.lemmas.Option.{get_or_from_slice_get, slice_get_cases, slice_get_within}
 use Rattle.std.proofs.Common.{All}
-use Rattle.std.proofs.lemmas.List.{get_or-map, get_or-take, length-map, length-take, take-append-drop}
+use Rattle.std.proofs.lemmas.List.{get_or-map, get_or-take, length-map, length-take}
+use Rattle.std.proofs.lemmas.List.{take-append-drop}
 use Rattle.std.proofs.Math.Seq.{drop-cons}
 use Rattle.kv_types.specs.{Entry}
 use Rattle.merge_iter.specs.{EntryPrecedes, chain, entry_cmp}
@@ -41,19 +43,24 @@ less_or_same i j le = grind arith
 pub parted : (lines : List IndexLine) (place : Entry) → AreRising (map end_spot lines)
     → IsPartitionedBy (ends_early place) lines
 parted lines place rising i j d le short early = elim (less_or_same i j le) [
-  | inl lt ↦ ap is_lt (chain Forward (end_spot (get_or lines i d)) (end_spot (get_or lines j d)) place
+  | inl lt ↦ ap is_lt (chain Forward (end_spot (get_or lines i d))
+      (end_spot (get_or lines j d)) place
       (ends_rise lines i j d rising lt short)
-      (early_by (end_spot (get_or lines j d)) place (ends_early place (get_or lines j d)) refl early))
+      (early_by (end_spot (get_or lines j d)) place
+      (ends_early place (get_or lines j d)) refl early))
   | inr e ↦ subst (λ (k : ℕ). ends_early place (get_or lines k d) ≡ true) (sym e) early
 ]
 
 pub line_place_by : (lines : List IndexLine) (place : Entry) (n : ℕ)
-    → IsPartitionPoint (λ line. ends_early place line ≡ true) (λ line. ends_early place line ≡ false)
+    → IsPartitionPoint (λ line. ends_early place line ≡ true)
+    (λ line. ends_early place line ≡ false)
     lines n → IsLinePlace lines place n
 line_place_by lines place n point = (
-  λ k d from lt. early_by (end_spot (get_or lines k d)) place (ends_early place (get_or lines k d)) refl
+  λ k d from lt. early_by (end_spot (get_or lines k d)) place
+      (ends_early place (get_or lines k d)) refl
       (point.0 k d from lt),
-  λ k d from lt. late_by (end_spot (get_or lines k d)) place (ends_early place (get_or lines k d)) refl
+  λ k d from lt. late_by (end_spot (get_or lines k d)) place
+      (ends_early place (get_or lines k d)) refl
       (point.1 k d from lt),
 )
 

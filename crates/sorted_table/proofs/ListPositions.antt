@@ -57,15 +57,24 @@ pub first_of_all : (entries : List Entry) → AreRising entries
 first_of_all entries rising =
     stands_first Forward entries (λ e. Contains entries e × Unit {0}) 0 rising
     (λ e at. (at_contained entries 0 e at, tt))
-    (λ e p. let within = p.0.1 in (p.0.0, omega (arith, within), (λ h. omega (arith, h)), contained_at entries e p.0))
+    (λ e p. let within = p.0.1 in (
+      p.0.0,
+      omega (arith, within),
+      (λ h. omega (arith, h)),
+      contained_at entries e p.0,
+    ))
 
 pub last_of_all : (entries : List Entry) (n : ℕ) → AreRising entries → n + 1 ≡ length entries
     → IsFirst Backward (λ e. Contains entries e × Unit {0}) (entry_position (slice_get entries n))
 last_of_all entries n rising end =
     stands_first Backward entries (λ e. Contains entries e × Unit {0}) n rising
     (λ e at. (at_contained entries n e at, tt))
-    (λ e p. let within = p.0.1 in
-    (p.0.0, omega (arith, end), (λ h. let k : n < p.0.0 = h in omega (arith, k, within, end)), contained_at entries e p.0))
+    (λ e p. let within = p.0.1 in (
+      p.0.0,
+      omega (arith, end),
+      (λ h. let k : n < p.0.0 = h in omega (arith, k, within, end)),
+      contained_at entries e p.0,
+    ))
 
 -- nothing is met in an empty list
 pub none_at_all : (way : Direction) (entries : List Entry) → length entries ≡ 0
@@ -86,8 +95,12 @@ next_of entries n entry rising at =
     (λ e p.
     let there = contained_at entries e p.0 in
     let behind : n < p.0.0 = earlier Forward entries n p.0.0 entry e rising at there p.1 in
-    let within = p.0.1 in
-    (p.0.0, omega (arith, behind, within), (λ h. let k : p.0.0 < n + 1 = h in omega (arith, behind, k)), there))
+    let within = p.0.1 in (
+      p.0.0,
+      omega (arith, behind, within),
+      (λ h. let k : p.0.0 < n + 1 = h in omega (arith, behind, k)),
+      there,
+    ))
 
 pub prev_of : (entries : List Entry) (n : ℕ) (entry : Entry) → AreRising entries
     → slice_get entries (n + 1) ≡ Some entry
@@ -102,7 +115,8 @@ prev_of entries n entry rising at =
     ))
     (λ e p.
     let there = contained_at entries e p.0 in
-    let before : p.0.0 < n + 1 = earlier Backward entries (n + 1) p.0.0 entry e rising at there p.1 in
+    let before : p.0.0 < n + 1 = earlier Backward entries
+    (n + 1) p.0.0 entry e rising at there p.1 in
     let within : n + 1 < length entries = slice_get_within entries (n + 1) entry at in
     (p.0.0, omega (arith, within), (λ h. let k : n < p.0.0 = h in omega (arith, before, k)), there))
 

@@ -2,7 +2,8 @@
 use Rattle.std.proofs.Common.{◌≡◌, ◌⊎◌, inl, inr, ℕ, ◌≤◌, List, [], ◌∷◌, ◌++◌, Option, Some, None}
 use Rattle.std.proofs.Common.{Contains, AllPairs, All, refl, sym, ap, subst, ◌∙◌, arith}
 use Rattle.std.specs.Option.{option_map}
-use Rattle.kv_types.specs.OrderLemmas.{Among, Rises, rises_from_AllPairs, Contains-among, among_from_Contains, among_of_All}
+use Rattle.kv_types.specs.OrderLemmas.{Among, Rises, rises_from_AllPairs, Contains-among}
+use Rattle.kv_types.specs.OrderLemmas.{among_from_Contains, among_of_All}
 use Rattle.kv_types.specs.{Entry, IsNewest, IsUnseen, StoredKey}
 use Rattle.merge_iter.specs.EntryOrder.{cases}
 use Rattle.merge_iter.specs.EntryParts.{between, equal_parts, numbers_fall}
@@ -51,7 +52,8 @@ in_parts (x ∷ before) after item z (inl e) = inl (inl e)
 in_parts (x ∷ before) after item z (inr a) =
     elim (in_parts before after item z a) [ inl b ↦ inl (inr b) | inr c ↦ inr c ]
 
-pub in_middle : {A : Type 0} (before after : List A) (item : A) → Among item (before ++ item ∷ after)
+pub in_middle : {A : Type 0} (before after : List A) (item : A)
+    → Among item (before ++ item ∷ after)
 in_middle [] after item = inl refl
 in_middle (x ∷ before) after item = inr (in_middle before after item)
 
@@ -85,7 +87,8 @@ newest_there entries entry key at rising f same =
             | inr c ↦ elim c [
               | inl is ↦ let n : entry.number ≡ other.number = ap (λ (z : Entry). z.number) is in
                   omega (arith, n)
-              | inr a ↦ let lt = numbers_fall entry other (behind f.before f.after entry other rises a)
+              | inr a ↦ let lt = numbers_fall entry other
+                  (behind f.before f.after entry other rises a)
                   (sym e) in omega (arith, lt)
             ]
           ];

@@ -24,9 +24,11 @@ use Rattle.table_format.specs.{entries_of_blocks}
 use Rattle.table_format.specs.declared.IndexLine.{IndexLine}
 use Rattle.table_format.specs.declared.TableError.{TableError}
 use Rattle.table_format.specs.declared.TableError.TheVariants as table
-use Rattle.sorted_table.specs.Meant.{AreAtLine, HasEndOf, IsBehindLine, IsBlockAtLine, LineBlockAnswer}
+use Rattle.sorted_table.specs.Meant.{AreAtLine, HasEndOf, IsBehindLine, IsBlockAtLine}
+use Rattle.sorted_table.specs.Meant.{LineBlockAnswer}
 use Rattle.sorted_table.specs.TableCursors.{HasLines}
-use Rattle.sorted_table.proofs.BlockNumbers.{BlockNumber, around, length-block_lines, line_of, some_of}
+use Rattle.sorted_table.proofs.BlockNumbers.{BlockNumber, around, length-block_lines, line_of}
+use Rattle.sorted_table.proofs.BlockNumbers.{some_of}
 use Rattle.sorted_table.proofs.LineBlocks.{among_left, among_right, block_in, rising_parts}
 
 never_twice : IsProp ⊥
@@ -87,7 +89,8 @@ misplaced disk file lines n line block at answer never e damaged part is =
     (rc_slice_items block) (p.0 ∙ sym answer.0) p.1 answer.1.0 in
     ∥∥₁_elim is.checked never_twice (λ it.
     never it.0 (subst (λ (b : List ℕ). IsBlock b it.0) same it.1)
-    (subst (λ (l : IndexLine). AreAtLine lines n l it.0) (some_is is.line line (sym is.at ∙ at)) it.2))
+    (subst (λ (l : IndexLine). AreAtLine lines n l it.0)
+    (some_is is.line line (sym is.at ∙ at)) it.2))
 
 -- a block that was read and lies where the line says is the one at the line
 pub placed : (disk : State) (file : ℕ) (lines : List IndexLine) (n : ℕ) (line : IndexLine)

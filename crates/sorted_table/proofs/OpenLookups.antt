@@ -18,7 +18,8 @@ use Rattle.table_format.specs.declared.TableError.{TableError}
 use Rattle.table_format.specs.declared.TableError.TheVariants.{Damaged, Memory}
 use Rattle.sorted_table.specs.declared.found.FoundVersion.{FoundVersion}
 use Rattle.sorted_table.specs.declared.table.Table.{Table}
-use Rattle.sorted_table.specs.Open.{FindsAtLine, IsOpenOn, LineAnswer, LookupAnswer, LookupFinds, TableServes}
+use Rattle.sorted_table.specs.Open.{FindsAtLine, IsOpenOn, LineAnswer, LookupAnswer, LookupFinds}
+use Rattle.sorted_table.specs.Open.{TableServes}
 use Rattle.sorted_table.specs.Meant.{IsBlockAtLine, LineBlockAnswer}
 use Rattle.sorted_table.specs.Searches.{IsLinePlace}
 use Rattle.sorted_table.specs.TableCursors.{HasLines}

@@ -2,12 +2,14 @@
 use Rattle.std.proofs.Common.{◌≡◌, ℕ, ◌+◌, List, ◌++◌, length, take, drop}
 use Rattle.std.proofs.Common.{Result, Ok, Err}
 use Rattle.std.specs.Prelude.{IsErrAnd, MatchOption, MatchResult}
-use Rattle.std.proofs.Common.{Option, Some, None, IsSome, IsSomeAnd, refl, sym, ap, subst, ◌∙◌, arith, append_assoc, length-append, take-append-drop}
+use Rattle.std.proofs.Common.{Option, Some, None, IsSome, IsSomeAnd, refl, sym, ap, subst, ◌∙◌}
+use Rattle.std.proofs.Common.{arith, append_assoc, length-append, take-append-drop}
 use Rattle.std.proofs.lemmas.List.{drop_at, length-drop, length-take, take_all, take_at}
 use Rattle.table_format.specs.PartsLemmas.{footer_again, footer_same}
 use Rattle.table_format.specs.Tables.{footer_content}
 use Rattle.table_format.specs.TablesLemmas.{length-footer}
-use Rattle.table_format.specs.{IsFilterPart, IsFooter, IsIndex, filter_part, footer_part, index_part}
+use Rattle.table_format.specs.{IsFilterPart, IsFooter, IsIndex, filter_part, footer_part}
+use Rattle.table_format.specs.{index_part}
 use Rattle.table_format.specs.declared.Footer.{Footer}
 use Rattle.table_format.specs.declared.IndexLine.{IndexLine}
 use Rattle.sorted_table.specs.declared.tail.Tail.{Tail}
@@ -66,9 +68,20 @@ tail_there bytes part filter tail lines read is_filter is_index =
     ∙ ap (λ (l : List ℕ). l ++ drop tail.filter_len part) is_filter.spelled
     ∙ ap (λ (l : List ℕ). filter_part filter ++ l) is_index.spelled in
     let len_filter : length (filter_part filter) ≡ tail.filter_len =
-    omega (arith, ap length is_filter.spelled, length-take tail.filter_len part, len_part, within) in
+    omega (
+      arith,
+      ap length is_filter.spelled,
+      length-take tail.filter_len part,
+      len_part,
+      within,
+    ) in
     let len_index : length (filter_part filter) + length (index_part lines) ≡ tail.len =
-    omega (arith, ap length parts, length-append (filter_part filter) (index_part lines), len_part) in
+    omega (
+      arith,
+      ap length parts,
+      length-append (filter_part filter) (index_part lines),
+      len_part,
+    ) in
     let all : bytes ≡ (front ++ part) ++ foot =
     sym (take-append-drop tail.place bytes)
     ∙ ap (λ (l : List ℕ). front ++ l) (sym (take-append-drop tail.len rest)
@@ -156,8 +169,13 @@ module _ (bytes : List ℕ) (lines : List IndexLine) (filter : List ℕ)
       (sym (append_assoc (filter_part filter) (index_part lines) foot))
 
   ends_at : length h.front + length middle + 52 ≡ length bytes
-  ends_at = omega (arith, ap length all_is, length-append h.front (middle ++ foot),
-      length-append middle foot, length-footer h.footer)
+  ends_at = omega (
+    arith,
+    ap length all_is,
+    length-append h.front (middle ++ foot),
+    length-append middle foot,
+    length-footer h.footer,
+  )
 
   last_is : (end : ℕ) → end + 52 ≡ length bytes → take 52 (drop end bytes) ≡ foot
   last_is end long =
@@ -189,22 +207,25 @@ module _ (bytes : List ℕ) (lines : List IndexLine) (filter : List ℕ)
         place = length h.front;
         len = length middle;
         filter_len = length (filter_part filter);
-      } in
-      (middle, tail, record {
-        end = length h.front + length middle;
-        len = ends_at;
-        says = record {
-          footer = h.footer;
-          is_footer = footer_is (length h.front + length middle) ends_at;
-          filter = filter_at;
-          filter_len = filter_len;
-          index = index_at;
-          index_len = omega (arith, index_at, index_len, parts);
-          ends = refl;
-          within = omega (arith, parts);
-        };
-        content = sym (middle_is (length middle) refl);
-      })
+      } in (
+        middle,
+        tail,
+        record {
+          end = length h.front + length middle;
+          len = ends_at;
+          says = record {
+            footer = h.footer;
+            is_footer = footer_is (length h.front + length middle) ends_at;
+            filter = filter_at;
+            filter_len = filter_len;
+            index = index_at;
+            index_len = omega (arith, index_at, index_len, parts);
+            ends = refl;
+            within = omega (arith, parts);
+          };
+          content = sym (middle_is (length middle) refl);
+        },
+      )
 
   -- and what is read there is the filter and the index
   pub parts_there : (part : List ℕ) (tail : Tail) → ReadsTail part tail bytes

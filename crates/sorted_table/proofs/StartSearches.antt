@@ -1,5 +1,6 @@
 -- Searches among the entries of a block.
-use Rattle.std.proofs.Common.{◌≡◌, ◌⊎◌, inl, inr, ℕ, ◌≤◌, ◌<◌, Bool, true, false, List, length, get_or}
+use Rattle.std.proofs.Common.{◌≡◌, ◌⊎◌, inl, inr, ℕ, ◌≤◌, ◌<◌, Bool, true, false, List, length}
+use Rattle.std.proofs.Common.{get_or}
 use Rattle.std.proofs.Common.{Option, Some, None, IsTrue, refl, sym, ap, subst, ◌∙◌, arith}
 use Rattle.std.specs.List.{slice_get}
 use Rattle.std.specs.Option.{option_map}
@@ -24,7 +25,8 @@ mapped_some f (Some x) y e = (x, refl, cc)
 mapped_some f None y e = absurd cc
 
 -- what is read at place k of a block's places is entry k
-pub places_agree : (block starts : List ℕ) (entries : List Entry) → ReadsEntries block starts entries
+pub places_agree : (block starts : List ℕ) (entries : List Entry)
+    → ReadsEntries block starts entries
     → (k : ℕ) → option_map (entry_read block) (slice_get starts k)
     ≡ option_map Some (slice_get entries k)
 places_agree block starts entries is k =

@@ -1,5 +1,6 @@
 -- Entries of a block, read one behind the other, and again from their places.
-use Rattle.std.proofs.Common.{◌≡◌, ℕ, ◌+◌, ◌-◌, ◌≤◌, ◌<◌, List, [], ◌∷◌, ◌++◌, length, map, take, drop}
+use Rattle.std.proofs.Common.{◌≡◌, ℕ, ◌+◌, ◌-◌, ◌≤◌, ◌<◌, List, [], ◌∷◌, ◌++◌, length, map, take}
+use Rattle.std.proofs.Common.{drop}
 use Rattle.std.proofs.Common.{Option, Some, None, IsSomeAnd, All, refl, sym, ap, subst, ◌∙◌, arith}
 use Rattle.std.proofs.Common.{append_assoc, length-append, take-append-drop}
 use Rattle.std.specs.List.{AllByRecursion}
@@ -180,7 +181,8 @@ all_read block first rest starts count entries w b each is =
     let size : length starts ≡ length w.entries = count_read block starts w.entries w.again in
     let number = b.number in
     let same = (same_entries w.entries entries rest (digest (block_content entries)) w.passed.each
-    (recursion_from_All IsTableEntry entries each) (omega arith) (sym w.passed.spelled ∙ b.text)).0 in
+    (recursion_from_All IsTableEntry entries each) (omega arith) (sym w.passed.spelled ∙ b.text)).0
+    in
     w.again ∙ ap (map Some) same
 
 -- ---- all of them

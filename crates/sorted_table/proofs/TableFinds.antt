@@ -1,6 +1,8 @@
 -- What moves of a cursor over a table find.
-use Rattle.std.proofs.Common.{◌≡◌, ◌↔◌, ℕ, ◌+◌, ◌-◌, ◌≤◌, ◌<◌, List, length, Option, Some, None, IfSome, IsSomeAnd}
-use Rattle.std.proofs.Common.{Bool, false, Contains, Result, Ok, Err, OnOk, refl, sym, ap, subst, ◌∙◌, arith}
+use Rattle.std.proofs.Common.{◌≡◌, ◌↔◌, ℕ, ◌+◌, ◌-◌, ◌≤◌, ◌<◌, List, length, Option, Some, None}
+use Rattle.std.proofs.Common.{IfSome, IsSomeAnd}
+use Rattle.std.proofs.Common.{Bool, false, Contains, Result, Ok, Err, OnOk, refl, sym, ap, subst}
+use Rattle.std.proofs.Common.{◌∙◌, arith}
 use Rattle.std.proofs.Common.{zero, suc, [], ◌∷◌, length-append}
 use Rattle.std.specs.List.{slice_get}
 use Rattle.disk.specs.{Slot, seen}
@@ -88,7 +90,8 @@ module _ (file : Slot) (lines : List IndexLine) (t : HasLines file lines) where
   -- ---- ends
 
   pub finds_first : {R : Type 0} (result : Result R CursorError) (failed : Bool)
-      (place : Option BlockPlace) → OnOk result ((failed ≡ false) × HasEntered lines 0 Forward place)
+      (place : Option BlockPlace) → OnOk result
+      ((failed ≡ false) × HasEntered lines 0 Forward place)
       → OnOk result (IfSome place (IsPlaceIn blocks))
       → MoveFinds Forward AtEnd (FileHolds file) result (table_position failed place)
   finds_first result failed place entered reads =

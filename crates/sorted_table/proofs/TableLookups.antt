@@ -8,7 +8,8 @@ use Rattle.kv_types.specs.OrderLemmas.{All-among, Among, Rises, rises_from_AllPa
 use Rattle.kv_types.specs.{Entry, IsUnseen, StoredKey}
 use Rattle.merge_iter.specs.{EntryPrecedes, spot}
 use Rattle.merge_iter.specs.declared.Direction.TheVariants.{Forward}
-use Rattle.table_format.specs.{AreRising, IsBlock, IsEnvironmentError, ReportsDevice, TableRepresents}
+use Rattle.table_format.specs.{AreRising, IsBlock, IsEnvironmentError, ReportsDevice}
+use Rattle.table_format.specs.{TableRepresents}
 use Rattle.table_format.specs.{block_entries, block_lines}
 use Rattle.table_format.specs.{end_spot, entries_of_blocks}
 use Rattle.table_format.specs.declared.IndexLine.{IndexLine}

@@ -1,5 +1,6 @@
 -- Places in the blocks of a table, and which of the table's entries stand there.
-use Rattle.std.proofs.Common.{◌≡◌, ℕ, zero, suc, ◌+◌, ◌≤◌, ◌<◌, List, [], ◌∷◌, ◌++◌, length, take, drop}
+use Rattle.std.proofs.Common.{◌≡◌, ℕ, zero, suc, ◌+◌, ◌≤◌, ◌<◌, List, [], ◌∷◌, ◌++◌, length, take}
+use Rattle.std.proofs.Common.{drop}
 use Rattle.std.proofs.Common.{Option, Some, None, IfSome, Bool, false, sym, ap, subst, ◌∙◌}
 use Rattle.std.proofs.Common.{arith, length-append, inl, inr}
 use Rattle.std.specs.List.{slice_get}
@@ -43,7 +44,8 @@ first_number blocks n = length (entries_of_blocks (take n blocks))
 abbrev pub number_of : List Block → BlockPlace → ℕ
 number_of blocks place = first_number blocks place.line + place.at
 
-pub get_behind : {A : Type 0} (xs ys : List A) (i : ℕ) → slice_get (xs ++ ys) (length xs + i) ≡ slice_get ys i
+pub get_behind : {A : Type 0} (xs ys : List A) (i : ℕ)
+    → slice_get (xs ++ ys) (length xs + i) ≡ slice_get ys i
 get_behind [] ys i = ap (slice_get ys) (omega arith)
 get_behind (x ∷ xs) ys i =
     let e : length (x ∷ xs) + i ≡ suc (length xs + i) = omega arith in

@@ -1,6 +1,8 @@
 -- Seeks of a cursor over a table.
-use Rattle.std.proofs.Common.{◌≡◌, ℕ, zero, suc, ◌+◌, ◌≤◌, ◌<◌, List, [], ◌∷◌, ◌++◌, length, map, take, drop}
-use Rattle.std.proofs.Common.{Option, Some, None, Bool, false, All, Ok, refl, sym, ap, subst, ◌∙◌, arith}
+use Rattle.std.proofs.Common.{◌≡◌, ℕ, zero, suc, ◌+◌, ◌≤◌, ◌<◌, List, [], ◌∷◌, ◌++◌, length, map}
+use Rattle.std.proofs.Common.{take, drop}
+use Rattle.std.proofs.Common.{Option, Some, None, Bool, false, All, Ok, refl, sym, ap, subst, ◌∙◌}
+use Rattle.std.proofs.Common.{arith}
 use Rattle.std.proofs.Common.{◌⊎◌, inl, inr, get_or, length-append, take-append-drop}
 use Rattle.std.proofs.lemmas.Grind.{flat_map-append}
 use Rattle.std.specs.List.{slice_get}
@@ -13,7 +15,8 @@ use Rattle.kv_types.specs.OrderLemmas.{Among, Rises, rises_from_AllPairs}
 use Rattle.kv_types.specs.{Entry, StoredKey}
 use Rattle.merge_iter.specs.declared.Direction.TheVariants.{Forward}
 use Rattle.merge_iter.specs.{At, EntryPrecedes, MoveFinds, chain, spot}
-use Rattle.table_format.specs.{AreRising, Block, block_bytes, block_entries, block_line, block_lines}
+use Rattle.table_format.specs.{AreRising, Block, block_bytes, block_entries, block_line}
+use Rattle.table_format.specs.{block_lines}
 use Rattle.table_format.specs.{data_bytes, end_spot, entries_of_blocks}
 use Rattle.table_format.specs.declared.IndexLine.{IndexLine}
 use Rattle.sorted_table.specs.declared.block_place.BlockPlace.{BlockPlace}
@@ -102,7 +105,8 @@ module _ (file : Slot) (lines : List IndexLine) (t : HasLines file lines) (key :
 
     -- the entries before those of a line's block
     early_blocks : (n : ℕ) → n ≤ length lines → IsLinePlace lines sought n → (e : Entry)
-        → Among e (entries_of_blocks (take n (blocks file lines t))) → EntryPrecedes Forward e sought
+        → Among e (entries_of_blocks (take n (blocks file lines t)))
+        → EntryPrecedes Forward e sought
     early_blocks n within at e a =
         let bs = blocks file lines t in
         let whole : all file lines t
@@ -215,7 +219,8 @@ module _ (file : Slot) (lines : List IndexLine) (t : HasLines file lines) (key :
         → (there : IsPlaceIn (blocks file lines t) p) → p.line ≡ n
         → SplitsEntries (block_entries there.block) sought (length (block_entries there.block)) → ⊥
     never_late n p at there line s =
-        ends_late n there.block (ap (slice_get (blocks file lines t)) (sym line) ∙ there.present) at s
+        ends_late n there.block (ap (slice_get (blocks file lines t)) (sym line)
+        ∙ there.present) at s
 
     pub finds_none_sought : (n : ℕ) (failed : Bool) (place : Option BlockPlace) → n ≤ length lines
         → IsLinePlace lines sought n → length lines ≤ n → failed ≡ false → place ≡ None

@@ -1,6 +1,8 @@
 -- The parts of a table behind its blocks.
-use Rattle.std.proofs.Common.{◌≡◌, ℕ, ◌+◌, ◌-◌, ◌≤◌, ◌<◌, ◌^◌, List, [], ◌∷◌, ◌++◌, length, map, take, drop, AllPairs}
-use Rattle.std.proofs.Common.{refl, sym, ap, subst, ◌∙◌, arith, append_assoc, length-append, inl, inr, ◌⊎◌}
+use Rattle.std.proofs.Common.{◌≡◌, ℕ, ◌+◌, ◌-◌, ◌≤◌, ◌<◌, ◌^◌, List, [], ◌∷◌, ◌++◌, length, map}
+use Rattle.std.proofs.Common.{take, drop, AllPairs}
+use Rattle.std.proofs.Common.{refl, sym, ap, subst, ◌∙◌, arith, append_assoc, length-append, inl}
+use Rattle.std.proofs.Common.{inr, ◌⊎◌}
 use Rattle.std.specs.List.{flat_map, AllByRecursion}
 use Rattle.std.proofs.lemmas.List.{take_at, drop_at, take_all}
 use Rattle.std.proofs.lemmas.List.Concat.{flat_map-cons}
@@ -9,12 +11,16 @@ use Rattle.kv_types.specs.OrderLemmas.{Among, Rises, AllPairs-rises, rises_from_
 use Rattle.kv_types.specs.{Entry}
 use Rattle.merge_iter.specs.{EntryPrecedes, spot}
 use Rattle.merge_iter.specs.declared.Direction.TheVariants.{Forward}
-use Rattle.table_format.specs.FrontsLemmas.{IsShortBlock, few_entries, length-block_part, split_each}
+use Rattle.table_format.specs.FrontsLemmas.{IsShortBlock, few_entries, length-block_part}
+use Rattle.table_format.specs.FrontsLemmas.{split_each}
 use Rattle.table_format.specs.SealedLemmas.{length-sealed}
 use Rattle.table_format.specs.TablesLemmas.{before_footer, length-footer, length-table, table_parts}
-use Rattle.table_format.specs.{Block, FillsPlaces, IsFilterPart, IsFooter, IsIndex, IsIndexLine, IsTableEntry}
-use Rattle.table_format.specs.{TableRepresents, be32, block_bytes, block_entries, block_lines, data_bytes}
-use Rattle.table_format.specs.{AreRising, end_spot, entries_of_blocks, filter_part, footer_part, index_content, index_part}
+use Rattle.table_format.specs.{Block, FillsPlaces, IsFilterPart, IsFooter, IsIndex, IsIndexLine}
+use Rattle.table_format.specs.{IsTableEntry}
+use Rattle.table_format.specs.{TableRepresents, be32, block_bytes, block_entries, block_lines}
+use Rattle.table_format.specs.{data_bytes}
+use Rattle.table_format.specs.{AreRising, end_spot, entries_of_blocks, filter_part, footer_part}
+use Rattle.table_format.specs.{index_content, index_part}
 use Rattle.table_format.specs.{line_bytes, table_footer}
 use Rattle.table_format.specs.declared.Footer.{Footer}
 use Rattle.table_format.specs.declared.IndexLine.{IndexLine}
@@ -26,7 +32,8 @@ use Rattle.sorted_table.proofs.LineBlocks.{among_left, among_right, last_there, 
 
 -- ---- the footer
 
-few_in_blocks : (blocks : List Block) → length (entries_of_blocks blocks) ≤ length (data_bytes blocks)
+few_in_blocks : (blocks : List Block)
+    → length (entries_of_blocks blocks) ≤ length (data_bytes blocks)
 few_in_blocks [] = omega arith
 few_in_blocks (b ∷ blocks) =
     let below = few_in_blocks blocks in
@@ -131,7 +138,8 @@ pub tail_at : (bytes : List ℕ) (entries : List Entry) (s : TableRepresents byt
 tail_at bytes entries s tail is =
     let parts = tail_bytes s.blocks s.filter in
     let foot = footer_part (table_footer s.blocks s.filter) in
-    ap (λ (b : List ℕ). take tail.len (drop tail.place b)) (s.spelled ∙ table_parts s.blocks s.filter
+    ap (λ (b : List ℕ). take tail.len (drop tail.place b))
+    (s.spelled ∙ table_parts s.blocks s.filter
     ∙ append_assoc (data_bytes s.blocks) parts foot)
     ∙ ap (take tail.len) (drop_at (data_bytes s.blocks) (parts ++ foot) tail.place (sym is.place))
     ∙ take_at parts foot tail.len (sym is.len)
@@ -182,7 +190,8 @@ ends_after b place (c ∷ blocks) h z (inr a) =
     (λ y d. h y (subst (Among y) (sym (flat_map-cons block_entries c blocks))
     (among_right (block_entries c) (entries_of_blocks blocks) y d))) z a
 
-ends_rise : (place : ℕ) (blocks : List Block) → Rises (EntryPrecedes Forward) (entries_of_blocks blocks)
+ends_rise : (place : ℕ) (blocks : List Block)
+    → Rises (EntryPrecedes Forward) (entries_of_blocks blocks)
     → Rises (EntryPrecedes Forward) (map end_spot (block_lines place blocks))
 ends_rise place [] rises = tt
 ends_rise place (b ∷ blocks) rises =
@@ -205,7 +214,8 @@ fills_from : (place : ℕ) (blocks : List Block)
 fills_from place [] = omega arith
 fills_from place (b ∷ blocks) =
     let below = fills_from (place + length (block_bytes b)) blocks in
-    let size : length (data_bytes (b ∷ blocks)) ≡ length (block_bytes b) + length (data_bytes blocks) =
+    let size : length (data_bytes (b ∷ blocks)) ≡ length (block_bytes b) + length
+    (data_bytes blocks) =
     ap length (flat_map-cons block_bytes b blocks)
     ∙ length-append (block_bytes b) (data_bytes blocks) in (
       refl,
@@ -218,14 +228,16 @@ lines_right : (place : ℕ) (blocks : List Block) → place + length (data_bytes
     → AllByRecursion IsIndexLine (block_lines place blocks)
 lines_right place [] room small each = tt
 lines_right place (b ∷ blocks) room small each =
-    let size : length (data_bytes (b ∷ blocks)) ≡ length (block_bytes b) + length (data_bytes blocks) =
+    let size : length (data_bytes (b ∷ blocks)) ≡ length (block_bytes b) + length
+    (data_bytes blocks) =
     ap length (flat_map-cons block_bytes b blocks)
     ∙ length-append (block_bytes b) (data_bytes blocks) in
     let parts = split_each IsTableEntry (block_entries b) (entries_of_blocks blocks)
     (subst (AllByRecursion IsTableEntry) (flat_map-cons block_entries b blocks) each) in
     let last = (split_each IsTableEntry b.front (b.last ∷ []) parts.0).1.0 in (
       record { place = omega (arith, room); len = small.0; key = last.key; number = last.number },
-      lines_right (place + length (block_bytes b)) blocks (omega (arith, room, size)) small.1 parts.1,
+      lines_right (place + length (block_bytes b)) blocks
+          (omega (arith, room, size)) small.1 parts.1,
     )
 
 few_lines : (lines : List IndexLine) → length lines ≤ length (flat_map line_bytes lines)
@@ -250,7 +262,8 @@ some_blocks [] entries is some = absurd (omega (arith, some, ap length is))
 some_blocks (b ∷ blocks) entries is some = omega arith
 
 is_index : (bytes : List ℕ) (entries : List Entry) (s : TableRepresents bytes entries)
-    → IsIndex (index_part (block_lines 0 s.blocks)) (length (data_bytes s.blocks)) (block_lines 0 s.blocks)
+    → IsIndex (index_part (block_lines 0 s.blocks)) (length (data_bytes s.blocks))
+    (block_lines 0 s.blocks)
 is_index bytes entries s =
     let lines = block_lines 0 s.blocks in
     let data_len = s.fits.data_len in

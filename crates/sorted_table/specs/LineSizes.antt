@@ -1,5 +1,6 @@
 -- How many bytes the blocks of an index's lines have.
-use Rattle.std.specs.Prelude.{ℕ, ◌+◌, ◌-◌, ◌≤◌, List, length, take, drop, slice_get, Option, Some, None}
+use Rattle.std.specs.Prelude.{ℕ, ◌+◌, ◌-◌, ◌≤◌, List, length, take, drop, slice_get, Option, Some}
+use Rattle.std.specs.Prelude.{None}
 use Rattle.std.specs.List.{sum_by}
 use Rattle.merge_iter.specs.declared.Direction.{Direction}
 use Rattle.merge_iter.specs.declared.Direction.TheVariants.{Forward, Backward}

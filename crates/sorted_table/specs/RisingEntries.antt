@@ -40,7 +40,8 @@ rising_apart entries rising a b p q e =
     let at_a = contained_at entries a p in
     let at_b = contained_at entries b q in
     elim (sides p.0 q.0) [
-      | inl lt ↦ absurd (equal_apart Forward a b e (in_order entries p.0 q.0 a b rising lt at_a at_b))
+      | inl lt ↦ absurd (equal_apart Forward a b e
+          (in_order entries p.0 q.0 a b rising lt at_a at_b))
       | inr m ↦ elim m [
         | inl same ↦ some_is a b (sym at_a ∙ (ap (slice_get entries) same ∙ at_b))
         | inr gt ↦ absurd (equal_apart Forward b a (equal_back a b e)

@@ -1,5 +1,6 @@
 //! The places of the entries of a block, and the entries read there.
-ghost use Rattle.std.specs.Prelude.{◌≡◌, ◌≤◌, ◌⊎◌, List, IfErr, IfOk, MatchResult, length, option_map};
+ghost use Rattle.std.specs.Prelude.{◌≡◌, ◌≤◌, ◌⊎◌, List, IfErr, IfOk, MatchResult, length};
+ghost use Rattle.std.specs.Prelude.{option_map};
 ghost use Rattle.kv_types.specs.{Entry, lent_key};
 ghost use Rattle.merge_iter.specs.{spot};
 ghost use Rattle.table_format.specs.{AreRising, IsBlock, lent_entry};

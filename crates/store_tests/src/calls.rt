@@ -128,7 +128,8 @@ fn open(rt: &impl Abort, alloc: Global, disk: &mut NotingDisk) {
     Log::open(alloc, disk, 3, 0).expect(rt, "a log");
 }
 
-// Whether the calls of an append at this gate are these: what is behind the gate, and then the gate.
+// Whether the calls of an append at this gate are these: what is behind the gate, and then the
+// gate.
 fn appends_so(
     rt: &impl Abort,
     alloc: Global,
@@ -177,8 +178,8 @@ fn a_log_makes_its_calls_in_their_order(rt: HostRuntime) {
     is_so(&rt, syncs_and_reads, "the calls of an opening");
 }
 
-// The slots of a new manifest: a closed gate in file 2, and in file 1 the slot behind a closed gate,
-// which is opened when the slot is durable.
+// The slots of a new manifest: a closed gate in file 2, and in file 1 the slot behind a closed
+// gate, which is opened when the slot is durable.
 const CREATION: &[Called] = &[
     Called::Write(2, 0, 0),
     Called::Sync(2),

@@ -86,7 +86,8 @@ can_close old mid entries entry h is knows has written index =
     record {
       closed = record {
         written = written ∙ h.parts.closed.written;
-        index = subst (λ i. HoldsItems line_bytes i (block_lines 0 (division entries).closed)) (sym index)
+        index = subst (λ i. HoldsItems line_bytes i (block_lines 0 (division entries).closed))
+            (sym index)
             h.parts.closed.index;
       };
       entries = has;

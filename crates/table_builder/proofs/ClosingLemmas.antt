@@ -17,9 +17,11 @@ use Rattle.table_format.specs.Blocks.{key_bytes}
 use Rattle.table_format.specs.Tables.{begins_with}
 use Rattle.table_format.specs.{Block, IsTableEntry, TableRepresents, be32, be64, block_bytes}
 use Rattle.table_format.specs.{block_content, block_entries, block_line, block_lines, data_bytes}
-use Rattle.table_format.specs.{different_keys, entries_of_blocks, entry_bytes, filter_part, footer_part}
+use Rattle.table_format.specs.{different_keys, entries_of_blocks, entry_bytes, filter_part}
+use Rattle.table_format.specs.{footer_part}
 use Rattle.table_format.specs.{index_content, index_part, last_entry, line_bytes}
-use Rattle.table_format.specs.FrontsLemmas.{IsShortBlock, length-block_content, length-block_part, split_each}
+use Rattle.table_format.specs.FrontsLemmas.{IsShortBlock, length-block_content, length-block_part}
+use Rattle.table_format.specs.FrontsLemmas.{split_each}
 use Rattle.table_format.specs.PassedLemmas.{all_push}
 use Rattle.table_format.specs.RisingLemmas.{last_push}
 use Rattle.table_format.specs.SealedLemmas.{length-sealed}
@@ -27,7 +29,8 @@ use Rattle.table_format.specs.TablesLemmas.{length-footer}
 use Rattle.table_builder.specs.declared.builder.Builder.{Builder}
 use Rattle.table_builder.specs.Builders.{HoldsBlocks, HoldsEntries}
 use Rattle.table_builder.specs.Closing.{CanClose, CanEnd}
-use Rattle.table_builder.specs.Divisions.{Division, block_from, division, finished_blocks, last_block}
+use Rattle.table_builder.specs.Divisions.{Division, block_from, division, finished_blocks}
+use Rattle.table_builder.specs.Divisions.{last_block}
 use Rattle.table_builder.specs.Keys.{KnowsKeys}
 use Rattle.table_builder.specs.OpenParts.{HoldsItems}
 use Rattle.table_builder.specs.Tails.{tail_of}
@@ -245,7 +248,8 @@ can_close_last it entries first others h is =
     let all : entries ≡ (entries_of_blocks parts.closed ++ one.front) ++ one.last ∷ [] =
     sym f.all ∙ ap (λ (r : List Entry). entries_of_blocks parts.closed ++ r) opened
     ∙ sym (append_assoc (entries_of_blocks parts.closed) one.front (one.last ∷ [])) in
-    let at_end = ap last_entry all ∙ last_push (entries_of_blocks parts.closed ++ one.front) one.last in
+    let at_end = ap last_entry all
+    ∙ last_push (entries_of_blocks parts.closed ++ one.front) one.last in
     let ends = subst (λ (o : Option Entry). IfSome o (λ r. (it.keys.last ≡ r.key)
     × (it.keys.number ≡ r.number))) at_end h.keys.last in
     let short = f.short in
@@ -285,26 +289,36 @@ module _ (it : Builder) (entries : List Entry) (h : HoldsEntries it entries)
         each = h.each;
         rising = h.rising;
         size = h.size;
-        small = All-from_recursion IsShortBlock (finished_blocks parts) (smalls parts.opened f.short);
+        small = All-from_recursion IsShortBlock (finished_blocks parts)
+            (smalls parts.opened f.short);
         long = omega (arith, long, length-finished parts, more);
       }
     where
       joins : (opened : List Entry) → entries_of_blocks (division entries).closed ++ opened
           ≡ entries_of_blocks ((division entries).closed ++ last_block opened)
-      joins [] = append-nil (entries_of_blocks (division entries).closed) ∙ sym (ap entries_of_blocks (append-nil (division entries).closed))
+      joins [] = append-nil (entries_of_blocks (division entries).closed)
+          ∙ sym (ap entries_of_blocks (append-nil (division entries).closed))
       joins (x ∷ xs) =
           sym (entries_of_push (division entries).closed (block_from x xs)
-          ∙ ap (λ (r : List Entry). entries_of_blocks (division entries).closed ++ r) (block_from_entries x xs))
+          ∙ ap (λ (r : List Entry). entries_of_blocks (division entries).closed ++ r)
+          (block_from_entries x xs))
 
-      few_more : (opened : List Entry) → length ((division entries).closed ++ last_block opened) ≤ length (division entries).closed + 1
+      few_more : (opened : List Entry)
+          → length ((division entries).closed ++ last_block opened) ≤ length
+          (division entries).closed + 1
       few_more [] = omega (arith, length-append (division entries).closed [])
-      few_more (x ∷ xs) = omega (arith, length-append (division entries).closed (block_from x xs ∷ []))
+      few_more (x ∷ xs) = omega (
+        arith,
+        length-append (division entries).closed (block_from x xs ∷ []),
+      )
 
       smalls : (opened : List Entry) → length (block_content opened) < 4096
           → AllByRecursion IsShortBlock ((division entries).closed ++ last_block opened)
-      smalls [] short = subst (AllByRecursion IsShortBlock) (sym (append-nil (division entries).closed)) (fine it entries h).small
+      smalls [] short = subst (AllByRecursion IsShortBlock)
+          (sym (append-nil (division entries).closed)) (fine it entries h).small
       smalls (x ∷ xs) short =
-          all_push IsShortBlock (division entries).closed (block_from x xs) (fine it entries h).small
+          all_push IsShortBlock (division entries).closed (block_from x xs)
+          (fine it entries h).small
           (omega (
             arith,
             short,

@@ -88,7 +88,8 @@ module _ {D : Type 0} (g : Ghosts D) (file : ℕ) where
       spared = λ spared _. spared;
     };
     not_own = not_own;
-    any_moment = λ honest. at_start (λ left. Unit {0}) file (g.state disk) (g.past disk) (λ left now. tt);
+    any_moment = λ honest. at_start (λ left. Unit {0}) file (g.state disk) (g.past disk)
+        (λ left now. tt);
   }
 
   -- memory is wanting before any call

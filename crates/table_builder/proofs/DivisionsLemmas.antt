@@ -16,7 +16,8 @@ use Rattle.table_format.specs.Blocks.{change_bytes, key_bytes}
 use Rattle.table_format.specs.{Block, IsTableEntry, be64, block_bytes, block_content, block_entries}
 use Rattle.table_format.specs.{block_line, block_lines, block_part, data_bytes, entries_of_blocks}
 use Rattle.table_format.specs.{entry_bytes}
-use Rattle.table_format.specs.FrontsLemmas.{IsShortBlock, entry_long, length-block_content, length-block_part}
+use Rattle.table_format.specs.FrontsLemmas.{IsShortBlock, entry_long, length-block_content}
+use Rattle.table_format.specs.FrontsLemmas.{length-block_part}
 use Rattle.table_format.specs.PassedLemmas.{all_push, flat_push}
 use Rattle.table_builder.specs.Divisions.{Division, block_from, data_size, division}
 use Rattle.table_builder.specs.Divisions.{finished_blocks, last_block, with_entries, with_entry}

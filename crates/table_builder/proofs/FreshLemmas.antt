@@ -42,8 +42,10 @@ module _ {D : Type 0} (state : D → State) (past : D → List State) (file : �
   spared = at_start (λ left. Unit {0}) file (state d0) (past d0) (λ left now. tt)
 
   -- one call more on the file
-  pub spared_more : (mid new : D) → Spares mid → Passes (past mid) (state mid) (past new) (state new) →
+  pub spared_more : (mid new : D) → Spares mid
+      → Passes (past mid) (state mid) (past new) (state new) →
       IsSameBut file (state d0) (state new) → Spares new
   spared_more mid new run passes others =
-      at_more (λ left. Unit {0}) file (state d0) (state mid) (state new) (past d0) (past mid) (past new)
+      at_more (λ left. Unit {0}) file (state d0) (state mid) (state new) (past d0) (past mid)
+      (past new)
       run passes others (λ left now. tt)

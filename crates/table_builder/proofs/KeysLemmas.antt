@@ -87,8 +87,10 @@ module _ (was now : AddedKeys) (entries : List Entry) (entry : Entry) (k : Knows
       now.hashes.items ≡ was.hashes.items → KnowsKeys now (entries ++ entry ∷ [])
   knows_same same hashes =
       let end = last_of_some entries some in
-      let alike = subst (λ (key : List ℕ). bytes_eq key entry.key ≡ true) (last_is end.0 end.1) same in
-      known (hashes ∙ k.hashes ∙ ap (map hashes_of) (sym (keys_same entries end.0 entry end.1 alike)))
+      let alike = subst (λ (key : List ℕ). bytes_eq key entry.key ≡ true)
+      (last_is end.0 end.1) same in
+      known (hashes ∙ k.hashes ∙ ap (map hashes_of)
+      (sym (keys_same entries end.0 entry end.1 alike)))
 
   -- after an entry of another key
   pub knows_other : bytes_eq was.last entry.key ≡ false →
@@ -96,7 +98,8 @@ module _ (was now : AddedKeys) (entries : List Entry) (entry : Entry) (k : Knows
       KnowsKeys now (entries ++ entry ∷ [])
   knows_other other hashes =
       let end = last_of_some entries some in
-      let differ = subst (λ (key : List ℕ). bytes_eq key entry.key ≡ false) (last_is end.0 end.1) other in
+      let differ = subst (λ (key : List ℕ). bytes_eq key entry.key ≡ false)
+      (last_is end.0 end.1) other in
       known (
       hashes ∙ ap (λ (hs : List (ℕ × ℕ)). hs ++ hashes_of entry.key ∷ []) k.hashes
       ∙ sym (map-append hashes_of (different_keys entries) (entry.key ∷ []))
@@ -120,7 +123,8 @@ follows_by keys entries entry r t k some ordered is =
     let ends = subst (λ (o : Option Entry). IfSome o (λ x. (keys.last ≡ x.key)
     × (keys.number ≡ x.number))) end.1 k.last in
     let same : r ≡ entry_cmp end.0 entry =
-    ordered ∙ ap (λ (key : List ℕ). entry_cmp (spot key keys.number) (spot entry.key entry.number)) ends.0
+    ordered ∙ ap (λ (key : List ℕ).
+    entry_cmp (spot key keys.number) (spot entry.key entry.number)) ends.0
     ∙ ap (λ (n : ℕ). entry_cmp (spot end.0.key n) (spot entry.key entry.number)) ends.1 in
     subst (λ (o : Option Entry). IsTrue t ↔ IfSome o (λ last. EntryPrecedes Forward last entry))
     (sym end.1)

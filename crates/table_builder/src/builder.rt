@@ -263,7 +263,8 @@ impl Builder {
     fn tail(&mut self, alloc: Global) -> Result<Vec<u8>, TableError>
         ensures keys { self.new.keys ≡ self.old.keys }
         ensures memory { IfErr result (λ e. e ≡ TableError.Memory) }
-        ensures tail { (blocks : List Block) (entries : List Entry) → CanEnd self.old blocks entries →
+        ensures tail { (blocks : List Block) (entries : List Entry)
+            → CanEnd self.old blocks entries →
             IfOk result (λ tail.
             ((holds : TableRepresents (data_bytes blocks ++ tail.items) entries)
             × (holds.blocks ≡ blocks)) × (length tail.items < 2 ^ 40)) }

@@ -74,7 +74,8 @@ module _ {D : Type 0} (g : Ghosts D) where
   struck_stays : (a b : D) → KeepsFiles g a b → g.is_honest a →
       HasStruck g.marks g.past a → HasStruck g.marks g.past b
   struck_stays a b k h struck =
-      stays_struck (fault_of (g.marks a)) (fault_of (g.marks b)) (length (g.past a)) (length (g.past b))
+      stays_struck (fault_of (g.marks a)) (fault_of (g.marks b)) (length (g.past a))
+      (length (g.past b))
       (ap fault_of k.fault)
       (past_grows _ (g.past a) (g.past b) (k.still h).later) struck
 

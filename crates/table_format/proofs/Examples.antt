@@ -16,7 +16,8 @@ use Rattle.table_format.specs.SealedLemmas.{length-sealed}
 use Rattle.table_format.specs.TablesLemmas.{length-footer, length-table}
 use Rattle.table_format.specs.Blocks.{be32, be64, entries_bytes, block_part, key_bytes}
 use Rattle.table_format.specs.Examples.{TableExamples, of_a, put_a, single}
-use Rattle.table_format.specs.Tables.{Block, TableRepresents, block_bytes, block_entries, block_lines, data_bytes}
+use Rattle.table_format.specs.Tables.{Block, TableRepresents, block_bytes, block_entries}
+use Rattle.table_format.specs.Tables.{block_lines, data_bytes}
 use Rattle.table_format.specs.Tables.{entries_of_blocks, filter_part, index_content}
 use Rattle.table_format.specs.Tables.{index_part, line_bytes, block_line}
 
@@ -91,13 +92,15 @@ length-single bytes entry t =
     ∙ ap length (flat_map-cons block_bytes (single entry) [])
     ∙ ap length (append-nil (block_part (entry ∷ []))) in
     let index : length (index_part (block_lines 0 t.blocks)) ≡ 34 + length entry.key =
-    ap (λ (bs : List Block). length (index_part (block_lines 0 bs))) one ∙ length-single_index entry in
+    ap (λ (bs : List Block). length (index_part (block_lines 0 bs))) one
+    ∙ length-single_index entry in
     let filter : length t.filter ≡ 8 = t.exact.len in
     omega (
       arith,
       ap length t.spelled,
       length-table t.blocks t.filter,
-      length-append (data_bytes t.blocks) (filter_part t.filter ++ index_part (block_lines 0 t.blocks)),
+      length-append (data_bytes t.blocks)
+          (filter_part t.filter ++ index_part (block_lines 0 t.blocks)),
       length-append (filter_part t.filter) (index_part (block_lines 0 t.blocks)),
       blocks,
       index,

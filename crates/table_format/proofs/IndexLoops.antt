@@ -1,5 +1,6 @@
 -- The lines of an index, read one behind the other.
-use Rattle.std.proofs.Common.{◌≡◌, ℕ, zero, suc, ◌+◌, ◌-◌, ◌≤◌, ◌<◌, List, [], ◌∷◌, ◌++◌, length, map, Some, None}
+use Rattle.std.proofs.Common.{◌≡◌, ℕ, zero, suc, ◌+◌, ◌-◌, ◌≤◌, ◌<◌, List, [], ◌∷◌, ◌++◌, length}
+use Rattle.std.proofs.Common.{map, Some, None}
 use Rattle.std.proofs.Common.{refl, sym, ap, subst, ◌∙◌, arith, length-append, AllPairs}
 use Rattle.std.specs.List.{flat_map, slice_get}
 use Rattle.std.specs.Int.{w32}
@@ -12,7 +13,8 @@ use Rattle.merge_iter.specs.declared.Direction.TheVariants.{Forward}
 use Rattle.merge_iter.specs.{EntryPrecedes}
 use Rattle.table_format.proofs.Lines.{line_reads}
 use Rattle.table_format.specs.PartsLemmas.{length_reads, same_content, same_counted}
-use Rattle.table_format.specs.PassedLemmas.{After, Passed, all_read, never_none, next_of, passed_next}
+use Rattle.table_format.specs.PassedLemmas.{After, Passed, all_read, never_none, next_of}
+use Rattle.table_format.specs.PassedLemmas.{passed_next}
 use Rattle.table_format.specs.PassedLemmas.{split_of, text_end}
 use Rattle.table_format.specs.RisingLemmas.{can_follow, rising_push}
 use Rattle.table_format.specs.Blocks.{CanFollow, be32, last_entry, sealed}
@@ -25,22 +27,28 @@ use Rattle.table_format.specs.declared.line.IndexLine.{IndexLine}
 
 pub fills_le : (at : ℕ) (lines : List IndexLine) (end : ℕ) → FillsPlaces at lines end → at ≤ end
 fills_le at [] end f = omega (arith, f)
-fills_le at (x ∷ lines) end f = let below = fills_le (at + x.len) lines end f.1 in omega (arith, below)
+fills_le at (x ∷ lines) end f = let below = fills_le (at + x.len) lines end f.1 in
+    omega (arith, below)
 
-pub fills_split : (at : ℕ) (lines others : List IndexLine) (a : IndexLine) (place end : ℕ) → FillsPlaces at lines place
-    → FillsPlaces at (lines ++ a ∷ others) end → (a.place ≡ place) × FillsPlaces (place + a.len) others end
+pub fills_split : (at : ℕ) (lines others : List IndexLine) (a : IndexLine) (place end : ℕ)
+    → FillsPlaces at lines place
+    → FillsPlaces at (lines ++ a ∷ others) end
+    → (a.place ≡ place) × FillsPlaces (place + a.len) others end
 fills_split at [] others a place end f g = (
   g.0 ∙ f,
   subst (λ (p : ℕ). FillsPlaces (p + a.len) others end) f g.1,
 )
-fills_split at (x ∷ lines) others a place end f g = fills_split (at + x.len) lines others a place end f.1 g.1
+fills_split at (x ∷ lines) others a place end f g =
+    fills_split (at + x.len) lines others a place end f.1 g.1
 
-pub fills_push : (at : ℕ) (lines : List IndexLine) (a : IndexLine) (place : ℕ) → FillsPlaces at lines place
+pub fills_push : (at : ℕ) (lines : List IndexLine) (a : IndexLine) (place : ℕ)
+    → FillsPlaces at lines place
     → a.place ≡ place → FillsPlaces at (lines ++ a ∷ []) (place + a.len)
 fills_push at [] a place f is = (is ∙ sym f, ap (λ (p : ℕ). p + a.len) f)
 fills_push at (x ∷ lines) a place f is = (f.0, fills_push (at + x.len) lines a place f.1 is)
 
-pub fills_end : (at : ℕ) (lines : List IndexLine) (a b : ℕ) → FillsPlaces at lines a → FillsPlaces at lines b → a ≡ b
+pub fills_end : (at : ℕ) (lines : List IndexLine) (a b : ℕ) → FillsPlaces at lines a
+    → FillsPlaces at lines b → a ≡ b
 fills_end at [] a b f g = sym f ∙ g
 fills_end at (x ∷ lines) a b f g = fills_end (at + x.len) lines a b f.1 g.1
 
@@ -64,14 +72,16 @@ lines_begin text end fits =
       within = omega arith;
     }
 
-pub lines_next : (text rest : List ℕ) (lines : List IndexLine) (place end : ℕ) (line : IndexLine) (behind : List ℕ)
+pub lines_next : (text rest : List ℕ) (lines : List IndexLine) (place end : ℕ) (line : IndexLine)
+    (behind : List ℕ)
     → LinesRead text rest lines place end → line_at rest ≡ Some (line, behind) → line.place ≡ place
     → place + line.len ≤ end → CanFollow (map end_spot lines) (end_spot line)
     → LinesRead text behind (lines ++ line ∷ []) (place + line.len) end
 lines_next text rest lines place end line behind r e at fit follows =
     record {
       passed = passed_next line_reads text rest lines line behind r.passed e;
-      rising = subst (AllPairs (EntryPrecedes Forward)) (sym (map-append end_spot lines (line ∷ [])))
+      rising = subst (AllPairs (EntryPrecedes Forward))
+          (sym (map-append end_spot lines (line ∷ [])))
           (rising_push (map end_spot lines) (end_spot line) r.rising follows);
       fills = fills_push 0 lines line place r.fills at;
       within = fit;
@@ -83,53 +93,73 @@ pub record SpelledLines (text : List ℕ) (count : ℕ) (all : List IndexLine) :
   pub spelled : text ≡ flat_map line_bytes all
 
 pub index_spells : (part content text : List ℕ) (count end : ℕ) → part ≡ sealed content
-    → number_at w32 content ≡ Some (count, text) → (all : List IndexLine) → IsIndex part end all → SpelledLines text count all
+    → number_at w32 content ≡ Some (count, text) → (all : List IndexLine) → IsIndex part end all
+    → SpelledLines text count all
 index_spells part content text count end is e all x =
-    let same : content ≡ index_content all = same_content content (index_content all) (sym is ∙ x.spelled) in
+    let same : content ≡ index_content all =
+    same_content content (index_content all) (sym is ∙ x.spelled) in
     let c = same_counted content text (flat_map line_bytes all) count (length all) same x.few e in
     record { size = c.0; spelled = c.1 }
 
-pub after_lines : (text rest : List ℕ) (lines : List IndexLine) (place end count : ℕ) (part : List ℕ) (all : List IndexLine)
+pub after_lines : (text rest : List ℕ) (lines : List IndexLine) (place end count : ℕ)
+    (part : List ℕ) (all : List IndexLine)
     → LinesRead text rest lines place end → SpelledLines text count all → IsIndex part end all
     → After IsIndexLine line_bytes rest lines all
 after_lines text rest lines place end count part all r w x =
-    split_of line_reads line_long text rest lines all r.passed (recursion_from_All IsIndexLine all x.each) w.spelled
+    split_of line_reads line_long text rest lines all r.passed
+    (recursion_from_All IsIndexLine all x.each) w.spelled
 
-pub next_line : (text rest : List ℕ) (lines : List IndexLine) (place end count : ℕ) (part : List ℕ) (all : List IndexLine)
-    (line : IndexLine) (behind : List ℕ) → LinesRead text rest lines place end → SpelledLines text count all
+pub next_line : (text rest : List ℕ) (lines : List IndexLine) (place end count : ℕ) (part : List ℕ)
+    (all : List IndexLine)
+    (line : IndexLine) (behind : List ℕ) → LinesRead text rest lines place end
+    → SpelledLines text count all
     → IsIndex part end all → 0 < length rest → line_at rest ≡ Some (line, behind)
-    → (line.place ≡ place) × ((place + line.len ≤ end) × CanFollow (map end_spot lines) (end_spot line))
+    → (line.place ≡ place) × ((place + line.len ≤ end)
+    × CanFollow (map end_spot lines) (end_spot line))
 next_line text rest lines place end count part all line behind r w x some e =
     let n = next_of line_reads rest lines all line behind
     (after_lines text rest lines place end count part all r w x) some e in
-    let f = fills_split 0 lines n.others line place end r.fills (subst (λ (l : List IndexLine). FillsPlaces 0 l end) n.split x.fills) in
-    let rising = subst (AllPairs (EntryPrecedes Forward)) (ap (map end_spot) n.split ∙ map-append end_spot lines (line ∷ n.others)) x.rising in
-    (f.0, (fills_le (place + line.len) n.others end f.1, can_follow (map end_spot lines) (map end_spot n.others) (end_spot line) rising))
+    let f = fills_split 0 lines n.others line place end r.fills
+    (subst (λ (l : List IndexLine). FillsPlaces 0 l end) n.split x.fills) in
+    let rising = subst (AllPairs (EntryPrecedes Forward))
+    (ap (map end_spot) n.split ∙ map-append end_spot lines (line ∷ n.others)) x.rising in (
+      f.0,
+      (
+        fills_le (place + line.len) n.others end f.1,
+        can_follow (map end_spot lines) (map end_spot n.others) (end_spot line) rising,
+      ),
+    )
 
-pub no_line : (text rest : List ℕ) (lines : List IndexLine) (place end count : ℕ) (part : List ℕ) (all : List IndexLine)
+pub no_line : (text rest : List ℕ) (lines : List IndexLine) (place end count : ℕ) (part : List ℕ)
+    (all : List IndexLine)
     → LinesRead text rest lines place end → SpelledLines text count all
     → IsIndex part end all → 0 < length rest → line_at rest ≡ None → ⊥
 no_line text rest lines place end count part all r w x some e =
     let s = after_lines text rest lines place end count part all r w x in
     never_none line_reads rest s.after s.each s.spelled some e
 
-pub lines_all : (text rest : List ℕ) (lines : List IndexLine) (place end count : ℕ) (part : List ℕ) (all : List IndexLine)
+pub lines_all : (text rest : List ℕ) (lines : List IndexLine) (place end count : ℕ) (part : List ℕ)
+    (all : List IndexLine)
     → LinesRead text rest lines place end → SpelledLines text count all
     → IsIndex part end all → length rest ≡ 0 → all ≡ lines
 lines_all text rest lines place end count part all r w x none =
-    all_read line_bytes line_long rest lines all (after_lines text rest lines place end count part all r w x) none
+    all_read line_bytes line_long rest lines all
+    (after_lines text rest lines place end count part all r w x) none
 
-some_lines : (text : List ℕ) (lines : List IndexLine) → text ≡ flat_map line_bytes lines → 0 < length text
+some_lines : (text : List ℕ) (lines : List IndexLine) → text ≡ flat_map line_bytes lines
+    → 0 < length text
     → 1 ≤ length lines
 some_lines text [] is full = absurd (omega (arith, full, ap length is))
 some_lines text (x ∷ lines) is full = omega arith
 
 -- an index that stands for lines has text
-pub has_text : (text : List ℕ) (count : ℕ) (part : List ℕ) (end : ℕ) (all : List IndexLine) → SpelledLines text count all
+pub has_text : (text : List ℕ) (count : ℕ) (part : List ℕ) (end : ℕ) (all : List IndexLine)
+    → SpelledLines text count all
     → IsIndex part end all → 0 < length text
 has_text text count part end all w x = by all w.spelled x.some
   where
-    by : (lines : List IndexLine) → text ≡ flat_map line_bytes lines → 1 ≤ length lines → 0 < length text
+    by : (lines : List IndexLine) → text ≡ flat_map line_bytes lines → 1 ≤ length lines
+        → 0 < length text
     by [] is some = absurd (omega (arith, some))
     by (x ∷ lines) is some =
         omega (
@@ -140,8 +170,10 @@ has_text text count part end all w x = by all w.spelled x.some
           line_long x,
         )
 
-pub is_index : (part content text rest : List ℕ) (count : ℕ) (lines : List IndexLine) (end : ℕ) → part ≡ sealed content
-    → IsBytes content → number_at w32 content ≡ Some (count, text) → LinesRead text rest lines end end
+pub is_index : (part content text rest : List ℕ) (count : ℕ) (lines : List IndexLine) (end : ℕ)
+    → part ≡ sealed content
+    → IsBytes content → number_at w32 content ≡ Some (count, text)
+    → LinesRead text rest lines end end
     → length rest ≡ 0 → length lines ≡ count → 0 < length text → IsIndex part end lines
 is_index part content text rest count lines end is fits e r none len full =
     let some = some_lines text lines (text_end text rest lines r.passed none) full in
@@ -149,7 +181,8 @@ is_index part content text rest count lines end is fits e r none len full =
     let few = t.1 in
     record {
       spelled = is ∙ ap sealed (t.0.parts ∙ ap (λ (x : List ℕ). be32 count ++ x)
-          (text_end text rest lines r.passed none) ∙ ap (λ (k : ℕ). be32 k ++ flat_map line_bytes lines) (sym len));
+          (text_end text rest lines r.passed none)
+          ∙ ap (λ (k : ℕ). be32 k ++ flat_map line_bytes lines) (sym len));
       some = some;
       few = omega (arith, few, len);
       each = All-from_recursion IsIndexLine lines r.passed.each;

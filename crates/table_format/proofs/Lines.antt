@@ -1,7 +1,8 @@
 -- Lines that are read are those that were spelled.
 use Rattle.std.proofs.Common.{ℕ, ◌^◌, List, refl}
 use Rattle.std.specs.Int.{w32, w64}
-use Rattle.byte_fields.specs.ReadersLemmas.{Reads, both_reads, made_reads, right_reads, number_reads, wide32, wide64}
+use Rattle.byte_fields.specs.ReadersLemmas.{Reads, both_reads, made_reads, right_reads}
+use Rattle.byte_fields.specs.ReadersLemmas.{number_reads, wide32, wide64}
 use Rattle.table_format.specs.EntriesLemmas.{count_reads, key_reads}
 use Rattle.table_format.specs.Parts.{IsIndexLine}
 use Rattle.table_format.specs.Reading.{as_line, line_at}

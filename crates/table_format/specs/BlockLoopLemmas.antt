@@ -12,7 +12,8 @@ use Rattle.kv_types.specs.{Entry}
 use Rattle.table_format.specs.EntriesLemmas.{entry_reads}
 use Rattle.table_format.specs.FrontsLemmas.{entry_long}
 use Rattle.table_format.specs.PartsLemmas.{length_reads, same_content, same_counted}
-use Rattle.table_format.specs.PassedLemmas.{After, Passed, all_read, never_none, next_of, passed_next}
+use Rattle.table_format.specs.PassedLemmas.{After, Passed, all_read, never_none, next_of}
+use Rattle.table_format.specs.PassedLemmas.{passed_next}
 use Rattle.table_format.specs.PassedLemmas.{split_of, text_end}
 use Rattle.table_format.specs.RisingLemmas.{can_follow, last_push, rising_push}
 use Rattle.table_format.specs.Blocks.{IsBlock, IsBlockText, IsTableEntry, be32, entry_bytes}
@@ -44,15 +45,19 @@ entries_begin text fits =
     }
 
 -- one more entry in order is read
-pub entries_next : (text rest : List ℕ) (seen : ℕ) (last : Option Entry) (entry : Entry) (behind : List ℕ)
+pub entries_next : (text rest : List ℕ) (seen : ℕ) (last : Option Entry) (entry : Entry)
+    (behind : List ℕ)
     → EntriesRead text rest seen last → table_entry_at rest ≡ Some (entry, behind)
-    → IfSome last (λ before. EntryPrecedes Forward before entry) → EntriesRead text behind (seen + 1) (Some entry)
+    → IfSome last (λ before. EntryPrecedes Forward before entry)
+    → EntriesRead text behind (seen + 1) (Some entry)
 entries_next text rest seen last entry behind r e follows =
     let seen_is = r.number in
     record {
       entries = r.entries ++ entry ∷ [];
       passed = passed_next entry_reads text rest r.entries entry behind r.passed e;
-      rising = rising_push r.entries entry r.rising (subst (λ (o : Option Entry). IfSome o (λ before. EntryPrecedes Forward before entry)) r.end follows);
+      rising = rising_push r.entries entry r.rising
+          (subst (λ (o : Option Entry). IfSome o (λ before. EntryPrecedes Forward before entry))
+          r.end follows);
       number = omega (arith, seen_is, length-append r.entries (entry ∷ []));
       end = sym (last_push r.entries entry);
     }
@@ -64,30 +69,37 @@ pub record SpelledEntries (text : List ℕ) (count : ℕ) (all : List Entry) : T
 
 -- the text of a block is that of its entries
 pub block_spells : (part content text : List ℕ) (count : ℕ) → part ≡ sealed content
-    → number_at w32 content ≡ Some (count, text) → (all : List Entry) → IsBlock part all → SpelledEntries text count all
+    → number_at w32 content ≡ Some (count, text) → (all : List Entry) → IsBlock part all
+    → SpelledEntries text count all
 block_spells part content text count is e all x =
     let same : content ≡ be32 (length all) ++ flat_map entry_bytes all =
     same_content content (be32 (length all) ++ flat_map entry_bytes all) (sym is ∙ x.spelled) in
     let c = same_counted content text (flat_map entry_bytes all) count (length all) same x.few e in
     record { size = c.0; spelled = c.1 }
 
-after_entries : (text rest : List ℕ) (seen count : ℕ) (last : Option Entry) (part : List ℕ) (all : List Entry)
+after_entries : (text rest : List ℕ) (seen count : ℕ) (last : Option Entry) (part : List ℕ)
+    (all : List Entry)
     → (r : EntriesRead text rest seen last) → SpelledEntries text count all → IsBlock part all
     → After IsTableEntry entry_bytes rest r.entries all
 after_entries text rest seen count last part all r w x =
-    split_of entry_reads entry_full text rest r.entries all r.passed (recursion_from_All IsTableEntry all x.each) w.spelled
+    split_of entry_reads entry_full text rest r.entries all r.passed
+    (recursion_from_All IsTableEntry all x.each) w.spelled
 
 -- where a block has bytes left, an entry is read
-pub no_entry : (text rest : List ℕ) (seen count : ℕ) (last : Option Entry) (part : List ℕ) (all : List Entry)
-    → EntriesRead text rest seen last → SpelledEntries text count all → IsBlock part all → 0 < length rest
+pub no_entry : (text rest : List ℕ) (seen count : ℕ) (last : Option Entry) (part : List ℕ)
+    (all : List Entry)
+    → EntriesRead text rest seen last → SpelledEntries text count all → IsBlock part all
+    → 0 < length rest
     → table_entry_at rest ≡ None → ⊥
 no_entry text rest seen count last part all r w x some e =
     let s = after_entries text rest seen count last part all r w x in
     never_none entry_reads rest s.after s.each s.spelled some e
 
 -- the next entry that is read is one of the block's, and comes behind the last
-pub next_entry : (text rest : List ℕ) (seen count : ℕ) (last : Option Entry) (part : List ℕ) (all : List Entry)
-    (entry : Entry) (behind : List ℕ) → EntriesRead text rest seen last → SpelledEntries text count all
+pub next_entry : (text rest : List ℕ) (seen count : ℕ) (last : Option Entry) (part : List ℕ)
+    (all : List Entry)
+    (entry : Entry) (behind : List ℕ) → EntriesRead text rest seen last
+    → SpelledEntries text count all
     → IsBlock part all → 0 < length rest → table_entry_at rest ≡ Some (entry, behind)
     → (seen < count) × IfSome last (λ before. EntryPrecedes Forward before entry)
 next_entry text rest seen count last part all entry behind r w x some e =
@@ -95,14 +107,24 @@ next_entry text rest seen count last part all entry behind r w x some e =
     (after_entries text rest seen count last part all r w x) some e in
     let count_is = w.size in
     let seen_is = r.number in (
-      omega (arith, count_is, seen_is, ap length n.split, length-append r.entries (entry ∷ n.others)),
-      subst (λ (o : Option Entry). IfSome o (λ before. EntryPrecedes Forward before entry)) (sym r.end)
-          (can_follow r.entries n.others entry (subst (AllPairs (EntryPrecedes Forward)) n.split x.rising)),
+      omega (
+        arith,
+        count_is,
+        seen_is,
+        ap length n.split,
+        length-append r.entries (entry ∷ n.others),
+      ),
+      subst (λ (o : Option Entry). IfSome o (λ before. EntryPrecedes Forward before entry))
+          (sym r.end)
+          (can_follow r.entries n.others entry
+          (subst (AllPairs (EntryPrecedes Forward)) n.split x.rising)),
     )
 
 -- where no bytes are left, as many entries were read as the block counts
-pub entries_all : (text rest : List ℕ) (seen count : ℕ) (last : Option Entry) (part : List ℕ) (all : List Entry)
-    → EntriesRead text rest seen last → SpelledEntries text count all → IsBlock part all → length rest ≡ 0
+pub entries_all : (text rest : List ℕ) (seen count : ℕ) (last : Option Entry) (part : List ℕ)
+    (all : List Entry)
+    → EntriesRead text rest seen last → SpelledEntries text count all → IsBlock part all
+    → length rest ≡ 0
     → seen ≡ count
 entries_all text rest seen count last part all r w x none =
     let s = after_entries text rest seen count last part all r w x in
@@ -112,7 +134,8 @@ entries_all text rest seen count last part all r w x none =
     omega (arith, count_is, seen_is, ap length same)
 
 -- so many entries in order, up to the end of the text, are a block
-pub is_block : (part content text rest : List ℕ) (seen count : ℕ) (last : Option Entry) → part ≡ sealed content
+pub is_block : (part content text rest : List ℕ) (seen count : ℕ) (last : Option Entry)
+    → part ≡ sealed content
     → IsBytes content → number_at w32 content ≡ Some (count, text) → EntriesRead text rest seen last
     → length rest ≡ 0 → seen ≡ count → 0 < count → IsBlockText part text
 is_block part content text rest seen count last is fits e r none len some =

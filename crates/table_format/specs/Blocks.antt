@@ -89,4 +89,5 @@ IsCheckedBlock part = (entries : List Entry) × IsBlock part entries
 
 -- the bytes are a block of some entries, and the text is the spelling of its entries alone
 abbrev pub IsBlockText : List ℕ → List ℕ → Type 0
-IsBlockText part text = (entries : List Entry) × IsBlock part entries × (text ≡ entries_bytes entries)
+IsBlockText part text = (entries : List Entry) × IsBlock part entries
+    × (text ≡ entries_bytes entries)

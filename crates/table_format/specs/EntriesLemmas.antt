@@ -1,10 +1,12 @@
 -- Entries that are read are those that were spelled.
-use Rattle.std.proofs.Common.{◌≡◌, ℕ, zero, suc, ◌≤◌, List, [], ◌∷◌, ◌++◌, length, Option, Some, None}
+use Rattle.std.proofs.Common.{◌≡◌, ℕ, zero, suc, ◌≤◌, List, [], ◌∷◌, ◌++◌, length, Option, Some}
+use Rattle.std.proofs.Common.{None}
 use Rattle.std.proofs.Common.{IfSome, refl, ap, subst, arith, nat_le, ◌^◌}
 use Rattle.std.proofs.lemmas.Bool.{leb-true, le-leb}
 use Rattle.kv_types.specs.declared.bounds.TheConstants.{MAX_KEY, MAX_VALUE, MAX_NUMBER}
 use Rattle.kv_types.specs.{◌>>=◌, text_at}
-use Rattle.kv_types.specs.FieldsLemmas.{IsBytes, IsBytes-rest, bind_some, some_is, Takes, text_takes, text_again}
+use Rattle.kv_types.specs.FieldsLemmas.{IsBytes, IsBytes-rest, bind_some, some_is, Takes}
+use Rattle.kv_types.specs.FieldsLemmas.{text_takes, text_again}
 use Rattle.byte_fields.specs.ReadersLemmas.{Reads, both_reads, made_reads, only_reads, right_reads}
 use Rattle.byte_fields.specs.ReadersLemmas.{number_reads, wide64}
 use Rattle.kv_types.specs.{Entry}
@@ -38,7 +40,8 @@ put_takes bytes x fits e =
     let a = bind_some (text_at MAX_VALUE bytes) (λ value. Some (Some value.0, value.1)) x e in
     let t = text_takes MAX_VALUE bytes a.0 fits a.1 in
     let found : Option (List ℕ) × List ℕ = (Some a.0.0, a.0.1) in
-    subst (λ (y : Option (List ℕ) × List ℕ). Takes (1 ∷ bytes) (change_bytes y.0) y.1 × IsChange y.0)
+    subst (λ (y : Option (List ℕ) × List ℕ). Takes (1 ∷ bytes) (change_bytes y.0) y.1
+    × IsChange y.0)
     (some_is found x a.2) (
       record { parts = ap (λ (w : List ℕ). 1 ∷ w) t.0.parts; rest_fits = t.0.rest_fits },
       t.1,
@@ -52,7 +55,8 @@ change_takes (zero ∷ bytes) x fits e = absurd cc
 change_takes (suc zero ∷ bytes) x fits e = put_takes bytes x (IsBytes-rest 1 bytes fits) e
 change_takes (suc (suc zero) ∷ bytes) x fits e =
     let found : Option (List ℕ) × List ℕ = (None, bytes) in
-    subst (λ (y : Option (List ℕ) × List ℕ). Takes (2 ∷ bytes) (change_bytes y.0) y.1 × IsChange y.0)
+    subst (λ (y : Option (List ℕ) × List ℕ). Takes (2 ∷ bytes) (change_bytes y.0) y.1
+    × IsChange y.0)
     (some_is found x e) (record { parts = refl; rest_fits = IsBytes-rest 2 bytes fits }, tt)
 change_takes (suc (suc (suc b)) ∷ bytes) x fits e = absurd cc
 

@@ -1,5 +1,6 @@
 -- Blocks at the front of bytes: the bytes determine them.
-use Rattle.std.proofs.Common.{◌≡◌, ℕ, ◌+◌, ◌-◌, ◌≤◌, ◌<◌, ◌^◌, List, [], ◌∷◌, ◌++◌, length, Option, Some, None}
+use Rattle.std.proofs.Common.{◌≡◌, ℕ, ◌+◌, ◌-◌, ◌≤◌, ◌<◌, ◌^◌, List, [], ◌∷◌, ◌++◌, length, Option}
+use Rattle.std.proofs.Common.{Some, None}
 use Rattle.std.proofs.Common.{refl, sym, ap, subst, ◌∙◌, arith, append_assoc, length-append}
 use Rattle.std.specs.List.{flat_map, AllByRecursion}
 use Rattle.std.specs.Int.{w16, w32, to_be_bytes, from_be_bytes}
@@ -103,7 +104,8 @@ length-block_part entries =
 
 -- no block begins another
 pub same_block : (a b : List Entry) (x y : List ℕ) → AllByRecursion IsTableEntry a
-    → AllByRecursion IsTableEntry b → length (block_part a) < 2 ^ 32 → length (block_part b) < 2 ^ 32
+    → AllByRecursion IsTableEntry b → length (block_part a) < 2 ^ 32
+    → length (block_part b) < 2 ^ 32
     → block_part a ++ x ≡ block_part b ++ y → (a ≡ b) × (x ≡ y)
 same_block a b x y is_a is_b small_a small_b e =
     let ta = flat_map entry_bytes a in
@@ -111,7 +113,8 @@ same_block a b x y is_a is_b small_a small_b e =
     let da = digest (block_content a) in
     let db = digest (block_content b) in
     let regrouped : be32 (length a) ++ (ta ++ (da ++ x)) ≡ be32 (length b) ++ (tb ++ (db ++ y)) =
-    sym (append_assoc (be32 (length a)) ta (da ++ x)) ∙ sym (append_assoc (block_content a) da x) ∙ e
+    sym (append_assoc (be32 (length a)) ta (da ++ x)) ∙ sym (append_assoc (block_content a) da x)
+    ∙ e
     ∙ append_assoc (block_content b) db y ∙ append_assoc (be32 (length b)) tb (db ++ y) in
     let few_a : length a < 2 ^ 32 = omega (arith, few_entries a, length-block_part a, small_a) in
     let few_b : length b < 2 ^ 32 = omega (arith, few_entries b, length-block_part b, small_b) in
@@ -137,7 +140,8 @@ IsShortBlock block = length (block_bytes block) < 2 ^ 32
 
 -- data of the same length has the same blocks
 pub same_data : (a b : List Block) → AllByRecursion IsShortBlock a → AllByRecursion IsShortBlock b
-    → AllByRecursion IsTableEntry (entries_of_blocks a) → AllByRecursion IsTableEntry (entries_of_blocks b)
+    → AllByRecursion IsTableEntry (entries_of_blocks a)
+    → AllByRecursion IsTableEntry (entries_of_blocks b)
     → data_bytes a ≡ data_bytes b → entries_of_blocks a ≡ entries_of_blocks b
 same_data [] [] small_a small_b each_a each_b e = refl
 same_data [] (y ∷ b) small_a small_b each_a each_b e =
@@ -159,14 +163,18 @@ same_data (x ∷ a) [] small_a small_b each_a each_b e =
 same_data (x ∷ a) (y ∷ b) small_a small_b each_a each_b e =
     let ja = flat_map-cons block_entries x a in
     let jb = flat_map-cons block_entries y b in
-    let pa = split_each IsTableEntry (block_entries x) (entries_of_blocks a) (subst (AllByRecursion IsTableEntry) ja each_a) in
-    let pb = split_each IsTableEntry (block_entries y) (entries_of_blocks b) (subst (AllByRecursion IsTableEntry) jb each_b) in
+    let pa = split_each IsTableEntry (block_entries x) (entries_of_blocks a)
+    (subst (AllByRecursion IsTableEntry) ja each_a) in
+    let pb = split_each IsTableEntry (block_entries y) (entries_of_blocks b)
+    (subst (AllByRecursion IsTableEntry) jb each_b) in
     let parts : block_bytes x ++ data_bytes a ≡ block_bytes y ++ data_bytes b =
     sym (flat_map-cons block_bytes x a) ∙ e ∙ flat_map-cons block_bytes y b in
-    let first = same_block (block_entries x) (block_entries y) (data_bytes a) (data_bytes b) pa.0 pb.0 small_a.0
+    let first = same_block (block_entries x) (block_entries y) (data_bytes a)
+    (data_bytes b) pa.0 pb.0 small_a.0
     small_b.0 parts in
     let below = same_data a b small_a.1 small_b.1 pa.1 pb.1 first.1 in
-    ja ∙ ap (λ (r : List Entry). r ++ entries_of_blocks a) first.0 ∙ ap (λ (r : List Entry). block_entries y ++ r) below
+    ja ∙ ap (λ (r : List Entry). r ++ entries_of_blocks a) first.0
+    ∙ ap (λ (r : List Entry). block_entries y ++ r) below
     ∙ sym jb
 
 -- ---- the entries of a block

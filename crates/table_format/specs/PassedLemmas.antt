@@ -57,7 +57,8 @@ pub record After {A : Type 0} (Is : A → Type 0) (spell : A → List ℕ) (rest
 -- the items that were read begin the items that are spelled, by their spellings
 pub split_by : {A : Type 0} {Is : A → Type 0} {spell : A → List ℕ} {reader : Reader A}
     → Reads Is spell reader → ((a : A) → 0 < length (spell a)) → (rest : List ℕ) (read all : List A)
-    → AllByRecursion Is read → AllByRecursion Is all → flat_map spell read ++ rest ≡ flat_map spell all
+    → AllByRecursion Is read → AllByRecursion Is all
+    → flat_map spell read ++ rest ≡ flat_map spell all
     → After Is spell rest read all
 split_by {A} {Is} {spell} {reader} reads long rest [] all each_r each is =
     record { after = all; split = refl; spelled = is; each = each }
@@ -73,23 +74,27 @@ split_by {A} {Is} {spell} {reader} reads long rest (x ∷ read) [] each_r each i
 split_by {A} {Is} {spell} {reader} reads long rest (x ∷ read) (y ∷ all) each_r each is =
     let parts : spell x ++ (flat_map spell read ++ rest) ≡ spell y ++ flat_map spell all =
     sym (append_assoc (spell x) (flat_map spell read) rest)
-    ∙ ap (λ (t : List ℕ). t ++ rest) (sym (flat_map-cons spell x read)) ∙ is ∙ flat_map-cons spell y all in
+    ∙ ap (λ (t : List ℕ). t ++ rest) (sym (flat_map-cons spell x read)) ∙ is
+    ∙ flat_map-cons spell y all in
     let two : (x, flat_map spell read ++ rest) ≡ (y, flat_map spell all) =
     some_is (x, flat_map spell read ++ rest) (y, flat_map spell all)
     (sym (reads.again x (flat_map spell read ++ rest) each_r.0) ∙ ap reader parts
     ∙ reads.again y (flat_map spell all) each.0) in
     let heads : x ≡ y = ap (λ (p : A × List ℕ). p.0) two in
-    let below = split_by reads long rest read all each_r.1 each.1 (ap (λ (p : A × List ℕ). p.1) two) in
+    let below = split_by reads long rest read all each_r.1 each.1
+    (ap (λ (p : A × List ℕ). p.1) two) in
     record {
       after = below.after;
-      split = ap (λ (l : List A). y ∷ l) below.split ∙ ap (λ (h : A). h ∷ (read ++ below.after)) (sym heads);
+      split = ap (λ (l : List A). y ∷ l) below.split
+          ∙ ap (λ (h : A). h ∷ (read ++ below.after)) (sym heads);
       spelled = below.spelled;
       each = below.each;
     }
 
 -- the items that a loop has read begin the items that the text spells
 pub split_of : {A : Type 0} {Is : A → Type 0} {spell : A → List ℕ} {reader : Reader A}
-    → Reads Is spell reader → ((a : A) → 0 < length (spell a)) → (text rest : List ℕ) (read all : List A)
+    → Reads Is spell reader → ((a : A) → 0 < length (spell a))
+    → (text rest : List ℕ) (read all : List A)
     → Passed Is spell text rest read → AllByRecursion Is all → text ≡ flat_map spell all
     → After Is spell rest read all
 split_of reads long text rest read all p each is =
@@ -99,7 +104,8 @@ split_of reads long text rest read all p each is =
 pub never_none : {A : Type 0} {Is : A → Type 0} {spell : A → List ℕ} {reader : Reader A}
     → Reads Is spell reader → (rest : List ℕ) (after : List A) → AllByRecursion Is after
     → rest ≡ flat_map spell after → 0 < length rest → reader rest ≡ None → ⊥
-never_none {A} {Is} {spell} {reader} reads rest [] each is some none = omega (arith, some, ap length is)
+never_none {A} {Is} {spell} {reader} reads rest [] each is some none =
+    omega (arith, some, ap length is)
 never_none {A} {Is} {spell} {reader} reads rest (x ∷ xs) each is some none =
     let again : reader rest ≡ Some (x, flat_map spell xs) =
     ap reader (is ∙ flat_map-cons spell x xs) ∙ reads.again x (flat_map spell xs) each.0 in
@@ -119,13 +125,19 @@ next_by {A} {Is} {spell} {reader} reads rest read all [] a behind each split is 
 next_by {A} {Is} {spell} {reader} reads rest read all (x ∷ xs) a behind each split is some e =
     let again : reader rest ≡ Some (x, flat_map spell xs) =
     ap reader (is ∙ flat_map-cons spell x xs) ∙ reads.again x (flat_map spell xs) each.0 in
-    let two : (x, flat_map spell xs) ≡ (a, behind) = some_is (x, flat_map spell xs) (a, behind) (sym again ∙ e) in
-    record { others = xs; split = split ∙ ap (λ (h : A). read ++ h ∷ xs) (ap (λ (p : A × List ℕ). p.0) two) }
+    let two : (x, flat_map spell xs) ≡ (a, behind) =
+    some_is (x, flat_map spell xs) (a, behind) (sym again ∙ e) in
+    record {
+      others = xs;
+      split = split
+          ∙ ap (λ (h : A). read ++ h ∷ xs) (ap (λ (p : A × List ℕ). p.0) two);
+    }
 
 -- the next item that is read is the next of those that are spelled
 pub next_of : {A : Type 0} {Is : A → Type 0} {spell : A → List ℕ} {reader : Reader A}
     → Reads Is spell reader → (rest : List ℕ) (read all : List A) (a : A) (behind : List ℕ)
-    → After Is spell rest read all → 0 < length rest → reader rest ≡ Some (a, behind) → Next read all a
+    → After Is spell rest read all → 0 < length rest → reader rest ≡ Some (a, behind)
+    → Next read all a
 next_of reads rest read all a behind s some e =
     next_by reads rest read all s.after a behind s.each s.split s.spelled some e
 
@@ -144,16 +156,20 @@ all_by {A} spell long rest read all (x ∷ xs) split is none =
     ))
 
 -- where nothing is left, all items were read
-pub all_read : {A : Type 0} {Is : A → Type 0} (spell : A → List ℕ) → ((a : A) → 0 < length (spell a))
-    → (rest : List ℕ) (read all : List A) → After Is spell rest read all → length rest ≡ 0 → all ≡ read
-all_read spell long rest read all s none = all_by spell long rest read all s.after s.split s.spelled none
+pub all_read : {A : Type 0} {Is : A → Type 0} (spell : A → List ℕ)
+    → ((a : A) → 0 < length (spell a))
+    → (rest : List ℕ) (read all : List A) → After Is spell rest read all → length rest ≡ 0
+    → all ≡ read
+all_read spell long rest read all s none =
+    all_by spell long rest read all s.after s.split s.spelled none
 
 nil_of : (l : List ℕ) → length l ≡ 0 → l ≡ []
 nil_of [] e = refl
 nil_of (x ∷ l) e = absurd (omega (arith, e))
 
 -- where nothing is left, the text spells what was read
-pub text_end : {A : Type 0} {Is : A → Type 0} {spell : A → List ℕ} (text rest : List ℕ) (read : List A)
+pub text_end : {A : Type 0} {Is : A → Type 0} {spell : A
+    → List ℕ} (text rest : List ℕ) (read : List A)
     → Passed Is spell text rest read → length rest ≡ 0 → text ≡ flat_map spell read
 text_end {A} {Is} {spell} text rest read p none =
     p.spelled ∙ ap (λ (r : List ℕ). flat_map spell read ++ r) (nil_of rest none)

@@ -24,7 +24,8 @@ same_footer a b small_a small_b is =
 
 -- what stands before the footer
 abbrev pub before_footer : List Block → List ℕ → List ℕ
-before_footer blocks filter = data_bytes blocks ++ (filter_part filter ++ index_part (block_lines 0 blocks))
+before_footer blocks filter = data_bytes blocks ++
+    (filter_part filter ++ index_part (block_lines 0 blocks))
 
 -- a table is what stands before its footer, and the footer
 pub table_parts : (blocks : List Block) (filter : List ℕ) → table_spelling blocks filter
@@ -33,7 +34,8 @@ table_parts blocks filter =
     let foot = sealed (footer_content (table_footer blocks filter)) in
     ap (λ (t : List ℕ). data_bytes blocks ++ t)
     (sym (append_assoc (filter_part filter) (index_part (block_lines 0 blocks)) foot))
-    ∙ sym (append_assoc (data_bytes blocks) (filter_part filter ++ index_part (block_lines 0 blocks)) foot)
+    ∙ sym (append_assoc (data_bytes blocks)
+    (filter_part filter ++ index_part (block_lines 0 blocks)) foot)
 
 -- a footer has 52 bytes
 pub length-footer : (it : Footer) → length (sealed (footer_content it)) ≡ 52
@@ -77,9 +79,11 @@ table_is_unique bytes entries others s t =
     let lens : length (data_bytes s.blocks) ≡ length (data_bytes t.blocks) =
     same_footer fa fb (omega (arith, data_a)) (omega (arith, data_b)) feet.0 in
     let datas = split_same (data_bytes s.blocks) (data_bytes t.blocks)
-    (filter_part s.filter ++ index_part (block_lines 0 s.blocks)) (filter_part t.filter ++ index_part (block_lines 0 t.blocks))
+    (filter_part s.filter ++ index_part (block_lines 0 s.blocks))
+    (filter_part t.filter ++ index_part (block_lines 0 t.blocks))
     lens parts.0 in
-    let each_a = subst (AllByRecursion IsTableEntry) s.division (recursion_from_All IsTableEntry entries s.each) in
+    let each_a = subst (AllByRecursion IsTableEntry) s.division
+    (recursion_from_All IsTableEntry entries s.each) in
     let each_b = subst (AllByRecursion IsTableEntry) t.division
     (recursion_from_All IsTableEntry others t.each) in
     s.division ∙ same_data s.blocks t.blocks (recursion_from_All IsShortBlock s.blocks s.fits.each)

@@ -61,7 +61,8 @@ pub fn entries_of(part: &[u8]) -> Option<&[u8]>
 /// entries, 4 bytes, and the digest, 8 bytes. Nothing where there are fewer.
 pub fn entries_in(block: &[u8]) -> Option<&[u8]>
     ensures short { IsNone result ↔ (length block.now < 12) }
-    ensures cut { IfSome result (λ text. text.now ≡ take (length block.now - 12) (drop 4 block.now)) }
+    ensures cut { IfSome result (λ text.
+        text.now ≡ take (length block.now - 12) (drop 4 block.now)) }
     ensures one { (entries : List Entry) → block.now ≡ block_part entries →
         MatchOption result ⊥ (λ text. text.now ≡ entries_bytes entries) }
 {

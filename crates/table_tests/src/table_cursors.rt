@@ -1,5 +1,5 @@
-//! Walks of 2,000 moves over a table of several blocks, against a plain list, and a walk over a disk
-//! that fails.
+//! Walks of 2,000 moves over a table of several blocks, against a plain list, and a walk over a
+//! disk that fails.
 
 use crate::counts::is_count;
 use crate::plain::{PlainEntry, add_all};

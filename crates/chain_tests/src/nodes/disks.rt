@@ -8,8 +8,8 @@ use std::alloc::Global;
 use std::process::Abort;
 
 // The slot of a new node 1: an open gate, generation 1, the id; an open gate and the length of the
-// edit; next file 4, floor, flushed and epoch 0; the ids; no log given up, log 3 from batch 1 added;
-// no table given up, none added, and a closed gate.
+// edit; next file 4, floor, flushed and epoch 0; the ids; no log given up, log 3 from batch 1
+// added; no table given up, none added, and a closed gate.
 const NODE_1: &[u8] = &[
     1, 0, 0, 0, 0, 0, 0, 0, 1, 0, 1, //
     1, 0, 0, 0, 0x37, //

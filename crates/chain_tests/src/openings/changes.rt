@@ -77,7 +77,8 @@ static SLOT: [Row; 22] = [
     Row(91, 91, 4, 4, FLOOR_4),
     Row(99, 99, 4, 4, ALL_FLUSHED),
     Row(103, 103, 1, 15, EPOCH),
-    // The level of the table, and its least key, which is not compared with it. Its greatest key is.
+    // The level of the table, and its least key, which is not compared with it. Its greatest key
+    // is.
     Row(131, 131, 1, 6, LEVEL),
     Row(150, 150, 0, b'a', SAME),
     Row(150, 150, b'b', b'b', FROM_B),

@@ -5,8 +5,8 @@ use disk::{Disk, MemDisk};
 use std::alloc::Global;
 use std::process::Abort;
 
-// What an opening shows where the file has this length and no more, or none. Without slot 1 there is
-// no open slot. A log ends with its closed gate, and a table has the length of its line.
+// What an opening shows where the file has this length and no more, or none. Without slot 1 there
+// is no open slot. A log ends with its closed gate, and a table has the length of its line.
 fn wanted(file: u64, length: u64) -> &'static str {
     if file == 1 && length == 0 {
         NOT_CREATED

@@ -377,8 +377,8 @@ fn read_line(
     }
 }
 
-/// The script that a text spells, or the least fault of its first faulty line. Want of memory may be
-/// reported in its place, at a line that was begun.
+/// The script that a text spells, or the least fault of its first faulty line. Want of memory may
+/// be reported in its place, at a line that was begun.
 pub fn read_script(alloc: Global, text: &[u8]) -> Result<Script, ScriptFault>
     ensures found { IfOk result (λ script.
         IsScript 1 (script_lines text.now) script.setup script.statements.items) }

@@ -1,4 +1,5 @@
-use Rattle.std.proofs.Common.{◌≡◌, ◌⊎◌, ◌+◌, ◌*◌, ◌<◌, ℕ, List, [], length, get_or, ap, sym, subst, ◌∙◌}
+use Rattle.std.proofs.Common.{◌≡◌, ◌⊎◌, ◌+◌, ◌*◌, ◌<◌, ℕ, List, [], length, get_or, ap, sym, subst}
+use Rattle.std.proofs.Common.{◌∙◌}
 use Rattle.std.specs.Prelude.{◌↔◌}
 use Rattle.std.proofs.lemmas.List.{get_or_default, with_items_is}
 use Rattle.bloom.specs.Filters.{HasBit, IsProbeOf, hashes_of}
@@ -22,7 +23,8 @@ loop-key-preserved c =
     let value : c.deref_mut.result.now ≡ old = c.deref_mut.ensures.value in
     let same : length new ≡ length old = c.put.ensures.len ∙ ap length value in
     let key : c.as_bytes.result.now ≡ get_or keys i [] =
-    c.as_bytes.ensures.bytes ∙ c.key-item.is ∙ get_or_default keys i c.key-item.result [] c.loop-key-test.true in
+    c.as_bytes.ensures.bytes ∙ c.key-item.is
+    ∙ get_or_default keys i c.key-item.result [] c.loop-key-test.true in
     let put = subst (λ (b : List ℕ). (p : ℕ) → p < 8 * length b →
     HasBit new p ↔ (HasBit b p ⊎ IsProbeOf (8 * length b) c.of.result p)) value c.put.ensures.put in
     let whole = with_items_is c.loop-key.filter new (same ∙ sym c.loop-key.filter.ok.0) in

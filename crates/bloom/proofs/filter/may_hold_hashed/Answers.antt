@@ -20,7 +20,8 @@ loop-i-preserved c =
     let at = c.loop-i in
     let bits = 8 * length filter in
     let set : HasBit filter at.probes.place = (subst (λ (b : Bool).
-    IsTrue b ↔ HasBit filter at.probes.place) c.if-not-has_bit.false c.has_bit.ensures).0 refl in record {
+    IsTrue b ↔ HasBit filter at.probes.place) c.if-not-has_bit.false c.has_bit.ensures).0 refl
+    in record {
       set = λ i few. elim (cases_lt i at.i) [
         | inl low ↦ at.invariant.set i low
         | inr high ↦

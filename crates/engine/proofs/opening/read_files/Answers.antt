@@ -123,7 +123,8 @@ returns-clause-alike g c = λ honest.
     let s0 = g.D.Disk.state c.args.disk.now in
     let s1 = g.D.Disk.state c.open.new.disk in
     let s2 = g.D.Disk.state c.read_parts.new.disk in
-    read_alike s0 s1 s2 (c.in_ok-manifest.ensures.told honest).read (c.open.ensures.kept.files honest)
+    read_alike s0 s1 s2 (c.in_ok-manifest.ensures.told honest).read
+    (c.open.ensures.kept.files honest)
     (c.in_ok-parts.ensures.told (c.open.ensures.kept.honest.1 honest)).each
 
 -- and hold the list that they represented, or were meant to represent
@@ -152,7 +153,8 @@ returns-clause-opened g c = λ facts list honest.
           let same = c.state.ensures ∙ held.knows in
           let ask = asked s0 s1 spares facts list h is c.state.result.now same in
           let hold = subst
-          (λ (n : NodeVersion). PartsHold s2 n.version first batches h.tables parts) same (c.in_ok-parts.ensures.opened first batches h.tables honest1 ask.0 ask.1 ask.2) in
+          (λ (n : NodeVersion). PartsHold s2 n.version first batches h.tables parts) same
+          (c.in_ok-parts.ensures.opened first batches h.tables honest1 ask.0 ask.1 ask.2) in
           let were = subst (λ (n : NodeVersion). WereParts s1 s2 n.version parts) same
           (c.in_ok-parts.ensures.told honest1) in
           read_as facts list (contents s0) h c.replays_agree.ensures s2 manifest parts usable

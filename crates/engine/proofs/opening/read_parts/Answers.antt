@@ -82,7 +82,8 @@ returns-in_err-tables-clause-opened g c = λ first batches tables honest had rea
     refuses c.from_residual-in_err-tables.result _ IsEngineExternal
     c.from_residual-in_err-tables.ensures.1 (c.in_err-tables.ensures.opened tables honest3
     (subst (λ (l : List TableLine). AreTablesOf (contents s3) l tables) (sym lines2)
-    (tables_then version is s1 s2 s3 synced (c.in_ok-logs.ensures.settled honest2).others tables read)))
+    (tables_then version is s1 s2 s3 synced
+    (c.in_ok-logs.ensures.settled honest2).others tables read)))
 
 -- the numbers are those of the batches
 pub returns-then-not-are_ordered-clause-opened : goal.returns-then-not-are_ordered-clause-opened

@@ -35,7 +35,8 @@ returns-in_err-older-clause-opened g c = λ first batches honest had.
     refuses c.from_residual.result _ IsEngineExternal c.from_residual.ensures.1
     (c.in_err-older.ensures.opened batches honest
     (subst (λ (n : ℕ). HaveBatches left n c.deref.result.now batches) next
-    (subst (λ (l : List LogLine). HaveBatches left first l batches) (sym c.deref.ensures.value) have))
+    (subst (λ (l : List LogLine). HaveBatches left first l batches)
+    (sym c.deref.ensures.value) have))
     had.each (omega (arith, next, few)))
 
 -- the last log is the newest
@@ -71,7 +72,8 @@ read_so g c honest =
     let before = c.index.result.now.first - 1 in
     let read = c.in_ok-older.ensures.read honest in
     let is_flushed = ap (λ (v : NodeVersion). v.version.flushed) c.version.view_is in
-    subst (λ (l : List LogLine). AreReadLogs s0 s1 l before c.args.version.now.version.flushed read.0
+    subst (λ (l : List LogLine). AreReadLogs s0 s1 l before c.args.version.now.version.flushed
+    read.0
     older memtable) (lines_so g c)
     (subst (λ (n : ℕ). AreReadLogs s0 s1 c.deref.result.now before n read.0 older memtable)
     is_flushed read.1)

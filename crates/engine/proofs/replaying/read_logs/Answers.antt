@@ -10,7 +10,8 @@ use Rattle.engine.specs.Settling.{SparesAllBut}
 use Rattle.engine.proofs.Causes.{refuses}
 use Rattle.engine.proofs.Keeping.{done, memory_told, passed_on, refused}
 use Rattle.engine.proofs.ReadLogs.{HasSynced, has_here, in_line_more, line_at, lines_at}
-use Rattle.engine.proofs.ReadLogs.{lines_more, none_in_line, none_read, none_synced, read_more, still_then}
+use Rattle.engine.proofs.ReadLogs.{lines_more, none_in_line, none_read, none_synced, read_more}
+use Rattle.engine.proofs.ReadLogs.{still_then}
 use Rattle.engine.proofs.ReadLogs.{synced_all, synced_more, synced_then}
 use Rattle.engine.proofs.replaying.read_logs.Goals as goal
 

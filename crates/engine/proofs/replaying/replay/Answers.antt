@@ -64,7 +64,8 @@ loop-index-preserved c =
           c.in_ok-replay_record.ensures.numbered;
       taken = λ records read. taken_next records c.loop-index.index c.args.before c.args.flushed
           c.unwrap-number.result c.args.memtable.now c.loop-index.memtable
-          c.replay_record.new.memtable c.record.result.now (c.loop-index.invariant.taken records read)
+          c.replay_record.new.memtable c.record.result.now
+          (c.loop-index.invariant.taken records read)
           (c.record.ensures records read) number_is c.in_ok-replay_record.ensures.taken;
     }
 

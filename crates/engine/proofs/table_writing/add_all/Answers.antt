@@ -18,7 +18,8 @@ use Rattle.engine.proofs.table_writing.add_all.Goals as goal
 
 pub returns-in_err-first-clause-writes : goal.returns-in_err-first-clause-writes
 returns-in_err-first-clause-writes g c =
-    let memory = for_memory _ _ c.first.result c.in_err-first.field-0.0 c.in_err-first.was (tt, tt, tt)
+    let memory = for_memory _ _ c.first.result c.in_err-first.field-0.0 c.in_err-first.was
+    (tt, tt, tt)
     (λ never. never) c.first.ensures.causes in
     writes_nothing g.D.Disk (builder_file c.args.builder.now) c.args.disk.now
     (memory_answer c.from_residual.result c.in_err-first.field-0.0 memory c.from_residual.ensures.1)

@@ -8,7 +8,8 @@ use Rattle.lab.proofs.node_state.dispatch_down.Goals as goal
 pub returns-in-Start : goal.returns-in-Start
 returns-in-Start g c =
     let e = c.start.ensures in
-    subst (λ (k : NodeInput). HasDispatched g.D.Disk c.args.limits.now c.args.fault k (Down c.args.disk)
+    subst (λ (k : NodeInput). HasDispatched g.D.Disk c.args.limits.now c.args.fault k
+    (Down c.args.disk)
     c.start.result.0 c.start.result.1) (sym c.in-Start.is) (record {
       ready = e.ready;
       refines = e.refines;
@@ -24,5 +25,6 @@ returns-in-Start g c =
 pub returns : goal.returns
 returns g c =
     let output = c.in_ok-output in
-    answered_at_rest g.D.Disk c.args.limits.now c.args.fault c.args.input.now c.args.disk output.output
+    answered_at_rest g.D.Disk c.args.limits.now c.args.fault c.args.input.now c.args.disk
+    output.output
     c.in_default.not-Start output.ensures

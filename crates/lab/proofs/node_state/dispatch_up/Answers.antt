@@ -17,7 +17,8 @@ use Rattle.lab.proofs.node_state.dispatch_up.Goals as goal
 pub returns-in-Step : goal.returns-in-Step
 returns-in-Step g c = λ limits.
     let e = c.step.ensures in
-    subst (λ (k : NodeInput). HasDispatched g.D.Disk limits c.args.fault k (Up c.args.node) c.step.result.0
+    subst (λ (k : NodeInput). HasDispatched g.D.Disk limits c.args.fault k
+    (Up c.args.node) c.step.result.0
     c.step.result.1) (sym c.in-Step.is) (record {
       ready = e.ready;
       refines = e.refines;
@@ -33,7 +34,8 @@ returns-in-Step g c = λ limits.
 pub returns-in-Tend : goal.returns-in-Tend
 returns-in-Tend g c = λ limits.
     let e = c.tend.ensures in
-    subst (λ (k : NodeInput). HasDispatched g.D.Disk limits c.args.fault k (Up c.args.node) c.tend.result.0
+    subst (λ (k : NodeInput). HasDispatched g.D.Disk limits c.args.fault k
+    (Up c.args.node) c.tend.result.0
     c.tend.result.1) (sym c.in-Tend.is) (record {
       ready = e.ready;
       refines = e.refines;
@@ -49,7 +51,8 @@ returns-in-Tend g c = λ limits.
 pub returns-in-BadFrame : goal.returns-in-BadFrame
 returns-in-BadFrame g c = λ limits.
     let output = c.dropped-output in
-    subst (λ (k : NodeInput). HasDispatched g.D.Disk limits c.args.fault k (Up c.args.node) (Up c.args.node)
+    subst (λ (k : NodeInput). HasDispatched g.D.Disk limits c.args.fault k (Up c.args.node)
+    (Up c.args.node)
     (done.Answered output.result)) (sym c.in-BadFrame.is)
     (answered_only g.D.Disk limits c.args.fault (to_node.BadFrame c.in-BadFrame.why)
     (Up c.args.node)
@@ -60,7 +63,8 @@ returns-in-BadFrame g c = λ limits.
 pub returns-in-Start : goal.returns-in-Start
 returns-in-Start g c = λ limits.
     let output = c.dropped-output-in-Start in
-    subst (λ (k : NodeInput). HasDispatched g.D.Disk limits c.args.fault k (Up c.args.node) (Up c.args.node)
+    subst (λ (k : NodeInput). HasDispatched g.D.Disk limits c.args.fault k (Up c.args.node)
+    (Up c.args.node)
     (done.Answered output.result)) (sym c.in-Start.is)
     (answered_only g.D.Disk limits c.args.fault to_node.Start (Up c.args.node) output.result
     (ready_up c.args.node c.requires)

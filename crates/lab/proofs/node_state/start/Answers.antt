@@ -65,7 +65,8 @@ returns-in-Err-clause-only g c = λ honest reliable.
 pub returns-in-Ok-clause-grows : goal.returns-in-Ok-clause-grows
 returns-in-Ok-clause-grows g c = λ x n r.
     let armed = c.arm.ensures in
-    let represents = subst (λ (s : State). DiskAlwaysRefines s x n) (same_state (armed.same r.0)) r.1
+    let represents = subst (λ (s : State). DiskAlwaysRefines s x n)
+    (same_state (armed.same r.0)) r.1
     in
     let leaves = c.in-Ok.ensures.any_moment x n n (armed.honest.1 r.0)
     (λ left now. inl (represents left now)) in
@@ -75,7 +76,8 @@ returns-in-Ok-clause-grows g c = λ x n r.
 pub returns-in-Err-clause-grows : goal.returns-in-Err-clause-grows
 returns-in-Err-clause-grows g c = λ x n r.
     let armed = c.arm.ensures in
-    let represents = subst (λ (s : State). DiskAlwaysRefines s x n) (same_state (armed.same r.0)) r.1
+    let represents = subst (λ (s : State). DiskAlwaysRefines s x n)
+    (same_state (armed.same r.0)) r.1
     in
     let leaves = c.in-Err.ensures.any_moment x n n (armed.honest.1 r.0)
     (λ left now. inl (represents left now)) in

@@ -101,7 +101,8 @@ returns-in-Err-clause-grows g c = λ x n r.
 -- the disk has the marks of the tend
 pub returns-in-Ok-clause-marked : goal.returns-in-Ok-clause-marked
 returns-in-Ok-clause-marked g c = λ honest.
-    inr (marked_so g.D.Disk c.args.fault (disk_of c.args.node) false (disk_of c.arm.new.self) _ _ _ _ _
+    inr (marked_so g.D.Disk c.args.fault (disk_of c.args.node) false
+    (disk_of c.arm.new.self) _ _ _ _ _
     c.arm.ensures.armed c.in-Ok.ensures.kept c.arm-in-Ok.ensures.armed honest)
 
 pub returns-in-Err-clause-marked : goal.returns-in-Err-clause-marked

@@ -8,4 +8,5 @@ invariant-loop-line l = l.files.items ≡ map (λ line. line.file) (take l.line-
 -- and those of the tables
 abbrev pub invariant-loop-line-2 : goal.invariant-loop-line-2
 invariant-loop-line-2 l =
-    l.files.items ≡ map (λ line. line.file) l.logs ++ map (λ line. line.file) (take l.line-index l.tables)
+    l.files.items ≡ map (λ line. line.file) l.logs ++ map (λ line. line.file)
+    (take l.line-index l.tables)

@@ -2,7 +2,8 @@ use Rattle.std.proofs.Common.{List, ap, subst, sym, ◌∙◌}
 use Rattle.std.specs.List.{fold}
 use Rattle.manifest.specs.declared.line.LogLine.{LogLine}
 use Rattle.manifest.specs.declared.line.TableLine.{TableLine}
-use Rattle.manifest.specs.Versions.{AreLawful, logs_left, tables_left, version_in, with_log, with_table}
+use Rattle.manifest.specs.Versions.{AreLawful, logs_left, tables_left, version_in, with_log}
+use Rattle.manifest.specs.Versions.{with_table}
 use Rattle.manifest.proofs.Lawful.{next_made}
 use Rattle.manifest.proofs.next.next_version.Goals as goal
 

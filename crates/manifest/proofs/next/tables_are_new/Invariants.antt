@@ -6,4 +6,5 @@ use Rattle.manifest.proofs.next.tables_are_new.Given as goal
 -- those that the loop has passed are new
 abbrev pub invariant-loop-line : goal.invariant-loop-line
 invariant-loop-line l =
-    list_all (λ line. is_new_file (version_in l.old) l.edit line.file) (take l.line-index l.edit.tables_added) ≡ true
+    list_all (λ line. is_new_file (version_in l.old) l.edit line.file)
+    (take l.line-index l.edit.tables_added) ≡ true

@@ -42,7 +42,8 @@ pub returns-clause-told : goal.returns-clause-told
 returns-clause-told g c = λ left honest kept counts.
     let log = c.in_ok-opened.ensures.told honest in
     let found = c.in_ok-version.ensures.found log.records log.read in
-    opened_is c.args.it left (g.D.Disk.state c.args.disk.now) (g.D.Disk.state c.open.new.disk) counts
+    opened_is c.args.it left (g.D.Disk.state c.args.disk.now)
+    (g.D.Disk.state c.open.new.disk) counts
     kept (c.open.ensures.kept.files honest) c.in_ok-opened.opened.log c.in_ok-opened.ensures.at
     log.records log.stood log.holds c.opened.result c.in-Some.id c.in_ok-version.version found.0
     c.opened.ensures c.in-Some.ensures.1 c.get-id.ensures.id found.1 found.2 found.3

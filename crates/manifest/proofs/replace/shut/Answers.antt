@@ -6,7 +6,8 @@ pub returns-then-not-is_open-clause-any_moment : goal.returns-then-not-is_open-c
 returns-then-not-is_open-clause-any_moment g c = λ was behind honest sure gate.
     shut_synced g.D.Disk.state g.D.Disk.past c.args.is_open was behind c.args.file
     c.args.disk.now sure gate
-    c.sync.new.self c.sync.result (c.sync.ensures.syncs honest) (c.sync.ensures.passes honest).moment
+    c.sync.new.self c.sync.result (c.sync.ensures.syncs honest)
+    (c.sync.ensures.passes honest).moment
 
 -- while the gate is being closed
 pub returns-in_err-write_at-clause-any_moment : goal.returns-in_err-write_at-clause-any_moment

@@ -3,7 +3,8 @@ use Rattle.std.proofs.lemmas.Result.{err_from_is_err_and}
 use Rattle.manifest.specs.Versions.{NodeVersion}
 use Rattle.manifest.specs.Edits.{change_text}
 use Rattle.manifest.specs.Replays.{IsReplayed}
-use Rattle.manifest.proofs.Replays.{all_replayed, err_of, got_change, length-ends_from, replayed_next}
+use Rattle.manifest.proofs.Replays.{all_replayed, err_of, got_change, length-ends_from}
+use Rattle.manifest.proofs.Replays.{replayed_next}
 use Rattle.manifest.proofs.Replays.{some_replayed, takes_next}
 use Rattle.manifest.proofs.replay.replay.Goals as goal
 

@@ -27,7 +27,8 @@ returns c =
     c.put_files.new.out.items c.put_logs.new.out.items names all c.put_tables.result
     c.in_ok-put_numbers.ensures c.in_ok-spell_into.ensures.spelled
     (subst (λ (l : List ℕ). c.put_files.new.out.items ≡ c.spell_into.new.out.items
-    ++ counted_bytes (λ file. to_be_bytes w64 file) l) c.deref.ensures.value c.in_ok-put_files.ensures)
+    ++ counted_bytes (λ file. to_be_bytes w64 file) l) c.deref.ensures.value
+    c.in_ok-put_files.ensures)
     (rw c.deref-2.ensures.value at c.in_ok-put_logs.ensures)
     (rw c.deref-3.ensures.value at c.in_ok-put_names.ensures)
     (rw c.deref-4.ensures.value at c.put_tables.ensures))

@@ -5,4 +5,5 @@ use Rattle.manifest.proofs.spelling.put_files.Given as goal
 
 -- what the loop has passed stands behind what was there
 abbrev pub invariant-loop-file : goal.invariant-loop-file
-invariant-loop-file l = l.out.items ≡ l.fn.out.items ++ to_be_bytes w16 (length l.files) ++ flat_map (λ file. to_be_bytes w64 file) (take l.file-index l.files)
+invariant-loop-file l = l.out.items ≡ l.fn.out.items ++ to_be_bytes w16 (length l.files) ++ flat_map
+    (λ file. to_be_bytes w64 file) (take l.file-index l.files)

@@ -6,4 +6,5 @@ use Rattle.manifest.proofs.spelling.put_logs.Given as goal
 
 -- what the loop has passed stands behind what was there
 abbrev pub invariant-loop-line : goal.invariant-loop-line
-invariant-loop-line l = l.out.items ≡ l.fn.out.items ++ to_be_bytes w16 (length l.lines) ++ flat_map log_line_bytes (take l.line-index l.lines)
+invariant-loop-line l = l.out.items ≡ l.fn.out.items ++ to_be_bytes w16
+    (length l.lines) ++ flat_map log_line_bytes (take l.line-index l.lines)

@@ -6,4 +6,5 @@ use Rattle.manifest.proofs.spelling.put_names.Given as goal
 
 -- what the loop has passed stands behind what was there
 abbrev pub invariant-loop-one : goal.invariant-loop-one
-invariant-loop-one l = l.out.items ≡ l.fn.out.items ++ to_be_bytes w16 (length l.names) ++ flat_map table_name_bytes (take l.one-index l.names)
+invariant-loop-one l = l.out.items ≡ l.fn.out.items ++ to_be_bytes w16
+    (length l.names) ++ flat_map table_name_bytes (take l.one-index l.names)

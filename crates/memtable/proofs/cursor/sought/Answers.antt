@@ -14,5 +14,6 @@ returns-then-len-gt-MAX_KEY-clause-first c = long_key c.args.map.now MAX_KEY (le
     c.args.number _
     (c.in_ok-beginning.ensures ∙ (c.new.ensures ∙ (c.split_at.ensures.front
     ∙ ap (take MAX_KEY) c.as_bytes.ensures)))
-    (search (arith, c.len.ensures, c.if-len-gt-MAX_KEY.true)) (λ entry has. (c.requires.limits entry has).key)
+    (search (arith, c.len.ensures, c.if-len-gt-MAX_KEY.true))
+    (λ entry has. (c.requires.limits entry has).key)
     (c.front.ensures.first c.requires.rising)

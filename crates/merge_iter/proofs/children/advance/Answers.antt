@@ -18,8 +18,11 @@ returns-else-is_same-clause-ends g c =
     let e = across g.C.Cursor.left g.C.Cursor.most c.args.was c.args.way c.args.children.now.items
     (λ h. let f = c.if-is_same.false in let t : IsTrue c.is_same.result =
     c.is_same.ensures.same.1 h in cc) in
-    let l = left_most (g.C.Cursor.holds (g.C.Cursor.as_is c.args.source.now)) (g.C.Cursor.is_sound (g.C.Cursor.as_is c.args.source.now)) g.C.Cursor.suits g.C.Cursor.keeps g.C.Cursor.left
-    g.C.Cursor.most (law_at g.met.C.Cursor.laws (g.C.Cursor.as_is c.args.source.now)) c.args.way c.turn_all.new.children.items in
+    let l = left_most (g.C.Cursor.holds (g.C.Cursor.as_is c.args.source.now))
+    (g.C.Cursor.is_sound (g.C.Cursor.as_is c.args.source.now)) g.C.Cursor.suits g.C.Cursor.keeps
+    g.C.Cursor.left
+    g.C.Cursor.most (law_at g.met.C.Cursor.laws (g.C.Cursor.as_is c.args.source.now)) c.args.way
+    c.turn_all.new.children.items in
     let z = (c.turn_all.ensures.moves (g.C.Cursor.as_is c.args.source.now)).size in
     always_ok c.turn_all.result
     (subst (λ n. sum_by (λ d. g.C.Cursor.left d c.args.way) c.turn_all.new.children.items < n)
@@ -28,7 +31,8 @@ returns-else-is_same-clause-ends g c =
 pub returns-then-is_same-clause-ahead : goal.returns-then-is_same-clause-ahead
 returns-then-is_same-clause-ahead g c meant x entry at on apart all first =
     (c.step_at.ensures.ahead meant) x entry at on apart all
-    (subst (λ w. ChildrenAreFirst (λ d. (g.C.Cursor.holds meant) d c.args.source.now) g.C.Cursor.position w
+    (subst (λ w. ChildrenAreFirst (λ d.
+    (g.C.Cursor.holds meant) d c.args.source.now) g.C.Cursor.position w
     (At entry) c.args.children.now.items) (c.is_same.ensures.same.0 c.if-is_same.true) first)
 
 pub returns-else-is_same-clause-ahead : goal.returns-else-is_same-clause-ahead

@@ -17,7 +17,8 @@ use Rattle.merge_iter.proofs.children.seek_all.Goals as goal
 
 pub loop-i-init : goal.loop-i-init
 loop-i-init g c = record {
-  passed = λ meant. begins (g.C.Cursor.holds meant) (g.C.Cursor.is_sound meant) g.C.Cursor.suits g.C.Cursor.keeps g.C.Cursor.left
+  passed = λ meant. begins (g.C.Cursor.holds meant)
+      (g.C.Cursor.is_sound meant) g.C.Cursor.suits g.C.Cursor.keeps g.C.Cursor.left
       g.C.Cursor.most (law_at g.met.C.Cursor.laws meant) _ _;
   device = g.met.C.Cursor.laws.makes_itself _;
   count = refl;
@@ -30,20 +31,27 @@ loop-i-preserved g c =
     let w : c.loop-i.i < length c.args.children.now.items =
     search (arith, c.loop-i-test.true, c.len-i-end.ensures) in
     let at = slice_get_read c.loop-i.children.items (length c.args.children.now.items) c.loop-i.i
-    c.index_mut.result.now (search (arith, (i.passed (g.C.Cursor.as_is c.args.source.now)).moved.len)) w c.index_mut.ensures.value in
+    c.index_mut.result.now (search
+    (arith, (i.passed (g.C.Cursor.as_is c.args.source.now)).moved.len)) w
+    c.index_mut.ensures.value in
     record {
-      passed = λ meant. passes (g.C.Cursor.holds meant) (g.C.Cursor.is_sound meant) g.C.Cursor.suits g.C.Cursor.keeps g.C.Cursor.left
-          g.C.Cursor.most (law_at g.met.C.Cursor.laws meant) c.args.children.now.items c.loop-i.children.items
+      passed = λ meant. passes (g.C.Cursor.holds meant)
+          (g.C.Cursor.is_sound meant) g.C.Cursor.suits g.C.Cursor.keeps g.C.Cursor.left
+          g.C.Cursor.most (law_at g.met.C.Cursor.laws meant) c.args.children.now.items
+          c.loop-i.children.items
           c.args.source.now c.loop-i.source c.seek.new.source c.loop-i.i c.index_mut.result.now
           c.seek.new.self at (i.passed meant) (one_move c.seek.ensures.moves meant);
       device = g.met.C.Cursor.laws.makes_through false _ _ _ i.device
           (subst (λ r. g.C.Cursor.makes (reports r) c.loop-i.source
           c.seek.new.source) c.in_ok-seek.was c.seek.ensures.device);
       count = c.seek.ensures.causes.others (λ e. let h = c.in_ok-seek.was in cc) ∙ i.count;
-      brought = λ meant given. brings (g.C.Cursor.holds meant) (g.C.Cursor.is_sound meant) g.C.Cursor.suits g.C.Cursor.keeps
-          g.C.Cursor.left g.C.Cursor.most g.C.Cursor.position (law_at g.met.C.Cursor.laws meant) Forward
+      brought = λ meant given. brings (g.C.Cursor.holds meant)
+          (g.C.Cursor.is_sound meant) g.C.Cursor.suits g.C.Cursor.keeps
+          g.C.Cursor.left g.C.Cursor.most g.C.Cursor.position
+          (law_at g.met.C.Cursor.laws meant) Forward
           (At (spot (lent_key c.args.key) c.args.number))
-          (EachChild (λ d. (g.C.Cursor.is_sound meant) d c.args.source.now) c.args.children.now.items)
+          (EachChild (λ d. (g.C.Cursor.is_sound meant) d c.args.source.now)
+          c.args.children.now.items)
           c.args.children.now.items c.loop-i.children.items c.args.source.now c.loop-i.source
           c.seek.new.source c.loop-i.i c.index_mut.result.now c.seek.new.self c.seek.result at
           (i.passed meant).moved (one_move c.seek.ensures.moves meant) c.in_ok-seek.was (λ all. all)
@@ -56,9 +64,14 @@ returns-in_err-seek-clause-moves g c meant =
     let w : c.loop-i.i < length c.args.children.now.items =
     search (arith, c.loop-i-test.true, c.len-i-end.ensures) in
     let at = slice_get_read c.loop-i.children.items (length c.args.children.now.items) c.loop-i.i
-    c.index_mut.result.now (search (arith, (i.passed (g.C.Cursor.as_is c.args.source.now)).moved.len)) w c.index_mut.ensures.value in
-    move_one (g.C.Cursor.holds meant) (g.C.Cursor.is_sound meant) g.C.Cursor.suits g.C.Cursor.keeps g.C.Cursor.left g.C.Cursor.most
-    (law_at g.met.C.Cursor.laws meant) c.args.children.now.items c.loop-i.children.items c.args.source.now
+    c.index_mut.result.now (search
+    (arith, (i.passed (g.C.Cursor.as_is c.args.source.now)).moved.len)) w
+    c.index_mut.ensures.value in
+    move_one (g.C.Cursor.holds meant)
+    (g.C.Cursor.is_sound meant) g.C.Cursor.suits g.C.Cursor.keeps g.C.Cursor.left
+    g.C.Cursor.most
+    (law_at g.met.C.Cursor.laws meant) c.args.children.now.items c.loop-i.children.items
+    c.args.source.now
     c.loop-i.source c.seek.new.source c.loop-i.i c.index_mut.result.now c.seek.new.self at
     (i.passed meant).moved (one_move c.seek.ensures.moves meant)
 
@@ -68,7 +81,9 @@ returns-in_err-seek-clause-causes g c =
     let w : c.loop-i.i < length c.args.children.now.items =
     search (arith, c.loop-i-test.true, c.len-i-end.ensures) in
     let at = slice_get_read c.loop-i.children.items (length c.args.children.now.items) c.loop-i.i
-    c.index_mut.result.now (search (arith, (i.passed (g.C.Cursor.as_is c.args.source.now)).moved.len)) w c.index_mut.ensures.value in
+    c.index_mut.result.now (search
+    (arith, (i.passed (g.C.Cursor.as_is c.args.source.now)).moved.len)) w
+    c.index_mut.ensures.value in
     let p = err_from_is_err_and c.from_residual.result c.from_residual.ensures.1 in
     let was : c.seek.result ≡ Err c.in_err-seek.field-0.0 = c.in_err-seek.was in
     let told : c.seek.result ≡ c.from_residual.result = cc (p.1, p.2) in

@@ -14,7 +14,8 @@ use Rattle.merge_iter.proofs.children.start_all.Goals as goal
 
 pub loop-i-init : goal.loop-i-init
 loop-i-init g c = record {
-  passed = λ meant. begins (g.C.Cursor.holds meant) (g.C.Cursor.is_sound meant) g.C.Cursor.suits g.C.Cursor.keeps g.C.Cursor.left
+  passed = λ meant. begins (g.C.Cursor.holds meant)
+      (g.C.Cursor.is_sound meant) g.C.Cursor.suits g.C.Cursor.keeps g.C.Cursor.left
       g.C.Cursor.most (law_at g.met.C.Cursor.laws meant) _ _;
   device = g.met.C.Cursor.laws.makes_itself _;
   count = refl;
@@ -27,22 +28,30 @@ loop-i-preserved g c =
     let w : c.loop-i.i < length c.args.children.now.items =
     search (arith, c.loop-i-test.true, c.len-i-end.ensures) in
     let at = slice_get_read c.loop-i.children.items (length c.args.children.now.items) c.loop-i.i
-    c.index_mut.result.now (search (arith, (i.passed (g.C.Cursor.as_is c.args.source.now)).moved.len)) w c.index_mut.ensures.value in
+    c.index_mut.result.now (search
+    (arith, (i.passed (g.C.Cursor.as_is c.args.source.now)).moved.len)) w
+    c.index_mut.ensures.value in
     record {
-      passed = λ meant. passes (g.C.Cursor.holds meant) (g.C.Cursor.is_sound meant) g.C.Cursor.suits g.C.Cursor.keeps g.C.Cursor.left
-          g.C.Cursor.most (law_at g.met.C.Cursor.laws meant) c.args.children.now.items c.loop-i.children.items
+      passed = λ meant. passes (g.C.Cursor.holds meant)
+          (g.C.Cursor.is_sound meant) g.C.Cursor.suits g.C.Cursor.keeps g.C.Cursor.left
+          g.C.Cursor.most (law_at g.met.C.Cursor.laws meant) c.args.children.now.items
+          c.loop-i.children.items
           c.args.source.now c.loop-i.source c.start.new.source c.loop-i.i c.index_mut.result.now
           c.start.new.child at (i.passed meant) (one_move c.start.ensures.moves meant);
       device = g.met.C.Cursor.laws.makes_through false _ _ _ i.device
           (subst (λ r. g.C.Cursor.makes (reports r) c.loop-i.source
           c.start.new.source) c.in_ok-start.was c.start.ensures.device);
       count = c.start.ensures.causes.others (λ e. let h = c.in_ok-start.was in cc) ∙ i.count;
-      brought = λ meant given. brings (g.C.Cursor.holds meant) (g.C.Cursor.is_sound meant) g.C.Cursor.suits g.C.Cursor.keeps
-          g.C.Cursor.left g.C.Cursor.most g.C.Cursor.position (law_at g.met.C.Cursor.laws meant) c.args.way AtEnd
-          (EachChild (λ d. (g.C.Cursor.is_sound meant) d c.args.source.now) c.args.children.now.items)
+      brought = λ meant given. brings (g.C.Cursor.holds meant)
+          (g.C.Cursor.is_sound meant) g.C.Cursor.suits g.C.Cursor.keeps
+          g.C.Cursor.left g.C.Cursor.most g.C.Cursor.position
+          (law_at g.met.C.Cursor.laws meant) c.args.way AtEnd
+          (EachChild (λ d. (g.C.Cursor.is_sound meant) d c.args.source.now)
+          c.args.children.now.items)
           c.args.children.now.items c.loop-i.children.items c.args.source.now c.loop-i.source
           c.start.new.source c.loop-i.i c.index_mut.result.now c.start.new.child c.start.result at
-          (i.passed meant).moved (one_move c.start.ensures.moves meant) c.in_ok-start.was (λ all. all)
+          (i.passed meant).moved (one_move c.start.ensures.moves meant) c.in_ok-start.was
+          (λ all. all)
           (λ all s. (c.start.ensures.finds meant) s) ((i.brought meant)) given;
     }
 
@@ -52,9 +61,14 @@ returns-in_err-start-clause-moves g c meant =
     let w : c.loop-i.i < length c.args.children.now.items =
     search (arith, c.loop-i-test.true, c.len-i-end.ensures) in
     let at = slice_get_read c.loop-i.children.items (length c.args.children.now.items) c.loop-i.i
-    c.index_mut.result.now (search (arith, (i.passed (g.C.Cursor.as_is c.args.source.now)).moved.len)) w c.index_mut.ensures.value in
-    move_one (g.C.Cursor.holds meant) (g.C.Cursor.is_sound meant) g.C.Cursor.suits g.C.Cursor.keeps g.C.Cursor.left g.C.Cursor.most
-    (law_at g.met.C.Cursor.laws meant) c.args.children.now.items c.loop-i.children.items c.args.source.now
+    c.index_mut.result.now (search
+    (arith, (i.passed (g.C.Cursor.as_is c.args.source.now)).moved.len)) w
+    c.index_mut.ensures.value in
+    move_one (g.C.Cursor.holds meant)
+    (g.C.Cursor.is_sound meant) g.C.Cursor.suits g.C.Cursor.keeps g.C.Cursor.left
+    g.C.Cursor.most
+    (law_at g.met.C.Cursor.laws meant) c.args.children.now.items c.loop-i.children.items
+    c.args.source.now
     c.loop-i.source c.start.new.source c.loop-i.i c.index_mut.result.now c.start.new.child at
     (i.passed meant).moved (one_move c.start.ensures.moves meant)
 
@@ -64,7 +78,9 @@ returns-in_err-start-clause-causes g c =
     let w : c.loop-i.i < length c.args.children.now.items =
     search (arith, c.loop-i-test.true, c.len-i-end.ensures) in
     let at = slice_get_read c.loop-i.children.items (length c.args.children.now.items) c.loop-i.i
-    c.index_mut.result.now (search (arith, (i.passed (g.C.Cursor.as_is c.args.source.now)).moved.len)) w c.index_mut.ensures.value in
+    c.index_mut.result.now (search
+    (arith, (i.passed (g.C.Cursor.as_is c.args.source.now)).moved.len)) w
+    c.index_mut.ensures.value in
     let p = err_from_is_err_and c.from_residual.result c.from_residual.ensures.1 in
     let was : c.start.result ≡ Err c.in_err-start.field-0.0 = c.in_err-start.was in
     let told : c.start.result ≡ c.from_residual.result = cc (p.1, p.2) in

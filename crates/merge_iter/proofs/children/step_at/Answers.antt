@@ -10,10 +10,14 @@ pub returns-clause-moves : goal.returns-clause-moves
 returns-clause-moves g c meant =
     let at = slice_get_read c.args.children.now.items (length c.args.children.now.items) c.args.k
     c.index_mut.result.now refl (search (arith, c.requires.room)) c.index_mut.ensures.value in
-    move_one (g.C.Cursor.holds meant) (g.C.Cursor.is_sound meant) g.C.Cursor.suits g.C.Cursor.keeps g.C.Cursor.left g.C.Cursor.most
-    (law_at g.met.C.Cursor.laws meant) c.args.children.now.items c.args.children.now.items c.args.source.now
+    move_one (g.C.Cursor.holds meant)
+    (g.C.Cursor.is_sound meant) g.C.Cursor.suits g.C.Cursor.keeps g.C.Cursor.left
+    g.C.Cursor.most
+    (law_at g.met.C.Cursor.laws meant) c.args.children.now.items c.args.children.now.items
+    c.args.source.now
     c.args.source.now c.step.new.source c.args.k c.index_mut.result.now c.step.new.child at
-    (none_moved (g.C.Cursor.holds meant) (g.C.Cursor.is_sound meant) g.C.Cursor.suits g.C.Cursor.keeps g.C.Cursor.left
+    (none_moved (g.C.Cursor.holds meant)
+    (g.C.Cursor.is_sound meant) g.C.Cursor.suits g.C.Cursor.keeps g.C.Cursor.left
     g.C.Cursor.most (law_at g.met.C.Cursor.laws meant) c.args.children.now.items c.args.source.now)
     (one_move c.step.ensures.moves meant)
 
@@ -30,8 +34,11 @@ pub returns-clause-ahead : goal.returns-clause-ahead
 returns-clause-ahead g c meant x entry atx on apart all first =
     let at = slice_get_read c.args.children.now.items (length c.args.children.now.items) c.args.k
     c.index_mut.result.now refl (search (arith, c.requires.room)) c.index_mut.ensures.value in
-    stepped (g.C.Cursor.holds meant) (g.C.Cursor.is_sound meant) g.C.Cursor.suits g.C.Cursor.keeps g.C.Cursor.left g.C.Cursor.most
+    stepped (g.C.Cursor.holds meant)
+    (g.C.Cursor.is_sound meant) g.C.Cursor.suits g.C.Cursor.keeps g.C.Cursor.left
+    g.C.Cursor.most
     g.C.Cursor.position (law_at g.met.C.Cursor.laws meant) c.args.way c.args.children.now.items
     c.args.source.now c.step.new.source c.args.k x c.index_mut.result.now c.step.new.child entry
     c.step.result at atx on apart all first
-    (one_move c.step.ensures.moves meant) ((c.step.ensures.finds meant) (all c.args.k c.index_mut.result.now at))
+    (one_move c.step.ensures.moves meant)
+    ((c.step.ensures.finds meant) (all c.args.k c.index_mut.result.now at))

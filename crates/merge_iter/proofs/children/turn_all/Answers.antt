@@ -14,7 +14,8 @@ use Rattle.merge_iter.proofs.children.turn_all.Goals as goal
 
 pub loop-i-init : goal.loop-i-init
 loop-i-init g c = record {
-  passed = λ meant. begins (g.C.Cursor.holds meant) (g.C.Cursor.is_sound meant) g.C.Cursor.suits g.C.Cursor.keeps g.C.Cursor.left
+  passed = λ meant. begins (g.C.Cursor.holds meant)
+      (g.C.Cursor.is_sound meant) g.C.Cursor.suits g.C.Cursor.keeps g.C.Cursor.left
       g.C.Cursor.most (law_at g.met.C.Cursor.laws meant) _ _;
   device = g.met.C.Cursor.laws.makes_itself _;
   count = refl;
@@ -27,24 +28,34 @@ loop-i-preserved g c =
     let w : c.loop-i.i < length c.args.children.now.items =
     search (arith, c.loop-i-test.true, c.len-i-end.ensures) in
     let at = slice_get_read c.loop-i.children.items (length c.args.children.now.items) c.loop-i.i
-    c.index_mut.result.now (search (arith, (i.passed (g.C.Cursor.as_is c.args.source.now)).moved.len)) w c.index_mut.ensures.value in
+    c.index_mut.result.now (search
+    (arith, (i.passed (g.C.Cursor.as_is c.args.source.now)).moved.len)) w
+    c.index_mut.ensures.value in
     record {
-      passed = λ meant. passes (g.C.Cursor.holds meant) (g.C.Cursor.is_sound meant) g.C.Cursor.suits g.C.Cursor.keeps g.C.Cursor.left
-          g.C.Cursor.most (law_at g.met.C.Cursor.laws meant) c.args.children.now.items c.loop-i.children.items
+      passed = λ meant. passes (g.C.Cursor.holds meant)
+          (g.C.Cursor.is_sound meant) g.C.Cursor.suits g.C.Cursor.keeps g.C.Cursor.left
+          g.C.Cursor.most (law_at g.met.C.Cursor.laws meant) c.args.children.now.items
+          c.loop-i.children.items
           c.args.source.now c.loop-i.source c.turn.new.source c.loop-i.i c.index_mut.result.now
           c.turn.new.child at (i.passed meant) (one_move c.turn.ensures.moves meant);
       device = g.met.C.Cursor.laws.makes_through false _ _ _ i.device
           (subst (λ r. g.C.Cursor.makes (reports r) c.loop-i.source
           c.turn.new.source) c.in_ok-turn.was c.turn.ensures.device);
       count = c.turn.ensures.causes.others (λ e. let h = c.in_ok-turn.was in cc) ∙ i.count;
-      brought = λ meant was entry given. brings (g.C.Cursor.holds meant) (g.C.Cursor.is_sound meant) g.C.Cursor.suits g.C.Cursor.keeps
-          g.C.Cursor.left g.C.Cursor.most g.C.Cursor.position (law_at g.met.C.Cursor.laws meant) c.args.way
+      brought = λ meant was entry given.
+          brings (g.C.Cursor.holds meant)
+          (g.C.Cursor.is_sound meant) g.C.Cursor.suits g.C.Cursor.keeps
+          g.C.Cursor.left g.C.Cursor.most g.C.Cursor.position
+          (law_at g.met.C.Cursor.laws meant) c.args.way
           (After entry) (IsOpposite was c.args.way
-          × (EachChild (λ d. (g.C.Cursor.is_sound meant) d c.args.source.now) c.args.children.now.items
-          × ChildrenAreFirst (λ d. (g.C.Cursor.holds meant) d c.args.source.now) g.C.Cursor.position was
+          × (EachChild (λ d. (g.C.Cursor.is_sound meant) d c.args.source.now)
+          c.args.children.now.items
+          × ChildrenAreFirst (λ d. (g.C.Cursor.holds meant) d c.args.source.now) g.C.Cursor.position
+          was
           (At entry) c.args.children.now.items)) c.args.children.now.items c.loop-i.children.items
           c.args.source.now c.loop-i.source c.turn.new.source c.loop-i.i c.index_mut.result.now
-          c.turn.new.child c.turn.result at (i.passed meant).moved (one_move c.turn.ensures.moves meant) c.in_ok-turn.was
+          c.turn.new.child c.turn.result at (i.passed meant).moved
+          (one_move c.turn.ensures.moves meant) c.in_ok-turn.was
           (λ have. have.1.0)
           (λ have s. (c.turn.ensures.turns meant) was entry have.0 s
           (first_kept was (At entry) (g.C.Cursor.position c.index_mut.result.now)
@@ -65,9 +76,14 @@ returns-in_err-turn-clause-moves g c meant =
     let w : c.loop-i.i < length c.args.children.now.items =
     search (arith, c.loop-i-test.true, c.len-i-end.ensures) in
     let at = slice_get_read c.loop-i.children.items (length c.args.children.now.items) c.loop-i.i
-    c.index_mut.result.now (search (arith, (i.passed (g.C.Cursor.as_is c.args.source.now)).moved.len)) w c.index_mut.ensures.value in
-    move_one (g.C.Cursor.holds meant) (g.C.Cursor.is_sound meant) g.C.Cursor.suits g.C.Cursor.keeps g.C.Cursor.left g.C.Cursor.most
-    (law_at g.met.C.Cursor.laws meant) c.args.children.now.items c.loop-i.children.items c.args.source.now
+    c.index_mut.result.now (search
+    (arith, (i.passed (g.C.Cursor.as_is c.args.source.now)).moved.len)) w
+    c.index_mut.ensures.value in
+    move_one (g.C.Cursor.holds meant)
+    (g.C.Cursor.is_sound meant) g.C.Cursor.suits g.C.Cursor.keeps g.C.Cursor.left
+    g.C.Cursor.most
+    (law_at g.met.C.Cursor.laws meant) c.args.children.now.items c.loop-i.children.items
+    c.args.source.now
     c.loop-i.source c.turn.new.source c.loop-i.i c.index_mut.result.now c.turn.new.child at
     (i.passed meant).moved (one_move c.turn.ensures.moves meant)
 
@@ -77,7 +93,9 @@ returns-in_err-turn-clause-causes g c =
     let w : c.loop-i.i < length c.args.children.now.items =
     search (arith, c.loop-i-test.true, c.len-i-end.ensures) in
     let at = slice_get_read c.loop-i.children.items (length c.args.children.now.items) c.loop-i.i
-    c.index_mut.result.now (search (arith, (i.passed (g.C.Cursor.as_is c.args.source.now)).moved.len)) w c.index_mut.ensures.value in
+    c.index_mut.result.now (search
+    (arith, (i.passed (g.C.Cursor.as_is c.args.source.now)).moved.len)) w
+    c.index_mut.ensures.value in
     let p = err_from_is_err_and c.from_residual.result c.from_residual.ensures.1 in
     let was : c.turn.result ≡ Err c.in_err-turn.field-0.0 = c.in_err-turn.was in
     let told : c.turn.result ≡ c.from_residual.result = cc (p.1, p.2) in

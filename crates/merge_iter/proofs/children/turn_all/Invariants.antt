@@ -8,11 +8,14 @@ use Rattle.merge_iter.proofs.children.turn_all.Given as goal
 
 abbrev pub invariant-loop-i : goal.invariant-loop-i
 invariant-loop-i g l = record {
-  passed : (meant : g.C.Cursor.Meant) → Passed (g.C.Cursor.holds meant) (g.C.Cursor.is_sound meant) g.C.Cursor.suits g.C.Cursor.keeps g.C.Cursor.left
+  passed : (meant : g.C.Cursor.Meant)
+      → Passed (g.C.Cursor.holds meant)
+      (g.C.Cursor.is_sound meant) g.C.Cursor.suits g.C.Cursor.keeps g.C.Cursor.left
       g.C.Cursor.most l.i l.initial.children.items l.initial.source l.children.items l.source;
   device : g.C.Cursor.makes false l.initial.source l.source;
   count : g.C.Cursor.failures l.source ≡ g.C.Cursor.failures l.initial.source;
-  brought : (meant : g.C.Cursor.Meant) (was : Direction) (entry : Entry) → Brought (g.C.Cursor.holds meant) (g.C.Cursor.is_sound meant) g.C.Cursor.suits
+  brought : (meant : g.C.Cursor.Meant) (was : Direction) (entry : Entry)
+      → Brought (g.C.Cursor.holds meant) (g.C.Cursor.is_sound meant) g.C.Cursor.suits
       g.C.Cursor.keeps g.C.Cursor.left g.C.Cursor.most g.C.Cursor.position l.way (After entry)
       (IsOpposite was l.way × (EachChild (λ c. (g.C.Cursor.is_sound meant) c l.initial.source)
       l.initial.children.items × ChildrenAreFirst (λ c. (g.C.Cursor.holds meant) c l.initial.source)

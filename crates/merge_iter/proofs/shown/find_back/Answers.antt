@@ -10,7 +10,8 @@ use Rattle.merge_iter.proofs.shown.find_back.Goals as goal
 
 pub loop-inner-init : goal.loop-inner-init
 loop-inner-init g c = record {
-  moved = all_itself g.C.Cursor.holds g.C.Cursor.is_sound g.C.Cursor.suits g.C.Cursor.keeps g.C.Cursor.left
+  moved = all_itself g.C.Cursor.holds g.C.Cursor.is_sound g.C.Cursor.suits g.C.Cursor.keeps
+      g.C.Cursor.left
       g.C.Cursor.most g.met.C.Cursor.laws _ _;
   device = g.met.C.Cursor.laws.makes_itself _;
   count = refl;
@@ -29,7 +30,8 @@ loop-inner-preserved g c =
     let less = c.in_ok-prev.ensures.ends in
     let fewer = i.left in
     record {
-      moved = all_through g.C.Cursor.holds g.C.Cursor.is_sound g.C.Cursor.suits g.C.Cursor.keeps g.C.Cursor.left
+      moved = all_through g.C.Cursor.holds g.C.Cursor.is_sound g.C.Cursor.suits g.C.Cursor.keeps
+          g.C.Cursor.left
           g.C.Cursor.most g.met.C.Cursor.laws _ _ _ _ _ _ i.moved c.prev.ensures.moves;
       device = g.met.C.Cursor.laws.makes_through false _ _ _ i.device
           (subst (λ r. g.C.Cursor.makes (reports r) c.loop-inner.source
@@ -44,9 +46,12 @@ loop-inner-preserved g c =
           (λ entry. IsJudgedBack c.args.at c.loop-inner.found (kept_entry c.loop-inner.kept)
           entry c.is_left.new.found (kept_entry c.is_left.new.kept) b)) c.if-branch.false
           c.in_ok-is_left.ensures) i.fits;
-      way = λ meant start s a. back_on c.args.at ((g.C.Cursor.holds meant) c.args.inner.now c.args.source.now)
-          ((g.C.Cursor.holds meant) c.loop-inner.inner c.loop-inner.source) (i.moved.stays meant s).1
-          ((law_at g.met.C.Cursor.laws meant).apart c.args.inner.now c.args.source.now s) start c.loop-inner.found
+      way = λ meant start s a. back_on c.args.at
+          ((g.C.Cursor.holds meant) c.args.inner.now c.args.source.now)
+          ((g.C.Cursor.holds meant) c.loop-inner.inner c.loop-inner.source)
+          (i.moved.stays meant s).1
+          ((law_at g.met.C.Cursor.laws meant).apart c.args.inner.now c.args.source.now s) start
+          c.loop-inner.found
           c.is_left.new.found (kept_entry c.loop-inner.kept) (kept_entry c.is_left.new.kept)
           (g.C.Cursor.position c.loop-inner.inner) (g.C.Cursor.position c.prev.new.self)
           c.prev.result on
@@ -54,7 +59,8 @@ loop-inner-preserved g c =
           (λ entry. IsJudgedBack c.args.at c.loop-inner.found (kept_entry c.loop-inner.kept)
           entry c.is_left.new.found (kept_entry c.is_left.new.kept) b)) c.if-branch.false
           c.in_ok-is_left.ensures)
-          c.in_ok-prev.was ((c.prev.ensures.finds meant) (i.moved.stays meant s).0) ((i.way meant) start s a);
+          c.in_ok-prev.was ((c.prev.ensures.finds meant) (i.moved.stays meant s).0)
+          ((i.way meant) start s a);
     }
 
 pub returns-then-branch-clause-finds : goal.returns-then-branch-clause-finds
@@ -62,7 +68,8 @@ returns-then-branch-clause-finds g c meant start s a =
     let i = c.loop-inner.invariant in
     let on : IsOn (g.C.Cursor.position c.loop-inner.inner) =
     c.valid.ensures.0 c.loop-inner-test.true in
-    left_on c.args.at ((g.C.Cursor.holds meant) c.args.inner.now c.args.source.now) start c.loop-inner.found
+    left_on c.args.at ((g.C.Cursor.holds meant) c.args.inner.now c.args.source.now) start
+    c.loop-inner.found
     c.is_left.new.found (kept_entry c.loop-inner.kept) (kept_entry c.is_left.new.kept)
     (g.C.Cursor.position c.loop-inner.inner) on
     (subst (λ b. IfOn (g.C.Cursor.position c.loop-inner.inner)

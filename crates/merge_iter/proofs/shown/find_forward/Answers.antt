@@ -8,7 +8,8 @@ use Rattle.merge_iter.proofs.shown.find_forward.Goals as goal
 
 pub loop-inner-init : goal.loop-inner-init
 loop-inner-init g c = record {
-  moved = all_itself g.C.Cursor.holds g.C.Cursor.is_sound g.C.Cursor.suits g.C.Cursor.keeps g.C.Cursor.left
+  moved = all_itself g.C.Cursor.holds g.C.Cursor.is_sound g.C.Cursor.suits g.C.Cursor.keeps
+      g.C.Cursor.left
       g.C.Cursor.most g.met.C.Cursor.laws _ _;
   device = g.met.C.Cursor.laws.makes_itself _;
   count = refl;
@@ -25,7 +26,8 @@ loop-inner-preserved g c =
     let less = c.in_ok-next.ensures.ends in
     let fewer = i.left in
     record {
-      moved = all_through g.C.Cursor.holds g.C.Cursor.is_sound g.C.Cursor.suits g.C.Cursor.keeps g.C.Cursor.left
+      moved = all_through g.C.Cursor.holds g.C.Cursor.is_sound g.C.Cursor.suits g.C.Cursor.keeps
+          g.C.Cursor.left
           g.C.Cursor.most g.met.C.Cursor.laws _ _ _ _ _ _ i.moved c.next.ensures.moves;
       device = g.met.C.Cursor.laws.makes_through false _ _ _ i.device
           (subst (λ r. g.C.Cursor.makes (reports r) c.loop-inner.source
@@ -34,7 +36,8 @@ loop-inner-preserved g c =
       left = omega (arith, less, fewer);
       ahead = λ meant start s a. forward_on c.args.at ((g.C.Cursor.holds meant) c.args.inner.now
           c.args.source.now) ((g.C.Cursor.holds meant) c.loop-inner.inner c.loop-inner.source)
-          (i.moved.stays meant s).1 ((law_at g.met.C.Cursor.laws meant).apart c.args.inner.now c.args.source.now s) start
+          (i.moved.stays meant s).1 ((law_at g.met.C.Cursor.laws meant).apart c.args.inner.now
+          c.args.source.now s) start
           c.loop-inner.hiding c.is_shown.new.hides c.loop-inner.hidden
           c.is_shown.new.hidden (g.C.Cursor.position c.loop-inner.inner)
           (g.C.Cursor.position c.next.new.self) c.next.result on
@@ -42,7 +45,8 @@ loop-inner-preserved g c =
           (λ entry. IsJudged c.args.at c.loop-inner.hiding c.loop-inner.hidden entry
           c.is_shown.new.hides c.is_shown.new.hidden b)) c.if-branch.false
           c.in_ok-is_shown.ensures)
-          c.in_ok-next.was ((c.next.ensures.finds meant) (i.moved.stays meant s).0) ((i.ahead meant) start s a);
+          c.in_ok-next.was ((c.next.ensures.finds meant) (i.moved.stays meant s).0)
+          ((i.ahead meant) start s a);
     }
 
 pub returns-then-branch-clause-finds : goal.returns-then-branch-clause-finds
@@ -64,6 +68,7 @@ returns-clause-finds g c meant start kept s a =
     c.valid.ensures.1 on in let f = c.loop-inner-test.false in cc in (
       end_off c.args.at ((g.C.Cursor.holds meant) c.args.inner.now c.args.source.now) start
           (IsHidden c.loop-inner.hiding c.loop-inner.hidden)
-          (g.C.Cursor.position c.loop-inner.inner) off ((c.loop-inner.invariant.ahead meant) start s a),
+          (g.C.Cursor.position c.loop-inner.inner) off
+          ((c.loop-inner.invariant.ahead meant) start s a),
       tt,
     )

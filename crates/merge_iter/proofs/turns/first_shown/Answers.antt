@@ -10,7 +10,8 @@ pub returns-clause-finds : goal.returns-clause-finds
 returns-clause-finds g c meant s =
     let m = (one_move c.first.ensures.moves meant).stays s in
     let f = first_kept Forward AtEnd (g.C.Cursor.position c.first.new.self)
-    ((g.C.Cursor.holds meant) c.args.inner.now c.args.source.now) ((g.C.Cursor.holds meant) c.first.new.self
+    ((g.C.Cursor.holds meant) c.args.inner.now c.args.source.now)
+    ((g.C.Cursor.holds meant) c.first.new.self
     c.first.new.source) m.1 ((c.in_ok-first.ensures.finds meant) s) in
     found_alike c.args.at ((g.C.Cursor.holds meant) c.first.new.self c.first.new.source)
     ((g.C.Cursor.holds meant) c.args.inner.now c.args.source.now)

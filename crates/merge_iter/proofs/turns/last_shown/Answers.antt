@@ -11,7 +11,8 @@ returns-clause-finds g c meant s =
     let m = (one_move c.last.ensures.moves meant).stays s in
     let f = first_kept Backward AtEnd (g.C.Cursor.position c.last.new.self)
     ((g.C.Cursor.holds meant) c.args.inner.now c.args.source.now)
-    ((g.C.Cursor.holds meant) c.last.new.self c.last.new.source) m.1 ((c.in_ok-last.ensures.finds meant) s) in
+    ((g.C.Cursor.holds meant) c.last.new.self c.last.new.source) m.1
+    ((c.in_ok-last.ensures.finds meant) s) in
     found_alike c.args.at ((g.C.Cursor.holds meant) c.last.new.self c.last.new.source)
     ((g.C.Cursor.holds meant) c.args.inner.now c.args.source.now)
     (flip ((g.C.Cursor.holds meant) c.last.new.self c.last.new.source)

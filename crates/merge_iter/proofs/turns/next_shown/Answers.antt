@@ -16,7 +16,8 @@ returns-clause-finds g c meant entry s settled on =
     let here = (c.in_ok-return_to.ensures.returns meant) c.args.at entry s settled on in
     let gone = (c.in_ok-leave.ensures.leaves meant) entry m.0 here in
     let shown = shown_alike c.args.at ((g.C.Cursor.holds meant) c.return_to.new.inner
-    c.return_to.new.source) ((g.C.Cursor.holds meant) c.leave.new.inner c.leave.new.source) n.1 entry
+    c.return_to.new.source) ((g.C.Cursor.holds meant) c.leave.new.inner c.leave.new.source) n.1
+    entry
     (shown_alike c.args.at ((g.C.Cursor.holds meant) c.args.inner.now c.args.source.now)
     ((g.C.Cursor.holds meant) c.return_to.new.inner c.return_to.new.source) m.1 entry
     (shown_of c.args.at ((g.C.Cursor.holds meant) c.args.inner.now c.args.source.now) c.args.mode
@@ -34,7 +35,8 @@ returns-clause-finds g c meant entry s settled on =
     (found_alike c.args.at ((g.C.Cursor.holds meant) c.leave.new.inner c.leave.new.source)
     ((g.C.Cursor.holds meant) c.return_to.new.inner c.return_to.new.source)
     (flip ((g.C.Cursor.holds meant) c.leave.new.inner c.leave.new.source)
-    ((g.C.Cursor.holds meant) c.return_to.new.inner c.return_to.new.source) n.1) Forward (After entry) _
+    ((g.C.Cursor.holds meant) c.return_to.new.inner c.return_to.new.source) n.1) Forward
+    (After entry) _
     _ _ found)
 
 pub returns-clause-left : goal.returns-clause-left

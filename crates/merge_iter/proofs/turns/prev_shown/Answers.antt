@@ -10,7 +10,8 @@ returns-clause-finds g c meant entry s settled on =
     let m = (one_move c.retreat.ensures.moves meant).stays s in
     let b = before_alike c.args.at ((g.C.Cursor.holds meant) c.args.inner.now c.args.source.now)
     ((g.C.Cursor.holds meant) c.retreat.new.inner c.retreat.new.source) m.1 Backward (After entry)
-    (g.C.Cursor.position c.retreat.new.inner) ((c.in_ok-retreat.ensures.retreats meant) c.args.at entry
+    (g.C.Cursor.position c.retreat.new.inner)
+    ((c.in_ok-retreat.ensures.retreats meant) c.args.at entry
     s settled on) in
     found_alike c.args.at ((g.C.Cursor.holds meant) c.retreat.new.inner c.retreat.new.source)
     ((g.C.Cursor.holds meant) c.args.inner.now c.args.source.now)

@@ -10,7 +10,8 @@ use Rattle.merge_iter.proofs.turns.return_to.Goals as goal
 pub returns-in-Kept-clause-returns : goal.returns-in-Kept-clause-returns
 returns-in-Kept-clause-returns g c meant at entry s settled on =
     let w = kept_entry c.args.kept.now in
-    let here = subst (λ m. IsSettled at ((g.C.Cursor.holds meant) c.args.inner.now c.args.source.now) m
+    let here = subst (λ m. IsSettled at
+    ((g.C.Cursor.holds meant) c.args.inner.now c.args.source.now) m
     (g.C.Cursor.position c.args.inner.now) w) c.in-Kept.is settled in
     let is : On w ≡ On entry = subst (λ m. view_position m (g.C.Cursor.position c.args.inner.now) w
     ≡ On entry) c.in-Kept.is on in

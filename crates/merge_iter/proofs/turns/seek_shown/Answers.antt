@@ -18,8 +18,10 @@ pub returns-clause-finds : goal.returns-clause-finds
 returns-clause-finds g c meant s =
     let m = (one_move c.seek.ensures.moves meant).stays s in
     let f = first_kept Forward (At (spot (lent_key c.args.key) c.args.at))
-    (g.C.Cursor.position c.seek.new.self) ((g.C.Cursor.holds meant) c.args.inner.now c.args.source.now)
-    ((g.C.Cursor.holds meant) c.seek.new.self c.seek.new.source) m.1 ((c.in_ok-seek.ensures.finds meant) s) in
+    (g.C.Cursor.position c.seek.new.self)
+    ((g.C.Cursor.holds meant) c.args.inner.now c.args.source.now)
+    ((g.C.Cursor.holds meant) c.seek.new.self c.seek.new.source) m.1
+    ((c.in_ok-seek.ensures.finds meant) s) in
     let a = ahead_seek c.args.at ((g.C.Cursor.holds meant) c.seek.new.self c.seek.new.source)
     c.args.kept.now.key (lent_key c.args.key) (g.C.Cursor.position c.seek.new.self) f in
     let found = (c.in_ok-mode.ensures.finds meant) (At (spot (lent_key c.args.key) c.args.at))
@@ -45,8 +47,10 @@ pub returns-then-is_early-clause-finds : goal.returns-then-is_early-clause-finds
 returns-then-is_early-clause-finds g c meant s =
     let m = (one_move c.seek.ensures.moves meant).stays s in
     let f = first_kept Forward (At (spot (lent_key c.args.key) c.args.at))
-    (g.C.Cursor.position c.seek.new.self) ((g.C.Cursor.holds meant) c.args.inner.now c.args.source.now)
-    ((g.C.Cursor.holds meant) c.seek.new.self c.seek.new.source) m.1 ((c.in_ok-seek.ensures.finds meant) s) in
+    (g.C.Cursor.position c.seek.new.self)
+    ((g.C.Cursor.holds meant) c.args.inner.now c.args.source.now)
+    ((g.C.Cursor.holds meant) c.seek.new.self c.seek.new.source) m.1
+    ((c.in_ok-seek.ensures.finds meant) s) in
     let a = ahead_seek c.args.at ((g.C.Cursor.holds meant) c.seek.new.self c.seek.new.source)
     c.args.kept.now.key (lent_key c.args.key) (g.C.Cursor.position c.seek.new.self) f in
     let found = (c.in_ok-mode.ensures.finds meant) (At (spot (lent_key c.args.key) c.args.at))
@@ -54,10 +58,12 @@ returns-then-is_early-clause-finds g c meant s =
     let early = c.is_early.ensures.early c.if-is_early.true in
     let r = on_row (g.C.Cursor.position c.find_forward.new.inner) early.1 in
     let here = subst (λ v. IsFirst Forward
-    (λ p. IsShown c.args.at ((g.C.Cursor.holds meant) c.seek.new.self c.seek.new.source) p × WalkMeets
+    (λ p. IsShown c.args.at ((g.C.Cursor.holds meant) c.seek.new.self c.seek.new.source) p
+    × WalkMeets
     Forward (At (spot (lent_key c.args.key) c.args.at)) p) v) r.1
     (subst (λ w. IsFirst Forward
-    (λ p. IsShown c.args.at ((g.C.Cursor.holds meant) c.seek.new.self c.seek.new.source) p × WalkMeets
+    (λ p. IsShown c.args.at ((g.C.Cursor.holds meant) c.seek.new.self c.seek.new.source) p
+    × WalkMeets
     Forward (At (spot (lent_key c.args.key) c.args.at)) p)
     (view_position w (g.C.Cursor.position c.find_forward.new.inner)
     (kept_entry c.args.kept.now))) early.0 found.0) in
@@ -67,9 +73,11 @@ returns-then-is_early-clause-finds g c meant s =
     let m3 = (one_move c.leave.ensures.moves meant).stays m2.0 in
     let gone = (c.in_ok-leave.ensures.leaves meant) r.0 m2.0 r.1 in
     let shown = shown_alike c.args.at ((g.C.Cursor.holds meant) c.find_forward.new.inner
-    c.find_forward.new.source) ((g.C.Cursor.holds meant) c.leave.new.inner c.leave.new.source) m3.1 r.0
+    c.find_forward.new.source) ((g.C.Cursor.holds meant) c.leave.new.inner c.leave.new.source) m3.1
+    r.0
     (shown_alike c.args.at ((g.C.Cursor.holds meant) c.seek.new.self c.seek.new.source)
-    ((g.C.Cursor.holds meant) c.find_forward.new.inner c.find_forward.new.source) m2.1 r.0 here.0.0) in
+    ((g.C.Cursor.holds meant) c.find_forward.new.inner c.find_forward.new.source) m2.1 r.0 here.0.0)
+    in
     let f3 = first_kept Forward (After r.0) (g.C.Cursor.position c.leave.new.inner)
     ((g.C.Cursor.holds meant) c.find_forward.new.inner c.find_forward.new.source)
     ((g.C.Cursor.holds meant) c.leave.new.inner c.leave.new.source) m3.1 gone.0 in
@@ -84,7 +92,8 @@ returns-then-is_early-clause-finds g c meant s =
     (early_found c.args.at ((g.C.Cursor.holds meant) c.seek.new.self c.seek.new.source) (lent_key
     c.args.key)
     c.args.number r.0 here.0.0 here.0.1 soon _ _ _
-    (found_alike c.args.at ((g.C.Cursor.holds meant) c.find_forward.new.inner c.find_forward.new.source)
+    (found_alike c.args.at ((g.C.Cursor.holds meant) c.find_forward.new.inner
+    c.find_forward.new.source)
     ((g.C.Cursor.holds meant) c.seek.new.self c.seek.new.source)
     (flip ((g.C.Cursor.holds meant) c.find_forward.new.inner c.find_forward.new.source)
     ((g.C.Cursor.holds meant) c.seek.new.self c.seek.new.source) m2.1) Forward (After r.0) _ _ _

@@ -45,6 +45,13 @@ returns-clause-rises g c =
     let told = c.count.ensures.ordered in
     let known = cond_both (is_tail n.ids c.id.result) (length n.list) n.floor
     (λ (k : ℕ). c.floor.result ≤ k)
-    (λ tail. omega (arith, size, c.floor.ensures, c.count.ensures.count, told.floor, told.committed))
+    (λ tail. omega (
+      arith,
+      size,
+      c.floor.ensures,
+      c.count.ensures.count,
+      told.floor,
+      told.committed,
+    ))
     (λ other. omega arith) in
     omega (arith, is.committed, c.floor.ensures, known)

@@ -16,4 +16,7 @@ returns-in_err-text-clause-cause g c =
 pub returns-clause-fault : goal.returns-clause-fault
 returns-clause-fault g c =
     reported_input (g.R.Read.remaining c.args.input.now) c.in_ok-text.text.items c.in-Err.fault
-    c.in_ok-text.ensures.read (rw (c.deref.ensures.value, c.in-Err.is) at c.read_script.ensures.fault)
+    c.in_ok-text.ensures.read (rw (
+      c.deref.ensures.value,
+      c.in-Err.is,
+    ) at c.read_script.ensures.fault)

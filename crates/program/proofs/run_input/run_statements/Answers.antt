@@ -33,7 +33,8 @@ returns c =
     let g = c.loop-statement.invariant in
     let made = c.in_ok-report.ensures in
     let past = g.past in
-    gone c.loop-statement.script_run.world setup c.loop-statement.script_run.left.items all (drop i all)
+    gone c.loop-statement.script_run.world setup c.loop-statement.script_run.left.items all
+    (drop i all)
     c.loop-statement.turns.items c.in_ok-report.report g
     (drop_past all i (omega (arith, c.loop-statement-test.false)))
     (made.steps setup.configs past.events past.choices past.steps g.run.run)

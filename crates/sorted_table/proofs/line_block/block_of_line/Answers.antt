@@ -13,7 +13,8 @@ returns-in_err-block-clause-answers g c = λ honest.
     let line = c.index-lines-number.result in
     let at = slice_get_read lines (length lines) c.args.number line refl c.requires
     c.index-lines-number.is in
-    let why = unread_line (g.D.Disk.state c.args.files.now.disk) c.args.file lines c.args.number line
+    let why = unread_line (g.D.Disk.state c.args.files.now.disk) c.args.file lines c.args.number
+    line
     c.in_err-block.field-0.0 at (c.in_err-block.ensures.answers honest) in
     let p = err_from_is_err_and c.from_residual.result c.from_residual.ensures.1 in
     rw (p.1, p.2) why

@@ -41,7 +41,8 @@ returns-clause-tail g c = λ bytes entries s honest there.
     let foot = c.in_ok-footer.ensures.footer bytes honest there in
     let tail = c.in-Some.ensures.tail bytes entries s foot.0 foot.1 in
     let there' = ap seen (c.read_footer.ensures.kept.files honest c.args.file) ∙ there in
-    let read = c.in_ok-bytes.ensures.read bytes (c.read_footer.ensures.kept.honest.1 honest) there' in
+    let read = c.in_ok-bytes.ensures.read bytes
+    (c.read_footer.ensures.kept.honest.1 honest) there' in
     (read ∙ tail_at bytes entries s c.in-Some.tail tail, tail)
 
 pub returns-in_err-bytes-clause-still : goal.returns-in_err-bytes-clause-still
@@ -67,7 +68,8 @@ returns-clause-there g c = λ honest.
       len = foot.0;
       says = subst (λ (p : List ℕ). FooterSays p c.in_ok-footer.end c.in-Some.tail) foot.1
           c.in-Some.ensures.says;
-      content = c.in_ok-bytes.ensures.read bytes (c.read_footer.ensures.kept.honest.1 honest) there';
+      content = c.in_ok-bytes.ensures.read bytes
+          (c.read_footer.ensures.kept.honest.1 honest) there';
     })
 
 -- a tail that the footer says where to find is read

@@ -8,7 +8,8 @@ pub returns-clause-appended : goal.returns-clause-appended
 returns-clause-appended g c = λ there honest fresh end.
     let state = g.D.Disk.state in
     let bytes = c.args.bytes.now in
-    subst (λ (slot : Slot). IsFresh slot (there ++ bytes)) (sym (c.in_ok-write_at.ensures.writes honest).2.here)
+    subst (λ (slot : Slot). IsFresh slot (there ++ bytes))
+    (sym (c.in_ok-write_at.ensures.writes honest).2.here)
     (fresh_written (state c.args.disk.now c.args.file) there bytes c.args.at fresh end)
 
 pub returns-in_err-write_at-clause-any_moment : goal.returns-in_err-write_at-clause-any_moment

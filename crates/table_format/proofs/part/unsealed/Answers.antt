@@ -12,7 +12,8 @@ returns-then-part-lt8-clause-none c = λ _ content is.
 differ : (a b : List ℕ) → a ≡ b → true ≡ not (pointwise nat_eq a b) → ⊥
 differ a b e h =
     let alike : pointwise nat_eq a a ≡ true = nat_list_eq_equiv.refl a in
-    let there : pointwise nat_eq a b ≡ true = subst (λ (x : List ℕ). pointwise nat_eq a x ≡ true) e alike in
+    let there : pointwise nat_eq a b ≡ true =
+    subst (λ (x : List ℕ). pointwise nat_eq a x ≡ true) e alike in
     absurd cc
 
 -- nor is what doesn't end in the digest

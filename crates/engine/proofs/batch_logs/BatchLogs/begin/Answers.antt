@@ -3,7 +3,8 @@ use Rattle.disk.specs.BesideLemmas.{at_start}
 use Rattle.record_log.specs.{LogHolds}
 use Rattle.engine.specs.declared.batch_logs.BatchLog.{BatchLog}
 use Rattle.engine.specs.declared.batch_logs.BatchLogs.{BatchLogs}
-use Rattle.engine.proofs.Parts.{AreBegun, begun, begun_holds, begun_lines, begun_number, begun_usable}
+use Rattle.engine.proofs.Parts.{AreBegun, begun, begun_holds, begun_lines, begun_number}
+use Rattle.engine.proofs.Parts.{begun_usable}
 use Rattle.engine.proofs.batch_logs.BatchLogs.begin.Goals as goal
 
 -- the newest log is behind the older ones, and the new one is the newest
@@ -17,7 +18,8 @@ begun_so g c =
     } in
     begun self (record { older = c.push_reserved.new.self; newest = c.replace-last.new.dest })
     c.args.file new c.replace-last.ensures.after
-    (c.push_reserved.ensures.items ∙ ap (λ l. l ++ c.replace-last.result ∷ []) c.in_ok-reserve.ensures.items
+    (c.push_reserved.ensures.items
+    ∙ ap (λ l. l ++ c.replace-last.result ∷ []) c.in_ok-reserve.ensures.items
     ∙ ap (λ (one : BatchLog). self.older.items ++ one ∷ []) c.replace-last.ensures.value)
     (ap (λ n. self.newest.first + n) c.len.ensures) c.in_ok-log.ensures.at
     c.in_ok-log.ensures.empty.1

@@ -14,7 +14,9 @@ use Rattle.engine.proofs.OpenTables.{was_same}
 use Rattle.engine.proofs.SideBySide.{all_taken, beside, none_left}
 use Rattle.engine.proofs.levels.LevelTables.get.Goals as goal
 use Rattle.engine.proofs.levels.LevelTables.get.Goals.{else-is_some-via-else-is_some}
-use Rattle.engine.proofs.levels.LevelTables.get.Goals.{else-is_some-via-then-is_some+else-open-level}
+use Rattle.engine.proofs.levels.LevelTables.get.Goals.{
+  else-is_some-via-then-is_some+else-open-level,
+}
 
 -- no table was passed
 pub loop-open-init : goal.loop-open-init

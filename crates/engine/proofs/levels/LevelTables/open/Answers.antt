@@ -10,7 +10,8 @@ use Rattle.engine.specs.Errors.{IsEngineExternal}
 use Rattle.engine.specs.KeepingLemmas.{answered}
 use Rattle.engine.specs.LevelTables.{FileFits, IsServed, IsTableAsMeant, IsTableOf, WasServed}
 use Rattle.engine.proofs.Causes.{refuses}
-use Rattle.engine.proofs.OpenTables.{fit_same, lines_same, none_read, read_more, same_back, served_same}
+use Rattle.engine.proofs.OpenTables.{fit_same, lines_same, none_read, read_more, same_back}
+use Rattle.engine.proofs.OpenTables.{served_same}
 use Rattle.engine.proofs.OpenTables.{still_then, was_same}
 use Rattle.engine.proofs.SideBySide.{all_taken, beside, map_more, zip_map, zip_push}
 use Rattle.engine.proofs.levels.LevelTables.open.Goals as goal

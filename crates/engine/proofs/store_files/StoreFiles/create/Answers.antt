@@ -5,7 +5,8 @@ use Rattle.manifest.specs.declared.TableLine.{TableLine}
 use Rattle.manifest.specs.{IsVersion, NodeVersion}
 use Rattle.engine.specs.Errors.{IsEngineExternal}
 use Rattle.engine.specs.LevelTables.{AreTablesOf}
-use Rattle.engine.proofs.BegunFiles.{counts_none, first_hold, first_line, log_is_spared, no_file_ends, no_slot_yet}
+use Rattle.engine.proofs.BegunFiles.{counts_none, first_hold, first_line, log_is_spared}
+use Rattle.engine.proofs.BegunFiles.{no_file_ends, no_slot_yet}
 use Rattle.engine.proofs.BegunFiles.{first_log, only_first, rest_is_unused}
 use Rattle.engine.proofs.Causes.{refuses}
 use Rattle.engine.proofs.Parts.{holds_in}
@@ -49,7 +50,8 @@ returns-clause-created g c = λ honest.
     let none : c.deref.result.now ≡ [] = c.deref.ensures.value
     ∙ ap (λ (n : NodeVersion). n.version.tables)
     (c.state.view_is ∙ c.state-state.ensures ∙ c.in_ok-manifest.ensures.works.0) in
-    let read = subst (λ (lines : List TableLine). AreTablesOf (contents s2) lines []) (sym none) tt in
+    let read = subst (λ (lines : List TableLine). AreTablesOf (contents s2) lines [])
+    (sym none) tt in
     let log = c.in_ok-log.log in
     let at = c.in_ok-log.ensures.at in
     let log_held : LogHolds s1 log [] =

@@ -148,7 +148,8 @@ returns-in-None-clause-touches g c = λ honest.
     table_alone c.args.self.now (g.D.Disk.state c.args.disk.now) (g.D.Disk.state c.spill.new.disk)
     (c.spill.ensures.kept.files honest)
 
-pub returns-in_err-install-in-Some-clause-touches : goal.returns-in_err-install-in-Some-clause-touches
+pub returns-in_err-install-in-Some-clause-touches :
+    goal.returns-in_err-install-in-Some-clause-touches
 returns-in_err-install-in-Some-clause-touches g c = λ honest.
     let files = c.args.self.now in
     let disk = g.D.Disk.state c.args.disk.now in

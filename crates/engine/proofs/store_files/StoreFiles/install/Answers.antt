@@ -34,7 +34,8 @@ returns-in_err-edit-clause-any_moment g c = λ list honest hs.
     let version = (known_version files).version in
     none_begun files c.requires.usable line c.requires.place c.requires.next
     (files.free_file + 1) refl (flush_change version files.free_file (batch_count files) line) refl
-    (g.D.Disk.state c.args.disk.now) list c.args.made.table hs c.durable_file_is_left.ensures c.held_versions_are_left.ensures.left
+    (g.D.Disk.state c.args.disk.now) list c.args.made.table hs c.durable_file_is_left.ensures
+    c.held_versions_are_left.ensures.left
     c.held_versions_are_left.ensures.same
     (g.D.Disk.past c.args.disk.now)
 
@@ -59,7 +60,8 @@ returns-in_err-begin-clause-installed g c = λ list honest hs.
     let trimmed = trimmed_count files in
     refuses c.from_residual-in_err-begin.result _ IsEngineExternal
     c.from_residual-in_err-begin.ensures.1 (c.in_err-begin.ensures.begun (suc trimmed)
-    (drop trimmed list) honest (new_ends files c.requires.usable line c.requires.place c.requires.next
+    (drop trimmed list) honest (new_ends files c.requires.usable line c.requires.place
+    c.requires.next
     (files.free_file + 1) refl c.in_ok-edit.edit is s1 list c.args.made.table hs)
     (spilled_named files c.requires.usable line c.requires.place c.requires.next
     (files.free_file + 1) refl c.in_ok-edit.edit is s1 list c.args.made.table hs).held)
@@ -71,7 +73,9 @@ returns-in_err-begin-clause-any_moment g c = λ list honest hs.
     let is = edit_is files line c.state.result.now c.last_number-count.result c.in_ok-edit.edit
     c.state.ensures c.last_number-count.ensures c.in_ok-edit.ensures.edit in
     log_begins files c.requires.usable line c.requires.place c.requires.next
-    (files.free_file + 1) refl c.in_ok-edit.edit is (g.D.Disk.state c.args.disk.now) list c.args.made.table hs c.durable_file_is_left.ensures c.held_versions_are_left.ensures.left
+    (files.free_file + 1) refl c.in_ok-edit.edit is
+    (g.D.Disk.state c.args.disk.now) list c.args.made.table hs c.durable_file_is_left.ensures
+    c.held_versions_are_left.ensures.left
     c.held_versions_are_left.ensures.same
     (g.D.Disk.past c.args.disk.now) (g.D.Disk.past c.begin.new.disk)
     (g.D.Disk.state c.begin.new.disk) (c.begin.ensures.any_moment honest)
@@ -95,7 +99,8 @@ returns-in-Err-clause-installed g c = λ list honest hs.
     (spilled_named files c.requires.usable line c.requires.place c.requires.next
     (files.free_file + 1) refl c.in_ok-edit.edit is s1 list c.args.made.table hs).held in
     let held = manifest_begun files c.requires.usable line c.requires.place c.requires.next
-    (files.free_file + 1) refl c.in_ok-edit.edit is s1 list c.args.made.table hs s2 spares c.begin.new.self
+    (files.free_file + 1) refl c.in_ok-edit.edit is s1 list c.args.made.table hs s2 spares
+    c.begin.new.self
     c.in_ok-begin.ensures.told.2 began c.flushes_keep.ensures.list stays in
     subst IsEngineExternal (sym c.refusal_of_edit.ensures) (edit_is_external c.in-Err.e
     (c.in-Err.ensures.recorded (known_version files) honest2 held))
@@ -118,10 +123,12 @@ returns-in-Err-clause-any_moment g c = λ list honest hs.
     (spilled_named files c.requires.usable line c.requires.place c.requires.next
     (files.free_file + 1) refl c.in_ok-edit.edit is s1 list c.args.made.table hs).held in
     let held = manifest_begun files c.requires.usable line c.requires.place c.requires.next
-    (files.free_file + 1) refl c.in_ok-edit.edit is s1 list c.args.made.table hs s2 spares c.begin.new.self
+    (files.free_file + 1) refl c.in_ok-edit.edit is s1 list c.args.made.table hs s2 spares
+    c.begin.new.self
     c.in_ok-begin.ensures.told.2 began c.flushes_keep.ensures.list stays in
     edit_is_recorded files c.requires.usable line c.requires.place c.requires.next
-    (files.free_file + 1) refl c.in_ok-edit.edit is s1 list c.args.made.table hs s2 spares c.begin.new.self
+    (files.free_file + 1) refl c.in_ok-edit.edit is s1 list c.args.made.table hs s2 spares
+    c.begin.new.self
     c.in_ok-begin.ensures.told.2 began c.flushes_keep.ensures.list
     c.durable_file_is_left.ensures c.held_versions_are_left.ensures.left stays
     c.edits_keep_versions.ensures (g.D.Disk.past c.args.disk.now)
@@ -168,10 +175,12 @@ returns-in_err-add-clause-any_moment g c = λ list honest hs.
     (spilled_named files c.requires.usable line c.requires.place c.requires.next
     (files.free_file + 1) refl c.in_ok-edit.edit is s1 list c.args.made.table hs).held in
     let held = manifest_begun files c.requires.usable line c.requires.place c.requires.next
-    (files.free_file + 1) refl c.in_ok-edit.edit is s1 list c.args.made.table hs s2 spares c.begin.new.self
+    (files.free_file + 1) refl c.in_ok-edit.edit is s1 list c.args.made.table hs s2 spares
+    c.begin.new.self
     c.in_ok-begin.ensures.told.2 began c.flushes_keep.ensures.list stays in
     edit_is_recorded files c.requires.usable line c.requires.place c.requires.next
-    (files.free_file + 1) refl c.in_ok-edit.edit is s1 list c.args.made.table hs s2 spares c.begin.new.self
+    (files.free_file + 1) refl c.in_ok-edit.edit is s1 list c.args.made.table hs s2 spares
+    c.begin.new.self
     c.in_ok-begin.ensures.told.2 began c.flushes_keep.ensures.list
     c.durable_file_is_left.ensures c.held_versions_are_left.ensures.left stays
     c.edits_keep_versions.ensures (g.D.Disk.past c.args.disk.now)
@@ -198,10 +207,12 @@ returns-clause-any_moment g c = λ list honest hs.
     (spilled_named files c.requires.usable line c.requires.place c.requires.next
     (files.free_file + 1) refl c.in_ok-edit.edit is s1 list c.args.made.table hs).held in
     let held = manifest_begun files c.requires.usable line c.requires.place c.requires.next
-    (files.free_file + 1) refl c.in_ok-edit.edit is s1 list c.args.made.table hs s2 spares c.begin.new.self
+    (files.free_file + 1) refl c.in_ok-edit.edit is s1 list c.args.made.table hs s2 spares
+    c.begin.new.self
     c.in_ok-begin.ensures.told.2 began c.flushes_keep.ensures.list stays in
     edit_is_recorded files c.requires.usable line c.requires.place c.requires.next
-    (files.free_file + 1) refl c.in_ok-edit.edit is s1 list c.args.made.table hs s2 spares c.begin.new.self
+    (files.free_file + 1) refl c.in_ok-edit.edit is s1 list c.args.made.table hs s2 spares
+    c.begin.new.self
     c.in_ok-begin.ensures.told.2 began c.flushes_keep.ensures.list
     c.durable_file_is_left.ensures c.held_versions_are_left.ensures.left stays
     c.edits_keep_versions.ensures (g.D.Disk.past c.args.disk.now)
@@ -287,7 +298,8 @@ returns-clause-installed g c = λ list honest hs.
     (spilled_named files c.requires.usable line c.requires.place c.requires.next
     (files.free_file + 1) refl c.in_ok-edit.edit is s1 list c.args.made.table hs).held in
     let held = manifest_begun files c.requires.usable line c.requires.place c.requires.next
-    (files.free_file + 1) refl c.in_ok-edit.edit is s1 list c.args.made.table hs s2 spares c.begin.new.self
+    (files.free_file + 1) refl c.in_ok-edit.edit is s1 list c.args.made.table hs s2 spares
+    c.begin.new.self
     c.in_ok-begin.ensures.told.2 began c.flushes_keep.ensures.list stays in
     let s3 = g.D.Disk.state c.record.new.disk in
     let slot = (c.manifest_has_slots.ensures s2 files.manifest (known_version files) held).0 in
@@ -297,14 +309,16 @@ returns-clause-installed g c = λ list honest hs.
     let begun = c.in_ok-begin.ensures.told in
     let memtable = sym c.replace.ensures.after in
     installed_holds files c.requires.usable line c.requires.place c.requires.next
-    (files.free_file + 1) refl c.in_ok-edit.edit is s1 list one hs s2 spares c.begin.new.self begun.2 began keeps s3 _ slot
+    (files.free_file + 1) refl c.in_ok-edit.edit is s1 list one hs s2 spares c.begin.new.self
+    begun.2 began keeps s3 _ slot
     same c.edits_keep_versions.ensures (record {
       manifest = c.record.new.self;
       logs = c.begin.new.self;
       tables = c.add.new.self;
       memtable = c.replace.new.dest;
       free_file = files.free_file + 2;
-    }) refl c.in_default.ensures.told.0 begun.1 (installed_usable files c.requires.usable line c.requires.place c.requires.next
+    }) refl c.in_default.ensures.told.0 begun.1
+    (installed_usable files c.requires.usable line c.requires.place c.requires.next
     (files.free_file + 1) refl c.in_ok-edit.edit is (record {
       manifest = c.record.new.self;
       logs = c.begin.new.self;
@@ -325,7 +339,8 @@ returns-clause-installed g c = λ list honest hs.
     (c.in_ok-add.ensures.added s3 s3 hs.held.known.tables hs.spilled.written.table
     (zip_was s3 s3 files.tables.tables.items hs.held.known.tables
     (old_served files c.requires.usable line c.requires.place c.requires.next
-    (files.free_file + 1) refl c.in_ok-edit.edit is s1 list one hs s2 spares c.begin.new.self begun.2 began keeps s3 _ slot same)
+    (files.free_file + 1) refl c.in_ok-edit.edit is s1 list one hs s2 spares c.begin.new.self
+    begun.2 began keeps s3 _ slot same)
     (own_blocks s3 files.tables.tables.items))
     (record {
       serves = new_served files c.requires.usable line c.requires.place c.requires.next
@@ -419,7 +434,8 @@ returns-in_err-edit-clause-meant g c = λ list honest ms.
     let version = (known_version files).version in (
       refuses c.from_residual.result _ IsEngineExternal c.from_residual.ensures.1 (inr refl),
       none_were files c.requires.usable line c.requires.place c.requires.next
-          (files.free_file + 1) refl (flush_change version files.free_file (batch_count files) line) refl
+          (files.free_file + 1) refl (flush_change version files.free_file (batch_count files) line)
+          refl
           (g.D.Disk.state c.args.disk.now) list c.args.made.table ms
           c.durable_file_is_left.ensures c.held_versions_are_left.ensures.left
           c.held_versions_are_left.ensures.same (g.D.Disk.past c.args.disk.now),

@@ -27,6 +27,7 @@ returns-clause-history c = λ cs events choices steps run.
     (reads_are_fresh cs events choices steps c.reads_fresh.ensures made.lawful made.trace)
     (keep_needed cs events choices c.keeps_enough.ensures made.lawful) in
     let es = modelled_from 1 events choices in
-    one_of state failures past_states marks (λ (node : NodeReport). node.id) (λ (node : NodeReport). node.disk)
+    one_of state failures past_states marks (λ (node : NodeReport). node.id)
+    (λ (node : NodeReport). node.disk)
     cs events choices report.steps.items report.nodes.items is.trace is.disks
     (c.one_history.ensures cs es made.lawful) (c.run_is_outcomes.ensures cs es)

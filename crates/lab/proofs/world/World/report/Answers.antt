@@ -33,8 +33,10 @@ returns-clause-history c = λ cs events choices steps run.
     let es = modelled_from 1 events choices in
     subst (λ (l : List (List Line)). HasHistory self cs events l)
     (sym (c.deref.ensures.value ∙ run.kept))
-    (one_of state failures past_states marks (λ (sim : SimNode). sim.id) (λ (sim : SimNode). disk_in sim.state)
+    (one_of state failures past_states marks (λ (sim : SimNode). sim.id)
+    (λ (sim : SimNode). disk_in sim.state)
     cs events choices steps self.nodes.items made.trace
     (disks_so_far self.nodes.items self.frames.items cs events choices steps made
-    (λ sim. disk_represents c.disks_represent.ensures sim.state)) (c.one_history.ensures cs es made.lawful)
+    (λ sim. disk_represents c.disks_represent.ensures sim.state))
+    (c.one_history.ensures cs es made.lawful)
     (c.run_is_outcomes.ensures cs es))

@@ -29,7 +29,12 @@ returns-clause-created g c = λ honest no1 no2.
     c.in_ok-bytes.ensures.spelled in
     record {
       holds = held_whole (g.D.Disk.state c.create.new.disk)
-          (record { slots = c.in_ok-slots.slots; version = c.in_ok-version.version; has_failed = false })
+          (record {
+            slots = c.in_ok-slots.slots;
+            version = c.in_ok-version.version;
+            has_failed =
+                false;
+          })
           named c.deref.result.now c.get.ensures.id whole (λ e. absurd cc) c.in_ok-version.ensures
           made.holds;
       slots = record {
@@ -44,13 +49,15 @@ pub returns-in_err-version-clause-kept : goal.returns-in_err-version-clause-kept
 returns-in_err-version-clause-kept g c =
     let p = err_from_is_err_and c.from_residual.result
     c.from_residual.ensures.1 in
-    rw (p.1, p.2) (kept_still g.D.Disk c.args.disk.now _ _ _ (λ f. absurd cc) (λ s other apart. refl))
+    rw (p.1, p.2) (kept_still g.D.Disk c.args.disk.now _ _ _ (λ f. absurd cc)
+    (λ s other apart. refl))
 
 pub returns-in_err-bytes-clause-kept : goal.returns-in_err-bytes-clause-kept
 returns-in_err-bytes-clause-kept g c =
     let p = err_from_is_err_and c.from_residual-in_err-bytes.result
     c.from_residual-in_err-bytes.ensures.1 in
-    rw (p.1, p.2) (kept_still g.D.Disk c.args.disk.now _ _ _ (λ f. absurd cc) (λ s other apart. refl))
+    rw (p.1, p.2) (kept_still g.D.Disk c.args.disk.now _ _ _ (λ f. absurd cc)
+    (λ s other apart. refl))
 
 -- and kept as they keep it
 pub returns-in_err-slots-clause-kept : goal.returns-in_err-slots-clause-kept

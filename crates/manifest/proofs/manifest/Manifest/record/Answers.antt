@@ -13,29 +13,34 @@ use Rattle.manifest.proofs.manifest.Manifest.record.Goals as goal
 pub returns-then-self-clause-any_moment : goal.returns-then-self-clause-any_moment
 returns-then-self-clause-any_moment g c = λ named honest h.
     version_start (g.D.Disk.state c.args.disk.now) c.args.self.now named c.args.edit.now h
-    (subst (λ (n : NodeVersion). IsFit n.version c.args.edit.now) h.knows c.requires.fit.0) c.requires.fit.1 (g.D.Disk.past c.args.disk.now)
+    (subst (λ (n : NodeVersion). IsFit n.version c.args.edit.now) h.knows c.requires.fit.0)
+    c.requires.fit.1 (g.D.Disk.past c.args.disk.now)
 
 pub returns-in_err-bytes-clause-any_moment : goal.returns-in_err-bytes-clause-any_moment
 returns-in_err-bytes-clause-any_moment g c = λ named honest h.
     version_start (g.D.Disk.state c.args.disk.now) c.args.self.now named c.args.edit.now h
-    (subst (λ (n : NodeVersion). IsFit n.version c.args.edit.now) h.knows c.requires.fit.0) c.requires.fit.1 (g.D.Disk.past c.args.disk.now)
+    (subst (λ (n : NodeVersion). IsFit n.version c.args.edit.now) h.knows c.requires.fit.0)
+    c.requires.fit.1 (g.D.Disk.past c.args.disk.now)
 
 pub returns-in_err-version-clause-any_moment : goal.returns-in_err-version-clause-any_moment
 returns-in_err-version-clause-any_moment g c = λ named honest h.
     version_start (g.D.Disk.state c.args.disk.now) c.args.self.now named c.args.edit.now h
-    (subst (λ (n : NodeVersion). IsFit n.version c.args.edit.now) h.knows c.requires.fit.0) c.requires.fit.1 (g.D.Disk.past c.args.disk.now)
+    (subst (λ (n : NodeVersion). IsFit n.version c.args.edit.now) h.knows c.requires.fit.0)
+    c.requires.fit.1 (g.D.Disk.past c.args.disk.now)
 
 pub returns-in_err-record-clause-any_moment : goal.returns-in_err-record-clause-any_moment
 returns-in_err-record-clause-any_moment g c = λ named honest h.
     version_since (g.D.Disk.state c.args.disk.now) c.args.self.now named c.args.edit.now h
-    (subst (λ (n : NodeVersion). IsFit n.version c.args.edit.now) h.knows c.requires.fit.0) c.requires.fit.1 c.deref.result.now (c.deref.ensures.value ∙ c.in_ok-bytes.ensures)
+    (subst (λ (n : NodeVersion). IsFit n.version c.args.edit.now) h.knows c.requires.fit.0)
+    c.requires.fit.1 c.deref.result.now (c.deref.ensures.value ∙ c.in_ok-bytes.ensures)
     (g.D.Disk.state c.record.new.disk) (g.D.Disk.past c.args.disk.now)
     (g.D.Disk.past c.record.new.disk) (c.record.ensures.any_moment named.id _ honest h.records)
 
 pub returns-clause-any_moment : goal.returns-clause-any_moment
 returns-clause-any_moment g c = λ named honest h.
     version_since (g.D.Disk.state c.args.disk.now) c.args.self.now named c.args.edit.now h
-    (subst (λ (n : NodeVersion). IsFit n.version c.args.edit.now) h.knows c.requires.fit.0) c.requires.fit.1 c.deref.result.now (c.deref.ensures.value ∙ c.in_ok-bytes.ensures)
+    (subst (λ (n : NodeVersion). IsFit n.version c.args.edit.now) h.knows c.requires.fit.0)
+    c.requires.fit.1 c.deref.result.now (c.deref.ensures.value ∙ c.in_ok-bytes.ensures)
     (g.D.Disk.state c.record.new.disk) (g.D.Disk.past c.args.disk.now)
     (g.D.Disk.past c.record.new.disk) (c.record.ensures.any_moment named.id _ honest h.records)
 
@@ -56,7 +61,8 @@ pub returns-clause-recorded : goal.returns-clause-recorded
 returns-clause-recorded g c = λ named honest h.
     let text = c.deref.ensures.value ∙ c.in_ok-bytes.ensures in
     version_held (g.D.Disk.state c.args.disk.now) c.args.self.now named c.args.edit.now h
-    (subst (λ (n : NodeVersion). IsFit n.version c.args.edit.now) h.knows c.requires.fit.0) c.requires.fit.1
+    (subst (λ (n : NodeVersion). IsFit n.version c.args.edit.now) h.knows c.requires.fit.0)
+    c.requires.fit.1
     c.deref.result.now text (g.D.Disk.state c.record.new.disk)
     (record c.args.self.now {
       slots = c.record.new.self;
@@ -74,13 +80,15 @@ returns-then-self-clause-kept g c =
 pub returns-in_err-bytes-clause-kept : goal.returns-in_err-bytes-clause-kept
 returns-in_err-bytes-clause-kept g c =
     let p = err_from_is_err_and c.from_residual.result c.from_residual.ensures.1 in
-    rw (p.1, p.2) (kept_still g.D.Disk c.args.disk.now _ _ _ (λ f. absurd cc) (λ s other apart. refl))
+    rw (p.1, p.2) (kept_still g.D.Disk c.args.disk.now _ _ _ (λ f. absurd cc)
+    (λ s other apart. refl))
 
 pub returns-in_err-version-clause-kept : goal.returns-in_err-version-clause-kept
 returns-in_err-version-clause-kept g c =
     let p = err_from_is_err_and c.from_residual-in_err-version.result
     c.from_residual-in_err-version.ensures.1 in
-    rw (p.1, p.2) (kept_still g.D.Disk c.args.disk.now _ _ _ (λ f. absurd cc) (λ s other apart. refl))
+    rw (p.1, p.2) (kept_still g.D.Disk c.args.disk.now _ _ _ (λ f. absurd cc)
+    (λ s other apart. refl))
 
 -- and kept as the slots keep it
 pub returns-in_err-record-clause-kept : goal.returns-in_err-record-clause-kept

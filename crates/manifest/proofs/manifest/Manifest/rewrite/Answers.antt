@@ -7,12 +7,14 @@ use Rattle.manifest.proofs.manifest.Manifest.rewrite.Goals as goal
 
 pub returns-then-self-clause-any_moment : goal.returns-then-self-clause-any_moment
 returns-then-self-clause-any_moment g c = λ named honest h.
-    whole_start (g.D.Disk.state c.args.disk.now) (g.D.Disk.past c.args.disk.now) c.args.self.now named
+    whole_start (g.D.Disk.state c.args.disk.now)
+    (g.D.Disk.past c.args.disk.now) c.args.self.now named
     h
 
 pub returns-in_err-bytes-clause-any_moment : goal.returns-in_err-bytes-clause-any_moment
 returns-in_err-bytes-clause-any_moment g c = λ named honest h.
-    whole_start (g.D.Disk.state c.args.disk.now) (g.D.Disk.past c.args.disk.now) c.args.self.now named
+    whole_start (g.D.Disk.state c.args.disk.now)
+    (g.D.Disk.past c.args.disk.now) c.args.self.now named
     h
 
 pub returns-in_err-rewrite-clause-any_moment : goal.returns-in_err-rewrite-clause-any_moment
@@ -55,7 +57,8 @@ returns-then-self-clause-kept g c =
 pub returns-in_err-bytes-clause-kept : goal.returns-in_err-bytes-clause-kept
 returns-in_err-bytes-clause-kept g c =
     let p = err_from_is_err_and c.from_residual.result c.from_residual.ensures.1 in
-    rw (p.1, p.2) (kept_still g.D.Disk c.args.disk.now _ _ _ (λ f. absurd cc) (λ s other apart. refl))
+    rw (p.1, p.2) (kept_still g.D.Disk c.args.disk.now _ _ _ (λ f. absurd cc)
+    (λ s other apart. refl))
 
 -- and kept as the slots keep it
 pub returns-in_err-rewrite-clause-kept : goal.returns-in_err-rewrite-clause-kept

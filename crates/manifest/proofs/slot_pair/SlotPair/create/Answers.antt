@@ -8,7 +8,8 @@ use Rattle.manifest.specs.Holds.{slot_behind}
 use Rattle.manifest.proofs.Begun.{held_begun, begun_none, begun_stands, begun_long}
 use Rattle.std.proofs.Common.{refl, inr}
 use Rattle.std.proofs.lemmas.Result.{err_from_is_err_and}
-use Rattle.manifest.proofs.Kept.{closed_fits, disk_fails, fails_disk, kept_as, kept_still, kept_then}
+use Rattle.manifest.proofs.Kept.{closed_fits, disk_fails, fails_disk, kept_as, kept_still}
+use Rattle.manifest.proofs.Kept.{kept_then}
 use Rattle.manifest.proofs.Kept.{log_again, slots_alone}
 use Rattle.manifest.proofs.slot_pair.SlotPair.create.Goals as goal
 
@@ -23,7 +24,8 @@ returns-clause-created g c = λ honest no1 no2.
     let short : length one < 2 ^ 32 = omega (arith, c.requires.short) in
     let behind = slot_behind 1 c.args.id one in
     let honest1 = c.create.ensures.kept.honest.1 honest in
-    let same1 : s1 1 ≡ s0 1 = c.create.ensures.kept.files honest 1 (λ e. absurd (omega (arith, e))) in
+    let same1 : s1 1 ≡ s0 1 = c.create.ensures.kept.files honest 1
+    (λ e. absurd (omega (arith, e))) in
     let none1 : IsNone (seen (s1 1)) =
     subst (λ (slot : Slot). IsNone (seen slot)) (sym same1) no1 in
     let closed : c.deref.result.now ≡ 0 ∷ behind =
@@ -36,7 +38,8 @@ returns-clause-created g c = λ honest no1 no2.
       fits = omega (arith, done.1);
       stands = begun_stands c.args.id one short;
     }) in
-    let same2 : s2 2 ≡ s1 2 = c.begin.ensures.kept.files honest1 2 (λ e. absurd (omega (arith, e))) in
+    let same2 : s2 2 ≡ s1 2 = c.begin.ensures.kept.files honest1 2
+    (λ e. absurd (omega (arith, e))) in
     let second : IsDurableAs s2 2 (begun (seen (s0 2))) =
     same2 ∙ c.in_ok-create.ensures.spelled honest in
     record {
@@ -57,13 +60,15 @@ returns-clause-created g c = λ honest no1 no2.
 pub returns-in_err-closed-clause-kept : goal.returns-in_err-closed-clause-kept
 returns-in_err-closed-clause-kept g c =
     let p = err_from_is_err_and c.from_residual.result c.from_residual.ensures.1 in
-    rw (p.1, p.2) (kept_still g.D.Disk c.args.disk.now _ _ _ (λ f. absurd cc) (λ s other apart. refl))
+    rw (p.1, p.2) (kept_still g.D.Disk c.args.disk.now _ _ _ (λ f. absurd cc)
+    (λ s other apart. refl))
 
 pub returns-in_err-log-clause-kept : goal.returns-in_err-log-clause-kept
 returns-in_err-log-clause-kept g c =
     let p = err_from_is_err_and c.from_residual-in_err-log.result
     c.from_residual-in_err-log.ensures.1 in
-    rw (p.1, p.2) (kept_still g.D.Disk c.args.disk.now _ _ _ (λ f. absurd cc) (λ s other apart. refl))
+    rw (p.1, p.2) (kept_still g.D.Disk c.args.disk.now _ _ _ (λ f. absurd cc)
+    (λ s other apart. refl))
 
 -- then only slots change
 pub returns-in_err-create-clause-kept : goal.returns-in_err-create-clause-kept

@@ -31,14 +31,16 @@ returns-in_err-replace-clause-any_moment g c = λ id records honest h.
     let slots = c.args.self.now in
     let file : c.saturating_sub-other.result ≡ 3 - slots.slot =
     omega (arith, c.saturating_sub-other.ensures) in
-    let behind : c.split_at.result.1.now ≡ slot_behind (slots.generation + 1) slots.id c.args.one.now =
+    let behind : c.split_at.result.1.now ≡ slot_behind
+    (slots.generation + 1) slots.id c.args.one.now =
     c.split_at.ensures.back ∙ ap (drop 1) (c.deref.ensures.value ∙ c.in_ok-closed.ensures) in
     let sure = subst (λ (f : ℕ). IsDurableAs s0 f h.other_bytes) (sym file) h.other_sure in
     either_since s0 slots id records c.args.one.now h (omega (arith, c.requires.short))
     c.requires.room (state c.replace.new.disk) (past c.args.disk.now) (past c.replace.new.disk)
     c.saturating_sub-other.result file
     (subst (λ (b : List ℕ). LeavesSince s0 (past c.args.disk.now) (state c.replace.new.disk)
-    (past c.replace.new.disk) (IsLeftAt s0 c.saturating_sub-other.result (OnTheWay h.other_bytes b)))
+    (past c.replace.new.disk) (IsLeftAt s0 c.saturating_sub-other.result
+    (OnTheWay h.other_bytes b)))
     behind (c.replace.ensures.any_moment h.other_bytes honest sure h.gate))
 
 pub returns-clause-any_moment : goal.returns-clause-any_moment
@@ -49,14 +51,16 @@ returns-clause-any_moment g c = λ id records honest h.
     let slots = c.args.self.now in
     let file : c.saturating_sub-other.result ≡ 3 - slots.slot =
     omega (arith, c.saturating_sub-other.ensures) in
-    let behind : c.split_at.result.1.now ≡ slot_behind (slots.generation + 1) slots.id c.args.one.now =
+    let behind : c.split_at.result.1.now ≡ slot_behind
+    (slots.generation + 1) slots.id c.args.one.now =
     c.split_at.ensures.back ∙ ap (drop 1) (c.deref.ensures.value ∙ c.in_ok-closed.ensures) in
     let sure = subst (λ (f : ℕ). IsDurableAs s0 f h.other_bytes) (sym file) h.other_sure in
     either_since s0 slots id records c.args.one.now h (omega (arith, c.requires.short))
     c.requires.room (state c.replace.new.disk) (past c.args.disk.now) (past c.replace.new.disk)
     c.saturating_sub-other.result file
     (subst (λ (b : List ℕ). LeavesSince s0 (past c.args.disk.now) (state c.replace.new.disk)
-    (past c.replace.new.disk) (IsLeftAt s0 c.saturating_sub-other.result (OnTheWay h.other_bytes b)))
+    (past c.replace.new.disk) (IsLeftAt s0 c.saturating_sub-other.result
+    (OnTheWay h.other_bytes b)))
     behind (c.replace.ensures.any_moment h.other_bytes honest sure h.gate))
 
 -- and then it counts
@@ -93,7 +97,8 @@ returns-clause-rewritten g c = λ id records honest h.
       other_is_open = true;
       log = c.in_ok-log.log;
     })
-    file refl refl refl (subst (λ (f : ℕ). IsAt f 11 c.in_ok-log.log) file c.in_ok-log.ensures.at) log
+    file refl refl refl (subst (λ (f : ℕ). IsAt f 11 c.in_ok-log.log) file c.in_ok-log.ensures.at)
+    log
     (subst (λ (f : ℕ). IsDurableAs new f (1 ∷ whole)) file there)
     (c.replace.ensures.kept.files honest slots.slot
     (λ same. others_differ slots.slot h.one (sym (same ∙ file))))
@@ -102,13 +107,15 @@ returns-clause-rewritten g c = λ id records honest h.
 pub returns-in_err-closed-clause-kept : goal.returns-in_err-closed-clause-kept
 returns-in_err-closed-clause-kept g c =
     let p = err_from_is_err_and c.from_residual.result c.from_residual.ensures.1 in
-    rw (p.1, p.2) (kept_still g.D.Disk c.args.disk.now _ _ _ (λ f. absurd cc) (λ s other apart. refl))
+    rw (p.1, p.2) (kept_still g.D.Disk c.args.disk.now _ _ _ (λ f. absurd cc)
+    (λ s other apart. refl))
 
 pub returns-in_err-log-clause-kept : goal.returns-in_err-log-clause-kept
 returns-in_err-log-clause-kept g c =
     let p = err_from_is_err_and c.from_residual-in_err-log.result
     c.from_residual-in_err-log.ensures.1 in
-    rw (p.1, p.2) (kept_still g.D.Disk c.args.disk.now _ _ _ (λ f. absurd cc) (λ s other apart. refl))
+    rw (p.1, p.2) (kept_still g.D.Disk c.args.disk.now _ _ _ (λ f. absurd cc)
+    (λ s other apart. refl))
 
 -- and then no other file changes
 pub returns-in_err-replace-clause-kept : goal.returns-in_err-replace-clause-kept

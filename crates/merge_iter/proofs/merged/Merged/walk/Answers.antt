@@ -11,7 +11,8 @@ use Rattle.merge_iter.proofs.merged.Merged.walk.Goals as goal
 
 pub returns-in_err-advance-clause-sound : goal.returns-in_err-advance-clause-sound
 returns-in_err-advance-clause-sound g c meant m =
-    merge_after (g.C.Cursor.holds meant) (g.C.Cursor.is_sound meant) g.C.Cursor.suits g.C.Cursor.keeps g.C.Cursor.most
+    merge_after (g.C.Cursor.holds meant)
+    (g.C.Cursor.is_sound meant) g.C.Cursor.suits g.C.Cursor.keeps g.C.Cursor.most
     g.C.Cursor.position c.args.self.now.children.items c.advance.new.children.items
     c.args.source.now c.advance.new.source c.args.self.now.place place.Broken
     (c.advance.ensures.moves meant) tt m
@@ -31,8 +32,10 @@ returns-in_err-advance-clause-causes g c =
     (IsBroken (union_position g.C.Cursor.position c.args.self.now.children.items
     c.args.self.now.place)) g.C.Cursor.steps_allocate (g.C.Cursor.failures c.args.source.now)
     (g.C.Cursor.failures c.advance.new.source) r) told
-    (tells_merged (AreIntact g.C.Cursor c.args.self.now.children.items c.args.source.now) merge (union_position g.C.Cursor.position
-    c.args.self.now.children.items c.args.self.now.place) _ _ c.advance.result on (λ m. (m.0, m.1.each, m.2))
+    (tells_merged (AreIntact g.C.Cursor c.args.self.now.children.items c.args.source.now) merge
+    (union_position g.C.Cursor.position
+    c.args.self.now.children.items c.args.self.now.place) _ _ c.advance.result on
+    (λ m. (m.0, m.1.each, m.2))
     c.advance.ensures.causes)
 
 pub returns-clause-causes : goal.returns-clause-causes
@@ -48,24 +51,30 @@ returns-clause-causes g c =
     (IsBroken (union_position g.C.Cursor.position c.args.self.now.children.items
     c.args.self.now.place)) g.C.Cursor.steps_allocate (g.C.Cursor.failures c.args.source.now)
     (g.C.Cursor.failures c.advance.new.source) r) was
-    (tells_merged (AreIntact g.C.Cursor c.args.self.now.children.items c.args.source.now) merge (union_position g.C.Cursor.position
-    c.args.self.now.children.items c.args.self.now.place) _ _ c.advance.result on (λ m. (m.0, m.1.each, m.2))
+    (tells_merged (AreIntact g.C.Cursor c.args.self.now.children.items c.args.source.now) merge
+    (union_position g.C.Cursor.position
+    c.args.self.now.children.items c.args.self.now.place) _ _ c.advance.result on
+    (λ m. (m.0, m.1.each, m.2))
     c.advance.ensures.causes)
 
 pub returns-clause-sound : goal.returns-clause-sound
 returns-clause-sound g c meant m =
-    let p = subst (λ q. IsPlaced (λ d. (g.C.Cursor.holds meant) d c.args.source.now) g.C.Cursor.position
+    let p = subst (λ q. IsPlaced (λ d.
+    (g.C.Cursor.holds meant) d c.args.source.now) g.C.Cursor.position
     c.args.self.now.children.items q) c.in-On.is m.placed in
     let f = (c.in_ok-advance.ensures.ahead meant) p.0 p.1 p.2 p.3 m.apart m.each p.4 in
-    merge_after (g.C.Cursor.holds meant) (g.C.Cursor.is_sound meant) g.C.Cursor.suits g.C.Cursor.keeps g.C.Cursor.most
+    merge_after (g.C.Cursor.holds meant)
+    (g.C.Cursor.is_sound meant) g.C.Cursor.suits g.C.Cursor.keeps g.C.Cursor.most
     g.C.Cursor.position c.args.self.now.children.items c.advance.new.children.items
     c.args.source.now c.advance.new.source c.args.self.now.place c.settle-self.result
-    (c.advance.ensures.moves meant) ((c.settle-self.ensures.settles meant) (After p.1) c.advance.new.source f).1
+    (c.advance.ensures.moves meant)
+    ((c.settle-self.ensures.settles meant) (After p.1) c.advance.new.source f).1
     m
 
 pub returns-clause-finds : goal.returns-clause-finds
 returns-clause-finds g c meant m =
-    let p = subst (λ q. IsPlaced (λ d. (g.C.Cursor.holds meant) d c.args.source.now) g.C.Cursor.position
+    let p = subst (λ q. IsPlaced (λ d.
+    (g.C.Cursor.holds meant) d c.args.source.now) g.C.Cursor.position
     c.args.self.now.children.items q) c.in-On.is m.placed in
     let f = (c.in_ok-advance.ensures.ahead meant) p.0 p.1 p.2 p.3 m.apart m.each p.4 in
     let here = child_at g.C.Cursor.position c.args.self.now.children.items c.args.self.now.place
@@ -80,7 +89,9 @@ returns-clause-finds g c meant m =
     subst (λ s. IfOn s (λ entry. MoveFinds {R = Unit {0}} c.args.way (After entry)
     (UnionHolds (λ d. (g.C.Cursor.holds meant) d c.args.source.now) c.args.self.now.children.items)
     (Ok tt) new)) (sym was)
-    (finds_after (g.C.Cursor.holds meant) (g.C.Cursor.is_sound meant) g.C.Cursor.suits g.C.Cursor.keeps g.C.Cursor.most
+    (finds_after (g.C.Cursor.holds meant)
+    (g.C.Cursor.is_sound meant) g.C.Cursor.suits g.C.Cursor.keeps g.C.Cursor.most
     g.C.Cursor.position c.args.self.now.children.items c.advance.new.children.items
-    c.args.source.now c.advance.new.source (c.advance.ensures.moves meant) m.each c.args.way (After p.1)
+    c.args.source.now c.advance.new.source (c.advance.ensures.moves meant) m.each c.args.way
+    (After p.1)
     new ((c.settle-self.ensures.settles meant) (After p.1) c.advance.new.source f).0)

@@ -10,20 +10,24 @@ use Rattle.merge_iter.proofs.merged.MergedCursor.seek.Goals as goal
 
 pub returns-in_err-seek_all-clause-moves : goal.returns-in_err-seek_all-clause-moves
 returns-in_err-seek_all-clause-moves g c = all_moves (g.C.Cursor.as_is c.args.source.now) (λ meant.
-    union_moves (g.C.Cursor.holds meant) (g.C.Cursor.is_sound meant) g.C.Cursor.suits g.C.Cursor.keeps g.C.Cursor.most
+    union_moves (g.C.Cursor.holds meant)
+    (g.C.Cursor.is_sound meant) g.C.Cursor.suits g.C.Cursor.keeps g.C.Cursor.most
     g.C.Cursor.position (λ m. m.children.items) (λ m. m.place) _ _ c.args.source.now
     c.seek_all.new.source (c.seek_all.ensures.moves meant)
-    (λ m. merge_after (g.C.Cursor.holds meant) (g.C.Cursor.is_sound meant) g.C.Cursor.suits g.C.Cursor.keeps g.C.Cursor.most
+    (λ m. merge_after (g.C.Cursor.holds meant)
+    (g.C.Cursor.is_sound meant) g.C.Cursor.suits g.C.Cursor.keeps g.C.Cursor.most
     g.C.Cursor.position c.args.self.now.children.items c.seek_all.new.children.items
     c.args.source.now c.seek_all.new.source c.args.self.now.place place.Broken
     (c.seek_all.ensures.moves meant) tt m))
 
 pub returns-clause-moves : goal.returns-clause-moves
 returns-clause-moves g c = all_moves (g.C.Cursor.as_is c.args.source.now) (λ meant.
-    union_moves (g.C.Cursor.holds meant) (g.C.Cursor.is_sound meant) g.C.Cursor.suits g.C.Cursor.keeps g.C.Cursor.most
+    union_moves (g.C.Cursor.holds meant)
+    (g.C.Cursor.is_sound meant) g.C.Cursor.suits g.C.Cursor.keeps g.C.Cursor.most
     g.C.Cursor.position (λ m. m.children.items) (λ m. m.place) _ _ c.args.source.now
     c.seek_all.new.source (c.seek_all.ensures.moves meant)
-    (λ m. merge_after (g.C.Cursor.holds meant) (g.C.Cursor.is_sound meant) g.C.Cursor.suits g.C.Cursor.keeps g.C.Cursor.most
+    (λ m. merge_after (g.C.Cursor.holds meant)
+    (g.C.Cursor.is_sound meant) g.C.Cursor.suits g.C.Cursor.keeps g.C.Cursor.most
     g.C.Cursor.position c.args.self.now.children.items c.seek_all.new.children.items
     c.args.source.now c.seek_all.new.source c.args.self.now.place c.settle-self.result
     (c.seek_all.ensures.moves meant)
@@ -33,7 +37,8 @@ returns-clause-moves g c = all_moves (g.C.Cursor.as_is c.args.source.now) (λ me
 
 pub returns-clause-finds : goal.returns-clause-finds
 returns-clause-finds g c meant m =
-    finds_after (g.C.Cursor.holds meant) (g.C.Cursor.is_sound meant) g.C.Cursor.suits g.C.Cursor.keeps g.C.Cursor.most
+    finds_after (g.C.Cursor.holds meant)
+    (g.C.Cursor.is_sound meant) g.C.Cursor.suits g.C.Cursor.keeps g.C.Cursor.most
     g.C.Cursor.position c.args.self.now.children.items c.seek_all.new.children.items
     c.args.source.now c.seek_all.new.source (c.seek_all.ensures.moves meant) m.each Forward
     (At (spot (lent_key c.args.key) c.args.number))

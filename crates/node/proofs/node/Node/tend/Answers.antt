@@ -4,7 +4,8 @@ use Rattle.chain_model.specs.{silent}
 use Rattle.engine.specs.KeepingLemmas.{answered, kept_as, neither}
 use Rattle.engine.specs.{LookUps, engine_disk}
 use Rattle.node.specs.Stops.{IsEnvironmental}
-use Rattle.node.proofs.Running.{done_told, ends_stopped, env_of, still_runs, still_works, stop_passed}
+use Rattle.node.proofs.Running.{done_told, ends_stopped, env_of, still_runs, still_works}
+use Rattle.node.proofs.Running.{stop_passed}
 use Rattle.node.proofs.Running.{tends}
 use Rattle.node.proofs.node.Node.tend.Goals as goal
 

@@ -6,8 +6,8 @@ use Rattle.program.specs.Faults.{script_fault, start}
 use Rattle.program.proofs.Going.{IsRest}
 use Rattle.program.proofs.script.reader.read_script.Given as goal
 
--- what was found and what is left make the whole, the fault of what is left is that of the whole, and
--- so many lines are left
+-- what was found and what is left make the whole, the fault of what is left is that of the whole,
+-- and so many lines are left
 abbrev pub invariant-loop-line : goal.invariant-loop-line
 invariant-loop-line l = record {
   found : (setup : Setup) (rest : List Statement) → IsRest l.before.configs l.before.log l.number

@@ -14,7 +14,8 @@ returns-in_ok-event-in-Event c = λ setup past run named up.
 
 pub returns-in-Invalid : goal.returns-in-Invalid
 returns-in-Invalid c = λ setup past run named up.
-    rw c.result_of-in-Invalid.ensures (turned_without setup past c.args.statement.now c.args.self.now
+    rw c.result_of-in-Invalid.ensures
+    (turned_without setup past c.args.statement.now c.args.self.now
     c.args.self.now (note.Invalid c.in-Invalid.error) refl run
     (rw c.in-Invalid.is (refl, refl, refl)) tt (rw c.in-Invalid.is refl))
 
@@ -31,7 +32,8 @@ returns-in_ok-tends-in-Settle c = λ setup past run named up.
     let last = went.4 in
     turned_by_settle setup past c.args.statement.now c.args.self.now c.settle.new.self node
     c.in_ok-tends-in-Settle.tends c.settled.result c.has_worked.result c.in-Settle.is went
-    (c.has_worked.ensures setup (followed_by past went.0) (past.steps ++ last.before) last.last went.1
+    (c.has_worked.ensures setup (followed_by past went.0)
+    (past.steps ++ last.before) last.last went.1
     (ap (λ (l : List (List Line)). past.steps ++ l) last.all
     ∙ sym (append_assoc past.steps last.before _))) c.settled.ensures
 
@@ -41,5 +43,6 @@ returns-in-Show c = λ setup past run named up.
     c.args.self.now c.in-Show.node c.numbers.result c.shown-note.result c.in-Show.is
     c.shown-note.ensures refl
     run
-    (c.numbers.ensures.run setup.configs past.events past.choices past.steps run.run (rw c.in-Show.is at named))
+    (c.numbers.ensures.run setup.configs past.events past.choices past.steps run.run
+    (rw c.in-Show.is at named))
     c.numbers.ensures.tables)

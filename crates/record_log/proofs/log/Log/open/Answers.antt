@@ -44,7 +44,8 @@ returns-clause-told g c = λ honest.
     subst (λ (b : List ℕ). Represents b found.0) c.deref.ensures.value found.1 in
     let read : HasRead opened found.0 = read_them opened found.0 stands found.2 in
     let stood = had_them old new c.args.file c.args.start opened found.0 rest read in
-    let them = holds_them old new c.args.file c.args.start opened found.0 found.0 rest read refl refl
+    let them = holds_them old new c.args.file c.args.start opened found.0 found.0 rest read refl
+    refl
     found.3 stood in
     record {
       bytes = rest.whole;

@@ -14,7 +14,8 @@ use Rattle.sorted_table.proofs.FirstBlocks.{ok_part}
 use Rattle.sorted_table.proofs.KeptDisk.{kept_alike, kept_uncalled}
 use Rattle.sorted_table.proofs.LinesLemmas.{lines_early}
 use Rattle.sorted_table.proofs.MeantLemmas.{environmental, never_damaged}
-use Rattle.sorted_table.proofs.OpenLookups.{block_at, by_line, found_as, line_answers, lines_of, none_behind, not_denied}
+use Rattle.sorted_table.proofs.OpenLookups.{block_at, by_line, found_as, line_answers, lines_of}
+use Rattle.sorted_table.proofs.OpenLookups.{none_behind, not_denied}
 use Rattle.sorted_table.proofs.TableLookups.{no_block, not_device}
 use Rattle.sorted_table.proofs.table.Table.get_hashed.Goals as goal
 
@@ -109,7 +110,8 @@ returns-in_err-block-clause-checked g c = λ honest opened.
     c.denies.result c.requires c.denies.ensures.covered c.if-denies.false in
     let file = g.D.Disk.state c.args.files.now.disk c.args.self.now.file in
     let why = by_line file c.args.self.now c.deref-lines.result.now (lent_key c.args.key) c.args.at
-    c.line_place-number.result (Err c.in_err-block.field-0.0) opened covers c.deref-lines.ensures.value
+    c.line_place-number.result (Err c.in_err-block.field-0.0) opened covers
+    c.deref-lines.ensures.value
     c.line_place-number.ensures.place (
       omega (arith, c.if-number-lines.false),
       c.in_err-block.ensures.answers honest,

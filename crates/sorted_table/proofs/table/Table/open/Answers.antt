@@ -1,4 +1,5 @@
-use Rattle.std.proofs.Common.{◌≡◌, ℕ, List, ap, sym, subst, take, drop, ◌∙◌, Option, Some, None, refl, inr}
+use Rattle.std.proofs.Common.{◌≡◌, ℕ, List, ap, sym, subst, take, drop, ◌∙◌, Option, Some, None}
+use Rattle.std.proofs.Common.{refl, inr}
 use Rattle.std.specs.Rc.{rc_slice_items}
 use Rattle.std.proofs.lemmas.Result.{err_from_is_err_and}
 use Rattle.std.specs.Prelude.{IsSomeAnd}
@@ -27,7 +28,8 @@ pub returns-in_err-lines-clause-opened : goal.returns-in_err-lines-clause-opened
 returns-in_err-lines-clause-opened g c = λ entries honest has.
     let t = some_and (λ bytes. TableRepresents bytes entries) _ has in
     let tail = c.in_ok-bytes.ensures.tail t.0 entries t.2 honest t.1 in
-    let why = c.in_err-lines.ensures.parts t.0 entries t.2 (c.deref.ensures.value ∙ tail.0) tail.1 in
+    let why = c.in_err-lines.ensures.parts t.0 entries t.2
+    (c.deref.ensures.value ∙ tail.0) tail.1 in
     let p = err_from_is_err_and c.from_residual-in_err-lines.result
     c.from_residual-in_err-lines.ensures.1 in
     rw (p.1, p.2) (inr why)
@@ -36,7 +38,8 @@ pub returns-clause-opened : goal.returns-clause-opened
 returns-clause-opened g c = λ entries honest has.
     let t = some_and (λ bytes. TableRepresents bytes entries) _ has in
     let tail = c.in_ok-bytes.ensures.tail t.0 entries t.2 honest t.1 in
-    let parts = c.in_ok-lines.ensures.parts t.0 entries t.2 (c.deref.ensures.value ∙ tail.0) tail.1 in
+    let parts = c.in_ok-lines.ensures.parts t.0 entries t.2
+    (c.deref.ensures.value ∙ tail.0) tail.1 in
     record {
       bytes = t.0;
       present = ap seen (c.read_tail.ensures.kept.files honest c.args.file) ∙ t.1;

@@ -8,7 +8,8 @@ pub returns-clause-moves : goal.returns-clause-moves
 returns-clause-moves g c =
     cursor_moves _ (λ d. d.file) (λ d. rc_slice_items d.lines) (λ d. d.place) _ _
     c.args.files.now c.enter.new.files c.enter.ensures.keeps c.enter.ensures.table.0
-    (ap rc_slice_items c.enter.ensures.table.1) (λ m honest agree t here. entered_or_none _ _ _ c.enter.result
+    (ap rc_slice_items c.enter.ensures.table.1)
+    (λ m honest agree t here. entered_or_none _ _ _ c.enter.result
     (c.enter.ensures.reads m honest agree t) c.enter.ensures.refused)
 
 pub returns-clause-finds : goal.returns-clause-finds

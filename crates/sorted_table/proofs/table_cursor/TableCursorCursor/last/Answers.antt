@@ -9,10 +9,12 @@ returns-clause-moves g c =
     cursor_moves _ (λ d. d.file) (λ d. rc_slice_items d.lines) (λ d. d.place) _ _
     c.args.files.now c.enter.new.files c.enter.ensures.keeps c.enter.ensures.table.0
     (ap rc_slice_items c.enter.ensures.table.1) (λ m honest agree t here.
-    entered_or_none _ _ _ c.enter.result (c.enter.ensures.reads m honest agree t) c.enter.ensures.refused)
+    entered_or_none _ _ _ c.enter.result
+    (c.enter.ensures.reads m honest agree t) c.enter.ensures.refused)
 
 pub returns-clause-finds : goal.returns-clause-finds
 returns-clause-finds g c = λ m s.
     finds_last _ _ s.1.table c.enter.result c.saturating_sub-line.result
-    c.enter.new.self.has_failed c.enter.new.self.place (omega (arith, c.saturating_sub-line.ensures, c.len.ensures))
+    c.enter.new.self.has_failed c.enter.new.self.place
+    (omega (arith, c.saturating_sub-line.ensures, c.len.ensures))
     c.enter.ensures.entered (c.enter.ensures.reads (m c.args.self.now.file) s.0 s.2 s.1.table)

@@ -5,7 +5,8 @@ use Rattle.sorted_table.specs.TableCursors.{IsPlaceIn}
 use Rattle.sorted_table.specs.MovedFiles.{moves_itself}
 use Rattle.sorted_table.proofs.CursorMoves.{cursor_moves, entered_or_none, when_false}
 use Rattle.sorted_table.proofs.CursorSteps.{ends_behind, within_lines}
-use Rattle.sorted_table.proofs.TableFinds.{finds_none_before, finds_prev_block, finds_prev_in, here_of}
+use Rattle.sorted_table.proofs.TableFinds.{finds_none_before, finds_prev_block, finds_prev_in}
+use Rattle.sorted_table.proofs.TableFinds.{here_of}
 use Rattle.sorted_table.proofs.TablePlaces.{moved_in}
 use Rattle.sorted_table.proofs.table_cursor.TableCursorCursor.prev.Goals as goal
 
@@ -52,7 +53,8 @@ returns-clause-moves g c =
     cursor_moves _ (λ d. d.file) (λ d. rc_slice_items d.lines) (λ d. d.place) _ _
     c.args.files.now c.enter.new.files c.enter.ensures.keeps c.enter.ensures.table.0
     (ap rc_slice_items c.enter.ensures.table.1) (λ m honest agree t here.
-    entered_or_none _ _ _ c.enter.result (c.enter.ensures.reads m honest agree t) c.enter.ensures.refused)
+    entered_or_none _ _ _ c.enter.result
+    (c.enter.ensures.reads m honest agree t) c.enter.ensures.refused)
 
 pub returns-clause-ends : goal.returns-clause-ends
 returns-clause-ends g c =
@@ -62,7 +64,8 @@ returns-clause-ends g c =
     ends_behind c.enter.result (rc_slice_items old.lines) (rc_slice_items new.lines) old.place
     c.in-Some.place (c.line-line.result - 1) new.has_failed new.place
     (ap rc_slice_items c.enter.ensures.table.1) (sym c.take.ensures.value ∙ c.in-Some.is)
-    (let some = c.if-line-eq0.false in omega (arith, c.line-line.ensures, first.0.line, some)) new.bounded c.enter.ensures.entered
+    (let some = c.if-line-eq0.false in
+    omega (arith, c.line-line.ensures, first.0.line, some)) new.bounded c.enter.ensures.entered
 
 pub returns-clause-finds : goal.returns-clause-finds
 returns-clause-finds g c = λ m s.
@@ -72,7 +75,8 @@ returns-clause-finds g c = λ m s.
     let is = sym c.take.ensures.value ∙ c.in-Some.is in
     finds_prev_block _ _ s.1.table c.enter.result old.has_failed old.place c.in-Some.place
     (c.line-line.result - 1) new.has_failed new.place is
-    s.1.here (let some = c.if-line-eq0.false in omega (arith, c.line-line.ensures, first.0.line, some)) first.1
+    s.1.here (let some = c.if-line-eq0.false in
+    omega (arith, c.line-line.ensures, first.0.line, some)) first.1
     (within_lines (rc_slice_items old.lines) c.in-Some.place (old.bounded c.in-Some.place is))
     c.enter.ensures.entered (c.enter.ensures.reads (m c.args.self.now.file) s.0 s.2 s.1.table)
 

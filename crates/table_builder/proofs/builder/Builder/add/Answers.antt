@@ -37,8 +37,10 @@ returns-in_err-close_full-clause-kept g c =
     let reported = c.from_residual-in_err-close_full.ensures.1 in
     let device = subst
     (λ (f : ℕ). WritesFile g.D.Disk f c.args.disk.now c.close_full.new.disk called
-    ((blocks : List _) (one : _) → CanClose mid blocks one → ⊥)) same.0 c.close_full.ensures.device in
-    (writes_as g.D.Disk old.file {result = result} (passed_on called e result c.in_err-close_full.was reported)
+    ((blocks : List _) (one : _) → CanClose mid blocks one
+    → ⊥)) same.0 c.close_full.ensures.device in
+    (writes_as g.D.Disk old.file {result =
+    result} (passed_on called e result c.in_err-close_full.was reported)
     (not_own_on called e result c.in_err-close_full.was reported device.not_own)
     (λ none slot entries b.
     let m = bounds old entries b.holds in

@@ -17,7 +17,11 @@ returns-then-len-lt-BLOCK_SIZE-clause-device g c =
 pub returns-clause-closed : goal.returns-clause-closed
 returns-clause-closed g c = λ parts entry can.
     let full : BLOCK_SIZE ≤ length (block_content (parts.opened ++ entry ∷ [])) =
-    omega (arith, c.len.ensures (parts.opened ++ entry ∷ []) can.entries, c.if-len-lt-BLOCK_SIZE.false) in
+    omega (
+      arith,
+      c.len.ensures (parts.opened ++ entry ∷ []) can.entries,
+      c.if-len-lt-BLOCK_SIZE.false,
+    ) in
     on_ok_map c.close.result
     (λ closed. subst (HoldsDivision c.close.new.self) (sym (with_entry_full parts entry full))
     (record { closed = closed.closed; block = closed.empty }))
@@ -26,7 +30,11 @@ returns-clause-closed g c = λ parts entry can.
 pub returns-clause-written : goal.returns-clause-written
 returns-clause-written g c = λ parts entry can honest fresh.
     let full : BLOCK_SIZE ≤ length (block_content (parts.opened ++ entry ∷ [])) =
-    omega (arith, c.len.ensures (parts.opened ++ entry ∷ []) can.entries, c.if-len-lt-BLOCK_SIZE.false) in
+    omega (
+      arith,
+      c.len.ensures (parts.opened ++ entry ∷ []) can.entries,
+      c.if-len-lt-BLOCK_SIZE.false,
+    ) in
     subst (λ (it : Division). MatchResult c.close.result
     (λ _. IsFresh (g.D.Disk.state c.close.new.disk c.args.self.now.file) (data_bytes it.closed))
     IsEnvironmentError) (sym (with_entry_full parts entry full))

@@ -3,7 +3,8 @@ use Rattle.table_format.specs.{Block, IsEnvironmentError, data_bytes}
 use Rattle.table_builder.specs.Builders.{HoldsBlocks}
 use Rattle.table_builder.specs.Divisions.{block_from, division}
 use Rattle.table_builder.specs.Fresh.{IsFresh}
-use Rattle.table_builder.proofs.ClosingLemmas.{can_close_last, can_end, finished_none, finished_some}
+use Rattle.table_builder.proofs.ClosingLemmas.{can_close_last, can_end, finished_none}
+use Rattle.table_builder.proofs.ClosingLemmas.{finished_some}
 use Rattle.table_builder.proofs.ClosingLemmas.{on_ok_map}
 use Rattle.table_builder.proofs.ClosingLemmas.{opened_some}
 use Rattle.table_builder.proofs.DeviceLemmas.{writes_as, writes_nothing}

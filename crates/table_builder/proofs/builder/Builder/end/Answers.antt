@@ -22,7 +22,8 @@ returns-in_err-append_last-clause-device g c =
     let result = c.from_residual-in_err-append_last.result in
     let reported = c.from_residual-in_err-append_last.ensures.1 in
     let device = c.append_last.ensures in
-    writes_as g.D.Disk c.args.self.file (passed_on called e result c.in_err-append_last.was reported)
+    writes_as g.D.Disk c.args.self.file
+    (passed_on called e result c.in_err-append_last.was reported)
     (not_own_on called e result c.in_err-append_last.was reported device.not_own)
     (λ out blocks entries can.
     let t = (c.in_ok-tail.ensures.tail blocks entries can).1 in
@@ -46,7 +47,8 @@ returns-clause-ended g c = λ blocks entries can honest fresh.
     record {
       holds = record {
         bytes = data_bytes blocks ++ tail;
-        durable = c.in_ok-append_last.ensures.appended (data_bytes blocks) honest fresh can.closed.written;
+        durable = c.in_ok-append_last.ensures.appended
+            (data_bytes blocks) honest fresh can.closed.written;
         represents = table.0;
       };
       blocks = table.1 ∙ can.are;
@@ -61,7 +63,8 @@ returns-clause-ended g c = λ blocks entries can honest fresh.
         ap length value,
         length-append (data_bytes blocks) tail,
       );
-      least = subst (λ (b : List ℕ). IfSome (first_entry entries) (λ entry. b ≡ entry.key)) (sym least)
+      least = subst (λ (b : List ℕ). IfSome (first_entry entries) (λ entry. b ≡ entry.key))
+          (sym least)
           can.keys.least;
       greatest = last_key (last_entry entries) it.keys.last c.into_stored-2.result it.keys.number
           greatest can.keys.last;

@@ -16,7 +16,8 @@ pub returns-clause-any_moment : goal.returns-clause-any_moment
 returns-clause-any_moment g c = λ honest.
     let ended = subst
     (λ (f : ℕ). WritesFile g.D.Disk f c.close_rest.new.disk c.end.new.disk c.end.result
-    ((blocks : List Block) (entries : List Entry) → CanEnd c.close_rest.new.self blocks entries → ⊥))
+    ((blocks : List Block) (entries : List Entry) → CanEnd c.close_rest.new.self blocks entries
+    → ⊥))
     c.close_rest.ensures.file c.end.ensures.device in
     let both = writes_behind g.D.Disk c.args.self.file c.in_ok-close_rest.was (λ never. never)
     c.close_rest.ensures.device ended in

@@ -1,7 +1,9 @@
-use Rattle.std.proofs.Common.{◌≡◌, ◌+◌, ◌<◌, ◌^◌, ◌++◌, ℕ, List, length, map, ap, sym, subst, ◌∙◌, arith}
+use Rattle.std.proofs.Common.{◌≡◌, ◌+◌, ◌<◌, ◌^◌, ◌++◌, ℕ, List, length, map, ap, sym, subst, ◌∙◌}
+use Rattle.std.proofs.Common.{arith}
 use Rattle.std.specs.List.{flat_map}
 use Rattle.bloom.specs.{IsFilter, hashes_of}
-use Rattle.table_format.specs.{be32, block_lines, different_keys, filter_part, index_part, line_bytes, sealed}
+use Rattle.table_format.specs.{be32, block_lines, different_keys, filter_part, index_part}
+use Rattle.table_format.specs.{line_bytes, sealed}
 use Rattle.table_builder.specs.Tails.{tail_of}
 use Rattle.table_builder.proofs.ClosingLemmas.{blocks_some, is_table, length-tail_of, tail_fits}
 use Rattle.table_builder.proofs.DivisionsLemmas.{length-lines}
@@ -31,7 +33,8 @@ returns-clause-tail c = λ blocks entries can.
     ∙ ap (λ (n : ℕ). sealed (be32 n ++ text)) can.closed.index.count in
     let size = can.size in
     let tail = c.in_ok-tail_part_of.field-0.items in
-    let short : length c.deref-3.result.now < 2 ^ 32 = omega (arith, ap length index, fits.index_len) in
+    let short : length c.deref-3.result.now < 2 ^ 32 =
+    omega (arith, ap length index, fits.index_len) in
     let room : it.written + length (filter_part filter) < 2 ^ 64 =
     omega (arith, can.closed.written, size, fits.filter_len) in
     let is : tail ≡ tail_of filter (index_part lines) it.written it.keys.count =

@@ -38,5 +38,6 @@ returns c = λ entries entry knows key number room.
     let same = added.same in
     let grown : c.saturating_add-self-2.result ≡ length entries + 1 =
     omega (arith, c.saturating_add-self-2.ensures, count, room, same.0) in
-    knows_other was _ entries entry knows some grown same.1 (added.last ∙ sym key) (sym number) other
+    knows_other was _ entries entry knows some grown same.1 (added.last ∙ sym key)
+    (sym number) other
     (added.hashes ∙ ap (λ (k : StoredKey). was.hashes.items ++ hashes_of k ∷ []) (sym key))
