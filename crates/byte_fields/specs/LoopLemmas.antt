@@ -16,12 +16,13 @@ regroup {A} front a (Some x) = ap (λ (xs : List A). Some (xs, x.1)) (simp appen
 regroup front a None = refl
 
 -- one more is read, and the others are still to be read
-pub goes_on : {A : Type 0} (read : Reader A) (front : List A) (count i : ℕ) (bytes : List ℕ) (a : A)
+pub reads_next : {A : Type 0} (read : Reader A) (front : List A) (count i : ℕ) (bytes : List ℕ)
+    (a : A)
     (after : List ℕ) (total : Option (List A × List ℕ)) → i < count
     → read bytes ≡ Some (a, after) → with_front front (many read (count - i) bytes) ≡ total
     → with_front (front ++ a ∷ []) (many read (count - (i + 1)) after) ≡ total
 unfolding many
-goes_on read front count i bytes a after total lt h so_far =
+reads_next read front count i bytes a after total lt h so_far =
     let k : count - i ≡ suc (count - (i + 1)) = omega arith in
     let one : with_front front (many read (count - i) bytes)
     ≡ with_front (front ++ a ∷ []) (many read (count - (i + 1)) after) = rw (k, h)

@@ -13,15 +13,15 @@ use Rattle.std.proofs.lemmas.List.Elements.{All-from_recursion, recursion_from_A
 use Rattle.std.proofs.lemmas.Nat.{be_bytes_2, be_bytes_4, be_bytes_8, from_be_bytes-to_be_bytes_2}
 use Rattle.std.proofs.lemmas.Nat.{from_be_bytes-to_be_bytes_4, from_be_bytes-to_be_bytes_8}
 use Rattle.kv_types.specs.{◌>>=◌}
-use Rattle.kv_types.specs.FieldsLemmas.{IsBytes, bind_some, guard_some, some_is, Takes}
-use Rattle.kv_types.specs.FieldsLemmas.{Takes-then}
+use Rattle.kv_types.specs.FieldsLemmas.{IsBytes, bind_some, guard_some, some_is, BeginsWith}
+use Rattle.kv_types.specs.FieldsLemmas.{BeginsWith-then}
 use Rattle.byte_fields.specs.Readers.{Reader, both, mapped, only, many, counted, number_at}
 
 -- what is read is spelled at the front and is right; what is right and spelled at the front is read
 pub record Reads {A : Type 0} (Is : A → Type 0) (spell : A → List ℕ)
     (read : Reader A) : Type 0 where
   pub takes : (bytes : List ℕ) (x : A × List ℕ) → IsBytes bytes → read bytes ≡ Some x
-      → Takes bytes (spell x.0) x.1 × Is x.0
+      → BeginsWith bytes (spell x.0) x.1 × Is x.0
   pub again : (a : A) (rest : List ℕ) → Is a → read (spell a ++ rest) ≡ Some (a, rest)
 
 none_from : {X : Type 0} (o : Option X) → ((x : X) → o ≡ Some x → ⊥) → o ≡ None
@@ -52,9 +52,9 @@ both_reads {A} {B} {IsA} {IsB} {spell_a} {spell_b} {first} {second} f s =
           let b = bind_some (second a.0.1) (λ b. Some ((a.0.0, b.0), b.1)) x a.2 in
           let t = f.takes bytes a.0 fits a.1 in
           let u = s.takes a.0.1 b.0 t.0.rest_fits b.1 in
-          let whole = Takes-then bytes (spell_a a.0.0) a.0.1 (spell_b b.0.0) b.0.1 t.0 u.0 in
+          let whole = BeginsWith-then bytes (spell_a a.0.0) a.0.1 (spell_b b.0.0) b.0.1 t.0 u.0 in
           let read : (A × B) × List ℕ = ((a.0.0, b.0.0), b.0.1) in
-          subst (λ (y : (A × B) × List ℕ). Takes bytes (spell_a y.0.0 ++ spell_b y.0.1) y.1
+          subst (λ (y : (A × B) × List ℕ). BeginsWith bytes (spell_a y.0.0 ++ spell_b y.0.1) y.1
           × (IsA y.0.0 × IsB y.0.1)) (some_is read x b.2) (whole, (t.1, u.1));
       again = λ x rest is.
           ap (both first second) (append_assoc (spell_a x.0) (spell_b x.1) rest)
@@ -74,9 +74,9 @@ made_reads {A} {B} {Is} {spell} {read} make of there back r =
           let a = bind_some (read bytes) (λ a. Some (make a.0, a.1)) x e in
           let t = r.takes bytes a.0 fits a.1 in
           let found : B × List ℕ = (make a.0.0, a.0.1) in
-          let right : Takes bytes (spell (of (make a.0.0))) a.0.1 × Is (of (make a.0.0)) =
-          subst (λ (y : A). Takes bytes (spell y) a.0.1 × Is y) (sym (back a.0.0)) t in
-          subst (λ (y : B × List ℕ). Takes bytes (spell (of y.0)) y.1 × Is (of y.0))
+          let right : BeginsWith bytes (spell (of (make a.0.0))) a.0.1 × Is (of (make a.0.0)) =
+          subst (λ (y : A). BeginsWith bytes (spell y) a.0.1 × Is y) (sym (back a.0.0)) t in
+          subst (λ (y : B × List ℕ). BeginsWith bytes (spell (of y.0)) y.1 × Is (of y.0))
           (some_is found x a.2) right;
       again = λ b rest is.
           let e : mapped make read (spell (of b) ++ rest) ≡ Some (make (of b), rest) =
@@ -113,7 +113,7 @@ only_reads {A} {Is} {Js} {spell} {read} test right fails r =
           let a = bind_some (read bytes) (λ a. cond (test a.0) (Some a) None) x e in
           let g = passed (test a.0.0) a.0 x a.2 in
           let t = r.takes bytes a.0 fits a.1 in
-          subst (λ (y : A × List ℕ). Takes bytes (spell y.0) y.1 × Js y.0)
+          subst (λ (y : A × List ℕ). BeginsWith bytes (spell y.0) y.1 × Js y.0)
           g.1 (t.0, right a.0.0 t.1 g.0);
       again = λ a rest is.
           let p = fails a is in
@@ -190,10 +190,10 @@ wide64 = record {
       (arith, fits 0, fits 1, fits 2, fits 3, fits 4, fits 5, fits 6, fits 7);
 }
 
-number_takes : (w : Width) (bound : ℕ) (wide : IsWide w bound) (bytes : List ℕ) (x : ℕ × List ℕ)
-    → IsBytes bytes → number_at w bytes ≡ Some x → Takes bytes (to_be_bytes w x.0) x.1 ×
+number_begins : (w : Width) (bound : ℕ) (wide : IsWide w bound) (bytes : List ℕ) (x : ℕ × List ℕ)
+    → IsBytes bytes → number_at w bytes ≡ Some x → BeginsWith bytes (to_be_bytes w x.0) x.1 ×
     (x.0 < bound)
-number_takes w bound wide bytes x fits e =
+number_begins w bound wide bytes x fits e =
     let front = take (byte_len w) bytes in
     let found : ℕ × List ℕ = (from_be_bytes w front, drop (byte_len w) bytes) in
     let g = guard_some (ltb (length bytes) (byte_len w)) (Some found) x e in
@@ -201,7 +201,7 @@ number_takes w bound wide bytes x fits e =
     let small = IsBytes-take (byte_len w) bytes fits in
     let same : to_be_bytes w (from_be_bytes w front) ≡ front =
     wide.back front (omega (arith, length-take (byte_len w) bytes)) small in
-    subst (λ (y : ℕ × List ℕ). Takes bytes (to_be_bytes w y.0) y.1 × (y.0 < bound))
+    subst (λ (y : ℕ × List ℕ). BeginsWith bytes (to_be_bytes w y.0) y.1 × (y.0 < bound))
     (some_is found x g.1) (
       record {
         parts = sym (ap (λ (t : List ℕ). t ++ drop (byte_len w) bytes) same
@@ -228,31 +228,31 @@ number_again w bound wide n rest lt =
 pub number_reads : (w : Width) (bound : ℕ) → IsWide w bound
     → Reads (λ n. n < bound) (to_be_bytes w) (number_at w)
 number_reads w bound wide =
-    record { takes = number_takes w bound wide; again = number_again w bound wide }
+    record { takes = number_begins w bound wide; again = number_again w bound wide }
 
 -- ---- a given number of readings, one behind the other
 
 -- so many readings take so many spellings
-pub many_takes : {A : Type 0} {Is : A → Type 0} {spell : A → List ℕ} {read : Reader A}
+pub many_begin : {A : Type 0} {Is : A → Type 0} {spell : A → List ℕ} {read : Reader A}
     → Reads Is spell read → (n : ℕ) (bytes : List ℕ) (x : List A × List ℕ) → IsBytes bytes
     → many read n bytes ≡ Some x
-    → Takes bytes (flat_map spell x.0) x.1 × (length x.0 ≡ n) × AllByRecursion Is x.0
+    → BeginsWith bytes (flat_map spell x.0) x.1 × (length x.0 ≡ n) × AllByRecursion Is x.0
 unfolding many
-many_takes {A} {Is} {spell} {read} r zero bytes x fits e =
+many_begin {A} {Is} {spell} {read} r zero bytes x fits e =
     let found : List A × List ℕ = ([], bytes) in
-    subst (λ (y : List A × List ℕ). Takes bytes (flat_map spell y.0) y.1 × (length y.0 ≡ 0)
+    subst (λ (y : List A × List ℕ). BeginsWith bytes (flat_map spell y.0) y.1 × (length y.0 ≡ 0)
     × AllByRecursion Is y.0) (some_is found x e)
     (record { parts = refl; rest_fits = fits }, refl, tt)
-many_takes {A} {Is} {spell} {read} r (suc n) bytes x fits e =
+many_begin {A} {Is} {spell} {read} r (suc n) bytes x fits e =
     let a = bind_some (read bytes)
     (λ first. many read n first.1 >>= λ others. Some (first.0 ∷ others.0, others.1)) x e in
     let b = bind_some (many read n a.0.1) (λ others. Some (a.0.0 ∷ others.0, others.1)) x a.2 in
     let first = r.takes bytes a.0 fits a.1 in
-    let second = many_takes r n a.0.1 b.0 first.0.rest_fits b.1 in
-    let whole = Takes-then bytes (spell a.0.0) a.0.1
+    let second = many_begin r n a.0.1 b.0 first.0.rest_fits b.1 in
+    let whole = BeginsWith-then bytes (spell a.0.0) a.0.1
     (flat_map spell b.0.0) b.0.1 first.0 second.0 in
     let found : List A × List ℕ = (a.0.0 ∷ b.0.0, b.0.1) in
-    subst (λ (y : List A × List ℕ). Takes bytes (flat_map spell y.0) y.1 × (length y.0 ≡ suc n)
+    subst (λ (y : List A × List ℕ). BeginsWith bytes (flat_map spell y.0) y.1 × (length y.0 ≡ suc n)
     × AllByRecursion Is y.0) (some_is found x b.2)
     (rw flat_map-cons whole, ap suc second.1, (first.1, second.2))
 
@@ -280,11 +280,12 @@ counted_reads {A} {Is} {IsCount} {spell} {spell_count} {read} {count} c r =
       takes = λ bytes x fits e.
           let n = bind_some (count bytes) (λ n. many read n.0 n.1) x e in
           let t = c.takes bytes n.0 fits n.1 in
-          let u = many_takes r n.0.0 n.0.1 x t.0.rest_fits n.2 in
-          let whole = Takes-then bytes (spell_count n.0.0) n.0.1 (flat_map spell x.0) x.1 t.0 u.0 in
-          let right : Takes bytes (spell_count (length x.0) ++ flat_map spell x.0) x.1
+          let u = many_begin r n.0.0 n.0.1 x t.0.rest_fits n.2 in
+          let whole = BeginsWith-then bytes (spell_count n.0.0) n.0.1
+          (flat_map spell x.0) x.1 t.0 u.0 in
+          let right : BeginsWith bytes (spell_count (length x.0) ++ flat_map spell x.0) x.1
           × IsCount (length x.0) =
-          subst (λ (k : ℕ). Takes bytes (spell_count k ++ flat_map spell x.0) x.1 × IsCount k)
+          subst (λ (k : ℕ). BeginsWith bytes (spell_count k ++ flat_map spell x.0) x.1 × IsCount k)
           (sym u.1) (whole, t.1) in
           (right.0, (right.1, All-from_recursion Is x.0 u.2));
       again = λ xs rest is.

@@ -20,7 +20,7 @@ use Rattle.chain_model.proofs.Lists.{place_last, take_of_begins}
 use Rattle.chain_model.proofs.Configuration.{IsChain, before_left, before_predecessor}
 use Rattle.chain_model.proofs.Configuration.{before_tail, none_before_head, none_before_itself}
 use Rattle.chain_model.proofs.Configuration.{predecessor_before, tail_has}
-use Rattle.chain_model.proofs.Handed.{WasHandedIn}
+use Rattle.chain_model.proofs.Submitted.{WasHandedIn}
 use Rattle.chain_model.proofs.Invariant.{FrameOk, IsPending, NodeOk, Sound, SoundNode}
 use Rattle.chain_model.proofs.Cases.{submit_cases, take_forward_cases}
 use Rattle.chain_model.proofs.Sends.{AnswerOk, Lands, ack_ok, acknowledge_ok, before_first}

@@ -25,7 +25,7 @@ use Rattle.chain_model.proofs.Lists.{every_map, part_more}
 use Rattle.chain_model.proofs.Configuration.{IsChain, before_part, before_tail, created_has}
 use Rattle.chain_model.proofs.Configuration.{last_epoch}
 use Rattle.chain_model.proofs.Configuration.{later_leaves_out, later_part, tail_has}
-use Rattle.chain_model.proofs.Handed.{handed}
+use Rattle.chain_model.proofs.Submitted.{handed}
 use Rattle.chain_model.proofs.Invariant.{FrameOk, ReplyOk, WorldOk, lists_of}
 use Rattle.chain_model.proofs.WorldGrowth.{only_grows}
 use Rattle.chain_model.proofs.Queries.{least_above}

@@ -16,7 +16,7 @@ use Rattle.chain_model.specs.Rules.{longer_for, moved, notice, number_read, on_a
 use Rattle.chain_model.specs.Rules.{resend, reply_read, tail_commits, receive_ack, ack_duplicate}
 use Rattle.chain_model.specs.Rules.{tend, tick}
 use Rattle.chain_model.specs.Rules.{acked}
-use Rattle.chain_model.specs.Growth.{GoesOn, Grows, StepsGoOn}
+use Rattle.chain_model.specs.Growth.{StaysRunning, Grows, StepsStayRunning}
 use Rattle.chain_model.proofs.Lists.{begins_more, begins_refl, begins_trans}
 use Rattle.chain_model.proofs.Cases.{ack_cases, close_cases, forward_cases, notice_cases}
 use Rattle.chain_model.proofs.Cases.{open_cases, read_cases, submit_cases, take_ack_cases}
@@ -53,7 +53,7 @@ same_refl : {A : Type 0} (n : MachineState A) → Same n n
 same_refl n = record { list = refl; epoch = refl; floor = refl; kept = refl; running = refl }
 
 -- an answer that leaves the node as it was
-still : {A : Type 0} (n : MachineState A) (a : Answer A) → Same n a.node → GoesOn n a
+still : {A : Type 0} (n : MachineState A) (a : Answer A) → Same n a.node → StaysRunning n a
 still n a s = record {
   grows = record {
     list = subst (λ l. IsPrefix n.list l) (sym s.list) (begins_refl n.list);
@@ -67,7 +67,7 @@ still n a s = record {
 -- an answer that appends a batch
 longer : {A : Type 0} (n : MachineState A) (b : A) (m : MachineState A) (a : Answer A)
     → m.list ≡ n.list ++ b ∷ [] → Same m a.node → m.epoch ≡ n.epoch → m.floor ≡ n.floor
-    → m.kept ≡ n.kept → m.running ≡ n.running → GoesOn n a
+    → m.kept ≡ n.kept → m.running ≡ n.running → StaysRunning n a
 longer n b m a list s epoch floor kept running = record {
   grows = record {
     list = subst (λ l. IsPrefix n.list l) (sym (s.list ∙ list)) (begins_more n.list (b ∷ []));
@@ -80,7 +80,7 @@ longer n b m a list s epoch floor kept running = record {
 
 -- a tend only raises floor and kept number
 pub tend_goes_on : {A : Type 0} (n : MachineState A) (rises : Bool) (gives_up : ℕ)
-    → GoesOn n (tend n rises gives_up)
+    → StaysRunning n (tend n rises gives_up)
 tend_goes_on n false gives_up = still n (silent n) (same_refl n)
 tend_goes_on n true gives_up = record {
   grows = record {
@@ -118,15 +118,15 @@ module _ {A : Type 0} (x : ℕ) where
       take_ack_cases (λ a. a.node.list ≡ n.list) x n committed have (λ low. refl) refl
 
   -- a drop leaves the node
-  drops : (n : MachineState A) (why : DropReason) → GoesOn n (dropped_for n why)
+  drops : (n : MachineState A) (why : DropReason) → StaysRunning n (dropped_for n why)
   drops n why = still n (dropped_for n why) (same_refl n)
 
   -- a refusal leaves the node
-  refuses : (n : MachineState A) (i : ℕ) (why : Refusal) → GoesOn n (refused n i why)
+  refuses : (n : MachineState A) (i : ℕ) (why : Refusal) → StaysRunning n (refused n i why)
   refuses n i why = still n (refused n i why) (same_refl n)
 
   -- the head that accepts a batch stays running and grows
-  accept_goes_on : (n : MachineState A) (i : ℕ) (b : A) → GoesOn n (accept x n i b)
+  accept_goes_on : (n : MachineState A) (i : ℕ) (b : A) → StaysRunning n (accept x n i b)
   accept_goes_on n i b =
       let more = longer_for n i b in
       let m = tail_commits x more in
@@ -135,13 +135,14 @@ module _ {A : Type 0} (x : ℕ) where
       refl refl
 
   -- a node that appends a batch stays running and grows
-  append_goes_on : (n : MachineState A) (k : ℕ) (b : A) → GoesOn n (append x n k b)
+  append_goes_on : (n : MachineState A) (k : ℕ) (b : A) → StaysRunning n (append x n k b)
   append_goes_on n k b =
       let more : MachineState A = record n { list = n.list ++ b ∷ [] } in
       longer n b more (append x n k b) refl (tail_same more) refl refl refl refl
 
   -- a node that learns a committed number stays running and grows
-  pass_on_goes_on : (n : MachineState A) (committed have : ℕ) → GoesOn n (on_ack x n committed have)
+  pass_on_goes_on : (n : MachineState A) (committed have : ℕ)
+      → StaysRunning n (on_ack x n committed have)
   pass_on_goes_on n committed have =
       let m = acked n committed have in
       let fs = cond (nat_lt n.committed committed) (ack x m) [] in
@@ -150,7 +151,7 @@ module _ {A : Type 0} (x : ℕ) where
       still n (on_ack x n committed have) (acknowledged n m fs same)
 
   -- a node that adopts a later configuration stays running and grows
-  adopt_goes_on : (n : MachineState A) (e : ℕ) (ids : List ℕ) → n.epoch < e → GoesOn n
+  adopt_goes_on : (n : MachineState A) (e : ℕ) (ids : List ℕ) → n.epoch < e → StaysRunning n
       (adopt x n e ids)
   adopt_goes_on n e ids later =
       let s : Same (moved x n e ids) (tail_commits x (moved x n e ids)) =
@@ -167,49 +168,50 @@ module _ {A : Type 0} (x : ℕ) where
 
   -- snapshots are forgotten by a stop
   snapshots_go_on : (n : MachineState A) (ss : List ℕ) (r : Response A)
-      → GoesOn n (replied (record n { snapshots = ss }) r)
+      → StaysRunning n (replied (record n { snapshots = ss }) r)
   snapshots_go_on n ss r =
       still n (replied (record n { snapshots = ss }) r)
       (record { list = refl; epoch = refl; floor = refl; kept = refl; running = refl })
 
   -- a node stays running and grows at a request
-  pub ask_goes_on : (n : MachineState A) (i : ℕ) (q : Request A) → GoesOn n (ask x n i q)
+  pub ask_goes_on : (n : MachineState A) (i : ℕ) (q : Request A) → StaysRunning n (ask x n i q)
   ask_goes_on n i (Submit b) =
-      submit_cases (GoesOn n) x n i b (refuses n i) (λ here head. accept_goes_on n i b)
+      submit_cases (StaysRunning n) x n i b (refuses n i) (λ here head. accept_goes_on n i b)
   ask_goes_on n i (Read at) =
-      read_cases (GoesOn n) x n i at (refuses n i)
+      read_cases (StaysRunning n) x n i at (refuses n i)
       (λ low le. still n (reply_read n i (number_read n at)) (same_refl n))
   ask_goes_on n i (Open at) =
       let s = number_read n at in
-      open_cases (GoesOn n) x n i at (refuses n i)
+      open_cases (StaysRunning n) x n i at (refuses n i)
       (λ low le. snapshots_go_on n (s ∷ n.snapshots) (Opened i s))
   ask_goes_on n i (Close s) =
-      close_cases (GoesOn n) x n i s (refuses n i)
+      close_cases (StaysRunning n) x n i s (refuses n i)
       (snapshots_go_on n (without s n.snapshots) (Closed i s))
 
   -- a node stays running and grows at a tick
-  pub tick_goes_on : (n : MachineState A) → GoesOn n (tick x n)
+  pub tick_goes_on : (n : MachineState A) → StaysRunning n (tick x n)
   tick_goes_on n =
-      tick_cases (GoesOn n) x n (still n (resend x n) (same_refl n)) (drops n reason.Removed)
+      tick_cases (StaysRunning n) x n (still n (resend x n) (same_refl n)) (drops n reason.Removed)
 
   -- a node stays running and grows at a notice
-  pub notice_goes_on : (n : MachineState A) (e : ℕ) (ids : List ℕ) → GoesOn n (notice x n e ids)
-  notice_goes_on n e ids = notice_cases (GoesOn n) x n e ids (drops n) (adopt_goes_on n e ids)
+  pub notice_goes_on : (n : MachineState A) (e : ℕ) (ids : List ℕ)
+      → StaysRunning n (notice x n e ids)
+  notice_goes_on n e ids = notice_cases (StaysRunning n) x n e ids (drops n) (adopt_goes_on n e ids)
 
   -- a node stays running and grows at a frame
-  pub receive_goes_on : (n : MachineState A) (f : Message A) → GoesOn n (receive x n f)
+  pub receive_goes_on : (n : MachineState A) (f : Message A) → StaysRunning n (receive x n f)
   receive_goes_on n (Forward to e p k b) =
-      forward_cases (GoesOn n) x n to e p k b (drops n)
-      (λ here now is. take_forward_cases (GoesOn n) x n k b (λ next. append_goes_on n k b)
+      forward_cases (StaysRunning n) x n to e p k b (drops n)
+      (λ here now is. take_forward_cases (StaysRunning n) x n k b (λ next. append_goes_on n k b)
       (still n (ack_duplicate x n) (same_refl n)))
   receive_goes_on n (Ack to e s committed have) =
-      ack_cases (GoesOn n) x n to e s committed have (drops n)
-      (λ here now is. take_ack_cases (GoesOn n) x n committed have
+      ack_cases (StaysRunning n) x n to e s committed have (drops n)
+      (λ here now is. take_ack_cases (StaysRunning n) x n committed have
       (λ low. pass_on_goes_on n committed have) (drops n reason.BadAck))
 
 -- every step that answers leaves its node running, and later
-pub steps_go_on : {A : Type 0} → StepsGoOn A
-steps_go_on = record {
+pub steps_stay_running : {A : Type 0} → StepsStayRunning A
+steps_stay_running = record {
   asked = λ x i n q. ask_goes_on x n i q;
   received = λ x n f. receive_goes_on x n f;
   noticed = λ x e n ids. notice_goes_on x n e ids;

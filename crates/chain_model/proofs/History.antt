@@ -10,7 +10,7 @@ use Rattle.chain_model.specs.System.{SystemEvent, node_of, reached}
 use Rattle.chain_model.proofs.Lists.{begins-place, begins_nil, begins_shorter, part_begins}
 use Rattle.chain_model.proofs.Lists.{part_trans, take_begins}
 use Rattle.chain_model.proofs.Configuration.{IsChain, last_epoch, someone}
-use Rattle.chain_model.proofs.Handed.{WasHandedIn, handed}
+use Rattle.chain_model.proofs.Submitted.{WasHandedIn, handed}
 use Rattle.chain_model.proofs.Invariant.{ReplyOk, Safe, WorldOk, lists_of}
 use Rattle.chain_model.proofs.Reached.{reached_ok}
 

@@ -10,7 +10,7 @@ use Rattle.chain_model.specs.System.{SystemEvent, SystemState}
 use Rattle.chain_model.specs.Order.{CommittedBy, IsUpTo, WasCommitted}
 use Rattle.chain_model.specs.Retention.{RisesFrom}
 use Rattle.chain_model.proofs.Lists.{begins-place, begins_trans, part_wider}
-use Rattle.chain_model.proofs.Handed.{WasHandedIn}
+use Rattle.chain_model.proofs.Submitted.{WasHandedIn}
 
 -- the list of every node of a configuration begins with this one
 abbrev pub Safe : {A : Type 0} → (ℕ → List A) → List ℕ → List A → Type 0

@@ -1,6 +1,6 @@
 pub mod Lists
 pub mod Configuration
-pub mod Handed
+pub mod Submitted
 pub mod Invariant
 pub mod Cases
 pub mod Growth

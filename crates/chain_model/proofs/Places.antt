@@ -14,7 +14,7 @@ use Rattle.chain_model.specs.System.{SystemState, first_state, node_of, reached,
 use Rattle.chain_model.specs.Headline.{ResponseAgrees, OneList, batches, submitted, numbered}
 use Rattle.chain_model.specs.Maps.{event_map, reply_map, request_map, world_map}
 use Rattle.chain_model.proofs.Configuration.{IsChain}
-use Rattle.chain_model.proofs.Handed.{WasHandedIn, handed}
+use Rattle.chain_model.proofs.Submitted.{WasHandedIn, handed}
 use Rattle.chain_model.proofs.History.{OneHistory, Speaks, one_history}
 use Rattle.chain_model.proofs.WorldMaps.{run_map}
 

@@ -13,7 +13,7 @@ use Rattle.chain_model.specs.Rules.{ask, close_snapshot, number_read, open_snaps
 use Rattle.chain_model.specs.System.{SystemEvent}
 use Rattle.chain_model.proofs.Lists.{begins_trans, every_map, take_less}
 use Rattle.chain_model.proofs.Configuration.{IsChain}
-use Rattle.chain_model.proofs.Handed.{WasHandedIn}
+use Rattle.chain_model.proofs.Submitted.{WasHandedIn}
 use Rattle.chain_model.proofs.Invariant.{NodeOk, ReplyOk, Safe, shorter_committed}
 use Rattle.chain_model.proofs.Cases.{close_cases, open_cases, read_cases}
 use Rattle.chain_model.proofs.Sends.{AnswerOk, Lands, refused_ok, safe_last, silent_ok}

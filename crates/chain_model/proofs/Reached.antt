@@ -7,7 +7,7 @@ use Rattle.chain_model.specs.System.{SystemEvent, SystemState, first_state, stat
 use Rattle.chain_model.specs.System.{run}
 use Rattle.chain_model.proofs.Lists.{begins_nil, begins_refl}
 use Rattle.chain_model.proofs.Configuration.{IsChain}
-use Rattle.chain_model.proofs.Handed.{WasHandedIn, all_told, handed}
+use Rattle.chain_model.proofs.Submitted.{WasHandedIn, all_told, handed}
 use Rattle.chain_model.proofs.Invariant.{WorldOk}
 use Rattle.chain_model.proofs.WorldGrowth.{run_append}
 use Rattle.chain_model.proofs.Worlds.{Along, TailsIn, run_ok}

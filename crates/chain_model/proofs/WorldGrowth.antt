@@ -19,7 +19,7 @@ use Rattle.chain_model.specs.System.{after, answers, as_completed, first_state, 
 use Rattle.chain_model.specs.System.{state_after}
 use Rattle.chain_model.specs.System.{if_running, nothing, outcome, reached, run, stops, dispatched}
 use Rattle.chain_model.specs.System.{with_node}
-use Rattle.chain_model.specs.Growth.{GoesOn, Grows, OnlyGrows}
+use Rattle.chain_model.specs.Growth.{StaysRunning, Grows, OnlyGrows}
 use Rattle.chain_model.proofs.Lists.{begins_more, begins_refl, begins_trans}
 use Rattle.chain_model.proofs.Growth.{ask_goes_on, grows_refl, grows_trans, notice_goes_on}
 use Rattle.chain_model.proofs.Growth.{receive_goes_on, tend_goes_on, tick_goes_on}
@@ -67,7 +67,7 @@ module _ {A : Type 0} (w : SystemState A) where
 
   -- a step of a node that runs, or not
   running_grows : (x : ℕ) (f g : MachineState A → Answer A) (went : StepResult)
-      → GoesOn (w.nodes x) (f (w.nodes x)) → Grows (w.nodes x) (g (w.nodes x)).node
+      → StaysRunning (w.nodes x) (f (w.nodes x)) → Grows (w.nodes x) (g (w.nodes x)).node
       → AllGrow (if_running w x f g went)
   running_grows x f g went goes otherwise =
       let n = w.nodes x in
@@ -77,7 +77,7 @@ module _ {A : Type 0} (w : SystemState A) where
 
   -- a step that is dropped by a node that does not run
   takes_grows : (x : ℕ) (f : MachineState A → Answer A) (went : StepResult)
-      → GoesOn (w.nodes x) (f (w.nodes x)) → AllGrow (dispatched w x f went)
+      → StaysRunning (w.nodes x) (f (w.nodes x)) → AllGrow (dispatched w x f went)
   takes_grows x f went goes = running_grows x f (λ n. dropped_for n reason.NotRunning) went goes
       (grows_refl (w.nodes x))
 

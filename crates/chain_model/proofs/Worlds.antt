@@ -26,7 +26,7 @@ use Rattle.chain_model.specs.Order.{WasCommitted}
 use Rattle.chain_model.proofs.Lists.{begins_refl, every_append, every_map, every_place}
 use Rattle.chain_model.proofs.Lists.{part_both, part_wider}
 use Rattle.chain_model.proofs.Configuration.{IsChain}
-use Rattle.chain_model.proofs.Handed.{IsHandIn, WasHandedIn, handed, handed_by}
+use Rattle.chain_model.proofs.Submitted.{IsHandIn, WasHandedIn, handed, handed_by}
 use Rattle.chain_model.proofs.Invariant.{FrameOk, NodeOk, ReplyOk, WorldOk, frame_grows, lists_of}
 use Rattle.chain_model.proofs.Invariant.{node_grows, reply_grows}
 use Rattle.chain_model.proofs.Growth.{ask_goes_on, notice_goes_on, receive_goes_on, tend_goes_on}

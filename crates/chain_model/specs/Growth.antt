@@ -16,18 +16,20 @@ pub record Grows {A : Type 0} (n m : MachineState A) : Type 0 where
   pub kept : n.kept ≤ m.kept
 
 -- an answer of node n leaves it running, in a later state
-pub record GoesOn {A : Type 0} (n : MachineState A) (a : Answer A) : Type 0 where
+pub record StaysRunning {A : Type 0} (n : MachineState A) (a : Answer A) : Type 0 where
   pub grows : Grows n a.node
   pub running : a.node.running ≡ n.running
 
 -- the answer of each rule has this property
-pub record StepsGoOn (A : Type 0) : Type 0 where
-  pub asked : (x i : ℕ) (n : MachineState A) (request : Request A) → GoesOn n (ask x n i request)
-  pub received : (x : ℕ) (n : MachineState A) (frame : Message A) → GoesOn n (receive x n frame)
-  pub noticed : (x e : ℕ) (n : MachineState A) (ids : List ℕ) → GoesOn n (notice x n e ids)
-  pub ticked : (x : ℕ) (n : MachineState A) → GoesOn n (tick x n)
+pub record StepsStayRunning (A : Type 0) : Type 0 where
+  pub asked : (x i : ℕ) (n : MachineState A) (request : Request A)
+      → StaysRunning n (ask x n i request)
+  pub received : (x : ℕ) (n : MachineState A) (frame : Message A)
+      → StaysRunning n (receive x n frame)
+  pub noticed : (x e : ℕ) (n : MachineState A) (ids : List ℕ) → StaysRunning n (notice x n e ids)
+  pub ticked : (x : ℕ) (n : MachineState A) → StaysRunning n (tick x n)
   pub tended : (n : MachineState A) (rises : Bool) (gives_up : ℕ)
-      → GoesOn n (tend n rises gives_up)
+      → StaysRunning n (tend n rises gives_up)
 
 -- A longer run has all that a shorter run led to: its frames and replies, and its nodes later on.
 pub record OnlyGrows {A : Type 0} (cs : Configurations) (events later : List (SystemEvent A)) : Type

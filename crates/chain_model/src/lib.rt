@@ -11,7 +11,7 @@ ghost use Rattle.chain_model.specs.Outcomes.{RunIsOutcomes};
 ghost use Rattle.chain_model.specs.Order.{InOrder};
 ghost use Rattle.chain_model.specs.Freshness.{ReadsFresh};
 ghost use Rattle.chain_model.specs.Retention.{KeepsEnough};
-ghost use Rattle.chain_model.specs.Growth.{StepsGoOn, OnlyGrows};
+ghost use Rattle.chain_model.specs.Growth.{StepsStayRunning, OnlyGrows};
 ghost use Rattle.chain_model.specs.Maps.{CommutesWithMap};
 ghost use Rattle.chain_model.specs.WorkedRuns.{WorkedRuns};
 ghost use Rattle.chain_model.specs.WorkedSnapshots.{WorkedSnapshots};
@@ -57,8 +57,8 @@ pub fn run_is_outcomes<B>()
 
 /// A step that answers leaves its node running. The node's list, epoch, floor and kept number stay
 /// or grow.
-pub fn steps_go_on<B>()
-    ensures { StepsGoOn B }
+pub fn steps_stay_running<B>()
+    ensures { StepsStayRunning B }
 {}
 
 /// A longer run extends a shorter one: it keeps every batch, epoch, frame and reply.

@@ -10,7 +10,7 @@ use Rattle.disk.specs.Calls.{SyncOutcome}
 use Rattle.disk.specs.Moments.{OnlyLeaves, Passes, LeavesSince, LooksAt, IsUnnamed}
 use Rattle.disk.specs.Moments.{IsLeftAt}
 use Rattle.disk.specs.StepsLemmas.{Only, read_is_outcome}
-use Rattle.disk.specs.MomentsLemmas.{started, goes_on, stays, join, weaker, sync_narrows}
+use Rattle.disk.specs.MomentsLemmas.{none_yet, one_call_more, stays, join, weaker, sync_narrows}
 
 -- the contents with this file exchanged
 abbrev exchanged : Contents → ℕ → Option (List ℕ) → Contents
@@ -55,7 +55,7 @@ module _ (Names : Contents → ℕ → Type 0) (P : Contents → Type 0) (looks 
       → LeavesSince old past mid so_far P → Passes so_far mid since new → IsSameBut file mid new
       → IsUnnamed Names mid file → LeavesSince old past new since P
   beside old mid new past so_far since file run passes spares unnamed =
-      goes_on P old mid new past so_far since run passes
+      one_call_more P old mid new past so_far since run passes
       (spared mid new file spares unnamed run.now)
 
 -- ---- one file
@@ -79,7 +79,7 @@ left_at Q file old new spares only left now =
 pub at_start : (Q : Option (List ℕ) → Type 0) (file : ℕ) (old : State) (past : List State)
     → Only Q (old file) → LeavesSince old past old past (IsLeftAt old file Q)
 at_start Q file old past only =
-    started (IsLeftAt old file Q) old past (left_at Q file old old (λ other apart. refl) only)
+    none_yet (IsLeftAt old file Q) old past (left_at Q file old old (λ other apart. refl) only)
 
 -- one call more on the file
 pub at_more : (Q : Option (List ℕ) → Type 0) (file : ℕ) (old mid new : State)
@@ -87,7 +87,7 @@ pub at_more : (Q : Option (List ℕ) → Type 0) (file : ℕ) (old mid new : Sta
     → Passes so_far mid since new → IsSameBut file old new → Only Q (new file)
     → LeavesSince old past new since (IsLeftAt old file Q)
 at_more Q file old mid new past so_far since run passes spares after =
-    goes_on (IsLeftAt old file Q) old mid new past so_far since run passes
+    one_call_more (IsLeftAt old file Q) old mid new past so_far since run passes
     (left_at Q file old new spares after)
 
 -- a sync of it

@@ -51,21 +51,21 @@ sync_narrows result old new file w other left now = elim (cases_eq other file) [
 
 module _ (P : Contents → Type 0) where
   -- before the first call
-  pub started : (old : State) (past : List State) → OnlyLeaves P old
+  pub none_yet : (old : State) (past : List State) → OnlyLeaves P old
       → LeavesSince old past old past P
-  started old past only = record { first = only; later = later.None; now = only }
+  none_yet old past only = record { first = only; later = later.None; now = only }
 
   -- one call more
-  pub goes_on : (old mid new : State) (past so_far since : List State)
+  pub one_call_more : (old mid new : State) (past so_far since : List State)
       → LeavesSince old past mid so_far P → Passes so_far mid since new → OnlyLeaves P new
       → LeavesSince old past new since P
-  goes_on old mid new past so_far since run (inl stays) only =
+  one_call_more old mid new past so_far since run (inl stays) only =
       record {
         first = run.first;
         later = subst (λ (s : List State). AllLeave P past s) (sym stays.0) run.later;
         now = only;
       }
-  goes_on old mid new past so_far since run (inr more) only =
+  one_call_more old mid new past so_far since run (inr more) only =
       let here : OnlyLeaves P more.0 =
       narrowed P new more.0 (same_narrows new more.0 (λ file. more.1 file)) only in
       record {
@@ -80,7 +80,7 @@ module _ (P : Contents → Type 0) where
       → LeavesSince old past mid so_far P → Passes so_far mid since new → Narrows mid new
       → LeavesSince old past new since P
   stays old mid new past so_far since run passes narrows =
-      goes_on old mid new past so_far since run passes (narrowed P mid new narrows run.now)
+      one_call_more old mid new past so_far since run passes (narrowed P mid new narrows run.now)
 
   -- some calls more
   later_join : (past so_far since : List State) → AllLeave P past so_far → AllLeave P so_far since

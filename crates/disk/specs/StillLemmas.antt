@@ -4,12 +4,12 @@ use Rattle.disk.specs.declared.error.DiskError.{DiskError}
 use Rattle.disk.specs.States.{State, IsCrashOutcome, IsSame}
 use Rattle.disk.specs.Calls.{SyncOutcome}
 use Rattle.disk.specs.Moments.{Passes, LeavesSince}
-use Rattle.disk.specs.MomentsLemmas.{started, stays, join, weaker, same_narrows, sync_narrows}
+use Rattle.disk.specs.MomentsLemmas.{none_yet, stays, join, weaker, same_narrows, sync_narrows}
 
 -- before the first call
 pub still : (disk : State) (past : List State) → LeavesSince disk past disk past
     (IsCrashOutcome disk)
-still disk past = started (IsCrashOutcome disk) disk past (λ left at. at)
+still disk past = none_yet (IsCrashOutcome disk) disk past (λ left at. at)
 
 module _ {old mid new : State} {past so_far since : List State} where
   -- one call more that changes nothing

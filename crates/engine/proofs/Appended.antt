@@ -9,7 +9,7 @@ use Rattle.kv_types.specs.declared.bounds.TheConstants.{MAX_NUMBER}
 use Rattle.kv_types.specs.{BatchContent, Entry, IsBatch}
 use Rattle.disk.specs.{Contents, DurableFileIsLeft, IsDurable, IsFileOutcome, IsSameBut, Slot}
 use Rattle.disk.specs.{LeavesSince, State, contents, seen}
-use Rattle.disk.specs.MomentsLemmas.{started, weaker}
+use Rattle.disk.specs.MomentsLemmas.{none_yet, weaker}
 use Rattle.memtable.specs.declared.Memtable.{Memtable}
 use Rattle.memtable.specs.{HasFailedAdd, TableHolds}
 use Rattle.store_model.specs.Claims.{AppendsKeep}
@@ -174,7 +174,7 @@ module _ (disk : State) (files : StoreFiles) (list : List BatchContent)
     pub none_appended : DurableFileIsLeft → HeldVersionIsLeft → (past : List State)
         → LeavesSince disk past disk past OldOrNew
     none_appended law held past =
-        started OldOrNew disk past (λ left leaves. inl (left_now law held left leaves))
+        none_yet OldOrNew disk past (λ left leaves. inl (left_now law held left leaves))
 
     pub left_old_or_new : DurableFileIsLeft → HeldVersionIsLeft → AppendsKeep
         → length list < MAX_NUMBER → (left : Contents)

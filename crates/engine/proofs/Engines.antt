@@ -8,7 +8,7 @@ use Rattle.kv_types.specs.{BatchContent}
 use Rattle.disk.specs.declared.Disk.{Ghosts}
 use Rattle.disk.specs.{AlwaysLeaves, Contents, DurableFileIsLeft, IsCrashOutcome, IsSame}
 use Rattle.disk.specs.{LeavesSince, OnlyLeaves, State, contents}
-use Rattle.disk.specs.MomentsLemmas.{started, weaker}
+use Rattle.disk.specs.MomentsLemmas.{none_yet, weaker}
 use Rattle.manifest.specs.{HeldVersionIsLeft, HeldVersionStays}
 use Rattle.engine.specs.declared.engine.Engine.{Engine}
 use Rattle.engine.specs.declared.error.EngineError.{EngineError}
@@ -271,7 +271,7 @@ module _ {D : Type 0} (g : Ghosts D) (laws : LeftFiles) where
       (past : List State) → LeavesSince (g.state (engine_disk engine)) past
       (g.state (engine_disk engine)) past (FilesRepresent (facts_of engine) list)
   none_since engine list r past =
-      started (FilesRepresent (facts_of engine) list) (g.state (engine_disk engine)) past
+      none_yet (FilesRepresent (facts_of engine) list) (g.state (engine_disk engine)) past
       (holds_of engine list r).crash
 
 -- no call leaves files of one of two lists
@@ -279,7 +279,7 @@ pub one_left : (facts : Facts) (list more : List BatchContent) (disk : State) (p
     OnlyLeaves (WereMeant facts list) disk →
     LeavesSince disk past disk past (WereOneOf facts list facts more)
 one_left facts list more disk past only =
-    started (WereOneOf facts list facts more) disk past (λ left leaves. inl (only left leaves))
+    none_yet (WereOneOf facts list facts more) disk past (λ left leaves. inl (only left leaves))
 
 -- an engine that works has no next number only at the greatest
 pub only_exhausted : {T : Type 0} {M : Type 0} (result : Result T EngineError) (e : EngineError) →
@@ -301,7 +301,7 @@ still_refused {D = D} g P disk result e told is same given only =
     ap (λ (r : Result (Engine D g) (EngineError × D)). disk_after r) is
     ∙ ap (λ (p : EngineError × D). p.1) same ∙ given in
     subst (λ (d : D). LeavesSince (g.state disk) (g.past disk) (g.state d) (g.past d) P) (sym back)
-    (started P (g.state disk) (g.past disk) only)
+    (none_yet P (g.state disk) (g.past disk) only)
 
 -- moments since a disk are those since an equal one
 pub leaves_since_same : {D : Type 0} (g : Ghosts D) {disk was new : D} (facts : Facts)

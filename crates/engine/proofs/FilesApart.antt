@@ -8,7 +8,7 @@ use Rattle.std.proofs.lemmas.List.Elements.{Contains-append_right}
 use Rattle.store_model.specs.PlacesLemmas.{contains_cases, contains_head}
 use Rattle.manifest.specs.declared.LogLine.{LogLine}
 use Rattle.manifest.specs.declared.TableLine.{TableLine}
-use Rattle.manifest.specs.Lawful.{IsGiven, IsVersion}
+use Rattle.manifest.specs.Lawful.{IsAllocated, IsVersion}
 use Rattle.manifest.specs.Versions.{are_once}
 use Rattle.manifest.specs.{IsLogLine, IsSlotFile, StoreVersion}
 use Rattle.engine.specs.declared.store_files.StoreFiles.{StoreFiles}
@@ -61,7 +61,7 @@ log_no_table version is log has table there same =
     (contains_map (λ line. line.file) version.tables table there) (sym same)
 
 -- a file that was given is no slot
-pub given_no_slot : (version : StoreVersion) (file : ℕ) → IsGiven version file → (slot : ℕ)
+pub given_no_slot : (version : StoreVersion) (file : ℕ) → IsAllocated version file → (slot : ℕ)
     → IsSlotFile slot → slot ≢ file
 given_no_slot version file given slot (inl one) same =
     let least = given.0 in omega (arith, one, same, least)
@@ -78,8 +78,8 @@ module _ (files : StoreFiles) (u : AreUsableFiles files) where
       (line_of files.logs.newest ∷ []) (line_of files.logs.newest)
       (contains_head (line_of files.logs.newest) []))
 
-  pub newest_given : IsGiven version (newest_file files.logs)
-  newest_given = All-contains (λ (line : LogLine). IsGiven version line.file) version.logs
+  pub newest_given : IsAllocated version (newest_file files.logs)
+  newest_given = All-contains (λ (line : LogLine). IsAllocated version line.file) version.logs
       (line_of files.logs.newest) u.version.lines.log_files newest_named
 
   pub newest_positive : 1 ≤ files.logs.newest.first

@@ -15,7 +15,7 @@ use Rattle.chain_model.specs.{is_part}
 use Rattle.manifest.specs.declared.line.TheConstants.{MAX_NEXT}
 use Rattle.manifest.specs.declared.LogLine.{LogLine}
 use Rattle.manifest.specs.declared.TableLine.{TableLine}
-use Rattle.manifest.specs.Lawful.{IsGiven, IsVersion}
+use Rattle.manifest.specs.Lawful.{IsAllocated, IsVersion}
 use Rattle.manifest.specs.Versions.{all_apart, are_apart, are_once, files_of, is_new_file}
 use Rattle.manifest.specs.Versions.{keeps_ids}
 use Rattle.manifest.specs.Versions.{AreLawful, log_is_before, placed, table_is_before, with_log}
@@ -181,12 +181,12 @@ module _ (version : StoreVersion) (is : IsVersion version) (free : ℕ)
       omega (arith, least, above)
 
   log_files : All (λ (l : LogLine). l.file < free) version.logs
-  log_files = All-weaker (λ (l : LogLine). IsGiven version l.file)
+  log_files = All-weaker (λ (l : LogLine). IsAllocated version l.file)
       (λ (l : LogLine). l.file < free) (λ l given. omega (arith, given.1, above)) version.logs
       is.lines.log_files
 
   table_files : All (λ (l : TableLine). l.file < free) version.tables
-  table_files = All-weaker (λ (l : TableLine). IsGiven version l.file)
+  table_files = All-weaker (λ (l : TableLine). IsAllocated version l.file)
       (λ (l : TableLine). l.file < free) (λ l given. omega (arith, given.1, above)) version.tables
       is.lines.table_files
 

@@ -10,7 +10,7 @@ use Rattle.kv_types.specs.declared.bounds.TheConstants.{MAX_NUMBER}
 use Rattle.kv_types.specs.{BatchContent, Entry, IsBatch}
 use Rattle.disk.specs.{Contents, DurableFileIsLeft, IsDurable, IsFileOutcome, IsLeftAt, IsSameBut}
 use Rattle.disk.specs.{LeavesSince, Slot, State, contents, seen}
-use Rattle.disk.specs.MomentsLemmas.{join, started, weaker}
+use Rattle.disk.specs.MomentsLemmas.{join, none_yet, weaker}
 use Rattle.memtable.specs.{HasFailedAdd, TableHolds}
 use Rattle.record_log.specs.{EndsInRange, file_of}
 use Rattle.store_model.specs.Claims.{FlushesKeep}
@@ -18,7 +18,7 @@ use Rattle.store_model.specs.StoresLemmas.{entry_within}
 use Rattle.store_model.specs.{IsFlush, LevelTable, StoreRepresents}
 use Rattle.manifest.specs.declared.LogLine.{LogLine}
 use Rattle.manifest.specs.declared.TableLine.{TableLine}
-use Rattle.manifest.specs.Lawful.{IsGiven}
+use Rattle.manifest.specs.Lawful.{IsAllocated}
 use Rattle.manifest.specs.{Change, EditsKeepVersions, HeldVersionIsLeft, HeldVersionStays, IsChange}
 use Rattle.manifest.specs.{IsFit, IsSlotFile, IsVersion, ManifestHasFailed, ManifestHolds}
 use Rattle.manifest.specs.{ManifestRepresents, NodeVersion, SlotsAreLeft, StoreVersion, changed}
@@ -130,12 +130,13 @@ module _ (disk : State) (version : StoreVersion) (logs : BatchLogs) (trimmed : �
 
 -- no file that a version names is a slot
 module _ (version : StoreVersion) (is : IsVersion version) where
-  pub log_given : (line : LogLine) → Contains version.logs line → IsGiven version line.file
-  log_given line has = All-contains (λ (l : LogLine). IsGiven version l.file) version.logs line
+  pub log_given : (line : LogLine) → Contains version.logs line → IsAllocated version line.file
+  log_given line has = All-contains (λ (l : LogLine). IsAllocated version l.file) version.logs line
       is.lines.log_files has
 
-  pub table_given : (line : TableLine) → Contains version.tables line → IsGiven version line.file
-  table_given line has = All-contains (λ (l : TableLine). IsGiven version l.file) version.tables
+  pub table_given : (line : TableLine) → Contains version.tables line
+      → IsAllocated version line.file
+  table_given line has = All-contains (λ (l : TableLine). IsAllocated version l.file) version.tables
       line is.lines.table_files has
 
   pub log_no_slot : (line : LogLine) → Contains version.logs line → IsSlotFile line.file → ⊥
@@ -278,7 +279,7 @@ module _ (files : StoreFiles) (u : AreUsableFiles files) (line : TableLine)
     tables_are =
         tables_after version free (batch_count files) line
         ∙ flushed_lines line next.level version.tables
-        (All-weaker (λ (old : TableLine). IsGiven version old.file)
+        (All-weaker (λ (old : TableLine). IsAllocated version old.file)
         (λ (old : TableLine). old.file < line.file)
         (λ old given. let above = free_above in omega (arith, given.1, above, next.file))
         version.tables u.version.lines.table_files)
@@ -428,7 +429,7 @@ module _ (files : StoreFiles) (u : AreUsableFiles files) (line : TableLine)
       pub none_begun : DurableFileIsLeft → HeldVersionIsLeft → HeldVersionStays
           → (past : List State) → LeavesSince s1 past s1 past OfStore
       none_begun law held stays past =
-          started OfStore s1 past (λ left leaves. left_begun law held stays left
+          none_yet OfStore s1 past (λ left leaves. left_begun law held stays left
           (λ other apart. leaves other))
 
       -- while the log is begun

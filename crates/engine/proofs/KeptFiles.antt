@@ -19,7 +19,7 @@ use Rattle.manifest.specs.declared.Manifest.{Manifest}
 use Rattle.manifest.specs.declared.TableLine.{TableLine}
 use Rattle.manifest.specs.{HeldVersionIsLeft, HeldVersionStays, IsSlotFile, StoreVersion}
 use Rattle.manifest.specs.{IsVersion, ManifestHolds, ManifestRepresents, NodeVersion}
-use Rattle.manifest.specs.Lawful.{IsGiven}
+use Rattle.manifest.specs.Lawful.{IsAllocated}
 use Rattle.manifest.specs.Versions.{files_of}
 use Rattle.sorted_table.specs.{TableServes, table_file}
 use Rattle.engine.specs.declared.batch_logs.BatchLog.{BatchLog}
@@ -97,26 +97,28 @@ module _ (version : StoreVersion) where
   -- a file that is named has a number that was given
   module _ (is : IsVersion version) where
     log_is_given : (file : ℕ) →
-        Contains (map (λ (one : LogLine). one.file) version.logs) file → IsGiven version file
+        Contains (map (λ (one : LogLine). one.file) version.logs) file → IsAllocated version file
     log_is_given file has =
         let found = map_contains (λ (one : LogLine). one.file) version.logs file has in
-        subst (IsGiven version) found.2
-        (All-contains (λ (one : LogLine). IsGiven version one.file) version.logs found.0
+        subst (IsAllocated version) found.2
+        (All-contains (λ (one : LogLine). IsAllocated version one.file) version.logs found.0
         is.lines.log_files found.1)
 
     table_is_given : (file : ℕ) →
-        Contains (map (λ (one : TableLine). one.file) version.tables) file → IsGiven version file
+        Contains (map (λ (one : TableLine). one.file) version.tables) file
+        → IsAllocated version file
     table_is_given file has =
         let found = map_contains (λ (one : TableLine). one.file) version.tables file has in
-        subst (IsGiven version) found.2
-        (All-contains (λ (one : TableLine). IsGiven version one.file) version.tables found.0
+        subst (IsAllocated version) found.2
+        (All-contains (λ (one : TableLine). IsAllocated version one.file) version.tables found.0
         is.lines.table_files found.1)
 
     pub some_is_given : (logs : List LogLine) → 0 < length logs →
-        All (λ (one : LogLine). IsGiven version one.file) logs → 3 < version.next_file
+        All (λ (one : LogLine). IsAllocated version one.file) logs → 3 < version.next_file
     some_is_given [] some all = absurd (omega (arith, some))
     some_is_given (one ∷ logs) some all =
-        let given = All-contains (λ (line : LogLine). IsGiven version line.file) (one ∷ logs) one
+        let given = All-contains (λ (line : LogLine). IsAllocated version line.file)
+        (one ∷ logs) one
         all (contains_head one logs) in
         omega (arith, given.0, given.1)
 

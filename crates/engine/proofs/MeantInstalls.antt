@@ -9,7 +9,7 @@ use Rattle.kv_types.specs.{BatchContent, Entry}
 use Rattle.disk.specs.{Contents, DurableFileIsLeft, IsDurable, IsFileOutcome, IsLeftAt}
 use Rattle.disk.specs.{IsSameBut, LeavesSince}
 use Rattle.disk.specs.{Slot, State, contents, seen}
-use Rattle.disk.specs.MomentsLemmas.{join, started, weaker}
+use Rattle.disk.specs.MomentsLemmas.{join, none_yet, weaker}
 use Rattle.memtable.specs.{TableHolds}
 use Rattle.record_log.specs.{EndsInRange}
 use Rattle.sorted_table.specs.{AreAsMeant, as_meant_itself, index_lines, table_file}
@@ -189,7 +189,7 @@ module _ (files : StoreFiles) (u : AreUsableFiles files) (line : TableLine)
     -- before the first call
     pub none_were : (past : List State) → LeavesSince s1 past s1 past Meant
     none_were past =
-        started Meant s1 past (λ left leaves. left_begun left (λ other apart. leaves other))
+        none_yet Meant s1 past (λ left leaves. left_begun left (λ other apart. leaves other))
 
     -- while the log is begun
     pub log_was_begun : (past since : List State) (s2 : State)

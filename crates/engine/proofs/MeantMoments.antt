@@ -8,7 +8,7 @@ use Rattle.kv_types.specs.declared.bounds.TheConstants.{MAX_NUMBER}
 use Rattle.kv_types.specs.{BatchContent, IsBatch}
 use Rattle.disk.specs.{Contents, DurableFileIsLeft, IsCrashOutcome, IsFileOutcome, LeavesSince}
 use Rattle.disk.specs.{State, contents}
-use Rattle.disk.specs.MomentsLemmas.{started, weaker}
+use Rattle.disk.specs.MomentsLemmas.{none_yet, weaker}
 use Rattle.store_model.specs.Claims.{AppendsKeep}
 use Rattle.store_model.specs.{StoreRepresents}
 use Rattle.manifest.specs.{HeldVersionIsLeft, StoreVersion}
@@ -91,7 +91,7 @@ module _ (laws : CrashLaws) (disk : State) (files : StoreFiles) (list : List Bat
     Either = WereOneOf (known_facts files) list (known_facts files) longer
 
     pub none_meant : (past : List State) → LeavesSince disk past disk past Either
-    none_meant past = started Either disk past (λ left leaves. inl (meant_now left leaves))
+    none_meant past = none_yet Either disk past (λ left leaves. inl (meant_now left leaves))
 
     left_meant : AppendsKeep → length list < MAX_NUMBER → (left : Contents)
         → AreLeftWith disk files.logs (suc trimmed) (drop trimmed list) batch left

@@ -17,7 +17,7 @@ use Rattle.manifest.specs.declared.LogLine.{LogLine}
 use Rattle.manifest.specs.declared.Manifest.{Manifest}
 use Rattle.manifest.specs.declared.TableLine.{TableLine}
 use Rattle.manifest.specs.Holds.{SparesOthers}
-use Rattle.manifest.specs.Lawful.{IsGiven}
+use Rattle.manifest.specs.Lawful.{IsAllocated}
 use Rattle.disk.specs.Moments.{LooksAt}
 use Rattle.manifest.specs.{HeldVersionStays, IsSlotFile, IsVersion, ManifestHolds}
 use Rattle.manifest.specs.{ManifestRepresents, NodeVersion, StoreVersion, VersionIsOne}
@@ -113,7 +113,7 @@ mended_beside (line ∷ lines) meant disk file beside = elim (eqb_tells file lin
 module _ (version : StoreVersion) (is : IsVersion version) where
   pub slot_beside : (slot : ℕ) → IsSlotFile slot → All (λ line. line.file ≢ slot) version.tables
   slot_beside slot one =
-      All-weaker (λ (line : TableLine). IsGiven version line.file)
+      All-weaker (λ (line : TableLine). IsAllocated version line.file)
       (λ (line : TableLine). line.file ≢ slot)
       (λ line given same. given_no_slot version line.file given slot one (sym same))
       version.tables is.lines.table_files

@@ -6,7 +6,7 @@ use Rattle.std.proofs.lemmas.List.Elements.{All-contains}
 use Rattle.kv_types.specs.{BatchContent}
 use Rattle.disk.specs.{Contents, DurableFileIsLeft, IsCrashOutcome, IsLeftAt, IsSameBut}
 use Rattle.disk.specs.{LeavesSince, Slot, State, seen}
-use Rattle.disk.specs.MomentsLemmas.{join, started, weaker}
+use Rattle.disk.specs.MomentsLemmas.{join, none_yet, weaker}
 use Rattle.disk.specs.StepsLemmas.{read_is_outcome}
 use Rattle.table_builder.specs.{IsFresh}
 use Rattle.manifest.specs.declared.Manifest.{Manifest}
@@ -71,7 +71,7 @@ module _ (disk : State) (files : StoreFiles) (list : List BatchContent)
   -- before the first call
   pub not_called : DurableFileIsLeft → HeldVersionIsLeft → (past : List State)
       → LeavesSince disk past disk past Meant
-  not_called law held past = started Meant disk past
+  not_called law held past = none_yet Meant disk past
       (meant_now (record {
         durable = law;
         version = held;

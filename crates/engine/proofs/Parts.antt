@@ -11,7 +11,7 @@ use Rattle.std.proofs.lemmas.List.Elements.{All-push, All-same, All-tail, All-we
 use Rattle.kv_types.specs.{BatchContent, IsBatch, SpellingsDiffer, batch_bytes}
 use Rattle.disk.specs.{Contents, DurableFileIsLeft, IsDurable, IsFileOutcome, IsLeftAt, Kept}
 use Rattle.disk.specs.{LeavesSince, Slot, State, seen}
-use Rattle.disk.specs.MomentsLemmas.{started, weaker}
+use Rattle.disk.specs.MomentsLemmas.{none_yet, weaker}
 use Rattle.record_log.specs.declared.Log.{Log}
 use Rattle.record_log.specs.{IsAt, IsOldOrNewFrom, LogHolds, Represents, count_of, file_of}
 use Rattle.record_log.specs.{start_of}
@@ -221,7 +221,7 @@ pub none_more : DurableFileIsLeft → (disk : State) (logs : BatchLogs) (first :
     AreBeside (newest_file logs) logs.older.items → (past : List State) →
     LeavesSince disk past disk past (AreLeftWith disk logs first batches batch)
 none_more law disk logs first batches batch h apart past =
-    started (AreLeftWith disk logs first batches batch) disk past (λ left leaves. record {
+    none_yet (AreLeftWith disk logs first batches batch) disk past (λ left leaves. record {
       either = inl (whole_left law disk left logs first batches h apart leaves);
       others = λ other not. leaves other;
     })

@@ -16,7 +16,7 @@ use Rattle.manifest.specs.declared.LogLine.{LogLine}
 use Rattle.manifest.specs.declared.Manifest.{Manifest}
 use Rattle.manifest.specs.declared.TableLine.{TableLine}
 use Rattle.manifest.specs.Holds.{SparesOthers}
-use Rattle.manifest.specs.Lawful.{IsGiven}
+use Rattle.manifest.specs.Lawful.{IsAllocated}
 use Rattle.manifest.specs.{HeldVersionStays, IsSlotFile, IsVersion, ManifestHolds, NodeVersion}
 use Rattle.manifest.specs.{IsNotCreated, ManifestHasFailed, ManifestRepresents, StoreVersion}
 use Rattle.manifest.specs.declared.ManifestError.{ManifestError}
@@ -111,13 +111,14 @@ module _ (version : StoreVersion) (is : IsVersion version) (old new : State)
   log_reads : (line : LogLine) → Contains version.logs line
       → contents new line.file ≡ contents old line.file
   log_reads line has = ap seen (spares line.file (λ slot. given_no_slot version line.file
-      (All-contains (λ (l : LogLine). IsGiven version l.file) version.logs line is.lines.log_files
+      (All-contains (λ (l : LogLine). IsAllocated version l.file) version.logs line
+      is.lines.log_files
       has) line.file slot refl))
 
   pub table_reads : (line : TableLine) → Contains version.tables line
       → contents new line.file ≡ contents old line.file
   table_reads line has = ap seen (spares line.file (λ slot. given_no_slot version line.file
-      (All-contains (λ (l : TableLine). IsGiven version l.file) version.tables line
+      (All-contains (λ (l : TableLine). IsAllocated version l.file) version.tables line
       is.lines.table_files has) line.file slot refl))
 
   pub batches_then : (first : ℕ) (batches : List BatchContent)

@@ -26,7 +26,7 @@ use Rattle.engine.specs.BatchLogs.{IsWorking, end_of_log, line_of}
 use Rattle.engine.specs.Files.{IsLog}
 use Rattle.engine.specs.KeepingLemmas.{kept_as, kept_behind, neither, unchanged}
 use Rattle.engine.specs.Layout.{records_from}
-use Rattle.engine.specs.Replaying.{AreInLine, AreReadLogs, IsOpenedBehind, IsReadLog, TakesBatches}
+use Rattle.engine.specs.Replaying.{AreInLine, AreReadLogs, IsOpenedBehind, IsReadLog, AddsBatches}
 use Rattle.engine.specs.Settling.{AddsNothing, SlotSettles}
 use Rattle.engine.specs.Stores.{IsNumberedTo}
 use Rattle.engine.proofs.Entries.{none_numbered}
@@ -219,7 +219,7 @@ none_read disk before flushed logs memtable none empty = record {
 -- the memtable has the entries of more batches
 has_more : (mid new : Memtable) (before flushed : ℕ) (a b : List BatchContent) →
     ((entry : Entry) → TableHolds mid entry ↔ replayed_entries before flushed a entry) →
-    TakesBatches mid new (before + length a) flushed b → (entry : Entry) →
+    AddsBatches mid new (before + length a) flushed b → (entry : Entry) →
     TableHolds new entry ↔ replayed_entries before flushed (a ++ b) entry
 has_more mid new before flushed a b first second entry = (to, back)
   where
@@ -320,7 +320,7 @@ module _ (passed : List LogLine) (line : LogLine) (before count : ℕ) (logs : L
             length-append read.batches it.here,
           );
           entries = has_more memtable after before flushed read.batches it.here read.entries
-              (subst (λ (n : ℕ). TakesBatches memtable after n flushed it.here) read.counted
+              (subst (λ (n : ℕ). AddsBatches memtable after n flushed it.here) read.counted
               it.entries);
         }
 

@@ -15,7 +15,7 @@ use Rattle.disk.specs.{Absent, AlwaysLeaves, Fresh, IsFileOutcome, IsSame, IsSam
 use Rattle.disk.specs.{KeepsDisk}
 use Rattle.disk.specs.{OnlyLeaves, Passes, Slot, State, seen}
 use Rattle.disk.specs.Calls.{ListsFiles}
-use Rattle.disk.specs.MomentsLemmas.{goes_on, started}
+use Rattle.disk.specs.MomentsLemmas.{one_call_more, none_yet}
 use Rattle.disk.specs.States.{ChangesSlot, removed}
 use Rattle.engine.specs.KeepingLemmas.{kept_as, kept_behind, neither}
 use Rattle.engine.specs.Settling.{AreAlone, AreLeftOf, SparesFiles}
@@ -151,8 +151,9 @@ module _ {D : Type 0} (g : Ghosts D) (kept : List ℕ) where
       AlwaysLeaves g old new (AreLeftOf kept (g.state old))
   listing_moments old new passes same honest =
       let P = AreLeftOf kept (g.state old) in
-      goes_on P (g.state old) (g.state old) (g.state new) (g.past old) (g.past old) (g.past new)
-      (started P (g.state old) (g.past old) (λ left at file is_kept. at file)) (passes honest)
+      one_call_more P (g.state old) (g.state old) (g.state new) (g.past old) (g.past old)
+      (g.past new)
+      (none_yet P (g.state old) (g.past old) (λ left at file is_kept. at file)) (passes honest)
       (kept_leaves kept (g.state old) (g.state new) (λ file is_kept. same honest file))
 
   pub listed : (old new : D) (files : List ℕ) {told : Type 0} → KeepsDisk g old new told ⊥ IsSame →
@@ -180,7 +181,7 @@ module _ {D : Type 0} (g : Ghosts D) (kept : List ℕ) where
         (g.is_honest mid → Passes (g.past mid) (g.state mid) (g.past new) (g.state new)) →
         g.is_honest old → AlwaysLeaves g old new (AreLeftOf kept (g.state old))
     removal_moments file {new = new} unkept calls passes honest =
-        goes_on (AreLeftOf kept (g.state old)) (g.state old) (g.state mid) (g.state new)
+        one_call_more (AreLeftOf kept (g.state old)) (g.state old) (g.state mid) (g.state new)
         (g.past old) (g.past mid) (g.past new) (before.moments honest)
         (passes (before.calls.honest.1 honest))
         (kept_leaves kept (g.state old) (g.state new)

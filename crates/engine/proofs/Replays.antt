@@ -11,7 +11,7 @@ use Rattle.record_log.specs.declared.OpenedLog.{OpenedLog}
 use Rattle.record_log.specs.{HasRead, count_of}
 use Rattle.store_model.specs.{replayed_entries}
 use Rattle.engine.specs.Layout.{batch_record, records_from}
-use Rattle.engine.specs.Replaying.{AreTaken, IsTaken, TakesBatch, TakesBatches}
+use Rattle.engine.specs.Replaying.{AreBatchesAdded, IsBatchAdded, AddsBatch, AddsBatches}
 use Rattle.engine.proofs.Records.{length-ends, records_from-push, take_suc}
 
 -- ---- the entries of batches behind others
@@ -95,8 +95,8 @@ module _ (before flushed : ℕ) (a b : List BatchContent) (entry : Entry) where
 
 -- the batches of some records, and those of more behind them
 pub takes_more : (old mid new : Memtable) (before flushed : ℕ) (a b : List BatchContent) →
-    TakesBatches old mid before flushed a → TakesBatches mid new (before + length a) flushed b →
-    TakesBatches old new before flushed (a ++ b)
+    AddsBatches old mid before flushed a → AddsBatches mid new (before + length a) flushed b →
+    AddsBatches old new before flushed (a ++ b)
 takes_more old mid new before flushed a b first second entry = (to, back)
   where
     Both : Type 0
@@ -127,8 +127,8 @@ only_first x b (suc i) got = absurd cc
 
 -- one batch is a list of one
 pub takes_one : (old new : Memtable) (number before flushed : ℕ) (batch : BatchContent) →
-    number ≡ suc before → TakesBatch old new number flushed batch →
-    TakesBatches old new before flushed (batch ∷ [])
+    number ≡ suc before → AddsBatch old new number flushed batch →
+    AddsBatches old new before flushed (batch ∷ [])
 takes_one old new number before flushed batch is takes entry = (to, back)
   where
     Both : Type 0
@@ -159,7 +159,7 @@ takes_one old new number before flushed batch is takes entry = (to, back)
         ))
 
 pub takes_none : (table : Memtable) (before flushed : ℕ)
-    → TakesBatches table table before flushed []
+    → AddsBatches table table before flushed []
 takes_none table before flushed entry = (
   λ holds. inl holds,
   λ either. elim either as (λ _. TableHolds table entry) [
@@ -175,7 +175,7 @@ pub record TakenTo (records : List (List ℕ)) (i before flushed : ℕ) (old now
     pub size : length batches ≡ i
     pub spelled : take i records ≡ records_from (suc before) batches
     pub each : All IsBatch batches
-    pub entries : TakesBatches old now before flushed batches
+    pub entries : AddsBatches old now before flushed batches
 
 pub none_taken : (records : List (List ℕ)) (before flushed : ℕ) (table : Memtable) →
     TakenTo records 0 before flushed table table
@@ -204,7 +204,7 @@ taken_records records i before batches bytes batch size spelled got is =
 -- .. and one more
 pub taken_next : (records : List (List ℕ)) (i before flushed number : ℕ) (old mid new : Memtable)
     (bytes : List ℕ) → TakenTo records i before flushed old mid → slice_get records i ≡ Some bytes →
-    number ≡ before + i + 1 → IsTaken bytes number flushed mid new →
+    number ≡ before + i + 1 → IsBatchAdded bytes number flushed mid new →
     TakenTo records (i + 1) before flushed old new
 taken_next records i before flushed number old mid new bytes was got is taken = record {
   batches = was.batches ++ taken.batch ∷ [];
@@ -220,7 +220,7 @@ taken_next records i before flushed number old mid new bytes was got is taken = 
 -- all of them
 pub all_taken : (opened : OpenedLog) (records : List (List ℕ)) (i before flushed : ℕ)
     (old new : Memtable) → HasRead opened records → count_of opened.log ≤ i →
-    TakenTo records i before flushed old new → AreTaken records before flushed old new
+    TakenTo records i before flushed old new → AreBatchesAdded records before flushed old new
 all_taken opened records i before flushed old new read all was =
     let size : length records ≤ i =
     omega (arith, all, ap length read.ends, length-ends 0 records) in

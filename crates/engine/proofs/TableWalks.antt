@@ -23,7 +23,7 @@ use Rattle.engine.specs.declared.error.EngineError.{EngineError}
 use Rattle.engine.specs.declared.error.EngineError.TheVariants as engine
 use Rattle.engine.specs.Errors.{FailsDevice, IsEngineExternal}
 use Rattle.engine.specs.Errors.{error_of_cursor}
-use Rattle.engine.specs.TableWriting.{HasAddedAll, PassesLimit, TellsRoom}
+use Rattle.engine.specs.TableWriting.{HasAddedAll, PassesLimit, IsRoomAnswer}
 
 -- the entries are those of the set that a walk meets before this position
 abbrev pub AreBefore : (Entry → Type 0) → List Entry → Position → Type 0
@@ -223,7 +223,7 @@ added_like own has alike slot builder (Err e) it = it
 
 -- the answer whether one set has room is that of another with the same entries
 pub room_like : (own has : Entry → Type 0) → IsAlike own has → (result : Result Bool EngineError)
-    → IfOk result (TellsRoom own) → IfOk result (TellsRoom has)
+    → IfOk result (IsRoomAnswer own) → IfOk result (IsRoomAnswer has)
 room_like own has alike (Ok true) it = tt
 room_like own has alike (Ok false) it = limit_like own has alike it
 room_like own has alike (Err e) it = tt

@@ -5,12 +5,12 @@ use Rattle.std.proofs.Common.{Result, Ok, Err}
 use Rattle.std.specs.Prelude.{IfOk, IsNone, MatchResult}
 use Rattle.kv_types.specs.{BatchContent}
 use Rattle.disk.specs.{DurableFileIsLeft, IsSameBut, LeavesSince, Slot, State, seen}
-use Rattle.disk.specs.MomentsLemmas.{started, weaker}
+use Rattle.disk.specs.MomentsLemmas.{none_yet, weaker}
 use Rattle.manifest.specs.declared.LogLine.{LogLine}
 use Rattle.manifest.specs.declared.Manifest.{Manifest}
 use Rattle.manifest.specs.declared.ManifestError.{ManifestError}
 use Rattle.manifest.specs.declared.TableLine.{TableLine}
-use Rattle.manifest.specs.Lawful.{IsGiven}
+use Rattle.manifest.specs.Lawful.{IsAllocated}
 use Rattle.manifest.specs.{HeldVersionIsLeft, IsManifestExternal, IsSlotFile, ManifestHolds}
 use Rattle.manifest.specs.{ManifestRepresents, SlotsAreLeft, StoreVersion}
 use Rattle.engine.specs.declared.store_files.StoreFiles.{StoreFiles}
@@ -19,8 +19,8 @@ use Rattle.engine.specs.declared.tended.Tended.{Tended}
 use Rattle.engine.specs.Errors.{IsEnd, IsEngineExternal, error_of_edit}
 use Rattle.engine.specs.OpenFiles.{FilesHold, HasEntry, known_facts, known_version}
 use Rattle.engine.specs.StoreFiles.{FilesRepresent}
-use Rattle.engine.specs.Tending.{FlushIsDue, IsTend, RewriteIsDue, TellsFlush, TellsRewrite}
-use Rattle.engine.specs.Tending.{TellsWork, IsTend as tend, TellsWork as work}
+use Rattle.engine.specs.Tending.{FlushIsDue, IsTend, RewriteIsDue, IsFlushAnswer, IsRewriteAnswer}
+use Rattle.engine.specs.Tending.{IsWorkAnswer, IsTend as tend, IsWorkAnswer as work}
 use Rattle.engine.proofs.Appended.{left_now}
 use Rattle.engine.proofs.FilesApart.{given_no_slot}
 use Rattle.engine.proofs.KeptFiles.{held_with, kept_is_given, lines_are_left, slot_is_kept}
@@ -40,29 +40,29 @@ module _ (limit : ℕ) (old new : StoreFiles) (held : Type 0) where
   -- a rewrite that was due
   pub tells_rewrite : (result : Result Tended EngineError) → RewriteIsDue old →
       MatchResult result (λ _. held) IsEngineExternal →
-      MatchResult result (TellsRewrite old new) IsEnd →
-      MatchResult result (λ answer. held × TellsWork limit old new answer) IsEngineExternal
+      MatchResult result (IsRewriteAnswer old new) IsEnd →
+      MatchResult result (λ answer. held × IsWorkAnswer limit old new answer) IsEngineExternal
   tells_rewrite (Ok answer) due holds tells = (holds, work.Rewrites due tells)
   tells_rewrite (Err e) due machine ends = machine
 
   -- a flush that was due
   pub tells_flush : (result : Result Tended EngineError) → (RewriteIsDue old → ⊥) →
       FlushIsDue limit old →
-      MatchResult result (λ answer. held × TellsFlush old new answer) IsEngineExternal →
-      MatchResult result (λ answer. held × TellsWork limit old new answer) IsEngineExternal
+      MatchResult result (λ answer. held × IsFlushAnswer old new answer) IsEngineExternal →
+      MatchResult result (λ answer. held × IsWorkAnswer limit old new answer) IsEngineExternal
   tells_flush (Ok answer) short due tells = (tells.0, work.Flushes short due tells.1)
   tells_flush (Err e) short due machine = machine
 
 module _ (old new : StoreFiles) where
   -- whatever its disk did, a rewrite is a tend
   pub rewrite_is_tend : (result : Result Tended EngineError) →
-      MatchResult result (TellsRewrite old new) IsEnd → IfOk result (IsTend old new)
+      MatchResult result (IsRewriteAnswer old new) IsEnd → IfOk result (IsTend old new)
   rewrite_is_tend (Ok answer) tells = tend.WasRewrite tells
   rewrite_is_tend (Err e) ends = tt
 
   -- and so is a flush
   pub flush_is_tend : (result : Result Tended EngineError) → HasEntry old.memtable →
-      MatchResult result (TellsFlush old new) IsEnd → IfOk result (IsTend old new)
+      MatchResult result (IsFlushAnswer old new) IsEnd → IfOk result (IsTend old new)
   flush_is_tend (Ok answer) some tells = tend.WasFlush some tells
   flush_is_tend (Err e) some ends = tt
 
@@ -76,19 +76,19 @@ module _ (disk : State) (files : StoreFiles) (list : List BatchContent)
   -- no line names a slot
   log_no_slot : (line : LogLine) → Contains version.logs line → IsSlotFile line.file → ⊥
   log_no_slot line has slot = given_no_slot version line.file
-      (All-contains (λ (one : LogLine). IsGiven version one.file) version.logs line
+      (All-contains (λ (one : LogLine). IsAllocated version one.file) version.logs line
       h.known.usable.version.lines.log_files has) line.file slot refl
 
   table_no_slot : (line : TableLine) → Contains version.tables line → IsSlotFile line.file → ⊥
   table_no_slot line has slot = given_no_slot version line.file
-      (All-contains (λ (one : TableLine). IsGiven version one.file) version.tables line
+      (All-contains (λ (one : TableLine). IsAllocated version one.file) version.tables line
       h.known.usable.version.lines.table_files has) line.file slot refl
 
   -- before the first call
   pub nothing_called : DurableFileIsLeft → HeldVersionIsLeft → (past : List State) →
       LeavesSince disk past disk past (FilesRepresent (known_facts files) list)
   nothing_called durable_is_left held_is_left past =
-      started (FilesRepresent (known_facts files) list) disk past
+      none_yet (FilesRepresent (known_facts files) list) disk past
       (left_now disk files list h durable_is_left held_is_left)
 
   -- while slots that represent the version are written

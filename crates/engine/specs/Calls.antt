@@ -12,7 +12,7 @@ use Rattle.engine.specs.Engines.{EngineHolds, EngineReads, EngineWasMeant, HasEn
 use Rattle.engine.specs.Engines.{LookUps, engine_disk, engine_files, facts_of, look_ups}
 use Rattle.engine.specs.declared.tended.Tended.{Tended}
 use Rattle.engine.specs.Errors.{EndsEngine, FailsDevice, IsEnd, IsEngineExternal}
-use Rattle.engine.specs.Tending.{IsTend, TellsWork}
+use Rattle.engine.specs.Tending.{IsTend, IsWorkAnswer}
 use Rattle.manifest.specs.{IsNotCreated}
 use Rattle.engine.specs.Files.{Facts, first_facts}
 use Rattle.engine.specs.StoreFiles.{FilesRepresent, HasFirstFiles, IsDamaged, IsOneOf, OpensAs}
@@ -21,16 +21,16 @@ use Rattle.engine.specs.StoreFiles.{WereMeant}
 -- ---- which reads are refused
 
 -- a number is readable from the floor to the committed number
-abbrev pub TellsReadable : {T : Type 0} → LookUps → ℕ → Result T EngineError → Type 0
-TellsReadable told at (Ok x) = (told.facts.floor ≤ at) × (at ≤ told.committed)
-TellsReadable told at (Err engine.TooOld) = at < told.facts.floor
-TellsReadable told at (Err engine.NotCommitted) = told.committed < at
-TellsReadable told at (Err engine.Disk) = Unit {0}
-TellsReadable told at (Err engine.Damaged) = Unit {0}
-TellsReadable told at (Err engine.Memory) = Unit {0}
-TellsReadable told at (Err engine.Failed) = Unit {0}
-TellsReadable told at (Err engine.NotCreated) = ⊥
-TellsReadable told at (Err engine.Exhausted) = ⊥
+abbrev pub IsReadableAnswer : {T : Type 0} → LookUps → ℕ → Result T EngineError → Type 0
+IsReadableAnswer told at (Ok x) = (told.facts.floor ≤ at) × (at ≤ told.committed)
+IsReadableAnswer told at (Err engine.TooOld) = at < told.facts.floor
+IsReadableAnswer told at (Err engine.NotCommitted) = told.committed < at
+IsReadableAnswer told at (Err engine.Disk) = Unit {0}
+IsReadableAnswer told at (Err engine.Damaged) = Unit {0}
+IsReadableAnswer told at (Err engine.Memory) = Unit {0}
+IsReadableAnswer told at (Err engine.Failed) = Unit {0}
+IsReadableAnswer told at (Err engine.NotCreated) = ⊥
+IsReadableAnswer told at (Err engine.Exhausted) = ⊥
 
 -- files that represent a list are not damaged
 abbrev pub IsNoDamage : {T : Type 0} → Result T EngineError → Type 0
@@ -69,8 +69,8 @@ abbrev pub IsAdrift : {D : Type 0} (g : Ghosts D) → Engine D g → Type 0
 IsAdrift g engine = (list : List BatchContent) → EngineReads g engine list → ⊥
 
 -- the answer is that of a tend of its files, with its limit for logs
-abbrev pub TellsTend : {D : Type 0} {g : Ghosts D} → Engine D g → Engine D g → Tended → Type 0
-TellsTend old new answer = TellsWork (look_ups old).limits.log old.store new.store answer
+abbrev pub IsTendAnswer : {D : Type 0} {g : Ghosts D} → Engine D g → Engine D g → Tended → Type 0
+IsTendAnswer old new answer = IsWorkAnswer (look_ups old).limits.log old.store new.store answer
 
 -- of any disk: the answer and the files are those of a tend
 abbrev pub IsTendOf : {D : Type 0} {g : Ghosts D} → Engine D g → Engine D g → Tended → Type 0
@@ -79,8 +79,8 @@ IsTendOf old new answer = IsTend old.store new.store answer
 -- two engines tell the same of their tends
 abbrev pub TendsAlike : {D : Type 0} {g : Ghosts D} → Engine D g → Engine D g → Type 0
 TendsAlike {D} {g} old new = (other : Engine D g) (answer : Tended) →
-    (TellsTend new other answer → TellsTend old other answer)
-    × (TellsTend other old answer → TellsTend other new answer)
+    (IsTendAnswer new other answer → IsTendAnswer old other answer)
+    × (IsTendAnswer other old answer → IsTendAnswer other new answer)
 
 -- ---- the calls that are given a disk
 

@@ -20,7 +20,7 @@ pub mod KeepingLemmas
 pub use Rattle.engine.specs.Calls.{IsNewEngine, IsEngineOf, IsJustOpened, IsOldOrNewSince, IsOpened}
 pub use Rattle.engine.specs.Calls.{IsMeantEngineOf, KeepsEngine, ListFollows, ExplainsRefusal}
 pub use Rattle.engine.specs.Calls.{IsTendOf, OpensEngineFor, RefusedByDevice}
-pub use Rattle.engine.specs.Calls.{IsAdrift, TellsReadable, TellsTend, TendsAlike, disk_after}
+pub use Rattle.engine.specs.Calls.{IsAdrift, IsReadableAnswer, IsTendAnswer, TendsAlike, disk_after}
 pub use Rattle.engine.specs.Engines.{AreOrdered, HasEnded, HasLongFile, HasOnlyFiles, EngineHolds}
 pub use Rattle.engine.specs.Engines.{HasNearlyFullLog, IsNearlyFull}
 pub use Rattle.engine.specs.Engines.{EngineWasMeant, LookUps, EngineReads, engine_disk}

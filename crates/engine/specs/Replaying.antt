@@ -19,29 +19,30 @@ use Rattle.engine.specs.Stores.{IsNumberedTo}
 -- ---- one record, and the records of one log
 
 -- the memtable has more: the entries of a batch, if its number is greater than those in tables
-abbrev pub TakesBatch : Memtable → Memtable → ℕ → ℕ → BatchContent → Type 0
-TakesBatch old new number flushed batch = (entry : Entry) → TableHolds new entry
+abbrev pub AddsBatch : Memtable → Memtable → ℕ → ℕ → BatchContent → Type 0
+AddsBatch old new number flushed batch = (entry : Entry) → TableHolds new entry
     ↔ (TableHolds old entry ⊎ (entries_of number batch entry × (flushed < entry.number)))
 
 -- .. of the batches that are numbered behind this number
-abbrev pub TakesBatches : Memtable → Memtable → ℕ → ℕ → List BatchContent → Type 0
-TakesBatches old new before flushed batches = (entry : Entry) → TableHolds new entry
+abbrev pub AddsBatches : Memtable → Memtable → ℕ → ℕ → List BatchContent → Type 0
+AddsBatches old new before flushed batches = (entry : Entry) → TableHolds new entry
     ↔ (TableHolds old entry ⊎ replayed_entries before flushed batches entry)
 
 -- the bytes are the record of a batch with this number, and the memtable took it
-pub record IsTaken (bytes : List ℕ) (number flushed : ℕ) (old new : Memtable) : Type 0 where
+pub record IsBatchAdded (bytes : List ℕ) (number flushed : ℕ) (old new : Memtable) : Type 0 where
   pub batch : BatchContent
   pub spelled : bytes ≡ batch_record number batch
   pub is_batch : IsBatch batch
-  pub entries : TakesBatch old new number flushed batch
+  pub entries : AddsBatch old new number flushed batch
 
 -- the records are those of batches behind this number, and the memtable took them
-pub record AreTaken (records : List (List ℕ)) (before flushed : ℕ) (old new : Memtable) : Type 0
+pub record AreBatchesAdded (records : List (List ℕ)) (before flushed : ℕ)
+    (old new : Memtable) : Type 0
   where
     pub batches : List BatchContent
     pub spelled : records ≡ records_from (suc before) batches
     pub each : All IsBatch batches
-    pub entries : TakesBatches old new before flushed batches
+    pub entries : AddsBatches old new before flushed batches
 
 -- the file had batches behind this number and settles, its log holds them, and the memtable took
 -- them
@@ -52,7 +53,7 @@ pub record IsReadLog (old new : State) (file before flushed : ℕ) (one : BatchL
   pub settles : SlotSettles old new file
   pub each : All IsBatch here
   pub holds : HoldsPart new (suc before) one here
-  pub entries : TakesBatches was now before flushed here
+  pub entries : AddsBatches was now before flushed here
 
 -- the log is that of the file, begins behind this number, and the memtable can take the next batch
 pub record IsOpenedBehind (file before : ℕ) (one : BatchLog) (memtable : Memtable) : Type 0 where

@@ -85,6 +85,6 @@ HasAddedAll has slot builder true = BuildsAll has slot builder
 HasAddedAll has slot builder false = PassesLimit has
 
 -- of any disk: the answer whether there was room for the entries of the set
-abbrev pub TellsRoom : (Entry → Type 0) → Bool → Type 0
-TellsRoom has true = Unit {0}
-TellsRoom has false = PassesLimit has
+abbrev pub IsRoomAnswer : (Entry → Type 0) → Bool → Type 0
+IsRoomAnswer has true = Unit {0}
+IsRoomAnswer has false = PassesLimit has

@@ -85,20 +85,20 @@ pub record MeantAndSpilled (disk : State) (files : StoreFiles) (list : List Batc
 
 -- a rewrite that is due: the manifest was rewritten, so none is due now, or its generation cannot
 -- rise
-abbrev pub TellsRewrite : StoreFiles → StoreFiles → Tended → Type 0
-TellsRewrite old new tended.Idle = ⊥
-TellsRewrite old new tended.Worked =
+abbrev pub IsRewriteAnswer : StoreFiles → StoreFiles → Tended → Type 0
+IsRewriteAnswer old new tended.Idle = ⊥
+IsRewriteAnswer old new tended.Worked =
     (generation_of new.manifest ≡ generation_of old.manifest + 1)
     × (known_version new ≡ known_version old) × (RewriteIsDue new → ⊥)
-TellsRewrite old new tended.Full = (MAX_NUMBER ≤ generation_of old.manifest) × (new ≡ old)
+IsRewriteAnswer old new tended.Full = (MAX_NUMBER ≤ generation_of old.manifest) × (new ≡ old)
 
 -- a flush that is due: the version has one table of level 0 more, a log for the next batches, and
 -- all batches so far in tables; or it had no place
-abbrev pub TellsFlush : StoreFiles → StoreFiles → Tended → Type 0
-TellsFlush old new tended.Idle = ⊥
-TellsFlush old new tended.Worked =
+abbrev pub IsFlushAnswer : StoreFiles → StoreFiles → Tended → Type 0
+IsFlushAnswer old new tended.Idle = ⊥
+IsFlushAnswer old new tended.Worked =
     (line : TableLine) × IsNextTable old line × IsFlushedBy line old new
-TellsFlush old new tended.Full =
+IsFlushAnswer old new tended.Full =
     (LacksPlace (known_version old).version old.free_file ⊎ IsTooLarge old.memtable)
     × (new ≡ old)
 
@@ -106,17 +106,17 @@ TellsFlush old new tended.Full =
 -- only where the generation cannot rise, the version lacks a place, or the entries pass the limit
 -- of a table's data.
 pub data IsTend (old new : StoreFiles) (answer : Tended) : Type 0 where
-  WasRewrite : TellsRewrite old new answer → IsTend old new answer
-  WasFlush : HasEntry old.memtable → TellsFlush old new answer → IsTend old new answer
+  WasRewrite : IsRewriteAnswer old new answer → IsTend old new answer
+  WasFlush : HasEntry old.memtable → IsFlushAnswer old new answer → IsTend old new answer
   WasRest : new ≡ old → answer ≡ tended.Idle → IsTend old new answer
 
 -- a tend does the first that is due
-pub data TellsWork (limit : ℕ) (old new : StoreFiles) (answer : Tended) : Type 0 where
-  Rewrites : RewriteIsDue old → TellsRewrite old new answer → TellsWork limit old new answer
-  Flushes : (RewriteIsDue old → ⊥) → FlushIsDue limit old → TellsFlush old new answer →
-      TellsWork limit old new answer
+pub data IsWorkAnswer (limit : ℕ) (old new : StoreFiles) (answer : Tended) : Type 0 where
+  Rewrites : RewriteIsDue old → IsRewriteAnswer old new answer → IsWorkAnswer limit old new answer
+  Flushes : (RewriteIsDue old → ⊥) → FlushIsDue limit old → IsFlushAnswer old new answer →
+      IsWorkAnswer limit old new answer
   Rests : (RewriteIsDue old → ⊥) → (FlushIsDue limit old → ⊥) → new ≡ old →
-      answer ≡ tended.Idle → TellsWork limit old new answer
+      answer ≡ tended.Idle → IsWorkAnswer limit old new answer
 
 -- ---- why a device that works may fail in a tend
 

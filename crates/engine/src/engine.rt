@@ -55,8 +55,8 @@ impl<D: Disk + Drop> Engine<D> {
     ghost use Rattle.engine.specs.Calls.{ExplainsRefusal, ListFollows, IsJustOpened};
     ghost use Rattle.engine.specs.Calls.{IsNewEngine, IsNoDamage, IsOldOrNewSince, IsOpened};
     ghost use Rattle.engine.specs.Calls.{IsTendOf, OpensEngineFor};
-    ghost use Rattle.engine.specs.Calls.{IsAdrift, KeepsEngine, RefusedByDevice, TellsReadable};
-    ghost use Rattle.engine.specs.Calls.{TellsTend, disk_after};
+    ghost use Rattle.engine.specs.Calls.{IsAdrift, KeepsEngine, RefusedByDevice, IsReadableAnswer};
+    ghost use Rattle.engine.specs.Calls.{IsTendAnswer, disk_after};
     ghost use Rattle.engine.specs.Engines.{AreOrdered, EngineHolds, EngineReads, HasEnded};
     ghost use Rattle.engine.specs.Engines.{EngineWasMeant, HasNearlyFullLog, IsNearlyFull};
     ghost use Rattle.engine.specs.Engines.{engine_disk, engine_files, facts_of, files_of_tend};
@@ -199,7 +199,7 @@ impl<D: Disk + Drop> Engine<D> {
 
     // Whether a read at the number may be answered.
     fn may_read(&self, at: Number) -> Result<(), EngineError>
-        ensures readable { TellsReadable (look_ups self.now) at result }
+        ensures readable { IsReadableAnswer (look_ups self.now) at result }
         ensures closed { IsErrOf result EngineError.Failed ↔ HasEnded self.now }
         ensures only { IfErr result (λ e. (e ≡ EngineError.Failed)
             ⊎ (e ≡ EngineError.TooOld) ⊎ (e ≡ EngineError.NotCommitted)) }
@@ -226,7 +226,7 @@ impl<D: Disk + Drop> Engine<D> {
     ) -> Result<Option<Value>, EngineError>
         ensures keeps { KeepsEngine D.Disk self.old self.new result ⊥ IsSame }
         ensures told { look_ups self.new ≡ look_ups self.old }
-        ensures readable { TellsReadable (look_ups self.old) at result }
+        ensures readable { IsReadableAnswer (look_ups self.old) at result }
         ensures found { (list : List BatchContent) → EngineReads D.Disk self.old list →
             IfOk result (λ value. value ≡ map_of (take at list) key.now) × IsNoDamage result }
 
@@ -284,7 +284,7 @@ impl<D: Disk + Drop> Engine<D> {
         ensures tended { (list : List BatchContent) →
             ListFollows D.Disk self.old self.new list list result }
         ensures work { (list : List BatchContent) → EngineReads D.Disk self.old list →
-            MatchResult result (TellsTend self.old self.new) IsEngineExternal }
+            MatchResult result (IsTendAnswer self.old self.new) IsEngineExternal }
         ensures did { IfOk result (IsTendOf self.old self.new) }
 
         // A crash at any moment since the call began leaves files of the same list.
@@ -296,7 +296,7 @@ impl<D: Disk + Drop> Engine<D> {
         ensures meant { (list : List BatchContent) → EngineWasMeant D.Disk self.old list →
             AlwaysLeaves D.Disk (engine_disk self.old) (engine_disk self.new)
             (WereOneOf (facts_of self.old) list (raised_facts self.old) list)
-            × MatchResult result (TellsTend self.old self.new) IsEngineExternal }
+            × MatchResult result (IsTendAnswer self.old self.new) IsEngineExternal }
     {
         // laws: what a crash leaves of the files that are named, and what a disk reads
         held_versions_are_left();

@@ -10,8 +10,9 @@ ghost use Rattle.engine.specs.Errors.{FailsDevice, IsEnd, IsEngineExternal};
 ghost use Rattle.engine.specs.Files.{IsLog};
 ghost use Rattle.engine.specs.Layout.{batch_record, records_from};
 ghost use Rattle.engine.specs.OpenFiles.{AreBatchesOf, AreOpenLogs, AreReplayed, HasReplayed};
-ghost use Rattle.engine.specs.Replaying.{AreInLine, AreOfDifferentFiles, AreReadLogs, AreTaken};
-ghost use Rattle.engine.specs.Replaying.{IsOpenedBehind, IsReadLog, IsTaken};
+ghost use Rattle.engine.specs.Replaying.{AreInLine, AreOfDifferentFiles};
+ghost use Rattle.engine.specs.Replaying.{AreReadLogs, AreBatchesAdded};
+ghost use Rattle.engine.specs.Replaying.{IsOpenedBehind, IsReadLog, IsBatchAdded};
 ghost use Rattle.engine.specs.Settling.{AddsNothing, LogsSettle, SparesAllBut};
 ghost use Rattle.engine.specs.Stores.{IsNumberedTo};
 
@@ -37,7 +38,7 @@ fn replay_record(
 ) -> Result<(), EngineError>
     requires positive { 0 < number }
     requires numbered { IsNumberedTo memtable.old (number - 1) }
-    ensures taken { OnOk result (IsTaken bytes.now number flushed memtable.old memtable.new) }
+    ensures taken { OnOk result (IsBatchAdded bytes.now number flushed memtable.old memtable.new) }
     ensures numbered { OnOk result (IsNumberedTo memtable.new number) }
     ensures damaged { (batch : BatchContent) → IsBatch batch →
         bytes.now ≡ batch_record number batch → IfErr result IsEngineExternal }
@@ -61,7 +62,7 @@ fn replay(
     requires numbered { IsNumberedTo memtable.old before }
     requires few { before ≤ MAX_NUMBER }
     ensures taken { (records : List (List ℕ)) → HasRead opened.now records →
-        OnOk result (AreTaken records before flushed memtable.old memtable.new) }
+        OnOk result (AreBatchesAdded records before flushed memtable.old memtable.new) }
     ensures numbered { OnOk result (IsNumberedTo memtable.new (before + count_of opened.now.log)
         × (before + count_of opened.now.log ≤ MAX_NUMBER)) }
     ensures damaged { (batches : List BatchContent) →

@@ -13,7 +13,7 @@ ghost use Rattle.table_builder.specs.{Builds, BuildsNothing, HoldsEntries, IsFre
 ghost use Rattle.engine.specs.Errors.{FailsDevice, IsEnd, IsEngineExternal};
 ghost use Rattle.engine.specs.OpenFiles.{HasEntry, IsTooLarge, IsWrittenTable};
 ghost use Rattle.engine.specs.TableWriting.{BuildsAll, HasAddedAll, HasAddedOne, HoldsOneMore};
-ghost use Rattle.engine.specs.TableWriting.{IsNewLine, TellsRoom, WritesInto, error_of_writing};
+ghost use Rattle.engine.specs.TableWriting.{IsNewLine, IsRoomAnswer, WritesInto, error_of_writing};
 ghost use Rattle.engine.specs.TableWriting.{finished_line};
 
 use crate::EngineError;
@@ -97,7 +97,7 @@ fn add_all<'a, D: Disk>(
         (HasAddedAll (⟦<MemCursor<'a> as Cursor>⟧.holds tt cursor.old tt)
         (D.state disk.new (builder_file builder.old)) builder.new) IsEngineExternal }
     ensures room { HoldsEntries builder.old [] →
-        IfOk result (TellsRoom (⟦<MemCursor<'a> as Cursor>⟧.holds tt cursor.old tt)) }
+        IfOk result (IsRoomAnswer (⟦<MemCursor<'a> as Cursor>⟧.holds tt cursor.old tt)) }
     ensures causes { IfErr result IsEnd }
 {
     let mut source = ();
@@ -128,7 +128,7 @@ fn add_memtable<D: Disk>(
         (HasAddedAll (TableHolds memtable.now) (D.state disk.new (builder_file builder.old))
         builder.new) IsEngineExternal }
     ensures room { HoldsEntries builder.old [] →
-        IfOk result (TellsRoom (TableHolds memtable.now)) }
+        IfOk result (IsRoomAnswer (TableHolds memtable.now)) }
     ensures causes { IfErr result IsEnd }
 {
     let mut cursor = memtable.cursor()?;

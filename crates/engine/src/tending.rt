@@ -7,7 +7,8 @@ ghost use Rattle.engine.specs.Files.{IsOwned};
 ghost use Rattle.engine.specs.OpenFiles.{AreUsableFiles, FilesHold, HasEntry, batch_count};
 ghost use Rattle.engine.specs.OpenFiles.{WereMeantToHold, known_facts};
 ghost use Rattle.engine.specs.StoreFiles.{FilesRepresent, WereMeant};
-ghost use Rattle.engine.specs.Tending.{IsSameBeside, IsTend, TellsFlush, TellsRewrite, TellsWork};
+ghost use Rattle.engine.specs.Tending.{IsSameBeside, IsTend};
+ghost use Rattle.engine.specs.Tending.{IsFlushAnswer, IsRewriteAnswer, IsWorkAnswer};
 ghost use Rattle.engine.specs.Tending.{TendMayFail, tended_files};
 
 use crate::EngineError;
@@ -36,7 +37,7 @@ impl StoreFiles {
         ensures usable { OnOk result (AreUsableFiles self.new) }
         ensures touches { D.is_honest disk.old → IsSameBeside (tended_files self.old)
             (D.state disk.old) (D.state disk.new) }
-        ensures work { MatchResult result (TellsRewrite self.old self.new) IsEnd }
+        ensures work { MatchResult result (IsRewriteAnswer self.old self.new) IsEnd }
         ensures told { (batch_count self.new ≡ batch_count self.old)
             × (known_facts self.new ≡ known_facts self.old) }
 
@@ -67,18 +68,18 @@ impl StoreFiles {
         ensures tended { (list : List BatchContent) → D.is_honest disk.old →
             FilesHold (D.state disk.old) self.old list → MatchResult result
             (λ tended. FilesHold (D.state disk.new) self.new list
-            × TellsFlush self.old self.new tended) IsEngineExternal }
+            × IsFlushAnswer self.old self.new tended) IsEngineExternal }
         ensures meant { (list : List BatchContent) → D.is_honest disk.old →
             WereMeantToHold (D.state disk.old) self.old list → MatchResult result
             (λ tended. WereMeantToHold (D.state disk.new) self.new list
-            × TellsFlush self.old self.new tended) IsEngineExternal
+            × IsFlushAnswer self.old self.new tended) IsEngineExternal
             × AlwaysLeaves D.Disk disk.old disk.new (WereMeant (known_facts self.old) list) }
         ensures touches { D.is_honest disk.old → IsSameBeside (tended_files self.old)
             (D.state disk.old) (D.state disk.new) }
         ensures usable { OnOk result (AreUsableFiles self.new) }
         ensures told { (batch_count self.new ≡ batch_count self.old)
             × (known_facts self.new ≡ known_facts self.old) }
-        ensures work { MatchResult result (TellsFlush self.old self.new) IsEnd }
+        ensures work { MatchResult result (IsFlushAnswer self.old self.new) IsEnd }
 
         // A crash at any moment since the call began leaves files of the same store.
         ensures any_moment { (list : List BatchContent) → D.is_honest disk.old →
@@ -115,11 +116,11 @@ impl StoreFiles {
         ensures tended { (list : List BatchContent) → D.is_honest disk.old →
             FilesHold (D.state disk.old) self.old list → MatchResult result
             (λ tended. FilesHold (D.state disk.new) self.new list
-            × TellsWork limit self.old self.new tended) IsEngineExternal }
+            × IsWorkAnswer limit self.old self.new tended) IsEngineExternal }
         ensures meant { (list : List BatchContent) → D.is_honest disk.old →
             WereMeantToHold (D.state disk.old) self.old list → MatchResult result
             (λ tended. WereMeantToHold (D.state disk.new) self.new list
-            × TellsWork limit self.old self.new tended) IsEngineExternal
+            × IsWorkAnswer limit self.old self.new tended) IsEngineExternal
             × AlwaysLeaves D.Disk disk.old disk.new (WereMeant (known_facts self.old) list) }
         ensures touches { D.is_honest disk.old → IsSameBeside (tended_files self.old)
             (D.state disk.old) (D.state disk.new) }

@@ -7,14 +7,14 @@ use Rattle.kv_types.specs.declared.error.KvError.TheVariants.{BadBytes}
 use Rattle.kv_types.specs.Content.{BatchContent}
 use Rattle.kv_types.specs.Spelling.{text_bytes, batch_bytes, IsBatch}
 use Rattle.kv_types.specs.Reading.{ReadsBytes, RefusesBytes, text_at, batch_at}
-use Rattle.kv_types.specs.FieldsLemmas.{IsBytes, text_takes, text_again}
+use Rattle.kv_types.specs.FieldsLemmas.{IsBytes, text_begins, text_again}
 use Rattle.kv_types.specs.BatchesLemmas.{front_again}
 
 pub text_found : {X : Type 0} (view : X → List ℕ × List ℕ) (limit : ℕ) (bytes : List ℕ)
     (r : Result X KvError) → IsBytes bytes → ReadsBytes view r (text_at limit bytes)
     → IfOk r (λ x. (bytes ≡ text_bytes (view x).0 ++ (view x).1) × (length (view x).0 ≤ limit))
 text_found view limit bytes (Ok x) fits read =
-    let t = text_takes limit bytes (view x) fits read in (t.0.parts, t.1)
+    let t = text_begins limit bytes (view x) fits read in (t.0.parts, t.1)
 text_found view limit bytes (Err e) fits read = tt
 
 -- where nothing is read, the bytes do not begin so

@@ -16,8 +16,8 @@ use Rattle.kv_types.specs.Spelling.{SpellingsDiffer}
 use Rattle.kv_types.specs.Reading.{◌>>=◌, length_at, text_at, edit_at, edits_at, batch_at}
 use Rattle.kv_types.specs.Reading.{batch_of}
 use Rattle.kv_types.specs.FieldsLemmas.{IsBytes, IsBytes-rest, bind_some, guard_some, some_is}
-use Rattle.kv_types.specs.FieldsLemmas.{Takes}
-use Rattle.kv_types.specs.FieldsLemmas.{Takes-then, number_takes, number_again, text_takes}
+use Rattle.kv_types.specs.FieldsLemmas.{BeginsWith}
+use Rattle.kv_types.specs.FieldsLemmas.{BeginsWith-then, number_begins, number_again, text_begins}
 use Rattle.kv_types.specs.FieldsLemmas.{text_again}
 
 guard_ended : {A : Type 0} (b : Bool) (x y : A) → cond b (Some x) None ≡ Some y
@@ -27,17 +27,18 @@ guard_ended false x y e = absurd cc
 
 put_takes : (bytes : List ℕ) (x : Edit × List ℕ) → IsBytes bytes
     → (text_at MAX_KEY bytes >>= λ key. text_at MAX_VALUE key.1 >>= λ value. Some
-    (Put key.0 value.0, value.1)) ≡ Some x → Takes (1 ∷ bytes) (edit_bytes x.0) x.1 × IsEdit x.0
+    (Put key.0 value.0, value.1)) ≡ Some x
+    → BeginsWith (1 ∷ bytes) (edit_bytes x.0) x.1 × IsEdit x.0
 put_takes bytes x fits e =
     let a = bind_some (text_at MAX_KEY bytes)
     (λ key. text_at MAX_VALUE key.1 >>= λ value. Some (Put key.0 value.0, value.1)) x e in
     let b = bind_some (text_at MAX_VALUE a.0.1)
     (λ value. Some (Put a.0.0 value.0, value.1)) x a.2 in
-    let t = text_takes MAX_KEY bytes a.0 fits a.1 in
-    let u = text_takes MAX_VALUE a.0.1 b.0 t.0.rest_fits b.1 in
-    let both = Takes-then bytes (text_bytes a.0.0) a.0.1 (text_bytes b.0.0) b.0.1 t.0 u.0 in
+    let t = text_begins MAX_KEY bytes a.0 fits a.1 in
+    let u = text_begins MAX_VALUE a.0.1 b.0 t.0.rest_fits b.1 in
+    let both = BeginsWith-then bytes (text_bytes a.0.0) a.0.1 (text_bytes b.0.0) b.0.1 t.0 u.0 in
     let made : Edit × List ℕ = (Put a.0.0 b.0.0, b.0.1) in
-    subst (λ (y : Edit × List ℕ). Takes (1 ∷ bytes) (edit_bytes y.0) y.1 × IsEdit y.0)
+    subst (λ (y : Edit × List ℕ). BeginsWith (1 ∷ bytes) (edit_bytes y.0) y.1 × IsEdit y.0)
     (some_is made x b.2) (
       record { parts = ap (λ (w : List ℕ). 1 ∷ w) both.parts; rest_fits = both.rest_fits },
       (t.1, u.1),
@@ -45,17 +46,17 @@ put_takes bytes x fits e =
 
 delete_takes : (bytes : List ℕ) (x : Edit × List ℕ) → IsBytes bytes
     → (text_at MAX_KEY bytes >>= λ key. Some (Delete key.0, key.1)) ≡ Some x
-    → Takes (2 ∷ bytes) (edit_bytes x.0) x.1 × IsEdit x.0
+    → BeginsWith (2 ∷ bytes) (edit_bytes x.0) x.1 × IsEdit x.0
 delete_takes bytes x fits e =
     let a = bind_some (text_at MAX_KEY bytes) (λ key. Some (Delete key.0, key.1)) x e in
-    let t = text_takes MAX_KEY bytes a.0 fits a.1 in
+    let t = text_begins MAX_KEY bytes a.0 fits a.1 in
     let made : Edit × List ℕ = (Delete a.0.0, a.0.1) in
-    subst (λ (y : Edit × List ℕ). Takes (2 ∷ bytes) (edit_bytes y.0) y.1 × IsEdit y.0)
+    subst (λ (y : Edit × List ℕ). BeginsWith (2 ∷ bytes) (edit_bytes y.0) y.1 × IsEdit y.0)
     (some_is made x a.2)
     (record { parts = ap (λ (w : List ℕ). 2 ∷ w) t.0.parts; rest_fits = t.0.rest_fits }, t.1)
 
 edit_takes : (bytes : List ℕ) (x : Edit × List ℕ) → IsBytes bytes → edit_at bytes ≡ Some x
-    → Takes bytes (edit_bytes x.0) x.1 × IsEdit x.0
+    → BeginsWith bytes (edit_bytes x.0) x.1 × IsEdit x.0
 unfolding edit_at
 edit_takes [] x fits e = absurd cc
 edit_takes (zero ∷ bytes) x fits e = absurd cc
@@ -79,11 +80,12 @@ edit_again (Delete key) rest fits = rw (text_again MAX_KEY key rest fits (omega 
 
 edits_take : (n : ℕ) (bytes : List ℕ) (x : List Edit × List ℕ) → IsBytes bytes
     → edits_at n bytes ≡ Some x
-    → Takes bytes (flat_map edit_bytes x.0) x.1 × (length x.0 ≡ n) × AllByRecursion IsEdit x.0
+    → BeginsWith bytes (flat_map edit_bytes x.0) x.1 × (length x.0 ≡ n) × AllByRecursion IsEdit x.0
 unfolding edits_at
 edits_take zero bytes x fits e =
     let made : List Edit × List ℕ = ([], bytes) in
-    subst (λ (y : List Edit × List ℕ). Takes bytes (flat_map edit_bytes y.0) y.1 × (length y.0 ≡ 0)
+    subst (λ (y : List Edit × List ℕ). BeginsWith bytes (flat_map edit_bytes y.0) y.1
+    × (length y.0 ≡ 0)
     × AllByRecursion IsEdit y.0) (some_is made x e)
     (record { parts = refl; rest_fits = fits }, refl, tt)
 edits_take (suc n) bytes x fits e =
@@ -92,10 +94,10 @@ edits_take (suc n) bytes x fits e =
     let b = bind_some (edits_at n a.0.1) (λ others. Some (a.0.0 ∷ others.0, others.1)) x a.2 in
     let first = edit_takes bytes a.0 fits a.1 in
     let second = edits_take n a.0.1 b.0 first.0.rest_fits b.1 in
-    let both = Takes-then bytes (edit_bytes a.0.0) a.0.1
+    let both = BeginsWith-then bytes (edit_bytes a.0.0) a.0.1
     (flat_map edit_bytes b.0.0) b.0.1 first.0 second.0 in
     let made : List Edit × List ℕ = (a.0.0 ∷ b.0.0, b.0.1) in
-    subst (λ (y : List Edit × List ℕ). Takes bytes (flat_map edit_bytes y.0) y.1
+    subst (λ (y : List Edit × List ℕ). BeginsWith bytes (flat_map edit_bytes y.0) y.1
     × (length y.0 ≡ suc n) × AllByRecursion IsEdit y.0) (some_is made x b.2)
     (rw flat_map-cons both, ap suc second.1, (first.1, second.2))
 
@@ -128,7 +130,8 @@ counted bytes n = cond (ltb MAX_EDITS n.0) None (not_none bytes n)
 
 spells_batch : (bytes rest : List ℕ) (count : ℕ) (edits : List Edit) → length edits ≡ count
     → AllByRecursion IsEdit edits → 1 ≤ count → count ≤ MAX_EDITS
-    → length bytes - length rest ≤ MAX_BATCH → Takes bytes (batch_bytes edits) rest → IsBatch edits
+    → length bytes - length rest ≤ MAX_BATCH → BeginsWith bytes (batch_bytes edits) rest
+    → IsBatch edits
 spells_batch bytes rest count edits same each some few short taken =
     let whole : length bytes ≡ length (batch_bytes edits) + length rest =
     ap length taken.parts ∙ length-append (batch_bytes edits) rest in
@@ -140,10 +143,10 @@ spells_batch bytes rest count edits same each some few short taken =
     }
 
 -- a batch that is read at the front of bytes is spelled there, and is lawful
-pub front_takes : (bytes : List ℕ) (x : List Edit × List ℕ) → IsBytes bytes
-    → batch_at bytes ≡ Some x → Takes bytes (batch_bytes x.0) x.1 × IsBatch x.0
+pub batch_begins : (bytes : List ℕ) (x : List Edit × List ℕ) → IsBytes bytes
+    → batch_at bytes ≡ Some x → BeginsWith bytes (batch_bytes x.0) x.1 × IsBatch x.0
 unfolding batch_at
-front_takes bytes x fits e =
+batch_begins bytes x fits e =
     let a = bind_some (length_at bytes) (counted bytes) x e in
     let n = a.0 in
     let g = guard_some (ltb MAX_EDITS n.0) (not_none bytes n) x a.2 in
@@ -151,16 +154,16 @@ front_takes bytes x fits e =
     let b = bind_some (edits_at n.0 n.1) (limited bytes) x h.1 in
     let read = b.0 in
     let i = guard_some (ltb MAX_BATCH (length bytes - length read.1)) (Some read) x b.2 in
-    let first = number_takes bytes n fits a.1 in
+    let first = number_begins bytes n fits a.1 in
     let second = edits_take n.0 n.1 read first.rest_fits b.1 in
     let texts = flat_map edit_bytes read.0 in
-    let both = Takes-then bytes (to_be_bytes w16 n.0) n.1 texts read.1 first second.0 in
-    let whole : Takes bytes (batch_bytes read.0) read.1 =
-    subst (λ (k : ℕ). Takes bytes (to_be_bytes w16 k ++ texts) read.1) (sym second.1) both in
+    let both = BeginsWith-then bytes (to_be_bytes w16 n.0) n.1 texts read.1 first second.0 in
+    let whole : BeginsWith bytes (batch_bytes read.0) read.1 =
+    subst (λ (k : ℕ). BeginsWith bytes (to_be_bytes w16 k ++ texts) read.1) (sym second.1) both in
     let batch = spells_batch bytes read.1 n.0 read.0 second.1 second.2 (ltb-false n.0 1 h.0)
     (ltb-false MAX_EDITS n.0 g.0)
     (ltb-false MAX_BATCH (length bytes - length read.1) i.0) whole in
-    subst (λ (y : List Edit × List ℕ). Takes bytes (batch_bytes y.0) y.1 × IsBatch y.0)
+    subst (λ (y : List Edit × List ℕ). BeginsWith bytes (batch_bytes y.0) y.1 × IsBatch y.0)
     (some_is read x i.1) (whole, batch)
 
 -- a lawful batch is read back from the front of bytes
@@ -191,14 +194,14 @@ abbrev ended : List Edit × List ℕ → Option (List Edit)
 ended read = cond (eqb (length read.1) 0) (Some read.0) None
 
 -- a batch that is read from all of the bytes is spelled so, and is lawful
-pub batch_takes : (bytes : List ℕ) (edits : List Edit) → IsBytes bytes → batch_of bytes ≡ Some edits
+pub batch_is : (bytes : List ℕ) (edits : List Edit) → IsBytes bytes → batch_of bytes ≡ Some edits
     → IsBatch edits × (bytes ≡ batch_bytes edits)
 unfolding batch_of
-batch_takes bytes edits fits e =
+batch_is bytes edits fits e =
     let z = guard_some (ltb MAX_BATCH (length bytes)) (batch_at bytes >>= ended) edits e in
     let a = bind_some (batch_at bytes) ended edits z.1 in
     let i = guard_ended (eqb (length a.0.1) 0) a.0.0 edits a.2 in
-    let front = front_takes bytes a.0 fits a.1 in
+    let front = batch_begins bytes a.0 fits a.1 in
     let nothing = nil_from_length a.0.1 (eqb-true (length a.0.1) 0 i.0) in
     let whole : bytes ≡ batch_bytes a.0.0 = front.0.parts
     ∙ ap (λ (r : List ℕ). batch_bytes a.0.0 ++ r) nothing

@@ -49,13 +49,14 @@ pub some_is : {A : Type 0} (x y : A) → done x ≡ done y → x ≡ y
 some_is x y e = cc
 
 -- the bytes that a reader removed from the front
-pub record Takes (bytes text_bytes rest : List ℕ) : Type 0 where
+pub record BeginsWith (bytes text_bytes rest : List ℕ) : Type 0 where
   pub parts : bytes ≡ text_bytes ++ rest
   pub rest_fits : IsBytes rest
 
 -- one text is taken, and then another: both are taken
-pub Takes-then : (a x b y c : List ℕ) → Takes a x b → Takes b y c → Takes a (x ++ y) c
-Takes-then a x b y c p q =
+pub BeginsWith-then : (a x b y c : List ℕ) → BeginsWith a x b → BeginsWith b y c
+    → BeginsWith a (x ++ y) c
+BeginsWith-then a x b y c p q =
     record {
       parts = p.parts ∙ ap (λ (t : List ℕ). x ++ t) q.parts ∙ sym (append_assoc x y c);
       rest_fits = q.rest_fits;
@@ -64,16 +65,16 @@ Takes-then a x b y c p q =
 -- ---- numbers
 
 -- a number that is read is spelled at the front
-pub number_takes : (bytes : List ℕ) (x : ℕ × List ℕ) → IsBytes bytes → length_at bytes ≡ Some x
-    → Takes bytes (to_be_bytes w16 x.0) x.1
-number_takes bytes x fits e =
+pub number_begins : (bytes : List ℕ) (x : ℕ × List ℕ) → IsBytes bytes → length_at bytes ≡ Some x
+    → BeginsWith bytes (to_be_bytes w16 x.0) x.1
+number_begins bytes x fits e =
     let made : ℕ × List ℕ = (from_be_bytes w16 (take 2 bytes), drop 2 bytes) in
     let g = guard_some (ltb (length bytes) 2) (Some made) x e in
     let long : 2 ≤ length bytes = ltb-false _ _ g.0 in
     let front : to_be_bytes w16 made.0 ≡ take 2 bytes =
     be_bytes_2 (take 2 bytes) made.0 (omega (arith, length-take 2 bytes))
     (IsBytes-take 2 bytes fits) refl in
-    subst (λ (y : ℕ × List ℕ). Takes bytes (to_be_bytes w16 y.0) y.1) (some_is made x g.1)
+    subst (λ (y : ℕ × List ℕ). BeginsWith bytes (to_be_bytes w16 y.0) y.1) (some_is made x g.1)
     (record {
       parts = sym
           (ap (λ (t : List ℕ). t ++ drop 2 bytes) front ∙ take-append-drop 2 bytes);
@@ -91,31 +92,32 @@ number_again n rest lt =
 -- ---- texts
 
 -- a text that is read is spelled at the front, and within the limit
-pub text_takes : (limit : ℕ) (bytes : List ℕ) (x : List ℕ × List ℕ) → IsBytes bytes
-    → text_at limit bytes ≡ Some x → Takes bytes (text_bytes x.0) x.1 × (length x.0 ≤ limit)
+pub text_begins : (limit : ℕ) (bytes : List ℕ) (x : List ℕ × List ℕ) → IsBytes bytes
+    → text_at limit bytes ≡ Some x → BeginsWith bytes (text_bytes x.0) x.1 × (length x.0 ≤ limit)
 unfolding text_at
-text_takes limit bytes x fits e =
+text_begins limit bytes x fits e =
     let b = bind_some (length_at bytes)
     (λ n. cond (ltb limit n.0) None
     (cond (ltb (length n.1) n.0) None (Some (take n.0 n.1, drop n.0 n.1)))) x e in
     let n = b.0 in
-    let t = number_takes bytes n fits b.1 in
+    let t = number_begins bytes n fits b.1 in
     let made : List ℕ × List ℕ = (take n.0 n.1, drop n.0 n.1) in
     let g = guard_some (ltb limit n.0) (cond (ltb (length n.1) n.0) None (Some made)) x b.2 in
     let h = guard_some (ltb (length n.1) n.0) (Some made) x g.1 in
     let short : n.0 ≤ limit = ltb-false _ _ g.0 in
     let long : n.0 ≤ length n.1 = ltb-false _ _ h.0 in
     let len : length (take n.0 n.1) ≡ n.0 = omega (arith, length-take n.0 n.1) in
-    let second : Takes n.1 (take n.0 n.1) (drop n.0 n.1) =
+    let second : BeginsWith n.1 (take n.0 n.1) (drop n.0 n.1) =
     record {
       parts = sym (take-append-drop n.0 n.1);
       rest_fits = IsBytes-drop n.0 n.1 t.rest_fits;
     } in
-    let both = Takes-then bytes (to_be_bytes w16 n.0) n.1 (take n.0 n.1) (drop n.0 n.1) t second in
-    let whole : Takes bytes (text_bytes (take n.0 n.1)) (drop n.0 n.1) =
-    subst (λ (k : ℕ). Takes bytes (to_be_bytes w16 k ++ take n.0 n.1) (drop n.0 n.1))
+    let both = BeginsWith-then bytes (to_be_bytes w16 n.0) n.1 (take n.0 n.1)
+    (drop n.0 n.1) t second in
+    let whole : BeginsWith bytes (text_bytes (take n.0 n.1)) (drop n.0 n.1) =
+    subst (λ (k : ℕ). BeginsWith bytes (to_be_bytes w16 k ++ take n.0 n.1) (drop n.0 n.1))
     (sym len) both in
-    subst (λ (p : List ℕ × List ℕ). Takes bytes (text_bytes p.0) p.1 × (length p.0 ≤ limit))
+    subst (λ (p : List ℕ × List ℕ). BeginsWith bytes (text_bytes p.0) p.1 × (length p.0 ≤ limit))
     (some_is made x h.1) (whole, omega arith)
 
 -- a text within the limit is read back

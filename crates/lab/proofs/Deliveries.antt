@@ -26,7 +26,7 @@ use Rattle.lab.specs.declared.event.EventKind.TheVariants.{Submit, Get, Deliver,
 use Rattle.lab.specs.declared.event.EventKind.TheVariants.{Stop}
 use Rattle.lab.specs.declared.node_state.NodeState.{NodeState}
 use Rattle.lab.specs.declared.report.Line.TheVariants as line
-use Rattle.lab.specs.Events.{modelled, reply_line, told_cause}
+use Rattle.lab.specs.Events.{modelled, reply_line, line_cause}
 use Rattle.lab.specs.Deliveries.{IsDeliveryOf, HasNoDelivery, input_of}
 use Rattle.lab.specs.Outcomes.{HasStarted, Starts, Fails, RunsOn, HasStopped, Stops, RestsOn}
 use Rattle.lab.specs.Outcomes.{HasTended, Halts, OutcomeRefines, Tends, TendsNot, input_junk}
@@ -139,7 +139,7 @@ module _ {g : Ghosts Slots} (cs : Configurations) (w : SystemState BatchContent)
         (subst (λ (d : StepOutcome). IsTraced x (with_fault (Start x) it)
         (chosen StoppedBefore struck by.cause) d (stops x (w.nodes x))) (sym by.told)
         (stop_traced x (with_fault (Start x) it) (chosen StoppedBefore struck by.cause)
-        (told_cause it struck by.cause) (w.nodes x) refl by.device
+        (line_cause it struck by.cause) (w.nodes x) refl by.device
         (told_fits it struck by.cause by.environmental)))
     start (RunsOn up is traced) =
         let o = answers x (dropped_for (w.nodes x) reason.Running) in
@@ -180,7 +180,7 @@ module _ {g : Ghosts Slots} (cs : Configurations) (w : SystemState BatchContent)
         (subst (λ (d : StepOutcome). IsTraced x (with_fault (Tend x) it)
         (chosen StoppedBefore struck by.cause) d (stops x (w.nodes x))) (sym by.told)
         (stop_traced x (with_fault (Tend x) it) (chosen StoppedBefore struck by.cause)
-        (told_cause it struck by.cause) (w.nodes x) refl by.device
+        (line_cause it struck by.cause) (w.nodes x) refl by.device
         (told_fits it struck by.cause by.environmental)))
     tend (TendsNot off is traced) =
         let o = answers x (dropped_for (w.nodes x) reason.NotRunning) in

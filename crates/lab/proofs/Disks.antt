@@ -30,7 +30,7 @@ use Rattle.lab.specs.Outcomes.{MarksFit, has_struck_in}
 use Rattle.lab.specs.Disks.{junk_of, HasGrown, IsCrashOf, IsEndOf, IsStopOf, DiskFollows}
 use Rattle.lab.specs.Disks.{DisksFollow, IsMarkedBy}
 use Rattle.lab.specs.Disks.{before_crash, has_reached, junk_at_end, past_of_step}
-use Rattle.lab.specs.Events.{reported_cause, told_cause}
+use Rattle.lab.specs.Events.{reported_cause, line_cause}
 use Rattle.lab.specs.SimNodes.{Choice, StateRefines, IsDown, disk_in, is_honest, state, failures}
 use Rattle.lab.specs.SimNodes.{marks}
 use Rattle.lab.specs.SimNodes.{IsUnarmed}
@@ -93,7 +93,7 @@ at_most_one junk it struck (done.Stopped (Some cause)) old new left may =
 module _ {g : Ghosts Slots} (old : Slots) (new : NodeState Slots g) (may : MayRise old) where
   -- a node stopped by itself for the cause that was chosen, whatever of it was told
   ended_by : (it : Fault) (choice : Choice) (traced : Option Cause) →
-      told_cause it choice.struck choice.cause ≡ traced →
+      line_cause it choice.struck choice.cause ≡ traced →
       (choice.struck ≡ true → choice.cause ≡ Disk) →
       DiskFits state failures past_states None it choice.struck (done.Stopped traced) old new →
       IsExplained (state old) choice.struck (done.Stopped traced) →
@@ -111,7 +111,7 @@ module _ {g : Ghosts Slots} (old : Slots) (new : NodeState Slots g) (may : MayRi
       cause = choice.cause
 
       only : (it : Fault) (struck : Bool) → cause ≡ Disk →
-          IsExplained (state old) struck (done.Stopped (told_cause it struck cause)) →
+          IsExplained (state old) struck (done.Stopped (line_cause it struck cause)) →
           (struck ≡ true) ⊎ HasLongFile (state old)
       only fault.None struck fails why = why (ap (λ (c : Cause). done.Stopped (Some c)) fails)
       only (fault.Fail call) struck fails why =
@@ -122,7 +122,7 @@ module _ {g : Ghosts Slots} (old : Slots) (new : NodeState Slots g) (may : MayRi
 
       ends : (it : Fault) (struck : Bool) → (struck ≡ true → cause ≡ Disk) →
           DiskFits state failures past_states None it struck
-          (done.Stopped (told_cause it struck cause)) old new →
+          (done.Stopped (line_cause it struck cause)) old new →
           DiskEnds state failures past_states (junk_at_end it struck) struck cause old (disk_in new)
       ends fault.None struck device left = left.1
       ends (fault.Fail call) struck device left = left.1

@@ -24,7 +24,7 @@ use Rattle.lab.specs.declared.node_state.NodeState.TheVariants.{Up, Down}
 use Rattle.node.specs.{HasLongFile, IsEnvironmental, disk_of}
 use Rattle.lab.specs.Disks.{HasGrown, IsMarkedSo, before_crash, has_reached, junk_at_end}
 use Rattle.lab.specs.Disks.{marks_of_step}
-use Rattle.lab.specs.Events.{told_cause}
+use Rattle.lab.specs.Events.{line_cause}
 use Rattle.lab.specs.Outcomes.{DiskEnds, DiskFits, HasCrashed, IsExplained, StopsByItself}
 use Rattle.lab.specs.Outcomes.{MarksFit, has_struck_in}
 use Rattle.lab.specs.SimNodes.{IsDown, disk_in}
@@ -220,7 +220,7 @@ module _ {D : Type 0} (g : Ghosts D) (it : Fault) (old : D) where
       DiskEnds g.state g.failures g.past (junk_at_end fault_of struck) struck stop old
       (disk_in new) →
       DiskFits g.state g.failures g.past None fault_of struck
-      (done.Stopped (told_cause fault_of struck stop)) old new
+      (done.Stopped (line_cause fault_of struck stop)) old new
   tells fault.None struck stop new device down ends = (down, ends)
   tells (fault.Fail call) struck stop new device down ends = (down, ends)
   tells (fault.Stop call junk) false stop new device down ends = (down, ends)
@@ -232,7 +232,7 @@ module _ {D : Type 0} (g : Ghosts D) (it : Fault) (old : D) where
 
   -- a cause that is reported is that of the stop
   same_cause : (fault_of : Fault) (struck : Bool) (stop cause : Cause) →
-      told_cause fault_of struck stop ≡ Some cause → stop ≡ cause
+      line_cause fault_of struck stop ≡ Some cause → stop ≡ cause
   same_cause fault.None struck stop cause is = cc
   same_cause (fault.Fail call) struck stop cause is = cc
   same_cause (fault.Stop call junk) false stop cause is = cc
@@ -243,7 +243,7 @@ module _ {D : Type 0} (g : Ghosts D) (it : Fault) (old : D) where
       (was : IsSpent g (struck_at left) has_failed cause old left) (to : has_failed → stop ≡ Disk)
       (from : stop ≡ Disk → has_failed)
       (told : (struck : Bool) → ((struck ≡ true) ↔ HasStruck g.marks g.past left) →
-      did ≡ done.Stopped (told_cause it struck stop))
+      did ≡ done.Stopped (line_cause it struck stop))
       (crashes : (struck : Bool) → ((struck ≡ true) ↔ HasStruck g.marks g.past left) →
       g.is_honest left →
       HasCrashed g.state g.failures g.past (junk_at_end it struck) left new
@@ -270,8 +270,8 @@ module _ {D : Type 0} (g : Ghosts D) (it : Fault) (old : D) where
           is_disk Memory none = absurd (none (λ e. cc))
           is_disk NotCreated none = absurd (none (λ e. cc))
 
-      says : did ≡ done.Stopped (told_cause it struck stop)
-      says = subst (λ (b : Bool). did ≡ done.Stopped (told_cause it b stop)) same
+      says : did ≡ done.Stopped (line_cause it struck stop)
+      says = subst (λ (b : Bool). did ≡ done.Stopped (line_cause it b stop)) same
           (told (struck_at left) was.strikes)
 
       pub stopped_so : IsEnvironmental stop → StopsByItself it struck did
@@ -321,9 +321,9 @@ module _ {D : Type 0} (g : Ghosts D) (it : Fault) (old : D) where
       pub explained : g.is_reliable old → (cause → HasLongFile (g.state old)) →
           IsExplained (g.state old) struck did
       explained reliable long is =
-          let all : done.Stopped (told_cause it struck stop) ≡ done.Stopped (Some Disk) =
+          let all : done.Stopped (line_cause it struck stop) ≡ done.Stopped (Some Disk) =
           sym says ∙ is in
-          let told_so : told_cause it struck stop ≡ Some Disk = cc in
+          let told_so : line_cause it struck stop ≡ Some Disk = cc in
           elim (was.only reliable (from (same_cause it struck stop Disk told_so))) as
           (λ _. (struck ≡ true) ⊎ HasLongFile (g.state old)) [
             | inl e ↦ inl (sym same ∙ e)

@@ -16,4 +16,4 @@ mod TraceLines
 mod Histories
 mod Freshness
 mod Reports
-mod Told
+mod FaultMarks

@@ -36,7 +36,7 @@ use Rattle.lab.specs.declared.report.Line.{Line}
 use Rattle.lab.specs.declared.report.Line.TheVariants as line
 use Rattle.lab.specs.Events.{modelled, lines_of_event, dropped_lines, turn_trace, frame_line}
 use Rattle.lab.specs.Events.{frame_lines}
-use Rattle.lab.specs.Events.{reply_line, reply_lines, reported_cause, told_cause}
+use Rattle.lab.specs.Events.{reply_line, reply_lines, reported_cause, line_cause}
 use Rattle.lab.specs.SimNodes.{StateRefines, Choice, is_honest, state}
 use Rattle.lab.specs.Outcomes.{down_answer, IsAnswer, IsDrop, HasAnswered}
 use Rattle.lab.specs.Outcomes.{HasHandled, Answers, Ends, Rests, StopsByItself}
@@ -272,7 +272,7 @@ stop_traced x event choice traced n is device of_machine = record {
 
 -- the cause that is told is that of the stop, or none
 pub told_fits : (it : Fault) (struck : Bool) (cause : Cause) → IsEnvironmental cause →
-    IfSome (told_cause it struck cause) IsEnvironmental
+    IfSome (line_cause it struck cause) IsEnvironmental
 told_fits fault.None struck cause is = is
 told_fits (fault.Fail call) struck cause is = is
 told_fits (fault.Stop call junk) true cause is = tt
@@ -312,7 +312,7 @@ module _ {g : Ghosts Slots} (cs : Configurations) (w : SystemState BatchContent)
     (as_completed x (w.nodes x) (answer_to x (w.nodes x) inp) choice.went)
     (answers x (down_answer (w.nodes x) inp)))
     (causes : (choice : Choice) →
-    reported_cause kind it choice ≡ told_cause it choice.struck choice.cause)
+    reported_cause kind it choice ≡ line_cause it choice.struck choice.cause)
     (starts : (choice : Choice) (o : Outcome BatchContent) → turn_trace kind choice o ≡ [])
     (replies : (r : request.Response BatchContent) → reply_line kind r
     ≡ map (λ reply. line.Replied reply) (replies_to_response inp r)) where
@@ -341,7 +341,7 @@ module _ {g : Ghosts Slots} (cs : Configurations) (w : SystemState BatchContent)
       let choice = chosen went struck stop.cause in
       subst (λ (d : StepOutcome). IsTraced x (with_fault kind it) choice d (stops x n))
       (sym stop.told)
-      (stop_traced x (with_fault kind it) choice (told_cause it struck stop.cause) n (causes choice)
+      (stop_traced x (with_fault kind it) choice (line_cause it struck stop.cause) n (causes choice)
       stop.device (told_fits it struck stop.cause stop.environmental))
 
   pub given : HasHandled is_honest state it struck x (w.nodes x) inp new did →

@@ -27,7 +27,7 @@ use Rattle.disk.specs.declared.Disk.{Ghosts}
 use Rattle.node.specs.declared.Node.{Node}
 use Rattle.node.specs.declared.Stop.TheVariants.{Disk}
 use Rattle.engine.specs.declared.Tended.{Tended}
-use Rattle.engine.specs.{TellsTend}
+use Rattle.engine.specs.{IsTendAnswer}
 use Rattle.node.specs.{disk_of, engine_of}
 use Rattle.chain_core.specs.{Machine}
 use Rattle.lab.specs.declared.node_state.NodeState.{NodeState}
@@ -50,7 +50,7 @@ use Rattle.lab.specs.SimNodes.{StateRefines, Choice, disk_in, is_honest, state, 
 use Rattle.lab.specs.SimNodes.{IsUnarmed, StateHasLimits}
 use Rattle.lab.specs.Deliveries.{IsDeliveryOf, HasNoDelivery}
 use Rattle.lab.specs.Outcomes.{DiskFits, HasCrashed, IsExplained, OutcomeRefines, StateFollows}
-use Rattle.lab.specs.Outcomes.{HasTended, Halts, Tends, TendsNot, TellsTended}
+use Rattle.lab.specs.Outcomes.{HasTended, Halts, Tends, TendsNot, IsTendedAnswer}
 use Rattle.lab.specs.Outcomes.{MarksFit, has_struck_in, input_junk, sent_by}
 use Rattle.lab.proofs.Outcomes.{TellsChosen}
 use Rattle.lab.specs.Disks.{DiskFollows, HasGrown, junk_of, IsCrashOf}
@@ -119,14 +119,14 @@ tended_so : {g : Ghosts Slots} (it : Fault) (struck : Bool) (x : ℕ) (n : Machi
     (old new : NodeState Slots g) (did : StepOutcome) (choice : Choice) →
     HasTended is_honest state it struck x n old new did → TellsChosen choice did →
     (was now : Node Slots g) → old ≡ Up was → new ≡ Up now →
-    TellsTend (engine_of was) (engine_of now) choice.tended
+    IsTendAnswer (engine_of was) (engine_of now) choice.tended
 tended_so {g = g} it struck x n old new did choice (Tends up is told) chose was now ran runs =
     let answer = told.0 in
     let said : choice.tended ≡ answer = subst (λ (d : StepOutcome). TellsChosen choice d) told.1
     chose in
-    subst (λ (d : Tended). TellsTended (Up was) (Up now) d) (sym said)
-    (subst (λ (m : NodeState Slots g). TellsTended (Up was) m answer) runs
-    (subst (λ (m : NodeState Slots g). TellsTended m new answer) ran told.2))
+    subst (λ (d : Tended). IsTendedAnswer (Up was) (Up now) d) (sym said)
+    (subst (λ (m : NodeState Slots g). IsTendedAnswer (Up was) m answer) runs
+    (subst (λ (m : NodeState Slots g). IsTendedAnswer m new answer) ran told.2))
 tended_so {g = g} it struck x n old new did choice (Halts up stop is) chose was now ran runs =
     absurd (false≢true (subst (λ (m : NodeState Slots g). StateRefines is_honest state m x
     (stopped n)) runs is).core.running)

@@ -119,21 +119,21 @@ abbrev pub reply_lines : EventKind → List (model_frame.Response BatchContent) 
 reply_lines kind replies = flat_map (reply_line kind) replies
 
 -- a node that stops by itself reports the cause, but not where a fault stopped its machine
-abbrev pub told_cause : Fault → Bool → Cause → Option Cause
-told_cause (fault.Stop call junk) true cause = None
-told_cause (fault.Stop call junk) false cause = Some cause
-told_cause (fault.Fail call) struck cause = Some cause
-told_cause fault.None struck cause = Some cause
+abbrev pub line_cause : Fault → Bool → Cause → Option Cause
+line_cause (fault.Stop call junk) true cause = None
+line_cause (fault.Stop call junk) false cause = Some cause
+line_cause (fault.Fail call) struck cause = Some cause
+line_cause fault.None struck cause = Some cause
 
 -- what is reported of a node that stopped in an event with this fault
 abbrev pub reported_cause : EventKind → Fault → Choice → Option Cause
 reported_cause (Stop node junk) fault choice = None
-reported_cause (Submit node batch) fault choice = told_cause fault choice.struck choice.cause
-reported_cause (Get node key at) fault choice = told_cause fault choice.struck choice.cause
-reported_cause (Deliver place) fault choice = told_cause fault choice.struck choice.cause
-reported_cause (Tick node) fault choice = told_cause fault choice.struck choice.cause
-reported_cause (Tend node) fault choice = told_cause fault choice.struck choice.cause
-reported_cause (Start node) fault choice = told_cause fault choice.struck choice.cause
+reported_cause (Submit node batch) fault choice = line_cause fault choice.struck choice.cause
+reported_cause (Get node key at) fault choice = line_cause fault choice.struck choice.cause
+reported_cause (Deliver place) fault choice = line_cause fault choice.struck choice.cause
+reported_cause (Tick node) fault choice = line_cause fault choice.struck choice.cause
+reported_cause (Tend node) fault choice = line_cause fault choice.struck choice.cause
+reported_cause (Start node) fault choice = line_cause fault choice.struck choice.cause
 
 -- the lines of an event at node x: why it was dropped, then a start or a tend, then frames, then
 -- replies

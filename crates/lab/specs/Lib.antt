@@ -8,7 +8,7 @@ pub mod Freshness
 pub mod Runs
 pub mod History
 pub mod Worlds
-pub mod Told
+pub mod FaultMarks
 pub use Rattle.chain_model.specs.Configuration
 pub use Rattle.chain_model.specs.Machine
 pub use Rattle.configurations.specs.Configs
@@ -26,5 +26,5 @@ pub use Rattle.lab.specs.History.{OneHistory}
 pub use Rattle.lab.specs.Runs.{AreNumbersOf, IsRun}
 pub use Rattle.lab.specs.SimNodes.{Choice}
 pub use Rattle.lab.specs.Worlds.{AreNodesAfter, AreReportsAfter, HasRun, WorldHasLimits}
-pub use Rattle.lab.specs.Worlds.{IsReportOf, TellsTables}
+pub use Rattle.lab.specs.Worlds.{IsReportOf, ShowsTables}
 pub use Rattle.lab.specs.Worlds.{frames_of_step, frames_in_steps}

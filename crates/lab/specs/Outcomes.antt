@@ -23,7 +23,7 @@ use Rattle.node.specs.declared.Output.{Output}
 use Rattle.node.specs.declared.Reply.TheVariants as reply
 use Rattle.node.specs.declared.Stop.{Stop as Cause}
 use Rattle.node.specs.declared.Stop.TheVariants.{Disk}
-use Rattle.engine.specs.{TellsTend}
+use Rattle.engine.specs.{IsTendAnswer}
 use Rattle.node.specs.{replies_of, disk_of, engine_of, HasLongFile, IsEnvironmental}
 use Rattle.lab.specs.declared.input.NodeInput.{NodeInput}
 use Rattle.lab.specs.declared.input.NodeInput.TheVariants as to_node
@@ -34,7 +34,7 @@ use Rattle.lab.specs.declared.node_state.NodeState.TheVariants.{Up, Down}
 use Rattle.lab.specs.declared.report.Line.{Line}
 use Rattle.lab.specs.declared.report.Line.TheVariants as line
 use Rattle.lab.specs.Disks.{HasGrown, IsCrashOf, IsMarkedBy, before_crash, has_reached, junk_at_end}
-use Rattle.lab.specs.Events.{dropped_lines, told_cause}
+use Rattle.lab.specs.Events.{dropped_lines, line_cause}
 use Rattle.lab.specs.SimNodes.{StateHasLimits, StateIsReady, StateRefines, IsDown, disk_in}
 
 -- ---- what a node answers
@@ -97,7 +97,7 @@ pub record StopsByItself (fault : Fault) (struck : Bool) (did : StepOutcome) : T
   pub cause : Cause
   pub environmental : IsEnvironmental cause
   pub device : struck ≡ true → cause ≡ Disk
-  pub told : did ≡ done.Stopped (told_cause fault struck cause)
+  pub told : did ≡ done.Stopped (line_cause fault struck cause)
 
 -- a node that reports that it stopped for this disk did so as the fault struck, or as a file of the
 -- disk was nearly as long as one can be
@@ -124,11 +124,11 @@ pub data HasHandled {D : Type 0} {g : Ghosts D} (is_honest : D → Type 0) (stat
       → HasHandled is_honest state fault struck x n inp new did
 
 -- a node that was up, and is, tells what its tend did
-abbrev pub TellsTended : {D : Type 0} {g : Ghosts D} → NodeState D g → NodeState D g → Tended
+abbrev pub IsTendedAnswer : {D : Type 0} {g : Ghosts D} → NodeState D g → NodeState D g → Tended
     → Type 0
-TellsTended (Up old) (Up new) answer = TellsTend (engine_of old) (engine_of new) answer
-TellsTended (Up old) (Down disk) answer = ⊥
-TellsTended (Down disk) new answer = ⊥
+IsTendedAnswer (Up old) (Up new) answer = IsTendAnswer (engine_of old) (engine_of new) answer
+IsTendedAnswer (Up old) (Down disk) answer = ⊥
+IsTendedAnswer (Down disk) new answer = ⊥
 
 -- a tend, which raises no floor and gives up no batch: the node ran, and tells what it did; or it
 -- stopped by itself; or it is down
@@ -137,7 +137,7 @@ pub data HasTended {D : Type 0} {g : Ghosts D} (is_honest : D → Type 0) (state
     (struck : Bool) (x : ℕ) (n : Machine) (old new : NodeState D g)
     (did : StepOutcome) : Type 0 where
   Tends : n.running ≡ true → StateRefines is_honest state new x (tend n false 0).node
-      → (answer : Tended) × (did ≡ done.Tended answer) × TellsTended old new answer
+      → (answer : Tended) × (did ≡ done.Tended answer) × IsTendedAnswer old new answer
       → HasTended is_honest state fault struck x n old new did
   Halts : n.running ≡ true → StopsByItself fault struck did
       → StateRefines is_honest state new x (stopped n)

@@ -12,7 +12,7 @@ use Rattle.disk.specs.declared.Junk.{Junk}
 use Rattle.disk.specs.declared.disk.Disk.{Ghosts}
 use Rattle.disk.specs.{IsReliable, Slots, past_states}
 use Rattle.node.specs.declared.Node.{Node}
-use Rattle.engine.specs.{TellsTend, table_count}
+use Rattle.engine.specs.{IsTendAnswer, table_count}
 use Rattle.node.specs.{disk_of, engine_of}
 use Rattle.link_messages.specs.declared.Frame.{Frame}
 use Rattle.link_messages.specs.{IsFrame, HasBounds, frame_bytes}
@@ -146,7 +146,7 @@ pub record AreLeft (sims : List SimNode) (nodes : List NodeReport) : Type 0 wher
       All (λ node. IsLeft (machines node.id) (disks node.id) node) nodes
 
 -- the numbers are those of node x, which is up: they say how many tables it has
-pub record TellsTables (sims : List SimNode) (x : ℕ) (numbers : Numbers) : Type 0 where
+pub record ShowsTables (sims : List SimNode) (x : ℕ) (numbers : Numbers) : Type 0 where
   pub index : ℕ
   pub at : IsIndexOf sims index x
   pub tables : HoldsAt (λ sim. HasTablesIn sim.state numbers) sims index
@@ -212,7 +212,7 @@ pub record HasActedOn (event : Event) (choice : Choice) (o : model_frame.Outcome
   -- a tend of a running node that did not stop tells what it did
   pub tends : event.kind ≡ Tend x → (was now : Node Slots _) →
       (get_or old index sim).state ≡ Up was → sim.state ≡ Up now →
-      TellsTend (engine_of was) (engine_of now) choice.tended
+      IsTendAnswer (engine_of was) (engine_of now) choice.tended
 
 -- the nodes follow from those before, by the node that the event acted on
 abbrev pub NodesFollow : Option (ℕ × Machine) → Event → Choice → model_frame.Outcome BatchContent
@@ -350,8 +350,8 @@ pub data HasApplied (old new : World) (cs : Configurations) (events : List Event
       → HasApplied old new cs events choices steps event
 
 -- a step was refused, and so is every later one
-abbrev pub HasEnded : World → Type 0
-HasEnded world = world.ended ≡ true
+abbrev pub WorldHasEnded : World → Type 0
+WorldHasEnded world = world.ended ≡ true
 
 -- the lines so far are those of a run of the model over these events, and each node has the disk
 -- that they left, which represents its machine's whole list, and which has no fault; reads at the

@@ -9,7 +9,7 @@ ghost use Rattle.chain_core.specs.{Machine};
 ghost use Rattle.node.specs.{DiskAlwaysRefines, IsReady, NodeRefines, StopRefines, disk_of};
 ghost use Rattle.node.specs.{node_limits};
 ghost use Rattle.lab.specs.Disks.{HasGrown, IsMarkedSo, junk_at_end};
-ghost use Rattle.lab.specs.Events.{told_cause};
+ghost use Rattle.lab.specs.Events.{line_cause};
 ghost use Rattle.lab.specs.SimNodes.{DownRefines, StateHasLimits, StateIsReady, StateRefines};
 ghost use Rattle.lab.specs.SimNodes.{disk_in};
 ghost use Rattle.lab.specs.Outcomes.{DiskFits, HasCrashed, HasHandled, HasStarted, HasDispatched};
@@ -57,7 +57,7 @@ fn crash<D: Crash + Drop>(mut disk: D, junk: Junk) -> NodeState<D>
 fn stop_by_itself<D: Crash + Drop>(disk: D, stop: Stop, fault: Fault) -> (NodeState<D>, StepOutcome)
     ensures ready { StateIsReady result.0 }
     ensures told { (struck : Bool) → (IsTrue struck ↔ HasStruck D.marks D.past disk) →
-        result.1 ≡ StepOutcome.Stopped (told_cause fault struck stop) }
+        result.1 ≡ StepOutcome.Stopped (line_cause fault struck stop) }
     ensures crashes { (struck : Bool) → (IsTrue struck ↔ HasStruck D.marks D.past disk) →
         D.is_honest disk → HasCrashed D.state D.failures D.past
         (junk_at_end fault struck) disk result.0

@@ -15,12 +15,13 @@ ghost use Rattle.lab.specs.SimNodes.{Choice, StateHasLimits, StateRefines, disk_
 ghost use Rattle.lab.specs.SimNodes.{is_honest, state};
 ghost use Rattle.lab.specs.Runs.{AreNumbersOf, IsRun, NumbersRefine};
 ghost use Rattle.lab.specs.History.{OneHistory};
-ghost use Rattle.lab.specs.Worlds.{HasRun, HasApplied, HasEnded, AreCreated, AreLeft, IsCreated};
+ghost use Rattle.lab.specs.Worlds.{HasRun, HasApplied, WorldHasEnded};
+ghost use Rattle.lab.specs.Worlds.{AreCreated, AreLeft, IsCreated};
 ghost use Rattle.lab.specs.Worlds.{IsLeft, IsReportOf, IsRunSoFar, HasFollowed, HasHistory};
 ghost use Rattle.lab.specs.Worlds.{HasStayed, HaveLimits, IsIndexOf, WorldHasLimits};
 ghost use Rattle.lab.specs.Worlds.{WorldKeepsLimits};
 ghost use Rattle.lab.specs.Worlds.{HasDelivered, HasMoved, HasNoNode, HasPassed, HasTablesOf};
-ghost use Rattle.lab.specs.Worlds.{TellsTables};
+ghost use Rattle.lab.specs.Worlds.{ShowsTables};
 ghost use Rattle.lab.specs.Worlds.{events_in, frames_in_steps};
 
 use crate::delivery::{Posted, delivery_of};
@@ -189,7 +190,7 @@ impl World {
     /// Creates the nodes of the first configuration.
     pub fn new(alloc: Global, configs: &Configs, limits: &Limits) -> Result<World, LabError>
         ensures ran { IfOk result (λ world. HasRun world configs.now [] [] []) }
-        ensures goes_on { IfOk result (λ world. HasEnded world → ⊥) }
+        ensures goes_on { IfOk result (λ world. WorldHasEnded world → ⊥) }
         ensures limits { IfOk result (λ world. WorldHasLimits world limits.now) }
     {
         Ok(World {
@@ -281,8 +282,9 @@ impl World {
             (steps : List (List Line)) →
             HasRun self.old cs events choices steps → NamesNode cs event.now.kind →
             OnOk result (HasFollowed self.old self.new cs events choices steps event.now) }
-        ensures ends { MatchResult result (λ _. HasEnded self.new → ⊥) (λ _. HasEnded self.new) }
-        ensures again { HasEnded self.old → IsErr result }
+        ensures ends { MatchResult result (λ _. WorldHasEnded self.new
+            → ⊥) (λ _. WorldHasEnded self.new) }
+        ensures again { WorldHasEnded self.old → IsErr result }
         ensures limits { OnOk result (WorldKeepsLimits self.old self.new) }
     {
         if self.ended {
@@ -309,7 +311,7 @@ impl World {
             (steps : List (List Line)) →
             HasRun self.now cs events choices steps → has (at_epoch cs 0) id ≡ true →
             AreNumbersOf cs events choices id result }
-        ensures tables { IfSome result (TellsTables self.now.nodes.items id) }
+        ensures tables { IfSome result (ShowsTables self.now.nodes.items id) }
     {
         let Some(index) = index_of(&self.nodes, id) else {
             return None;
@@ -367,7 +369,7 @@ impl World {
             HasRun self cs events choices steps → IfOk result (OneHistory cs events) }
         ensures own { IfOk result
             (λ report. AllZip IsReportOf self.nodes.items report.nodes.items) }
-        ensures ended { HasEnded self → IsErr result }
+        ensures ended { WorldHasEnded self → IsErr result }
     {
         let World {
             nodes,

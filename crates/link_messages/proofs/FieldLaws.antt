@@ -13,8 +13,9 @@ use Rattle.kv_types.specs.declared.bounds.TheConstants.{MAX_KEY, MAX_VALUE, MAX_
 use Rattle.kv_types.specs.declared.bounds.TheConstants.{MAX_NUMBER}
 use Rattle.kv_types.specs.{text_bytes, IsBatch, batch_bytes as batch_text, row_size, ◌>>=◌, text_at}
 use Rattle.kv_types.specs.{batch_at}
-use Rattle.kv_types.specs.FieldsLemmas.{IsBytes, bind_some, some_is, Takes, text_takes, text_again}
-use Rattle.kv_types.specs.BatchesLemmas.{front_takes, front_again}
+use Rattle.kv_types.specs.FieldsLemmas.{IsBytes, bind_some, some_is}
+use Rattle.kv_types.specs.FieldsLemmas.{BeginsWith, text_begins, text_again}
+use Rattle.kv_types.specs.BatchesLemmas.{batch_begins, front_again}
 use Rattle.chain_model.specs.declared.Refusal.{Refusal}
 use Rattle.chain_model.specs.declared.Refusal.TheVariants as refused
 use Rattle.link_messages.specs.Spelling.{u8, u16, u32, u64, optional, at_text}
@@ -88,13 +89,13 @@ at_reads = optional_reads count_reads
 
 pub key_reads : Reads IsKey text_bytes (text_at MAX_KEY)
 key_reads = record {
-  takes = λ bytes x fits e. text_takes MAX_KEY bytes x fits e;
+  takes = λ bytes x fits e. text_begins MAX_KEY bytes x fits e;
   again = λ key rest is. text_again MAX_KEY key rest is (omega arith);
 }
 
 pub value_reads : Reads IsValue text_bytes (text_at MAX_VALUE)
 value_reads = record {
-  takes = λ bytes x fits e. text_takes MAX_VALUE bytes x fits e;
+  takes = λ bytes x fits e. text_begins MAX_VALUE bytes x fits e;
   again = λ value rest is. text_again MAX_VALUE value rest is (omega arith);
 }
 
@@ -107,7 +108,7 @@ unfolding bound_at
 bound_reads = optional_reads key_reads
 
 pub batch_reads : Reads IsBatch batch_text batch_at
-batch_reads = record { takes = front_takes; again = front_again }
+batch_reads = record { takes = batch_begins; again = front_again }
 
 -- ---- a configuration
 
@@ -221,10 +222,10 @@ refusal_reads = record {
       (refusal, refusal_number.1)) x e in
       let r = bind_some (refusal_of n.0.0) (λ refusal. Some (refusal, n.0.1)) x n.2 in
       let t = u8_reads.takes bytes n.0 fits n.1 in
-      let whole : Takes bytes (u8 (refusal_number r.0)) n.0.1 =
-      subst (λ (k : ℕ). Takes bytes (u8 k) n.0.1) (sym (code_of n.0.0 r.0 r.1)) t.0 in
+      let whole : BeginsWith bytes (u8 (refusal_number r.0)) n.0.1 =
+      subst (λ (k : ℕ). BeginsWith bytes (u8 k) n.0.1) (sym (code_of n.0.0 r.0 r.1)) t.0 in
       let found : Refusal × List ℕ = (r.0, n.0.1) in
-      subst (λ (y : Refusal × List ℕ). Takes bytes (u8 (refusal_number y.0)) y.1 × Unit {0})
+      subst (λ (y : Refusal × List ℕ). BeginsWith bytes (u8 (refusal_number y.0)) y.1 × Unit {0})
       (some_is found x r.2) (whole, tt);
   again = λ refusal rest is.
       ap (λ (o : Option (ℕ × List ℕ)). o >>= λ refusal_number. refusal_of refusal_number.0 >>=

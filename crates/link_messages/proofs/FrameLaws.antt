@@ -10,7 +10,7 @@ use Rattle.configurations.specs.{TestDecidesConfig}
 use Rattle.kv_types.specs.declared.Row.{Row}
 use Rattle.kv_types.specs.{row_size, ◌>>=◌, Span, Rows, text_bytes}
 use Rattle.kv_types.specs.declared.bounds.TheConstants.{MAX_KEY, MAX_VALUE, MAX_PAGE}
-use Rattle.kv_types.specs.FieldsLemmas.{IsBytes, bind_some, some_is, Takes}
+use Rattle.kv_types.specs.FieldsLemmas.{IsBytes, bind_some, some_is, BeginsWith}
 use Rattle.link_messages.specs.declared.frame.Frame.{Frame}
 use Rattle.link_messages.specs.declared.frame.Frame.TheVariants as frame
 use Rattle.link_messages.specs.Spelling.{kind, fields, IsFrame, u16, u32, row_text}
@@ -31,7 +31,7 @@ use Rattle.link_messages.proofs.FieldLaws.{range_reads, page_reads, refusal_read
 -- what a reader of this kind reads is a frame of the kind, in range and spelled so
 pub record IsReaderOf (k : ℕ) (read : Reader Frame) : Type 0 where
   pub takes : (bytes : List ℕ) (x : Frame × List ℕ) → IsBytes bytes → read bytes ≡ Some x
-      → (kind x.0 ≡ k) × Takes bytes (fields x.0) x.1 × IsFrame x.0
+      → (kind x.0 ≡ k) × BeginsWith bytes (fields x.0) x.1 × IsFrame x.0
 
 of_kind : {A : Type 0} {Is : A → Type 0} {spell : A → List ℕ} {read : Reader A} (k : ℕ)
     (make : A → Frame) → ((a : A) → kind (make a) ≡ k) → ((a : A) → spell a ≡ fields (make a))
@@ -41,10 +41,10 @@ of_kind {A} {Is} {spell} {read} k make kinds spelled right r =
       takes = λ bytes x fits e.
           let a = bind_some (read bytes) (λ a. Some (make a.0, a.1)) x e in
           let t = r.takes bytes a.0 fits a.1 in
-          let whole : Takes bytes (fields (make a.0.0)) a.0.1 =
-          subst (λ (s : List ℕ). Takes bytes s a.0.1) (spelled a.0.0) t.0 in
+          let whole : BeginsWith bytes (fields (make a.0.0)) a.0.1 =
+          subst (λ (s : List ℕ). BeginsWith bytes s a.0.1) (spelled a.0.0) t.0 in
           let found : Frame × List ℕ = (make a.0.0, a.0.1) in
-          subst (λ (y : Frame × List ℕ). (kind y.0 ≡ k) × Takes bytes (fields y.0) y.1
+          subst (λ (y : Frame × List ℕ). (kind y.0 ≡ k) × BeginsWith bytes (fields y.0) y.1
           × IsFrame y.0) (some_is found x a.2)
           (kinds a.0.0, whole, right a.0.0 t.1);
     }

@@ -17,8 +17,8 @@ use Rattle.kv_types.specs.declared.bounds.TheConstants.{MAX_NUMBER, MAX_KEY}
 use Rattle.kv_types.specs.Order.{IsBelow}
 use Rattle.kv_types.specs.{text_bytes, text_at, stored_cmp}
 use Rattle.kv_types.specs.ByteOrderLemmas.{lt_below}
-use Rattle.kv_types.specs.FieldsLemmas.{IsBytes, IsBytes-rest, Takes, bind_some, some_is}
-use Rattle.kv_types.specs.FieldsLemmas.{text_takes, text_again}
+use Rattle.kv_types.specs.FieldsLemmas.{IsBytes, IsBytes-rest, BeginsWith, bind_some, some_is}
+use Rattle.kv_types.specs.FieldsLemmas.{text_begins, text_again}
 use Rattle.manifest.specs.declared.line.TheConstants.{MAX_NEXT}
 use Rattle.manifest.specs.declared.error.ManifestError.{ManifestError}
 use Rattle.manifest.specs.declared.error.ManifestError.TheVariants as manifest
@@ -52,12 +52,13 @@ not_true false e = refl
 -- ---- numbers
 
 byte_takes : (bytes : List ℕ) (x : ℕ × List ℕ) → IsBytes bytes → byte_field bytes ≡ Some x
-    → Takes bytes (x.0 ∷ []) x.1 × (x.0 < 256)
+    → BeginsWith bytes (x.0 ∷ []) x.1 × (x.0 < 256)
 unfolding byte_field
 byte_takes [] x fits e = absurd cc
 byte_takes (b ∷ bytes) x fits e =
     let found : ℕ × List ℕ = (b, bytes) in
-    subst (λ (y : ℕ × List ℕ). Takes (b ∷ bytes) (y.0 ∷ []) y.1 × (y.0 < 256)) (some_is found x e)
+    subst (λ (y : ℕ × List ℕ). BeginsWith (b ∷ bytes) (y.0 ∷ []) y.1
+    × (y.0 < 256)) (some_is found x e)
     (record { parts = refl; rest_fits = IsBytes-rest b bytes fits }, fits 0)
 
 byte_again : (n : ℕ) (rest : List ℕ) → byte_field (n ∷ [] ++ rest) ≡ Some (n, rest)
@@ -111,7 +112,7 @@ level_reads =
 
 key_reads : Reads (λ key. length key ≤ MAX_KEY) text_bytes (text_at MAX_KEY)
 key_reads = record {
-  takes = λ bytes x fits e. text_takes MAX_KEY bytes x fits e;
+  takes = λ bytes x fits e. text_begins MAX_KEY bytes x fits e;
   again = λ key rest is. text_again MAX_KEY key rest is (omega arith);
 }
 
@@ -265,7 +266,7 @@ spelled_reads {A} {Is} {spell} {read} other same r =
     record {
       takes = λ bytes x fits e.
           let t = r.takes bytes x fits e in
-          (subst (λ (s : List ℕ). Takes bytes s x.1) (same x.0) t.0, t.1);
+          (subst (λ (s : List ℕ). BeginsWith bytes s x.1) (same x.0) t.0, t.1);
       again = λ a rest is. ap (λ (s : List ℕ). read (s ++ rest)) (sym (same a)) ∙ r.again a rest is;
     }
 

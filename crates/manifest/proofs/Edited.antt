@@ -5,12 +5,12 @@ use Rattle.std.specs.Prelude.{All, ◌⊎◌}
 use Rattle.std.proofs.lemmas.List.Elements.{All-append, All-cons, All-nil}
 use Rattle.disk.specs.{State, Contents}
 use Rattle.disk.specs.{LeavesSince}
-use Rattle.disk.specs.MomentsLemmas.{started, weaker}
+use Rattle.disk.specs.MomentsLemmas.{none_yet, weaker}
 use Rattle.manifest.specs.declared.manifest.Manifest.{Manifest}
 use Rattle.manifest.specs.Versions.{StoreVersion, NodeVersion, Change, empty, changed, IsFit}
 use Rattle.manifest.specs.Versions.{AreFit, after_all}
 use Rattle.manifest.specs.Versions.{node_version_after}
-use Rattle.manifest.specs.Lawful.{IsWholeEdit}
+use Rattle.manifest.specs.Lawful.{IsFullEdit}
 use Rattle.manifest.specs.Edits.{IsChange, change_text}
 use Rattle.record_log.specs.declared.LogError.{LogError}
 use Rattle.record_log.specs.{IsExternal}
@@ -117,7 +117,7 @@ module _ (disk : State) (manifest : Manifest) (named : NodeVersion) (one : Chang
       (λ left. ManifestRepresents named left
       ⊎ ManifestRepresents (node_version_after named one) left))
   version_start past =
-      started (SlotsAreLeft disk (λ left. ManifestRepresents named left
+      none_yet (SlotsAreLeft disk (λ left. ManifestRepresents named left
       ⊎ ManifestRepresents (node_version_after named one) left))
       disk past
       (λ left now. record {
@@ -155,7 +155,7 @@ met_is e (inr memory) = rw memory (inr refl)
 -- ---- rewriting
 
 module _ (disk : State) (manifest : Manifest) (named : NodeVersion) (text : List ℕ)
-    (h : ManifestHolds disk manifest named) (w : IsWholeEdit manifest.version text) where
+    (h : ManifestHolds disk manifest named) (w : IsFullEdit manifest.version text) where
   -- one edit that gives the version
   gives_whole : named.version ≡ after_all empty (w.change ∷ [])
   gives_whole = ap (λ (n : NodeVersion). n.version) (sym h.knows) ∙ sym w.whole
@@ -229,7 +229,7 @@ pub whole_start : (disk : State) (past : List State) (manifest : Manifest) (name
     → ManifestHolds disk manifest named
     → LeavesSince disk past disk past (SlotsAreLeft disk (ManifestRepresents named))
 whole_start disk past manifest named h =
-    started (SlotsAreLeft disk (ManifestRepresents named)) disk past
+    none_yet (SlotsAreLeft disk (ManifestRepresents named)) disk past
     (λ left now. record {
       here = record {
         id = h.id;
@@ -247,7 +247,7 @@ whole_start disk past manifest named h =
 -- slots with one edit that gives a version whole
 pub held_whole : (disk : State) (manifest : Manifest) (named : NodeVersion) (text : List ℕ)
     → IsId named.id
-    → (w : IsWholeEdit named text) → (ManifestHasFailed manifest → ⊥) → manifest.version ≡ named
+    → (w : IsFullEdit named text) → (ManifestHasFailed manifest → ⊥) → manifest.version ≡ named
     → SlotsHold disk manifest.slots named.id (text ∷ []) → ManifestHolds disk manifest named
 held_whole disk manifest named text id w works knows held =
     record {

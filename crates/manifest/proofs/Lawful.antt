@@ -26,7 +26,7 @@ use Rattle.std.specs.List.{list_all}
 use Rattle.std.proofs.lemmas.Bool.{leb-true, le-leb, ltb-true, lt-ltb}
 use Rattle.manifest.specs.Edits.{IsChange, IsLogLine, IsTableLine, change_text, log_line_bytes}
 use Rattle.manifest.specs.Edits.{table_name_bytes, table_line_bytes, counted_bytes}
-use Rattle.manifest.specs.Lawful.{IsGiven, AreLines, IsVersion, IsWholeEdit, whole_change}
+use Rattle.manifest.specs.Lawful.{IsAllocated, AreLines, IsVersion, IsFullEdit, full_change}
 use Rattle.manifest.proofs.Placed.{fold_all, fold_length, fold_order, fold_same, filter_order}
 use Rattle.manifest.proofs.Placed.{logs_are_ordered, tables_are_ordered}
 
@@ -40,8 +40,8 @@ pub empty_lines : AreLines empty
 empty_lines = record {
   logs = All-nil IsLogLine;
   tables = All-nil IsTableLine;
-  log_files = All-nil (λ (line : LogLine). IsGiven empty line.file);
-  table_files = All-nil (λ (line : TableLine). IsGiven empty line.file);
+  log_files = All-nil (λ (line : LogLine). IsAllocated empty line.file);
+  table_files = All-nil (λ (line : TableLine). IsAllocated empty line.file);
   logs_in_order = tt;
   tables_in_order = tt;
 }
@@ -51,10 +51,10 @@ module _ (v : StoreVersion) (c : Change) (lines : AreLines v) (fit : IsFit v c)
   abbrev new : StoreVersion
   new = changed v c
 
-  still_given : (file : ℕ) → IsGiven v file → IsGiven new file
+  still_given : (file : ℕ) → IsAllocated v file → IsAllocated new file
   still_given file given = (given.0, omega (arith, given.1, fit.numbers.next_file))
 
-  given : (file : ℕ) → is_new_file v c file ≡ true → IsGiven new file
+  given : (file : ℕ) → is_new_file v c file ≡ true → IsAllocated new file
   given file t =
       let p = both_true (nat_le 3 file && nat_lt file c.next_file && not (names_log v.logs file))
       (not (names_file v.tables file)) t in
@@ -65,12 +65,12 @@ module _ (v : StoreVersion) (c : Change) (lines : AreLines v) (fit : IsFit v c)
 
   given_all : {A : Type 0} (file_of : A → ℕ) (lines : List A)
       → list_all (λ line. is_new_file v c (file_of line)) lines ≡ true
-      → All (λ line. IsGiven new (file_of line)) lines
-  given_all file_of [] t = All-nil (λ line. IsGiven new (file_of line))
+      → All (λ line. IsAllocated new (file_of line)) lines
+  given_all file_of [] t = All-nil (λ line. IsAllocated new (file_of line))
   given_all file_of (line ∷ lines) t =
       let p = both_true (is_new_file v c (file_of line))
       (list_all (λ line. is_new_file v c (file_of line)) lines) t in
-      All-cons (λ line. IsGiven new (file_of line)) line lines (given (file_of line) p.0)
+      All-cons (λ line. IsAllocated new (file_of line)) line lines (given (file_of line) p.0)
       (given_all file_of lines p.1)
 
   pub lines_kept : AreLines new
@@ -80,18 +80,18 @@ module _ (v : StoreVersion) (c : Change) (lines : AreLines v) (fit : IsFit v c)
     tables = fold_all IsTableLine table_is_before
         (tables_left c.tables_gone v.tables) c.tables_added
         (All-filter _ IsTableLine v.tables lines.tables) is.tables_added.1;
-    log_files = fold_all (λ (line : LogLine). IsGiven new line.file) log_is_before
+    log_files = fold_all (λ (line : LogLine). IsAllocated new line.file) log_is_before
         (logs_left c.logs_gone v.logs) c.logs_added
-        (All-filter _ (λ (line : LogLine). IsGiven new line.file) v.logs
-        (All-weaker (λ (line : LogLine). IsGiven v line.file)
-        (λ (line : LogLine). IsGiven new line.file)
+        (All-filter _ (λ (line : LogLine). IsAllocated new line.file) v.logs
+        (All-weaker (λ (line : LogLine). IsAllocated v line.file)
+        (λ (line : LogLine). IsAllocated new line.file)
         (λ line given. still_given line.file given) v.logs lines.log_files))
         (given_all (λ (line : LogLine). line.file) c.logs_added fit.new.logs);
-    table_files = fold_all (λ (line : TableLine). IsGiven new line.file) table_is_before
+    table_files = fold_all (λ (line : TableLine). IsAllocated new line.file) table_is_before
         (tables_left c.tables_gone v.tables) c.tables_added
-        (All-filter _ (λ (line : TableLine). IsGiven new line.file) v.tables
-        (All-weaker (λ (line : TableLine). IsGiven v line.file)
-        (λ (line : TableLine). IsGiven new line.file)
+        (All-filter _ (λ (line : TableLine). IsAllocated new line.file) v.tables
+        (All-weaker (λ (line : TableLine). IsAllocated v line.file)
+        (λ (line : TableLine). IsAllocated new line.file)
         (λ line given. still_given line.file given) v.tables lines.table_files))
         (given_all (λ (line : TableLine). line.file) c.tables_added fit.new.tables);
     logs_in_order = fold_order log_is_before logs_are_ordered (logs_left c.logs_gone v.logs)
@@ -215,7 +215,7 @@ module _ (v : StoreVersion) (is : IsVersion v) where
   tables_same : fold (placed table_is_before) [] v.tables ≡ v.tables
   tables_same = fold_same table_is_before [] v.tables is.lines.tables_in_order
 
-  pub whole_is : changed empty (whole_change v) ≡ v
+  pub whole_is : changed empty (full_change v) ≡ v
   whole_is =
       ap (λ (logs : List LogLine). record v {
         logs = logs;
@@ -223,7 +223,7 @@ module _ (v : StoreVersion) (is : IsVersion v) where
       }) logs_same
       ∙ ap (λ (tables : List TableLine). record v { tables = tables }) tables_same
 
-  pub whole_change_is : IsChange (whole_change v)
+  pub whole_change_is : IsChange (full_change v)
   whole_change_is = record {
     next_file = is.next_file;
     floor = is.floor;
@@ -240,24 +240,24 @@ module _ (v : StoreVersion) (is : IsVersion v) where
     tables_added = (omega (arith, is.lawful.few_tables), is.lines.tables);
   }
 
-  new_file : (file : ℕ) → IsGiven v file → is_new_file empty (whole_change v) file ≡ true
+  new_file : (file : ℕ) → IsAllocated v file → is_new_file empty (full_change v) file ≡ true
   new_file file given = rw (le-leb 3 file given.0, lt-ltb file v.next_file given.1) refl
 
   new_all : {A : Type 0} (file_of : A → ℕ) (lines : List A)
-      → All (λ line. IsGiven v (file_of line)) lines
-      → list_all (λ line. is_new_file empty (whole_change v) (file_of line)) lines ≡ true
+      → All (λ line. IsAllocated v (file_of line)) lines
+      → list_all (λ line. is_new_file empty (full_change v) (file_of line)) lines ≡ true
   new_all file_of [] all = refl
   new_all file_of (line ∷ lines) all =
       rw (
-        new_file (file_of line) (All-head (λ line. IsGiven v (file_of line)) line lines all),
-        new_all file_of lines (All-tail (λ line. IsGiven v (file_of line)) line lines all),
+        new_file (file_of line) (All-head (λ line. IsAllocated v (file_of line)) line lines all),
+        new_all file_of lines (All-tail (λ line. IsAllocated v (file_of line)) line lines all),
       ) refl
 
   -- what holds of the version holds of what the edit gives
-  gives_version : IsVersion (changed empty (whole_change v))
+  gives_version : IsVersion (changed empty (full_change v))
   gives_version = subst IsVersion (sym whole_is) is
 
-  pub whole_fit : IsFit empty (whole_change v)
+  pub whole_fit : IsFit empty (full_change v)
   whole_fit = record {
     numbers = record {
       next_file = omega arith;
@@ -386,16 +386,16 @@ few_added v c fit = (
 -- ---- the bytes of the whole edit
 
 pub whole_is_short : (v : StoreVersion) → IsVersion v → (bytes : List ℕ)
-    → bytes ≡ change_text (whole_change v) → length bytes ≤ MAX_RECORD
+    → bytes ≡ change_text (full_change v) → length bytes ≤ MAX_RECORD
 whole_is_short v is bytes same =
     subst (λ (t : List ℕ). length t ≤ MAX_RECORD) (sym same)
-    (change_is_short (whole_change v)
+    (change_is_short (full_change v)
     (whole_change_is v is) is.lawful.few_logs is.lawful.few_tables)
 
 pub whole_is_whole : (named : NodeVersion) → IsVersion named.version → (bytes : List ℕ)
-    → bytes ≡ change_text (whole_change named.version) → IsWholeEdit named bytes
+    → bytes ≡ change_text (full_change named.version) → IsFullEdit named bytes
 whole_is_whole named is bytes same = record {
-  change = whole_change named.version;
+  change = full_change named.version;
   is = whole_change_is named.version is;
   fit = whole_fit named.version is;
   whole = whole_is named.version is;
@@ -418,9 +418,10 @@ first_is id ids is =
         logs = All-cons IsLogLine line [] (omega arith, (omega arith, omega arith))
             (All-nil IsLogLine);
         tables = All-nil IsTableLine;
-        log_files = All-cons (λ (l : LogLine). IsGiven v l.file) line [] (omega arith, omega arith)
-            (All-nil (λ (l : LogLine). IsGiven v l.file));
-        table_files = All-nil (λ (l : TableLine). IsGiven v l.file);
+        log_files = All-cons (λ (l : LogLine). IsAllocated v l.file) line []
+            (omega arith, omega arith)
+            (All-nil (λ (l : LogLine). IsAllocated v l.file));
+        table_files = All-nil (λ (l : TableLine). IsAllocated v l.file);
         logs_in_order = (All-nil (λ (l : LogLine). log_is_before l line ≡ false), tt);
         tables_in_order = tt;
       };

@@ -11,7 +11,7 @@ use Rattle.manifest.specs.Replace.{HasGate}
 use Rattle.kv_types.specs.declared.bounds.TheConstants.{MAX_NUMBER}
 use Rattle.disk.specs.{Slot, State, Contents, IsFileOutcome, IsCrashOutcome}
 use Rattle.disk.specs.{IsLeftAt, LeavesSince}
-use Rattle.disk.specs.MomentsLemmas.{started, weaker}
+use Rattle.disk.specs.MomentsLemmas.{none_yet, weaker}
 use Rattle.disk.specs.StepsLemmas.{sure_only}
 use Rattle.record_log.specs.{Represents}
 use Rattle.record_log.specs.{IsDurableAs}
@@ -191,7 +191,7 @@ module _ (disk : State) (slots : SlotPair) (id : ℕ) (records : List (List ℕ)
       (SlotsAreLeft disk (λ left. SlotsRepresent id records left
       ⊎ SlotsRepresent id (one ∷ []) left))
   unmoved past =
-      started (SlotsAreLeft disk (λ left. SlotsRepresent id records left
+      none_yet (SlotsAreLeft disk (λ left. SlotsRepresent id records left
       ⊎ SlotsRepresent id (one ∷ []) left))
       disk past
       (λ left now. record {

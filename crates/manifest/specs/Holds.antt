@@ -10,7 +10,7 @@ use Rattle.manifest.specs.Slots.{IsSlotFile, other_slot, slot_head, head_length,
 use Rattle.manifest.specs.Replace.{HasGate}
 use Rattle.manifest.specs.Versions.{first_version}
 use Rattle.manifest.specs.Edits.{change_text}
-use Rattle.manifest.specs.Lawful.{whole_change}
+use Rattle.manifest.specs.Lawful.{full_change}
 
 -- what stands behind the gate of a slot with one record: the generation, the id, the record behind
 -- an open gate, and a closed gate
@@ -47,7 +47,7 @@ pub record AreNewSlots (disk : State) (id : ℕ) (one : List ℕ) (slots : SlotP
 
 -- the bytes of the slot of a new node: generation 1, and one edit that gives the first version
 abbrev pub first_slot : ℕ → List ℕ → List ℕ
-first_slot id ids = 1 ∷ slot_behind 1 id (change_text (whole_change (first_version id ids).version))
+first_slot id ids = 1 ∷ slot_behind 1 id (change_text (full_change (first_version id ids).version))
 
 -- the files that are no slots are the same
 abbrev pub SparesOthers : State → State → Type 0

@@ -8,15 +8,15 @@ use Rattle.manifest.specs.Versions.{NodeVersion, IsFit, changed, empty, table_is
 use Rattle.manifest.specs.Edits.{IsChange, IsLogLine, IsTableLine, change_text}
 
 -- a file that is named has a number that was given
-abbrev pub IsGiven : StoreVersion → ℕ → Type 0
-IsGiven version file = (3 ≤ file) × (file < version.next_file)
+abbrev pub IsAllocated : StoreVersion → ℕ → Type 0
+IsAllocated version file = (3 ≤ file) × (file < version.next_file)
 
 -- the lines are within their limits and in order, those of the empty version too
 pub record AreLines (version : StoreVersion) : Type 0 where
   pub logs : All IsLogLine version.logs
   pub tables : All IsTableLine version.tables
-  pub log_files : All (λ line. IsGiven version line.file) version.logs
-  pub table_files : All (λ line. IsGiven version line.file) version.tables
+  pub log_files : All (λ line. IsAllocated version line.file) version.logs
+  pub table_files : All (λ line. IsAllocated version line.file) version.tables
   pub logs_in_order : AreInOrder log_is_before version.logs
   pub tables_in_order : AreInOrder table_is_before version.tables
 
@@ -32,8 +32,8 @@ pub record IsVersion (version : StoreVersion) : Type 0 where
   pub lawful : AreLawful version.logs version.tables
 
 -- the edit that gives the whole version from the empty one
-abbrev pub whole_change : StoreVersion → Change
-whole_change version = record {
+abbrev pub full_change : StoreVersion → Change
+full_change version = record {
   next_file = version.next_file;
   floor = version.floor;
   flushed = version.flushed;
@@ -46,7 +46,7 @@ whole_change version = record {
 }
 
 -- the bytes of one edit that gives the whole version
-pub record IsWholeEdit (named : NodeVersion) (text : List ℕ) : Type 0 where
+pub record IsFullEdit (named : NodeVersion) (text : List ℕ) : Type 0 where
   pub change : Change
   pub is : IsChange change
   pub fit : IsFit empty change

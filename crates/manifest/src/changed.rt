@@ -48,7 +48,7 @@ fn add_logs(logs: &mut Vec<LogLine>, added: &[LogLine]) -> Result<(), AllocError
     Ok(())
 }
 
-fn is_gone(gone: &[TableName], line: &TableLine) -> bool
+fn is_removed(gone: &[TableName], line: &TableLine) -> bool
     ensures { result ≡ list_any (λ one. one.level == line.now.level && one.file == line.now.file)
         gone.now }
 {
@@ -69,7 +69,7 @@ fn keep_table(
     ensures { OnOk result
         (left.new.items ≡ left.old.items ++ tables_left gone.now (line.now ∷ [])) }
 {
-    if is_gone(gone, line) {
+    if is_removed(gone, line) {
         return Ok(());
     }
     let copy = line.clone()?;

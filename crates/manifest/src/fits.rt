@@ -76,7 +76,7 @@ pub fn files_of(
 }
 
 /// The files of tables that are given up.
-pub fn files_gone(alloc: Global, gone: &[TableName]) -> Result<Vec<u64>, AllocError>
+pub fn removed_files(alloc: Global, gone: &[TableName]) -> Result<Vec<u64>, AllocError>
     ensures { IfOk result (λ files. files.items ≡ map (λ one. one.file) gone.now) }
 {
     let mut files = Vec::new(alloc);

@@ -7,7 +7,7 @@ ghost use Rattle.disk.specs.{AlwaysLeaves, IsSameBut, IsStill, KeepsDisk, State,
 ghost use Rattle.manifest.specs.Errors.{ManifestFailsDevice, IsManifestExternal};
 ghost use Rattle.manifest.specs.Versions.{NodeVersion, IsFit, first_version, node_version_after};
 ghost use Rattle.manifest.specs.Edits.{IsChange, change_text};
-ghost use Rattle.manifest.specs.Lawful.{IsWholeEdit, whole_change};
+ghost use Rattle.manifest.specs.Lawful.{IsFullEdit, full_change};
 ghost use Rattle.manifest.specs.Slots.{SlotsAreLeft, ManifestRepresents};
 ghost use Rattle.manifest.specs.Holds.{SparesOthers};
 ghost use Rattle.manifest.specs.Manifests.{ManifestHolds, ManifestHasFailed, ManifestHasNoRoom};
@@ -21,7 +21,7 @@ use crate::changed::version_after;
 use crate::laws::version_is_one;
 use crate::opening::open_slots;
 use crate::slot_pair::SlotPair;
-use crate::spelling::{bytes_of, bytes_of_whole};
+use crate::spelling::{bytes_of, bytes_of_full};
 use crate::{LogLine, ManifestError, StoreVersion, VersionEdit};
 use configurations::{Config, NodeId};
 use disk::Disk;
@@ -56,13 +56,13 @@ fn begun_by(alloc: Global, id: NodeId, config: &Config) -> Result<StoreVersion, 
 }
 
 // The bytes of one edit that gives the whole version.
-fn whole_bytes(alloc: Global, version: &StoreVersion) -> Result<Vec<u8>, AllocError>
+fn full_edit_bytes(alloc: Global, version: &StoreVersion) -> Result<Vec<u8>, AllocError>
     ensures short { IfOk result (λ bytes. length bytes.items ≤ MAX_RECORD) }
-    ensures whole { IfOk result (λ bytes. IsWholeEdit version.now bytes.items) }
+    ensures whole { IfOk result (λ bytes. IsFullEdit version.now bytes.items) }
     ensures spelled { IfOk result
-        (λ bytes. bytes.items ≡ change_text (whole_change version.now.version)) }
+        (λ bytes. bytes.items ≡ change_text (full_change version.now.version)) }
 {
-    let bytes = bytes_of_whole(alloc, version)?;
+    let bytes = bytes_of_full(alloc, version)?;
     Ok(bytes)
 }
 
@@ -111,7 +111,7 @@ impl Manifest {
         ensures first { IfOk result (λ manifest. generation_of manifest ≡ 1) }
     {
         let version = begun_by(alloc, id, config)?;
-        let bytes = whole_bytes(alloc, &version)?;
+        let bytes = full_edit_bytes(alloc, &version)?;
         let slots = SlotPair::create(alloc, disk, id.get(), &bytes)?;
         Ok(Manifest {
             slots,
@@ -208,7 +208,7 @@ impl Manifest {
             return Err(ManifestError::Failed);
         }
         self.has_failed = true;
-        let bytes = whole_bytes(alloc, &self.version)?;
+        let bytes = full_edit_bytes(alloc, &self.version)?;
         self.slots.rewrite(alloc, disk, &bytes)?;
         self.has_failed = false;
         Ok(())

@@ -10,7 +10,7 @@ ghost use Rattle.manifest.specs.Lawful.{AreLines};
 
 use crate::changed::lines_after;
 use crate::fits::{
-    all_apart, are_once, files_gone, files_of, is_part, names_file, names_log, names_table,
+    all_apart, are_once, files_of, is_part, names_file, names_log, names_table, removed_files,
 };
 use crate::{LogLine, ManifestError, StoreVersion, TableLine, TableName, VersionEdit};
 use configurations::{Config, NodeId};
@@ -86,7 +86,7 @@ fn is_there(
 ) -> Result<bool, AllocError>
     ensures { IfOk result (λ is. IsTrue is ↔ IsThere (version_in old.now) edit.now) }
 {
-    let files = files_gone(alloc, &edit.tables_gone)?;
+    let files = removed_files(alloc, &edit.tables_gone)?;
     Ok(
         logs_there(logs_of(old), &edit.logs_gone)
             && are_once(&edit.logs_gone)
@@ -142,7 +142,7 @@ fn are_lawful(alloc: Global, logs: &[LogLine], tables: &[TableLine]) -> Result<b
 }
 
 // Whether the old version may take the edit, but for the lines that it gives.
-fn may_take(
+fn may_apply(
     alloc: Global,
     old: &Option<StoreVersion>,
     edit: &VersionEdit,
@@ -173,7 +173,7 @@ pub fn next_version(
     ensures bad { IsErrOf result ManifestError.Damaged → IsFit (version_in old.now) edit.now → ⊥ }
     ensures only { IfErr result (λ e. (e ≡ ManifestError.Damaged) ⊎ (e ≡ ManifestError.Memory)) }
 {
-    if !may_take(alloc, old, edit)? {
+    if !may_apply(alloc, old, edit)? {
         return Err(ManifestError::Damaged);
     }
     let (logs, tables) = lines_after(alloc, logs_of(old), tables_of(old), edit)?;

@@ -1,7 +1,7 @@
 // The writer of an edit.
 ghost use Rattle.std.specs.Prelude.{◌≡◌, ◌++◌, ◌<◌, ◌^◌, length, OnOk, IfOk};
 ghost use Rattle.std.specs.Int.{w16, w32, w64, to_be_bytes};
-ghost use Rattle.manifest.specs.Lawful.{IsVersion, whole_change};
+ghost use Rattle.manifest.specs.Lawful.{IsVersion, full_change};
 ghost use Rattle.manifest.specs.Edits.{IsChange, change_text, counted_bytes, log_line_bytes};
 ghost use Rattle.manifest.specs.Edits.{table_head_bytes, table_line_bytes, table_name_bytes};
 
@@ -119,9 +119,9 @@ fn put_edit(out: &mut Vec<u8>, edit: &VersionEdit) -> Result<(), AllocError>
 }
 
 // The one edit that gives the whole version.
-fn put_whole(out: &mut Vec<u8>, version: &StoreVersion) -> Result<(), AllocError>
+fn put_full(out: &mut Vec<u8>, version: &StoreVersion) -> Result<(), AllocError>
     ensures { OnOk result (out.new.items ≡
-        out.old.items ++ change_text (whole_change version.now.version)) }
+        out.old.items ++ change_text (full_change version.now.version)) }
 {
     put_numbers(
         out,
@@ -148,13 +148,13 @@ pub fn bytes_of(alloc: Global, edit: &VersionEdit) -> Result<Vec<u8>, AllocError
 }
 
 /// The bytes of one edit that gives the whole version.
-pub fn bytes_of_whole(alloc: Global, version: &StoreVersion) -> Result<Vec<u8>, AllocError>
+pub fn bytes_of_full(alloc: Global, version: &StoreVersion) -> Result<Vec<u8>, AllocError>
     ensures spelled { IfOk result
-        (λ text. text.items ≡ change_text (whole_change version.now.version)) }
+        (λ text. text.items ≡ change_text (full_change version.now.version)) }
     ensures is { IsVersion version.now.version }
 {
     let _floor = version.floor; // its invariant holds
     let mut out = Vec::new(alloc);
-    put_whole(&mut out, version)?;
+    put_full(&mut out, version)?;
     Ok(out)
 }

@@ -16,7 +16,7 @@ use crate::error::CursorError;
 use std::cmp::Ordering;
 
 // Whether the entry of `one` comes before that of `other`. Numbers are read only for equal keys.
-fn comes_before<C: Cursor>(one: &C, other: &C) -> bool
+fn is_before_child<C: Cursor>(one: &C, other: &C) -> bool
     requires one_on { IsOn (C.position one.now) }
     requires other_on { IsOn (C.position other.now) }
     ensures { IfOn (C.position one.now) (λ a. IfOn (C.position other.now)
@@ -37,8 +37,8 @@ pub fn precedes<C: Cursor>(way: Direction, one: &C, other: &C) -> bool
         (λ b. IsTrue result ↔ EntryPrecedes way a b)) }
 {
     match way {
-        Direction::Forward => comes_before(one, other),
-        Direction::Backward => comes_before(other, one),
+        Direction::Forward => is_before_child(one, other),
+        Direction::Backward => is_before_child(other, one),
     }
 }
 

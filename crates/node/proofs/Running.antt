@@ -12,7 +12,7 @@ use Rattle.disk.specs.MomentsLemmas.{weaker}
 use Rattle.disk.specs.StillLemmas.{still}
 use Rattle.engine.specs.declared.Engine.{Engine}
 use Rattle.engine.specs.{EngineHolds, Facts, FailsDevice, FilesRepresent, IsEngineExternal, IsOneOf}
-use Rattle.engine.specs.{LookUps, OpensAs, TellsReadable, facts_of, look_ups, raised_facts}
+use Rattle.engine.specs.{LookUps, OpensAs, IsReadableAnswer, facts_of, look_ups, raised_facts}
 use Rattle.engine.specs.declared.EngineError.TheVariants as engine
 use Rattle.kv_types.specs.declared.bounds.TheConstants.{MAX_NUMBER}
 use Rattle.engine.specs.declared.EngineError.{EngineError}
@@ -175,7 +175,7 @@ env_of e (inr is) = inr (ap engine_stop is)
 
 -- a read of a number that the engine can read is refused for such a cause alone
 pub read_env : (T : Type 0) (told : LookUps) (at : ℕ) (e : EngineError) →
-    TellsReadable {T = T} told at (Err e) → (e ≡ engine.Damaged → ⊥) → (e ≡ engine.Failed → ⊥) →
+    IsReadableAnswer {T = T} told at (Err e) → (e ≡ engine.Damaged → ⊥) → (e ≡ engine.Failed → ⊥) →
     told.facts.floor ≤ at → at ≤ told.committed → IsEngineExternal e
 read_env T told at engine.Disk tells whole works above known = inl refl
 read_env T told at engine.Damaged tells whole works above known = absurd (whole refl)

@@ -8,7 +8,7 @@ ghost use Rattle.chain_model.specs.{reply_read};
 ghost use Rattle.chain_model.specs.Rules.{tend};
 ghost use Rattle.engine.specs.{EngineHolds, HasEnded, IsAdrift, IsJustOpened, IsNearlyFull};
 ghost use Rattle.engine.specs.{IsOwned};
-ghost use Rattle.engine.specs.{TellsTend, TendsAlike, engine_disk, facts_of, look_ups};
+ghost use Rattle.engine.specs.{IsTendAnswer, TendsAlike, engine_disk, facts_of, look_ups};
 ghost use Rattle.engine.specs.{table_count};
 ghost use Rattle.node.specs.Starts.{IsStarted, StartRefusal, disk_behind};
 ghost use Rattle.chain_core.specs.{Machine, CoreRefines, answer_to, done_of, rule_of, AreFrames};
@@ -309,7 +309,7 @@ impl<D: Disk + Drop> Node<D> {
         ensures ends { (x : ℕ) (n : Machine) → NodeRefines D.is_honest D.state self.old x n →
             CallRefines D.Disk self.old self.new x n (tend n false 0)
             (λ tended. NodeRefines D.is_honest D.state self.new x (tend n false 0).node
-            × TellsTend (engine_of self.old) (engine_of self.new) tended) result }
+            × IsTendAnswer (engine_of self.old) (engine_of self.new) tended) result }
     {
         Ok(self.engine.tend(alloc)?)
     }

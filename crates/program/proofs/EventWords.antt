@@ -21,7 +21,7 @@ use Rattle.program.specs.Words.{begins_fault, has_fault, before_fault, from_faul
 use Rattle.program.specs.Statements.{AreBytesIn, AreBytesOf, CanBeSaid, edit_word, hex_text, IsJunk}
 use Rattle.program.specs.Statements.{IsSpelled}
 use Rattle.program.specs.Events.{FaultCanBeSaid, IsFault, SpellsEvent, is_call}
-use Rattle.program.specs.Events.{fault_word, takes_fault}
+use Rattle.program.specs.Events.{fault_word, may_bear_fault}
 use Rattle.program.specs.Faults.{spelling_fault}
 use Rattle.program.proofs.FaultWords.{AreOfFault, joined}
 use Rattle.program.proofs.Ids.{number_begins}
@@ -108,13 +108,13 @@ call_read call some small =
     rw (number_read call small, number_back call small, above) refl
 
 fault_read : (f : Fault) (name : List ℕ) (words : List (List ℕ)) → FaultCanBeSaid f
-    → IsFault f words → (takes_fault name ≡ false → f ≡ disk.None) → fault_word name words ≡ None
+    → IsFault f words → (may_bear_fault name ≡ false → f ≡ disk.None) → fault_word name words ≡ None
 fault_read disk.None name words said is none = rw is refl
-fault_read (disk.Fail call) name words said is none = elim (cases_Bool (takes_fault name)) [
+fault_read (disk.Fail call) name words said is none = elim (cases_Bool (may_bear_fault name)) [
   | inl t ↦ rw (is, t, call_read call said.0 said.1) refl
   | inr f ↦ absurd (cc (none f))
 ]
-fault_read (disk.Stop call junk) name words said is none = elim (cases_Bool (takes_fault name)) [
+fault_read (disk.Stop call junk) name words said is none = elim (cases_Bool (may_bear_fault name)) [
   | inl t ↦ rw (
     is.2,
     t,
@@ -176,7 +176,7 @@ pub record Divides (event : Event) (name : List ℕ) (args : List (List ℕ)) : 
   pub kind : IsSpelled event.kind (name ∷ before_fault args)
   pub fault_said : FaultCanBeSaid event.fault
   pub fault : IsFault event.fault (from_fault args)
-  pub none : takes_fault name ≡ false → event.fault ≡ disk.None
+  pub none : may_bear_fault name ≡ false → event.fault ≡ disk.None
 
 pub divides : (event : Event) (name : List ℕ) (args : List (List ℕ))
     → SpellsEvent (name ∷ args) event → Divides event name args

@@ -18,7 +18,7 @@ use Rattle.lab.specs.declared.World.{World}
 use Rattle.lab.specs.declared.Report.{Report}
 use Rattle.lab.specs.declared.Numbers.{Numbers}
 use Rattle.lab.specs.{AreNodesAfter, AreNumbersOf, Choice, IsReportOf, IsRun, OneHistory}
-use Rattle.lab.specs.{TellsTables}
+use Rattle.lab.specs.{ShowsTables}
 use Rattle.lab.specs.{frames_in_steps, frames_of_step}
 use Rattle.std.proofs.Math.Seq.{drop-cons}
 use Rattle.program.specs.declared.script.setup.Setup.{Setup}
@@ -31,7 +31,7 @@ use Rattle.program.specs.declared.statement_result.Note.TheVariants as note
 use Rattle.program.specs.Runs.{HasRunStatements}
 use Rattle.program.specs.ScriptRuns.{places_after, delivery, deliveries, left_after}
 use Rattle.program.specs.ScriptRuns.{left_after_event, HasRunTo, HasSettled, HasTurned}
-use Rattle.program.specs.ScriptRuns.{HasToldNumbers}
+use Rattle.program.specs.ScriptRuns.{HasShownNumbers}
 use Rattle.program.specs.ScriptRuns.{IsResultOfAction, Stretch, has_worked, followed_by, no_stretch}
 use Rattle.program.specs.ScriptRuns.{one_step}
 use Rattle.program.specs.ScriptRuns.{most, busy, shown, tending, IsRising, AreResults}
@@ -514,14 +514,14 @@ left_delivered what place left mid new is same cut = cut
 -- a look tells the numbers
 is_shown : (world : World) (setup : Setup) (past : Stretch) (node : ℕ)
     (numbers : Option Numbers) → AreNumbersOf setup.configs past.events past.choices node numbers →
-    IfSome numbers (TellsTables world.nodes.items node) →
-    HasToldNumbers world setup.configs past (shown node numbers)
+    IfSome numbers (ShowsTables world.nodes.items node) →
+    HasShownNumbers world setup.configs past (shown node numbers)
 is_shown world setup past node None told tables = told
 is_shown world setup past node (Some numbers) told tables = (told, tables)
 
 -- a flow shows no node
 never_shown : (world : World) (setup : Setup) (past : Stretch) (left : List ℕ) →
-    HasToldNumbers world setup.configs past (busy left)
+    HasShownNumbers world setup.configs past (busy left)
 never_shown world setup past [] = tt
 never_shown world setup past (place ∷ places) = tt
 
@@ -548,7 +548,7 @@ module _ (setup : Setup) (past : Stretch) (it : Statement) (old new : ScriptRun)
   -- nothing happened
   pub turned_without : (said : Note) → new ≡ old → HasRunTo old.world setup past →
       IsResultOfAction it.action (old.left.items ++ []) [] [] 0 said →
-      HasToldNumbers old.world setup.configs past said →
+      HasShownNumbers old.world setup.configs past said →
       left_after it.action old.left.items ≡ old.left.items →
       HasTurned setup past it
       (record { line = it.line; events = 0; silent = 0; note = said }) old new
@@ -565,11 +565,11 @@ module _ (setup : Setup) (past : Stretch) (it : Statement) (old new : ScriptRun)
       it.action ≡ Show node → said ≡ shown node numbers → new ≡ old →
       HasRunTo old.world setup past → AreNumbersOf setup.configs past.events past.choices node
       numbers →
-      IfSome numbers (TellsTables old.world.nodes.items node) → HasTurned setup past it
+      IfSome numbers (ShowsTables old.world.nodes.items node) → HasTurned setup past it
       (record { line = it.line; events = 0; silent = 0; note = said }) old new
   turned_by_show node numbers said is same stays run told tables =
       turned_without said stays run (rw is (refl, refl, (numbers, same)))
-      (subst (λ (n : Note). HasToldNumbers old.world setup.configs past n) (sym same)
+      (subst (λ (n : Note). HasShownNumbers old.world setup.configs past n) (sym same)
       (is_shown old.world setup past node numbers told tables)) (rw is refl)
 
   pub turned_by_flow : (count : ℕ) → it.action ≡ Flow →
@@ -629,7 +629,7 @@ module _ (setup : Setup) (past : Stretch) (it : Statement) (old new : ScriptRun)
         left = rw is settles.5;
       }
     where
-      quiet : (b : Bool) → HasToldNumbers old.world setup.configs past
+      quiet : (b : Bool) → HasShownNumbers old.world setup.configs past
           (if b then note.Busy else note.Nothing)
       quiet true = tt
       quiet false = tt

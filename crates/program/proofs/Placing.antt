@@ -27,7 +27,7 @@ use Rattle.program.specs.declared.script.statement.Action.TheVariants.{Event, Fl
 use Rattle.program.specs.Words.{before_fault, from_fault, is_number}
 use Rattle.program.specs.Statements.{CanBeSaid, IsSpelled, fault_of_words}
 use Rattle.program.specs.Actions.{action_of}
-use Rattle.program.specs.Events.{SpellsEvent, bears_fault, fault_word, takes_fault}
+use Rattle.program.specs.Events.{SpellsEvent, bears_fault, fault_word, may_bear_fault}
 use Rattle.program.specs.Faults.{node_named, node_fault, statement_fault, config_fault, numbers_of}
 use Rattle.program.specs.Faults.{spelling_fault}
 use Rattle.program.specs.Reading.{IsOfOneNode, Places, PlacesNode, ReadsFaultAs, ReadsWords}
@@ -52,7 +52,7 @@ names (Start n) words said e = rw (e, number_back n said) refl
 names (Stop n junk) words said (inl e) = rw (e.1, number_back n said.0) refl
 names (Stop n junk) words said (inr e) = rw (e.2, number_back n said.0) refl
 
-bears_by_name : (what : EventKind) → takes_fault (name_of what) ≡ bears_fault what
+bears_by_name : (what : EventKind) → may_bear_fault (name_of what) ≡ bears_fault what
 bears_by_name (Submit node edits) = refl
 bears_by_name (Get node key at) = refl
 bears_by_name (Deliver place) = refl
@@ -63,7 +63,7 @@ bears_by_name (Stop node junk) = refl
 
 -- a kind bears a fault if its name does
 pub bears : (what : EventKind) (name : List ℕ) (args : List (List ℕ))
-    → IsSpelled what (name ∷ args) → takes_fault name ≡ bears_fault what
+    → IsSpelled what (name ∷ args) → may_bear_fault name ≡ bears_fault what
 bears what name args e = rw (named what (name ∷ args) e) (bears_by_name what)
 
 -- the fault of a statement that is spelled is that of its place
@@ -238,7 +238,7 @@ pub one_node_number : (before : ParserState) (name : List ℕ) (args : List (Lis
 one_node_number before name args word (inl is) first bad = rw (is, ← first, bad) refl
 one_node_number before name args word (inr is) first bad = rw (is, ← first, bad) refl
 
-no_fault_there : (name : List ℕ) (behind : List (List ℕ)) → takes_fault name ≡ false →
+no_fault_there : (name : List ℕ) (behind : List (List ℕ)) → may_bear_fault name ≡ false →
     (length behind == 0) ≡ false → fault_word name behind ≡ Some BadFault
 no_fault_there name [] none some = absurd (grind (arith, nat_tests))
 no_fault_there name (w ∷ ws) none some = rw none refl

@@ -66,11 +66,11 @@ is_fault (name ∷ call ∷ junk ∷ []) = bytes_eq name (codes "!stop") && is_c
 is_fault (name ∷ call ∷ junk ∷ more ∷ words) = false
 
 -- a statement of this name may bear a fault
-abbrev pub takes_fault : List ℕ → Bool
-takes_fault name = not (bytes_eq name (codes "stop") || bytes_eq name (codes "flow")
+abbrev pub may_bear_fault : List ℕ → Bool
+may_bear_fault name = not (bytes_eq name (codes "stop") || bytes_eq name (codes "flow")
     || bytes_eq name (codes "settle") || bytes_eq name (codes "show"))
 
 -- the fault of the words from the first that begins with !, behind a statement of this name
 abbrev pub fault_word : List ℕ → List (List ℕ) → Option ScriptError
 fault_word name [] = None
-fault_word name (w ∷ ws) = if takes_fault name && is_fault (w ∷ ws) then None else Some BadFault
+fault_word name (w ∷ ws) = if may_bear_fault name && is_fault (w ∷ ws) then None else Some BadFault

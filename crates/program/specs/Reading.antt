@@ -23,7 +23,7 @@ use Rattle.program.specs.declared.script.statement.Action.TheVariants.{Event, In
 use Rattle.program.specs.declared.script.statement.Action.TheVariants.{Settle, Show}
 use Rattle.program.specs.declared.script.statement.Statement.{Statement}
 use Rattle.program.specs.Statements.{CanBeSaid, IsSpelled, fault_of_words}
-use Rattle.program.specs.Events.{FaultCanBeSaid, IsFault, fault_word, takes_fault}
+use Rattle.program.specs.Events.{FaultCanBeSaid, IsFault, fault_word, may_bear_fault}
 use Rattle.program.specs.Scripts.{IsStatement, SetsLog, is_skipped, words_of, statement}
 use Rattle.program.specs.Faults.{statement_fault, words_fault, after_words, line_fault}
 use Rattle.program.specs.Faults.{after_line, numbered_fault}
@@ -48,7 +48,7 @@ pub record ReadsFaultAs (name : List ℕ) (words : List (List ℕ)) (fault : Fau
   pub good : fault_word name words ≡ None
   pub said : FaultCanBeSaid fault
   pub spelled : IsFault fault words
-  pub none : takes_fault name ≡ false → fault ≡ disk.None
+  pub none : may_bear_fault name ≡ false → fault ≡ disk.None
 
 -- what a reader returned for the fault behind a statement: the one spelled, or what is wrong
 abbrev pub ReadsFault : List ℕ → List (List ℕ) → Result Fault ScriptError → Type 0

@@ -14,7 +14,7 @@ use Rattle.lab.specs.declared.Line.TheVariants as line
 use Rattle.lab.specs.declared.Numbers.{Numbers}
 use Rattle.lab.specs.declared.World.{World}
 use Rattle.lab.specs.Tended.TheVariants as tended
-use Rattle.lab.specs.{AreNumbersOf, Choice, HasRun, TellsTables, WorldHasLimits, frames_in_steps}
+use Rattle.lab.specs.{AreNumbersOf, Choice, HasRun, ShowsTables, WorldHasLimits, frames_in_steps}
 use Rattle.program.specs.declared.script.setup.Setup.{Setup}
 use Rattle.program.specs.declared.script.statement.Action.{Action}
 use Rattle.program.specs.declared.script.statement.Action.TheVariants.{Event, Invalid, Flow}
@@ -160,21 +160,21 @@ pub record HasRunTo (world : World) (setup : Setup) (past : Stretch) : Type 0 wh
 
 -- what is shown of a node are its numbers after all that happened, and how many tables its store
 -- has in this world
-abbrev pub HasToldNumbers : World → Configurations → Stretch → Note → Type 0
-HasToldNumbers world cs past note.Nothing = Unit {0}
-HasToldNumbers world cs past (note.Invalid e) = Unit {0}
-HasToldNumbers world cs past note.Busy = Unit {0}
-HasToldNumbers world cs past (note.Running node numbers) =
+abbrev pub HasShownNumbers : World → Configurations → Stretch → Note → Type 0
+HasShownNumbers world cs past note.Nothing = Unit {0}
+HasShownNumbers world cs past (note.Invalid e) = Unit {0}
+HasShownNumbers world cs past note.Busy = Unit {0}
+HasShownNumbers world cs past (note.Running node numbers) =
     AreNumbersOf cs past.events past.choices node (Some numbers)
-    × TellsTables world.nodes.items node numbers
-HasToldNumbers world cs past (note.Down node) =
+    × ShowsTables world.nodes.items node numbers
+HasShownNumbers world cs past (note.Down node) =
     AreNumbersOf cs past.events past.choices node None
 
 -- what is shown of a node is so in a world that has run this far
 pub record HasShown (setup : Setup) (past : Stretch) (said : Note) : Type 0 where
   pub world : World
   pub run : HasRunTo world setup past
-  pub numbers : HasToldNumbers world setup.configs past said
+  pub numbers : HasShownNumbers world setup.configs past said
 
 -- a statement was run behind what had happened: the world and the frames that are left are those
 -- behind its events
@@ -182,7 +182,7 @@ pub record HasTurned (setup : Setup) (past : Stretch) (it : Statement)
     (turn : StatementResult) (old new : ScriptRun) : Type 0 where
   pub own : Stretch
   pub did : IsResult (frames_in_steps past.steps) old.left.items it turn own.events own.steps
-  pub shown : HasToldNumbers old.world setup.configs past turn.note
+  pub shown : HasShownNumbers old.world setup.configs past turn.note
   pub run : HasRunTo new.world setup (followed_by past own)
   pub left : new.left.items ≡ left_after it.action (old.left.items
       ++ places_after (frames_in_steps past.steps) (frames_in_steps own.steps))

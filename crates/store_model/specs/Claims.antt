@@ -14,7 +14,7 @@ use Rattle.store_model.specs.Outputs.{AreInKeyOrder, HaveOwnRanges}
 use Rattle.store_model.specs.Runs.{IsReached}
 use Rattle.store_model.specs.LookUps.{StoreFinds, replayed_entries}
 use Rattle.store_model.specs.Logs.{AreLogsOf, left_later, trimmed_to}
-use Rattle.store_model.specs.Sweeps.{ComesNext}
+use Rattle.store_model.specs.Sweeps.{IsNextInSweep}
 
 -- ---- what a store shows
 
@@ -161,5 +161,5 @@ ReplaysAgree =
 abbrev pub NextDecides : Type 0
 NextDecides =
     (floor : ℕ) (inputs : List LevelTable) (a b : Entry)
-    → ComesNext (tables_entries inputs) a b
+    → IsNextInSweep (tables_entries inputs) a b
     → IsOverwritten floor inputs b ↔ ((a.key ≡ b.key) × (a.number ≤ floor))

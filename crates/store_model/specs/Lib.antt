@@ -30,4 +30,4 @@ pub use Rattle.store_model.specs.LookUps.{AboveLacks, NewestHas, StoreFinds, Tab
 pub use Rattle.store_model.specs.LookUps.{replayed_entries}
 pub use Rattle.store_model.specs.Outputs.{AreInKeyOrder, HaveOwnRanges, IsInKeyOrder}
 pub use Rattle.store_model.specs.Logs.{AreLogsOf, LogsRise, left_later, newest_log, trimmed_to}
-pub use Rattle.store_model.specs.Sweeps.{ComesBefore, ComesNext}
+pub use Rattle.store_model.specs.Sweeps.{IsBeforeInSweep, IsNextInSweep}

@@ -3,14 +3,14 @@ use Rattle.std.proofs.Common.{◌≡◌, ◌⊎◌, inl, inr, ℕ, ◌<◌, ◌�
 use Rattle.kv_types.specs.{Entry}
 use Rattle.store_model.specs.Keys.{KeyPrecedes}
 use Rattle.store_model.specs.KeysLemmas.{key_chain, key_never}
-use Rattle.store_model.specs.Sweeps.{ComesBefore, ComesNext}
+use Rattle.store_model.specs.Sweeps.{IsBeforeInSweep, IsNextInSweep}
 
 not_before : (a b : List ℕ) → a ≡ b → KeyPrecedes a b → ⊥
 not_before a b same lt = key_never b (subst (λ z. KeyPrecedes z b) same lt)
 
 -- a newer entry of a key does not come after an older one
 not_after : (a newer : Entry) → newer.key ≡ a.key → a.number < newer.number
-    → (newer ≡ a) ⊎ ComesBefore a newer → ⊥
+    → (newer ≡ a) ⊎ IsBeforeInSweep a newer → ⊥
 not_after a newer same lt (inl is) =
     let number : newer.number ≡ a.number = ap (λ (e : Entry). e.number) is in
     omega (arith, number, lt)
@@ -19,7 +19,8 @@ not_after a newer same lt (inr (inr falls)) = let le = falls.1 in omega (arith, 
 
 -- an entry between two entries of one key has that key, and a number between theirs
 passes_on : (newer a b : Entry) (floor : ℕ) → newer.key ≡ b.key → newer.number ≤ floor
-    → (newer ≡ a) ⊎ ComesBefore newer a → ComesBefore a b → (a.key ≡ b.key) × (a.number ≤ floor)
+    → (newer ≡ a) ⊎ IsBeforeInSweep newer a → IsBeforeInSweep a b
+    → (a.key ≡ b.key) × (a.number ≤ floor)
 passes_on newer a b floor same le (inl is) next =
     let number : newer.number ≡ a.number = ap (λ (e : Entry). e.number) is in
     (sym (ap (λ (e : Entry). e.key) is) ∙ same, omega (arith, number, le))
@@ -30,7 +31,7 @@ passes_on newer a b floor same le (inr (inl before)) (inr next) =
 passes_on newer a b floor same le (inr (inr falls)) next =
     let lt = falls.1 in (sym falls.0 ∙ same, omega (arith, lt, le))
 
-module _ (entries : Entry → Type 0) (a b : Entry) (next : ComesNext entries a b) where
+module _ (entries : Entry → Type 0) (a b : Entry) (next : IsNextInSweep entries a b) where
   -- where a newer entry up to the floor overwrites b, the one right before b does
   pub next_overwrites : (newer : Entry) (floor : ℕ) → entries newer → newer.key ≡ b.key
       → b.number < newer.number → newer.number ≤ floor → (a.key ≡ b.key) × (a.number ≤ floor)

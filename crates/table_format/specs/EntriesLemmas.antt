@@ -5,8 +5,8 @@ use Rattle.std.proofs.Common.{IfSome, refl, ap, subst, arith, nat_le, ◌^◌}
 use Rattle.std.proofs.lemmas.Bool.{leb-true, le-leb}
 use Rattle.kv_types.specs.declared.bounds.TheConstants.{MAX_KEY, MAX_VALUE, MAX_NUMBER}
 use Rattle.kv_types.specs.{◌>>=◌, text_at}
-use Rattle.kv_types.specs.FieldsLemmas.{IsBytes, IsBytes-rest, bind_some, some_is, Takes}
-use Rattle.kv_types.specs.FieldsLemmas.{text_takes, text_again}
+use Rattle.kv_types.specs.FieldsLemmas.{IsBytes, IsBytes-rest, bind_some, some_is, BeginsWith}
+use Rattle.kv_types.specs.FieldsLemmas.{text_begins, text_again}
 use Rattle.byte_fields.specs.ReadersLemmas.{Reads, both_reads, made_reads, only_reads, right_reads}
 use Rattle.byte_fields.specs.ReadersLemmas.{number_reads, wide64}
 use Rattle.kv_types.specs.{Entry}
@@ -19,7 +19,7 @@ use Rattle.table_format.specs.Reading.{table_entry_at}
 pub key_reads : Reads IsStoredKey key_bytes key_at
 unfolding key_at
 key_reads = record {
-  takes = λ bytes x fits e. text_takes MAX_KEY bytes x fits e;
+  takes = λ bytes x fits e. text_begins MAX_KEY bytes x fits e;
   again = λ key rest is. text_again MAX_KEY key rest is (omega arith);
 }
 
@@ -35,12 +35,12 @@ IsChange value = IfSome value (λ v. length v ≤ MAX_VALUE)
 
 put_takes : (bytes : List ℕ) (x : Option (List ℕ) × List ℕ) → IsBytes bytes
     → (text_at MAX_VALUE bytes >>= λ value. Some (Some value.0, value.1)) ≡ Some x
-    → Takes (1 ∷ bytes) (change_bytes x.0) x.1 × IsChange x.0
+    → BeginsWith (1 ∷ bytes) (change_bytes x.0) x.1 × IsChange x.0
 put_takes bytes x fits e =
     let a = bind_some (text_at MAX_VALUE bytes) (λ value. Some (Some value.0, value.1)) x e in
-    let t = text_takes MAX_VALUE bytes a.0 fits a.1 in
+    let t = text_begins MAX_VALUE bytes a.0 fits a.1 in
     let found : Option (List ℕ) × List ℕ = (Some a.0.0, a.0.1) in
-    subst (λ (y : Option (List ℕ) × List ℕ). Takes (1 ∷ bytes) (change_bytes y.0) y.1
+    subst (λ (y : Option (List ℕ) × List ℕ). BeginsWith (1 ∷ bytes) (change_bytes y.0) y.1
     × IsChange y.0)
     (some_is found x a.2) (
       record { parts = ap (λ (w : List ℕ). 1 ∷ w) t.0.parts; rest_fits = t.0.rest_fits },
@@ -48,14 +48,14 @@ put_takes bytes x fits e =
     )
 
 change_takes : (bytes : List ℕ) (x : Option (List ℕ) × List ℕ) → IsBytes bytes
-    → change_at bytes ≡ Some x → Takes bytes (change_bytes x.0) x.1 × IsChange x.0
+    → change_at bytes ≡ Some x → BeginsWith bytes (change_bytes x.0) x.1 × IsChange x.0
 unfolding change_at
 change_takes [] x fits e = absurd cc
 change_takes (zero ∷ bytes) x fits e = absurd cc
 change_takes (suc zero ∷ bytes) x fits e = put_takes bytes x (IsBytes-rest 1 bytes fits) e
 change_takes (suc (suc zero) ∷ bytes) x fits e =
     let found : Option (List ℕ) × List ℕ = (None, bytes) in
-    subst (λ (y : Option (List ℕ) × List ℕ). Takes (2 ∷ bytes) (change_bytes y.0) y.1
+    subst (λ (y : Option (List ℕ) × List ℕ). BeginsWith (2 ∷ bytes) (change_bytes y.0) y.1
     × IsChange y.0)
     (some_is found x e) (record { parts = refl; rest_fits = IsBytes-rest 2 bytes fits }, tt)
 change_takes (suc (suc (suc b)) ∷ bytes) x fits e = absurd cc

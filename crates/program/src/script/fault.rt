@@ -4,7 +4,7 @@ ghost use Rattle.std.specs.Prelude.{MatchOption, IfOk};
 ghost use Rattle.std.specs.Fmt.{decimal};
 ghost use Rattle.program.specs.Words.{begins_fault, has_fault, before_fault, from_fault};
 ghost use Rattle.program.specs.Events.{IsCall, FaultCanBeSaid, IsFault, is_call, is_fault};
-ghost use Rattle.program.specs.Events.{takes_fault};
+ghost use Rattle.program.specs.Events.{may_bear_fault};
 ghost use Rattle.program.specs.Reading.{ReadsFault};
 
 use super::error::ScriptError;
@@ -104,8 +104,8 @@ fn fault_of(alloc: Global, words: &[&[u8]]) -> Result<Option<Fault>, AllocError>
 }
 
 /// Whether a statement of this name may bear a fault.
-fn takes(name: &[u8]) -> bool
-    ensures { result ≡ takes_fault name.now }
+fn may_bear(name: &[u8]) -> bool
+    ensures { result ≡ may_bear_fault name.now }
 {
     name != b"stop".as_slice()
         && name != b"flow".as_slice()
@@ -120,7 +120,7 @@ pub fn fault_behind(alloc: Global, name: &[u8], words: &[&[u8]]) -> Result<Fault
     if words.is_empty() {
         return Ok(Fault::None);
     }
-    if !takes(name) {
+    if !may_bear(name) {
         return Err(ScriptError::BadFault);
     }
     match fault_of(alloc, words)? {

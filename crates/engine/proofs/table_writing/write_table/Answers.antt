@@ -1,7 +1,7 @@
 use Rattle.std.proofs.Common.{None, refl, subst}
 use Rattle.disk.specs.{Absent}
 use Rattle.memtable.specs.{TableHolds}
-use Rattle.engine.specs.TableWriting.{TellsRoom}
+use Rattle.engine.specs.TableWriting.{IsRoomAnswer}
 use Rattle.engine.proofs.TableCalls.{moments_join}
 use Rattle.engine.proofs.table_writing.write_table.Goals as goal
 
@@ -35,5 +35,5 @@ returns-clause-any_moment g c =
 pub returns-clause-line : goal.returns-clause-line
 returns-clause-line g c =
     let empty = (c.new-builder.ensures.began (Absent None) refl).holds in
-    subst (λ b. TellsRoom (TableHolds c.args.memtable.now) b) c.if-branch.false
+    subst (λ b. IsRoomAnswer (TableHolds c.args.memtable.now) b) c.if-branch.false
     (c.in_ok-add_memtable.ensures.room empty)

@@ -10,7 +10,7 @@ use Rattle.manifest.proofs.next.next_version.Goals as goal
 -- the version takes the edit, and what it gives is lawful
 pub invariant_of-result : goal.invariant_of-result
 invariant_of-result c =
-    let takes = c.in_ok-may_take.ensures.0 c.if-not-branch.false in
+    let takes = c.in_ok-may_apply.ensures.0 c.if-not-branch.false in
     let lines = c.in_ok-logs.ensures in
     let old = version_in c.args.old.now in
     let edit = c.args.edit.now in

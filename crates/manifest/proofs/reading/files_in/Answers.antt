@@ -2,7 +2,7 @@ use Rattle.std.proofs.Common.{◌≡◌, ◌++◌, ◌∷◌, []}
 use Rattle.std.proofs.lemmas.Result.{err_from_is_err_and}
 use Rattle.byte_fields.specs.{many}
 use Rattle.manifest.specs.Reading.{count_field}
-use Rattle.byte_fields.specs.LoopLemmas.{goes_on, is_done}
+use Rattle.byte_fields.specs.LoopLemmas.{reads_next, is_done}
 use Rattle.manifest.proofs.Loop.{ends}
 use Rattle.manifest.proofs.reading.files_in.Goals as goal
 
@@ -18,7 +18,7 @@ pub loop-preserved : goal.loop-preserved
 loop-preserved c =
     let e : c.push.new.self.items ≡ c.loop.files.items ++ c.in_ok-count_of.field-0 ∷ [] =
     c.in_ok-push.ensures.items in
-    rw e (goes_on count_field c.loop.files.items c.args.count c.loop.counter c.loop.bytes.now
+    rw e (reads_next count_field c.loop.files.items c.args.count c.loop.counter c.loop.bytes.now
     c.in_ok-count_of.field-0 c.count_of.new.bytes.now
     (many count_field c.args.count c.args.bytes.now.now) c.loop-test.true
     c.in_ok-count_of.ensures c.loop.invariant)

@@ -2,7 +2,7 @@ use Rattle.std.proofs.Common.{◌≡◌, ◌++◌, ◌∷◌, []}
 use Rattle.std.proofs.lemmas.Result.{err_from_is_err_and}
 use Rattle.byte_fields.specs.{many}
 use Rattle.manifest.specs.Reading.{log_line_at}
-use Rattle.byte_fields.specs.LoopLemmas.{goes_on, is_done}
+use Rattle.byte_fields.specs.LoopLemmas.{reads_next, is_done}
 use Rattle.manifest.proofs.Loop.{ends}
 use Rattle.manifest.proofs.reading.logs_in.Goals as goal
 
@@ -18,7 +18,7 @@ pub loop-preserved : goal.loop-preserved
 loop-preserved c =
     let e : c.push.new.self.items ≡ c.loop.lines.items ++ c.in_ok-log_of.field-0 ∷ [] =
     c.in_ok-push.ensures.items in
-    rw e (goes_on log_line_at c.loop.lines.items c.args.count c.loop.counter c.loop.bytes.now
+    rw e (reads_next log_line_at c.loop.lines.items c.args.count c.loop.counter c.loop.bytes.now
     c.in_ok-log_of.field-0 c.log_of.new.bytes.now
     (many log_line_at c.args.count c.args.bytes.now.now) c.loop-test.true
     c.in_ok-log_of.ensures c.loop.invariant)

@@ -1,7 +1,7 @@
 use Rattle.std.proofs.Common.{◌<◌, arith, drop, inr, refl, suc}
 use Rattle.engine.specs.BatchLogs.{newest_length}
 use Rattle.engine.specs.OpenFiles.{known_version, trimmed_count}
-use Rattle.engine.specs.Tending.{FlushIsDue, RewriteIsDue, IsTend as tend, TellsWork as work}
+use Rattle.engine.specs.Tending.{FlushIsDue, RewriteIsDue, IsTend as tend, IsWorkAnswer as work}
 use Rattle.engine.proofs.Tends.{flush_is_tend, nothing_called, rewrite_is_tend, tells_flush}
 use Rattle.engine.proofs.Tends.{tells_rewrite}
 use Rattle.engine.specs.Errors.{IsEngineExternal}

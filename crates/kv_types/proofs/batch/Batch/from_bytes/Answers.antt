@@ -3,7 +3,7 @@ use Rattle.kv_types.specs.declared.error.KvError.{KvError}
 use Rattle.kv_types.specs.declared.error.KvError.TheVariants.{BadBytes}
 use Rattle.std.proofs.lemmas.Result.{err_from_is_err_and}
 use Rattle.kv_types.specs.Reading.{batch_of, RefusesBytes}
-use Rattle.kv_types.specs.BatchesLemmas.{batch_takes, batch_again}
+use Rattle.kv_types.specs.BatchesLemmas.{batch_is, batch_again}
 use Rattle.kv_types.proofs.batch.Batch.from_bytes.Goals as goal
 
 pub returns-in_err-all_edits_of-clause-bad : goal.returns-in_err-all_edits_of-clause-bad
@@ -21,11 +21,11 @@ returns-in_err-all_edits_of-clause-bad c =
 pub invariant_of-result : goal.invariant_of-result
 invariant_of-result c =
     rw c.new-edits.ensures
-    (batch_takes c.args.bytes.now c.in_ok-all_edits_of.field-0.items
+    (batch_is c.args.bytes.now c.in_ok-all_edits_of.field-0.items
     (λ i. omega (arith, c.type_inv.bytes i)) c.in_ok-all_edits_of.ensures).0
 
 pub returns-clause-spelled : goal.returns-clause-spelled
 returns-clause-spelled c =
     rw c.new-edits.ensures
-    (batch_takes c.args.bytes.now c.in_ok-all_edits_of.field-0.items
+    (batch_is c.args.bytes.now c.in_ok-all_edits_of.field-0.items
     (λ i. omega (arith, c.type_inv.bytes i)) c.in_ok-all_edits_of.ensures).1

@@ -3,7 +3,7 @@ use Rattle.std.proofs.lemmas.Result.{err_from_is_err_and}
 use Rattle.kv_types.specs.declared.error.KvError.{KvError}
 use Rattle.kv_types.specs.declared.error.KvError.TheVariants.{BadBytes}
 use Rattle.kv_types.specs.Reading.{batch_at, RefusesBytes}
-use Rattle.kv_types.specs.BatchesLemmas.{front_takes}
+use Rattle.kv_types.specs.BatchesLemmas.{batch_begins}
 use Rattle.kv_types.proofs.Fronts.{no_batch}
 use Rattle.kv_types.proofs.batch.Batch.read_from.Goals as goal
 
@@ -19,11 +19,11 @@ returns-in_err-edits-clause-bad c =
 pub invariant_of-result : goal.invariant_of-result
 invariant_of-result c =
     rw c.new-edits.ensures
-    (front_takes c.args.bytes.now (c.in_ok-edits.edits.items, c.in_ok-edits.rest.now)
+    (batch_begins c.args.bytes.now (c.in_ok-edits.edits.items, c.in_ok-edits.rest.now)
     (λ i. omega (arith, c.type_inv.bytes i)) c.in_ok-edits.ensures).1
 
 pub returns-clause-found : goal.returns-clause-found
 returns-clause-found c =
-    let front = front_takes c.args.bytes.now (c.in_ok-edits.edits.items, c.in_ok-edits.rest.now)
+    let front = batch_begins c.args.bytes.now (c.in_ok-edits.edits.items, c.in_ok-edits.rest.now)
     (λ i. omega (arith, c.type_inv.bytes i)) c.in_ok-edits.ensures in
     rw c.new-edits.ensures (front.0.parts, front.1)

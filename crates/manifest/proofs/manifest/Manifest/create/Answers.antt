@@ -3,7 +3,7 @@ use Rattle.manifest.specs.Versions.{NodeVersion, first_version}
 use Rattle.record_log.specs.{IsDurableAs}
 use Rattle.manifest.specs.Edits.{change_text}
 use Rattle.manifest.specs.Holds.{AreNewSlots, slot_behind}
-use Rattle.manifest.specs.Lawful.{IsWholeEdit, whole_change}
+use Rattle.manifest.specs.Lawful.{IsFullEdit, full_change}
 use Rattle.manifest.proofs.Edited.{held_whole}
 use Rattle.std.proofs.Common.{refl}
 use Rattle.std.proofs.lemmas.Result.{err_from_is_err_and}
@@ -14,18 +14,18 @@ use Rattle.manifest.proofs.manifest.Manifest.create.Goals as goal
 pub returns-clause-created : goal.returns-clause-created
 returns-clause-created g c = λ honest no1 no2.
     let named = first_version c.args.id c.args.config.now in
-    let whole : IsWholeEdit named c.deref.result.now =
-    subst (IsWholeEdit named) (sym c.deref.ensures.value)
-    (subst (λ (n : NodeVersion). IsWholeEdit n c.in_ok-bytes.bytes.items) c.in_ok-version.ensures
+    let whole : IsFullEdit named c.deref.result.now =
+    subst (IsFullEdit named) (sym c.deref.ensures.value)
+    (subst (λ (n : NodeVersion). IsFullEdit n c.in_ok-bytes.bytes.items) c.in_ok-version.ensures
     c.in_ok-bytes.ensures.whole) in
     let id : c.get.result ≡ c.args.id = c.get.ensures.same in
     let made : AreNewSlots (g.D.Disk.state c.create.new.disk) c.args.id c.deref.result.now
     c.in_ok-slots.slots =
     subst (λ (i : ℕ). AreNewSlots (g.D.Disk.state c.create.new.disk) i c.deref.result.now
     c.in_ok-slots.slots) id (c.in_ok-slots.ensures.created honest no1 no2) in
-    let text : c.deref.result.now ≡ change_text (whole_change named.version) =
+    let text : c.deref.result.now ≡ change_text (full_change named.version) =
     c.deref.ensures.value ∙ subst (λ (n : NodeVersion).
-    c.in_ok-bytes.bytes.items ≡ change_text (whole_change n.version)) c.in_ok-version.ensures
+    c.in_ok-bytes.bytes.items ≡ change_text (full_change n.version)) c.in_ok-version.ensures
     c.in_ok-bytes.ensures.spelled in
     record {
       holds = held_whole (g.D.Disk.state c.create.new.disk)

@@ -1,6 +1,6 @@
 use Rattle.std.proofs.Common.{sym, subst, refl, false}
 use Rattle.std.proofs.lemmas.Result.{err_from_is_err_and}
-use Rattle.manifest.specs.Lawful.{IsWholeEdit}
+use Rattle.manifest.specs.Lawful.{IsFullEdit}
 use Rattle.manifest.proofs.Edited.{met_is, whole_since, whole_start, whole_held}
 use Rattle.manifest.proofs.Kept.{fails_log, kept_as, kept_still, log_fails}
 use Rattle.manifest.proofs.manifest.Manifest.rewrite.Goals as goal
@@ -19,7 +19,7 @@ returns-in_err-bytes-clause-any_moment g c = λ named honest h.
 
 pub returns-in_err-rewrite-clause-any_moment : goal.returns-in_err-rewrite-clause-any_moment
 returns-in_err-rewrite-clause-any_moment g c = λ named honest h.
-    let whole = subst (IsWholeEdit c.args.self.now.version) (sym c.deref.ensures.value)
+    let whole = subst (IsFullEdit c.args.self.now.version) (sym c.deref.ensures.value)
     c.in_ok-bytes.ensures.whole in
     whole_since (g.D.Disk.state c.args.disk.now) c.args.self.now named c.deref.result.now h whole
     (g.D.Disk.state c.rewrite.new.disk) (g.D.Disk.past c.args.disk.now)
@@ -27,7 +27,7 @@ returns-in_err-rewrite-clause-any_moment g c = λ named honest h.
 
 pub returns-clause-any_moment : goal.returns-clause-any_moment
 returns-clause-any_moment g c = λ named honest h.
-    let whole = subst (IsWholeEdit c.args.self.now.version) (sym c.deref.ensures.value)
+    let whole = subst (IsFullEdit c.args.self.now.version) (sym c.deref.ensures.value)
     c.in_ok-bytes.ensures.whole in
     whole_since (g.D.Disk.state c.args.disk.now) c.args.self.now named c.deref.result.now h whole
     (g.D.Disk.state c.rewrite.new.disk) (g.D.Disk.past c.args.disk.now)
@@ -42,7 +42,7 @@ returns-in_err-rewrite-clause-rewritten g c = λ named honest h.
 
 pub returns-clause-rewritten : goal.returns-clause-rewritten
 returns-clause-rewritten g c = λ named honest h.
-    let whole = subst (IsWholeEdit c.args.self.now.version) (sym c.deref.ensures.value)
+    let whole = subst (IsFullEdit c.args.self.now.version) (sym c.deref.ensures.value)
     c.in_ok-bytes.ensures.whole in
     whole_held (g.D.Disk.state c.args.disk.now) c.args.self.now named c.deref.result.now h whole
     (g.D.Disk.state c.rewrite.new.disk)

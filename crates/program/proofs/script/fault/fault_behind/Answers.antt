@@ -5,8 +5,8 @@ use Rattle.program.proofs.script.fault.fault_behind.Goals as goal
 pub returns-then-is_empty : goal.returns-then-is_empty
 returns-then-is_empty c = grind (arith, common_steps)
 
-pub returns-then-not-takes : goal.returns-then-not-takes
-returns-then-not-takes c = grind (arith, common_steps)
+pub returns-then-not-may_bear : goal.returns-then-not-may_bear
+returns-then-not-may_bear c = grind (arith, common_steps)
 
 pub returns-in-None : goal.returns-in-None
 returns-in-None c = grind (arith, common_steps)

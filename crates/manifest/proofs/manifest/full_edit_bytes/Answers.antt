@@ -1,16 +1,16 @@
 use Rattle.std.proofs.Common.{arith}
 use Rattle.manifest.proofs.Lawful.{whole_is_whole, whole_is_short}
-use Rattle.manifest.proofs.manifest.whole_bytes.Goals as goal
+use Rattle.manifest.proofs.manifest.full_edit_bytes.Goals as goal
 
 pub returns-clause-short : goal.returns-clause-short
 returns-clause-short c =
     omega (
       arith,
-      whole_is_short c.args.version.now.version c.bytes_of_whole.ensures.is
+      whole_is_short c.args.version.now.version c.bytes_of_full.ensures.is
           c.in_ok-bytes.bytes.items c.in_ok-bytes.ensures.spelled,
     )
 
 pub returns-clause-whole : goal.returns-clause-whole
 returns-clause-whole c =
-    whole_is_whole c.args.version.now c.bytes_of_whole.ensures.is c.in_ok-bytes.bytes.items
+    whole_is_whole c.args.version.now c.bytes_of_full.ensures.is c.in_ok-bytes.bytes.items
     c.in_ok-bytes.ensures.spelled

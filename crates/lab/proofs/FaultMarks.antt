@@ -29,7 +29,7 @@ use Rattle.lab.specs.declared.report.NodeReport.{NodeReport}
 use Rattle.lab.specs.declared.report.Report.{Report}
 use Rattle.lab.specs.Events.{modelled}
 use Rattle.lab.specs.SimNodes.{Choice, state, failures, marks}
-use Rattle.lab.specs.Told.{AllWork, AreSame, HasSamePast, HasWorked, IsSameFault, with_faults}
+use Rattle.lab.specs.FaultMarks.{AllWork, AreSame, HasSamePast, HasWorked, IsSameFault, with_faults}
 
 -- ends of the same length of one list
 same_ends : (a c b d : List State) → a ++ b ≡ c ++ d → length b ≡ length d → b ≡ d

@@ -1,9 +1,9 @@
 use Rattle.std.proofs.Common.{◌≡◌, ◌++◌, subst, OnOk}
 use Rattle.manifest.specs.Versions.{StoreVersion, NodeVersion}
-use Rattle.manifest.specs.Lawful.{whole_change}
+use Rattle.manifest.specs.Lawful.{full_change}
 use Rattle.manifest.specs.Edits.{change_text}
 use Rattle.manifest.proofs.Spelled.{is_spelled}
-use Rattle.manifest.proofs.spelling.put_whole.Goals as goal
+use Rattle.manifest.proofs.spelling.put_full.Goals as goal
 
 -- the parts in their order
 pub returns : goal.returns
@@ -20,8 +20,8 @@ returns c =
     let names = c.put_names.new.out.items in
     let all = c.put_tables.new.out.items in
     subst (λ (v : NodeVersion). OnOk c.put_tables.result
-    (all ≡ c.args.out.now.items ++ change_text (whole_change v.version))) c.version.view_is
-    (is_spelled (whole_change version) c.args.out.now.items c.put_numbers.new.out.items
+    (all ≡ c.args.out.now.items ++ change_text (full_change v.version))) c.version.view_is
+    (is_spelled (full_change version) c.args.out.now.items c.put_numbers.new.out.items
     c.spell_into.new.out.items c.put_files.new.out.items c.put_logs.new.out.items names all
     c.put_tables.result c.in_ok-put_numbers.ensures c.in_ok-spell_into.ensures.spelled
     c.in_ok-put_files.ensures

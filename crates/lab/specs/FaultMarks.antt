@@ -60,8 +60,8 @@ pub record HasSamePast (a b : Slots) : Type 0 where
 
 -- A report is a run of events with these faults and with those, in which nodes worked: then the
 -- faults are the same, as far as they did something.
-abbrev pub FaultsAreTold : Type 0
-FaultsAreTold = (cs : Configurations) (kinds : List EventKind) (f f' : ℕ → Fault)
+abbrev pub FaultsAreDetermined : Type 0
+FaultsAreDetermined = (cs : Configurations) (kinds : List EventKind) (f f' : ℕ → Fault)
     (choices : List Choice) (report : Report) →
     AllWork cs 1 kinds choices (model.first_state cs) →
     IsRun cs (with_faults f kinds) choices report →
@@ -70,8 +70,9 @@ FaultsAreTold = (cs : Configurations) (kinds : List EventKind) (f f' : ℕ → F
 
 -- what two stop events with this junk and that left of a disk is one disk: then the junk is the
 -- same, and so is what the disk had had
-abbrev pub StopsAreTold : Type 0
-StopsAreTold = (event event' : Event) (choice choice' : Choice) (o : model.Outcome BatchContent)
+abbrev pub StopsAreDetermined : Type 0
+StopsAreDetermined = (event event' : Event) (choice choice' : Choice)
+    (o : model.Outcome BatchContent)
     (n : Machine) (junk junk' : Junk) (old old' new : Slots) → junk_of event.kind ≡ Some junk →
     junk_of event'.kind ≡ Some junk' → o.stopped ≡ true →
     DiskFollows state failures past_states marks event choice o n old new →

@@ -1,5 +1,5 @@
 use Rattle.std.proofs.Common.{◌≡◌, take, map}
-use Rattle.manifest.proofs.fits.files_gone.Given as goal
+use Rattle.manifest.proofs.fits.removed_files.Given as goal
 
 -- the files that the loop has passed
 abbrev pub invariant-loop-one : goal.invariant-loop-one
