@@ -200,12 +200,15 @@ always_ok (Err e) p = tt
 
 -- the steps left ahead, and those left when the children stand ahead the other way
 module _ {C : Type 0} (left : C → Direction → ℕ) (most : C → ℕ) where
-  pub along : (was way : Direction) (xs : List C) → was ≡ way → left_along left most xs was way ≡
-      sum_by (λ c. left c way) xs
-  along Forward Forward xs e = refl
-  along Forward Backward xs e = absurd (let h : Forward ≡ Backward = e in cc)
-  along Backward Forward xs e = absurd (let h : Backward ≡ Forward = e in cc)
-  along Backward Backward xs e = refl
+  -- a step of one child leaves fewer
+  pub fewer : (way : Direction) (xs : List C) (k : ℕ) (x v : C) (r : Result (Unit {0}) CursorError)
+      → slice_get xs k ≡ Some x → OnOk r (left v way < left x way)
+      → OnOk r (sum_by (λ c. left c way) (slice_set xs k v) < left_along left most xs way way)
+  fewer way xs k x v (Err e) at less = tt
+  fewer Forward xs k x v (Ok u) at less =
+      let s = sum_set (λ c. left c Forward) xs k x v at in omega (arith, s, less)
+  fewer Backward xs k x v (Ok u) at less =
+      let s = sum_set (λ c. left c Backward) xs k x v at in omega (arith, s, less)
 
   pub across : (was way : Direction) (xs : List C) → (was ≡ way → ⊥) → left_along left most xs was
       way ≡ merged_most most xs

@@ -4,16 +4,13 @@ use Rattle.std.proofs.Common.{false, Result, Ok, Err, IsTrue}
 use Rattle.merge_iter.specs.declared.direction.Direction.{Direction}
 use Rattle.merge_iter.specs.declared.direction.Direction.TheVariants.{Forward, Backward}
 use Rattle.merge_iter.specs.declared.error.CursorError.{CursorError}
-use Rattle.merge_iter.specs.declared.error.CursorError.TheVariants.{Disk, Damaged, Memory, Failed}
 use Rattle.merge_iter.specs.declared.mode.Mode.{Mode}
 use Rattle.merge_iter.specs.declared.mode.Mode.TheVariants as mode
 use Rattle.kv_types.specs.{Entry, StoredKey, stored_cmp}
 use Rattle.merge_iter.specs.Order.{IsAlike, IsApart, EntryPrecedes, spot}
-use Rattle.merge_iter.specs.Positions.{Position, On, Off, Broken, IsOn, IsBroken, IfOn, IsFirst}
+use Rattle.merge_iter.specs.Positions.{Position, On, Off, Broken, IsOn, IfOn, IsFirst}
 use Rattle.merge_iter.specs.Positions.{WalkStart, At, After, WalkMeets}
-use Rattle.disk.specs.{RisesByOne}
-use Rattle.merge_iter.specs.Moves.{MoveKeeps, Moved, ErrorCauses, MoveFinds, AreCursorLaws}
-use Rattle.merge_iter.specs.Moves.{IsLawful}
+use Rattle.merge_iter.specs.Moves.{Moved, MoveFinds, AreCursorLaws}
 use Rattle.merge_iter.specs.Unions.{first_kept, stays_same, stays_through}
 use Rattle.kv_types.specs.{IsShown}
 use Rattle.merge_iter.specs.ShownEntries.{IsBefore, IsHidden, IsAhead, IsJudged, IsJudgedBack}
@@ -21,30 +18,10 @@ use Rattle.merge_iter.specs.ShownEntries.{IsOnTheWay, IsSettled}
 use Rattle.std.specs.declared.cmp.Ordering.{Ordering}
 use Rattle.std.specs.Ordering.{is_lt, ordering_then, nat_cmp}
 use Rattle.merge_iter.specs.OrderLemmas.{by_parts}
-use Rattle.merge_iter.specs.Searches.{seek_itself, judged_step, shown_here, shown_none, judged_back}
-use Rattle.merge_iter.specs.Searches.{settled_left, settled_end}
-
-module _ {C S : Type 0} (holds : C → S → Entry → Type 0) (sound : C → S → Type 0) (suits : C → S → S
-    → Type 0)
-    (keeps : S → S → Type 0) (left : C → Direction → ℕ) (most : C → ℕ)
-    (laws : IsLawful holds sound suits keeps left most) where
-  pub moves_itself : (c : C) (a : S) → MoveKeeps holds sound suits keeps most c a c a
-  moves_itself c a = record {
-    source = laws.itself a;
-    stays = stays_same holds sound suits c a;
-    size =
-        refl;
-  }
-
-  pub moves_through : (c d e : C) (a b z : S) → MoveKeeps holds sound suits keeps most c a d b
-      → MoveKeeps
-      holds sound suits keeps most d b e z → MoveKeeps holds sound suits keeps most c a e z
-  moves_through c d e a b z m n = record {
-    source = laws.through a b z m.source n.source;
-    stays =
-        stays_through holds sound suits c d e a b z m.stays n.stays;
-    size = n.size ∙ m.size;
-  }
+use Rattle.merge_iter.proofs.BackwardSearches.{judged_back}
+use Rattle.merge_iter.proofs.ForwardSearches.{judged_step, shown_here, shown_none}
+use Rattle.merge_iter.proofs.SeekSearches.{seek_itself}
+use Rattle.merge_iter.proofs.BackwardSearches.{settled_left, settled_end}
 
 module _ {C S K : Type 0} (holds : K → C → S → Entry → Type 0) (sound : K → C → S → Type 0)
     (suits : C → S → S → Type 0) (keeps : S → S → Type 0) (left : C → Direction → ℕ) (most : C → ℕ)
@@ -65,27 +42,6 @@ module _ {C S K : Type 0} (holds : K → C → S → Entry → Type 0) (sound : 
     stays = λ k. stays_through (holds k) (sound k) suits c d e a b z (m.stays k) (n.stays k);
     size = n.size ∙ m.size;
   }
-
--- a refusal handed up, after calls in which nothing failed
-pub tells_up : {R Q A : Type 0} (S T : Type 0) (f g h : ℕ) (r : Result R CursorError)
-    (q : Result Q CursorError) (e : CursorError) → r ≡ Err e → q ≡ Err e → g ≡ f → (T → S)
-    → ErrorCauses S ⊥ A g h r → ErrorCauses T ⊥ A f h q
-tells_up S T f g h r q e re qe same to t =
-    let back : (x : CursorError) → q ≡ Err x → r ≡ Err x = λ x k. cc in
-    let on : (x : CursorError) → r ≡ Err x → q ≡ Err x = λ x k. cc in
-    record {
-      disk = λ i. subst (λ x. RisesByOne x h) same (t.disk (back Disk i));
-      others = λ i. t.others (λ k. i (on Disk k)) ∙ same;
-      damaged = λ i s. t.damaged (back Damaged i) (to s);
-      memory = λ i. t.memory (back Memory i);
-      failed = ((λ i. t.failed.0 (back Failed i)), (λ b. absurd b));
-    }
-
-pub step_tells : {R A : Type 0} (S : Type 0) (s : Position) (f h : ℕ) (r : Result R CursorError)
-    → IsOn s → ErrorCauses S (IsBroken s) A f h r → ErrorCauses S ⊥ A f h r
-step_tells S (On entry) f h r on t = t
-step_tells S Off f h r on t = absurd on
-step_tells S Broken f h r on t = absurd on
 
 pub flip : (P Q : Entry → Type 0) → IsAlike P Q → IsAlike Q P
 flip P Q same entry = ((same entry).1, (same entry).0)
@@ -148,12 +104,6 @@ module _ (at : ℕ) (S : Entry → Type 0) where
       entry c j
   left_on start found found' w w' Off on j c = absurd on
   left_on start found found' w w' Broken on j c = absurd on
-
-  pub was_found : (found found' : Bool) (w w' : Entry) (s : Position) → IsOn s
-      → IfOn s (λ entry. IsJudgedBack at found w entry found' w' true) → IsTrue found
-  was_found found found' w w' (On entry) on j = j.1
-  was_found found found' w w' Off on j = absurd on
-  was_found found found' w w' Broken on j = absurd on
 
   pub back_end : (start : WalkStart) (found : Bool) (w : Entry) (s : Position) → (IsOn s → ⊥)
       → IsOnTheWay found at S start w s

@@ -10,7 +10,7 @@ use Rattle.merge_iter.specs.TableEntries.{IsTableEntry}
 use Rattle.merge_iter.specs.Moves.{AreCursorLaws, IsLawful, law_at}
 use Rattle.kv_types.specs.{IsShown}
 use Rattle.merge_iter.specs.ShownEntries.{IfKept, IsSettled, left_in, view_position}
-use Rattle.merge_iter.specs.Searches.{all_shown_alike, settled_alike}
+use Rattle.merge_iter.specs.AlikeViews.{all_shown_alike, settled_alike}
 
 module _ {C S : Type 0} (holds : C → S → Entry → Type 0) (sound : C → S → Type 0) (suits : C → S →
     S → Type 0)

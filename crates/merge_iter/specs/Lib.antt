@@ -11,7 +11,7 @@ pub mod LentCursors
 pub mod Unions
 pub mod ShownEntries
 pub mod KeptEntries
-pub mod Searches
+pub mod AlikeViews
 pub mod AtNumbers
 pub mod Views
 pub mod OrderLemmas
@@ -25,7 +25,7 @@ pub use Rattle.merge_iter.specs.LentCursors.{union_of}
 pub use Rattle.merge_iter.specs.ListEntries.{IsSortedList, ListHolds}
 pub use Rattle.merge_iter.specs.Merging.{AreApart, EachChild, UnionHolds}
 pub use Rattle.merge_iter.specs.Moves.{CanStep, EntriesStay, ErrorCauses, IsLawful, MoveFinds}
-pub use Rattle.merge_iter.specs.Moves.{AreCursorLaws, Moved, MoveKeeps, reports}
+pub use Rattle.merge_iter.specs.Moves.{AreCursorLaws, Moved, MoveKeeps, MovesBy, StepsBy, reports}
 pub use Rattle.merge_iter.specs.Order.{EntryPrecedes, IsAlike, IsApart, entry_cmp, spot}
 pub use Rattle.merge_iter.specs.Positions.{After, At, AtEnd, Broken, IfOn, IsBroken, IsFirst}
 pub use Rattle.merge_iter.specs.Positions.{IsOn, Off, On, Position, WalkMeets, WalkStart}

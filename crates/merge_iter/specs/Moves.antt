@@ -1,11 +1,13 @@
 -- What a cursor's moves do.
-use Rattle.std.specs.Prelude.{◌≡◌, ◌↔◌, ℕ, ◌≤◌, Result, Ok, Err, OnOk, IsErrOf, Bool, true, false}
+use Rattle.std.specs.Prelude.{◌≡◌, ◌↔◌, ℕ, ◌<◌, ◌≤◌, Result, Ok, Err, OnOk, IsErr, IsErrOf, Bool}
+use Rattle.std.specs.Prelude.{true, false}
 use Rattle.merge_iter.specs.declared.direction.Direction.{Direction}
 use Rattle.merge_iter.specs.declared.error.CursorError.{CursorError}
 use Rattle.merge_iter.specs.declared.error.CursorError.TheVariants.{Disk, Damaged, Memory, Failed}
 use Rattle.disk.specs.{RisesByOne}
 use Rattle.kv_types.specs.{Entry}
-use Rattle.merge_iter.specs.Positions.{WalkStart, WalkMeets, Position, On, Off, Broken, IsFirst}
+use Rattle.merge_iter.specs.Positions.{WalkStart, After, WalkMeets, Position, On, Off, Broken}
+use Rattle.merge_iter.specs.Positions.{IfOn, IsBroken, IsFirst}
 use Rattle.merge_iter.specs.Order.{IsAlike, IsApart}
 
 -- `next` and `prev` may be called on an entry, and behind a refusal
@@ -143,3 +145,39 @@ reports (Err Disk) = true
 reports (Err Damaged) = false
 reports (Err Memory) = false
 reports (Err Failed) = false
+
+-- what a move of a cursor with these ghost members promises
+module _ {C S K : Type 0} (is_intact : K → S → Type 0) (holds : K → C → S → Entry → Type 0)
+    (is_sound : K → C → S → Type 0) (suits : C → S → S → Type 0) (keeps : S → S → Type 0)
+    (makes : Bool → S → S → Type 0) (failures : S → ℕ) (position : C → Position)
+    (most : C → ℕ) where
+  -- `seek`, `first` and `last`: a move to the first entry that a walk from this start meets
+  pub record MovesBy (may_allocate : Type 0) (way : Direction) (start : WalkStart) (old : C)
+      (before : S) (new : C) (now : S) (result : Result (Unit {0}) CursorError) : Type 0 where
+    -- the cursor has the entries that it had
+    pub moves : Moved holds is_sound suits keeps most old before new now
+    -- the effect on the source
+    pub device : makes (reports result) before now
+    -- why it is refused
+    pub causes : ErrorCauses ((meant : K) × is_sound meant old before × is_intact meant before) ⊥
+        may_allocate (failures before) (failures now) result
+    -- the cursor is broken exactly after a refusal
+    pub broken : IsErr result ↔ IsBroken (position new)
+    -- after Ok it stands on the first entry that the walk meets
+    pub finds : (meant : K) → is_sound meant old before →
+        MoveFinds way start (holds meant old before) result (position new)
+
+  -- `next` and `prev`: a step from the entry on which the cursor stands
+  pub record StepsBy (left : C → Direction → ℕ) (may_allocate : Type 0) (way : Direction) (old : C)
+      (before : S) (new : C) (now : S) (result : Result (Unit {0}) CursorError) : Type 0 where
+    pub moves : Moved holds is_sound suits keeps most old before new now
+    pub device : makes (reports result) before now
+    -- a cursor that was broken refuses
+    pub causes : ErrorCauses ((meant : K) × is_sound meant old before × is_intact meant before)
+        (IsBroken (position old)) may_allocate (failures before) (failures now) result
+    pub broken : IsErr result ↔ IsBroken (position new)
+    -- fewer steps are left
+    pub ends : OnOk result (left new way < left old way)
+    -- after Ok it stands on the entry that the walk meets next
+    pub finds : (meant : K) → is_sound meant old before → IfOn (position old)
+        (λ entry. MoveFinds way (After entry) (holds meant old before) result (position new))

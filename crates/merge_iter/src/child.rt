@@ -1,14 +1,13 @@
 //! One cursor, moved in either direction.
 ghost use Rattle.std.specs.declared.cmp.Ordering.TheVariants.{Less};
-ghost use Rattle.std.specs.Prelude.{◌≡◌, ◌↔◌, ◌<◌, IsTrue, IsErr, OnOk};
+ghost use Rattle.std.specs.Prelude.{◌≡◌, ◌↔◌, IsTrue};
 ghost use Rattle.kv_types.specs.{Entry};
 ghost use Rattle.merge_iter.specs.Order.{EntryPrecedes, entry_cmp};
-ghost use Rattle.merge_iter.specs.Positions.{AtEnd, At, After, WalkMeets, IsOn, IfOn, IsBroken};
-ghost use Rattle.merge_iter.specs.Positions.{IsFirst};
-ghost use Rattle.merge_iter.specs.Moves.{CanStep, MoveFinds, reports};
+ghost use Rattle.merge_iter.specs.Positions.{AtEnd, At, After, WalkMeets, IsOn, IfOn, IsFirst};
+ghost use Rattle.merge_iter.specs.Moves.{CanStep, MoveFinds};
 ghost use Rattle.merge_iter.specs.Merging.{IsOpposite};
 ghost use Rattle.merge_iter.specs.declared.direction.Direction.{Direction as Way};
-ghost use Rattle.merge_iter.specs.LentCursors.{IsIntact, KeepsCursor, RefusesMove};
+ghost use Rattle.merge_iter.specs.LentCursors.{MovesCursor, ShiftsCursor, StepsCursor};
 
 use crate::cursor::Cursor;
 use crate::direction::Direction;
@@ -49,16 +48,7 @@ pub fn step<C: Cursor>(
     source: &mut C::Source,
 ) -> Result<(), CursorError>
     requires { CanStep (C.position child.old) }
-    ensures moves { KeepsCursor C.Cursor child.old source.old child.new source.new }
-    ensures device { C.makes (reports result) source.old source.new }
-    ensures causes { RefusesMove C.Cursor (IsIntact C.Cursor child.old source.old)
-        (IsBroken (C.position child.old)) C.steps_allocate source.old source.new result }
-    ensures broken { IsErr result ↔ IsBroken (C.position child.new) }
-    ensures ends { OnOk result (C.left child.new way < C.left child.old way) }
-    ensures finds { (meant : C.Meant) → C.is_sound meant child.old source.old →
-        IfOn (C.position child.old)
-        (λ entry. MoveFinds way (After entry) (C.holds meant child.old source.old) result
-        (C.position child.new)) }
+    ensures { StepsCursor C.Cursor way child.old source.old child.new source.new result }
 {
     match way {
         Direction::Forward => child.next(source),
@@ -72,13 +62,7 @@ pub fn start<C: Cursor>(
     way: Direction,
     source: &mut C::Source,
 ) -> Result<(), CursorError>
-    ensures moves { KeepsCursor C.Cursor child.old source.old child.new source.new }
-    ensures device { C.makes (reports result) source.old source.new }
-    ensures causes { RefusesMove C.Cursor (IsIntact C.Cursor child.old source.old) ⊥
-        C.steps_allocate source.old source.new result }
-    ensures broken { IsErr result ↔ IsBroken (C.position child.new) }
-    ensures finds { (meant : C.Meant) → C.is_sound meant child.old source.old →
-        MoveFinds way AtEnd (C.holds meant child.old source.old) result (C.position child.new) }
+    ensures { MovesCursor C.Cursor way AtEnd child.old source.old child.new source.new result }
 {
     match way {
         Direction::Forward => child.first(source),
@@ -93,10 +77,8 @@ pub fn turn<C: Cursor>(
     way: Direction,
     source: &mut C::Source,
 ) -> Result<(), CursorError>
-    ensures moves { KeepsCursor C.Cursor child.old source.old child.new source.new }
-    ensures device { C.makes (reports result) source.old source.new }
-    ensures causes { RefusesMove C.Cursor (IsIntact C.Cursor child.old source.old) ⊥
-        C.steps_allocate source.old source.new result }
+    ensures moved { ShiftsCursor C.Cursor C.steps_allocate child.old source.old child.new source.new
+        result }
     ensures turns { (meant : C.Meant) → (was : Way) (entry : Entry) → IsOpposite was way →
         C.is_sound meant child.old source.old → IsFirst was (λ p. C.holds meant child.old source.old
         p × WalkMeets was (At entry) p) (C.position child.old) → MoveFinds way (After entry)

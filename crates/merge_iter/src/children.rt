@@ -3,16 +3,14 @@ ghost use Rattle.std.specs.Prelude.{◌≡◌, ◌↔◌, ◌<◌, ◌≤◌, �
 ghost use Rattle.std.specs.List.{slice_get, sum_by};
 ghost use Rattle.kv_types.specs.{Entry, lent_key};
 ghost use Rattle.merge_iter.specs.Order.{spot};
-ghost use Rattle.merge_iter.specs.Positions.{WalkStart, AtEnd, At, After, WalkMeets, On, IsOn};
+ghost use Rattle.merge_iter.specs.Positions.{WalkStart, AtEnd, At, After, WalkMeets, IsOn};
 ghost use Rattle.merge_iter.specs.Positions.{IsFirst, IsBroken};
-ghost use Rattle.merge_iter.specs.Merging.{IsNearest, IsOpposite};
-ghost use Rattle.merge_iter.specs.Merging.{IsPlaced, union_position, left_along, merged_left};
+ghost use Rattle.merge_iter.specs.Merging.{IsNearest, IsOpposite, IsPlaced};
+ghost use Rattle.merge_iter.specs.Merging.{union_position, merged_left};
 ghost use Rattle.merge_iter.specs.declared.direction.Direction.{Direction as Way};
 ghost use Rattle.merge_iter.specs.declared.direction.Direction.TheVariants.{Forward};
-ghost use Rattle.merge_iter.specs.Moves.{reports};
-ghost use Rattle.merge_iter.specs.LentCursors.{AreDisjoint, AreFirst, AreIntact};
-ghost use Rattle.merge_iter.specs.LentCursors.{AreSound, KeepsChildren};
-ghost use Rattle.merge_iter.specs.LentCursors.{RefusesMove, union_of};
+ghost use Rattle.merge_iter.specs.LentCursors.{AreFirst, AreSound, MovesChildren};
+ghost use Rattle.merge_iter.specs.LentCursors.{StepsChildren, union_of};
 
 use crate::child::{precedes, start, step, turn};
 use crate::cursor::Cursor;
@@ -81,11 +79,8 @@ pub fn start_all<C: Cursor>(
     way: Direction,
     source: &mut C::Source,
 ) -> Result<(), CursorError>
-    ensures moves { (meant : C.Meant) → KeepsChildren C.Cursor meant children.old.items source.old
-        children.new.items source.new }
-    ensures device { C.makes (reports result) source.old source.new }
-    ensures causes { RefusesMove C.Cursor (AreIntact C.Cursor children.old.items source.old) ⊥
-        C.steps_allocate source.old source.new result }
+    ensures moved { MovesChildren C.Cursor C.steps_allocate children.old.items source.old
+        children.new.items source.new result }
     ensures finds { (meant : C.Meant) → AreSound C.Cursor meant children.old.items source.old →
         OnOk result (AreFirst C.Cursor meant way AtEnd children.new.items source.new) }
 {
@@ -102,11 +97,8 @@ pub fn seek_all<C: Cursor>(
     key: LentKey,
     number: u64,
 ) -> Result<(), CursorError>
-    ensures moves { (meant : C.Meant) → KeepsChildren C.Cursor meant children.old.items source.old
-        children.new.items source.new }
-    ensures device { C.makes (reports result) source.old source.new }
-    ensures causes { RefusesMove C.Cursor (AreIntact C.Cursor children.old.items source.old) ⊥
-        C.seeks_allocate source.old source.new result }
+    ensures moved { MovesChildren C.Cursor C.seeks_allocate children.old.items source.old
+        children.new.items source.new result }
     ensures finds { (meant : C.Meant) → AreSound C.Cursor meant children.old.items source.old →
         OnOk result (AreFirst C.Cursor meant Forward (At (spot (lent_key key.entry) number))
         children.new.items source.new) }
@@ -124,11 +116,8 @@ pub fn turn_all<C: Cursor>(
     way: Direction,
     source: &mut C::Source,
 ) -> Result<(), CursorError>
-    ensures moves { (meant : C.Meant) → KeepsChildren C.Cursor meant children.old.items source.old
-        children.new.items source.new }
-    ensures device { C.makes (reports result) source.old source.new }
-    ensures causes { RefusesMove C.Cursor (AreIntact C.Cursor children.old.items source.old) ⊥
-        C.steps_allocate source.old source.new result }
+    ensures moved { MovesChildren C.Cursor C.steps_allocate children.old.items source.old
+        children.new.items source.new result }
     ensures turns { (meant : C.Meant) → (was : Way) (entry : Entry) → IsOpposite was way →
         AreSound C.Cursor meant children.old.items source.old →
         AreFirst C.Cursor meant was (At entry) children.old.items source.old →
@@ -149,18 +138,8 @@ fn step_at<C: Cursor>(
 ) -> Result<(), CursorError>
     requires room { k < vec_len children.old }
     requires on { (c : C) → slice_get children.old.items k ≡ Some c → IsOn (C.position c) }
-    ensures moves { (meant : C.Meant) → KeepsChildren C.Cursor meant children.old.items source.old
-        children.new.items source.new }
-    ensures device { C.makes (reports result) source.old source.new }
-    ensures causes { RefusesMove C.Cursor (AreIntact C.Cursor children.old.items source.old) ⊥
-        C.steps_allocate source.old source.new result }
-    ensures ends { OnOk result (sum_by (λ c. C.left c way) children.new.items
-        < sum_by (λ c. C.left c way) children.old.items) }
-    ensures ahead { (meant : C.Meant) → (c : C) (entry : Entry) → slice_get children.old.items k ≡
-        Some c → C.position c ≡ On entry → AreDisjoint C.Cursor meant children.old.items
-        source.old → AreSound C.Cursor meant children.old.items source.old → AreFirst C.Cursor meant
-        way (At entry) children.old.items source.old → OnOk result (AreFirst C.Cursor meant way
-        (After entry) children.new.items source.new) }
+    ensures { StepsChildren C.Cursor way way k children.old.items source.old children.new.items
+        source.new result }
 {
     step(&mut children[k], way, source)
 }
@@ -192,18 +171,8 @@ pub fn advance<C: Cursor>(
 ) -> Result<(), CursorError>
     requires room { k < vec_len children.old }
     requires on { (c : C) → slice_get children.old.items k ≡ Some c → IsOn (C.position c) }
-    ensures moves { (meant : C.Meant) → KeepsChildren C.Cursor meant children.old.items source.old
-        children.new.items source.new }
-    ensures device { C.makes (reports result) source.old source.new }
-    ensures causes { RefusesMove C.Cursor (AreIntact C.Cursor children.old.items source.old) ⊥
-        C.steps_allocate source.old source.new result }
-    ensures ends { OnOk result (sum_by (λ c. C.left c way) children.new.items
-        < left_along C.left C.most children.old.items was way) }
-    ensures ahead { (meant : C.Meant) → (c : C) (entry : Entry) → slice_get children.old.items k ≡
-        Some c → C.position c ≡ On entry → AreDisjoint C.Cursor meant children.old.items
-        source.old → AreSound C.Cursor meant children.old.items source.old → AreFirst C.Cursor meant
-        was (At entry) children.old.items source.old → OnOk result (AreFirst C.Cursor meant way
-        (After entry) children.new.items source.new) }
+    ensures { StepsChildren C.Cursor was way k children.old.items source.old children.new.items
+        source.new result }
 {
     if is_same(was, way) {
         step_at(children, k, way, source)

@@ -1,11 +1,10 @@
 //! What each cursor does.
-ghost use Rattle.std.specs.Prelude.{Bool, ◌≡◌, ◌↔◌, ◌<◌, ℕ, IsTrue, IsErr, OnOk, option_map};
+ghost use Rattle.std.specs.Prelude.{Bool, ◌≡◌, ◌↔◌, ℕ, IsTrue, option_map};
 ghost use Rattle.kv_types.specs.{Entry, lent_key};
 ghost use Rattle.merge_iter.specs.Order.{spot};
-ghost use Rattle.merge_iter.specs.Positions.{Position, AtEnd, At, After, IsOn, IfOn, IsBroken};
+ghost use Rattle.merge_iter.specs.Positions.{Position, AtEnd, At, IsOn, IfOn};
 ghost use Rattle.merge_iter.specs.TableEntries.{IsTableEntry};
-ghost use Rattle.merge_iter.specs.Moves.{CanStep, MoveFinds, Moved};
-ghost use Rattle.merge_iter.specs.Moves.{ErrorCauses, AreCursorLaws, reports};
+ghost use Rattle.merge_iter.specs.Moves.{CanStep, MovesBy, StepsBy, AreCursorLaws};
 ghost use Rattle.merge_iter.specs.declared.direction.Direction.{Direction as Way};
 ghost use Rattle.merge_iter.specs.declared.direction.Direction.TheVariants.{Forward, Backward};
 
@@ -89,32 +88,14 @@ pub trait Cursor {
     /// Steps to the next entry, or off the end.
     fn next(&mut self, source: &mut Self::Source) -> Result<(), CursorError>
         requires { CanStep (position self.old) }
-        ensures moves { Moved holds is_sound suits keeps most
-            self.old source.old self.new source.new }
-        ensures device { makes (reports result) source.old source.new }
-        ensures causes { ErrorCauses ((meant : Meant) × is_sound meant self.old source.old ×
-            is_intact meant source.old) (IsBroken (position self.old)) steps_allocate
-            (failures source.old) (failures source.new) result }
-        ensures broken { IsErr result ↔ IsBroken (position self.new) }
-        ensures ends { OnOk result (left self.new Forward < left self.old Forward) }
-        ensures finds { (meant : Meant) → is_sound meant self.old source.old → IfOn
-            (position self.old) (λ entry. MoveFinds Forward (After entry) (holds meant self.old
-            source.old) result (position self.new)) };
+        ensures { StepsBy is_intact holds is_sound suits keeps makes failures position most left
+            steps_allocate Forward self.old source.old self.new source.new result };
 
     /// Steps to the entry before, or off the end.
     fn prev(&mut self, source: &mut Self::Source) -> Result<(), CursorError>
         requires { CanStep (position self.old) }
-        ensures moves { Moved holds is_sound suits keeps most
-            self.old source.old self.new source.new }
-        ensures device { makes (reports result) source.old source.new }
-        ensures causes { ErrorCauses ((meant : Meant) × is_sound meant self.old source.old ×
-            is_intact meant source.old) (IsBroken (position self.old)) steps_allocate
-            (failures source.old) (failures source.new) result }
-        ensures broken { IsErr result ↔ IsBroken (position self.new) }
-        ensures ends { OnOk result (left self.new Backward < left self.old Backward) }
-        ensures finds { (meant : Meant) → is_sound meant self.old source.old → IfOn
-            (position self.old) (λ entry. MoveFinds Backward (After entry) (holds meant self.old
-            source.old) result (position self.new)) };
+        ensures { StepsBy is_intact holds is_sound suits keeps makes failures position most left
+            steps_allocate Backward self.old source.old self.new source.new result };
 
     /// Moves to the first entry that does not come before this key and number.
     fn seek(
@@ -123,40 +104,19 @@ pub trait Cursor {
         key: LentKey<'_>,
         number: u64,
     ) -> Result<(), CursorError>
-        ensures moves { Moved holds is_sound suits keeps most
-            self.old source.old self.new source.new }
-        ensures device { makes (reports result) source.old source.new }
-        ensures causes { ErrorCauses ((meant : Meant) × is_sound meant self.old source.old ×
-            is_intact meant source.old) ⊥ seeks_allocate (failures source.old) (failures source.new)
-            result }
-        ensures broken { IsErr result ↔ IsBroken (position self.new) }
-        ensures finds { (meant : Meant) → is_sound meant self.old source.old → MoveFinds Forward
-            (At (spot (lent_key key.entry) number)) (holds meant self.old source.old) result
-            (position self.new) };
+        ensures { MovesBy is_intact holds is_sound suits keeps makes failures position most
+            seeks_allocate Forward (At (spot (lent_key key.entry) number))
+            self.old source.old self.new source.new result };
 
     /// Moves to the first entry.
     fn first(&mut self, source: &mut Self::Source) -> Result<(), CursorError>
-        ensures moves { Moved holds is_sound suits keeps most
-            self.old source.old self.new source.new }
-        ensures device { makes (reports result) source.old source.new }
-        ensures causes { ErrorCauses ((meant : Meant) × is_sound meant self.old source.old ×
-            is_intact meant source.old) ⊥ steps_allocate (failures source.old) (failures source.new)
-            result }
-        ensures broken { IsErr result ↔ IsBroken (position self.new) }
-        ensures finds { (meant : Meant) → is_sound meant self.old source.old →
-            MoveFinds Forward AtEnd (holds meant self.old source.old) result (position self.new) };
+        ensures { MovesBy is_intact holds is_sound suits keeps makes failures position most
+            steps_allocate Forward AtEnd self.old source.old self.new source.new result };
 
     /// Moves to the last entry.
     fn last(&mut self, source: &mut Self::Source) -> Result<(), CursorError>
-        ensures moves { Moved holds is_sound suits keeps most
-            self.old source.old self.new source.new }
-        ensures device { makes (reports result) source.old source.new }
-        ensures causes { ErrorCauses ((meant : Meant) × is_sound meant self.old source.old ×
-            is_intact meant source.old) ⊥ steps_allocate (failures source.old) (failures source.new)
-            result }
-        ensures broken { IsErr result ↔ IsBroken (position self.new) }
-        ensures finds { (meant : Meant) → is_sound meant self.old source.old →
-            MoveFinds Backward AtEnd (holds meant self.old source.old) result (position self.new) };
+        ensures { MovesBy is_intact holds is_sound suits keeps makes failures position most
+            steps_allocate Backward AtEnd self.old source.old self.new source.new result };
 
     /// What all cursors of a kind have in common: a move of one leaves the others sound, no two
     /// entries share key and number, and `left` is at most `most`.

@@ -1,13 +1,12 @@
 //! The sorted union of cursors.
-ghost use Rattle.std.specs.Prelude.{◌≡◌, ◌↔◌, ◌<◌, IsErr, OnOk};
+ghost use Rattle.std.specs.Prelude.{◌≡◌};
 ghost use Rattle.merge_iter.specs.Order.{IsAlike};
-ghost use Rattle.merge_iter.specs.Positions.{After, AtEnd, IfOn, IsBroken, Off};
-ghost use Rattle.merge_iter.specs.Moves.{CanStep, MoveFinds, reports};
+ghost use Rattle.merge_iter.specs.Positions.{AtEnd, Off};
+ghost use Rattle.merge_iter.specs.Moves.{CanStep};
 ghost use Rattle.merge_iter.specs.Merging.{EachChild, union_position, merged_left, merged_most};
 ghost use Rattle.merge_iter.specs.Unions.{union_fits, union_laws};
-ghost use Rattle.merge_iter.specs.LentCursors.{AreDisjoint, AreSound, IsUnion, KeepsChildren};
-ghost use Rattle.merge_iter.specs.LentCursors.{IsIntactUnion};
-ghost use Rattle.merge_iter.specs.LentCursors.{RefusesMove, union_of};
+ghost use Rattle.merge_iter.specs.LentCursors.{AreDisjoint, AreSound, IsUnion, MovesCursor};
+ghost use Rattle.merge_iter.specs.LentCursors.{StepsCursor, union_of};
 
 use crate::children::{advance, seek_all, settle, start_all};
 use crate::cursor::Cursor;
@@ -46,27 +45,9 @@ impl<C: Cursor> Merged<C> {
 
     // Steps to the next entry in this direction.
     fn walk(&mut self, way: Direction, source: &mut C::Source) -> Result<(), CursorError>
-        requires { CanStep (union_position C.position self.old.children.items self.old.place) }
-        ensures moves { (meant : C.Meant) → KeepsChildren C.Cursor meant self.old.children.items
-            source.old self.new.children.items source.new }
-        ensures sound { (meant : C.Meant) →
-            IsUnion C.Cursor meant self.old.children.items self.old.place source.old →
-            IsUnion C.Cursor meant self.new.children.items self.new.place source.new }
-        ensures device { C.makes (reports result) source.old source.new }
-        ensures causes { RefusesMove C.Cursor
-            (IsIntactUnion C.Cursor self.old.children.items self.old.place source.old)
-            (IsBroken (union_position C.position self.old.children.items self.old.place))
-            C.steps_allocate source.old source.new result }
-        ensures broken { IsErr result
-            ↔ IsBroken (union_position C.position self.new.children.items self.new.place) }
-        ensures ends { OnOk result
-            (merged_left C.left C.most self.new.children.items self.new.place way
-            < merged_left C.left C.most self.old.children.items self.old.place way) }
-        ensures finds { (meant : C.Meant) → IsUnion C.Cursor meant self.old.children.items
-            self.old.place source.old → IfOn (union_position C.position self.old.children.items
-            self.old.place) (λ entry. MoveFinds way (After entry) (union_of C.Cursor meant
-            self.old.children.items source.old) result (union_position C.position
-            self.new.children.items self.new.place)) }
+        requires { CanStep (⟦<Merged<C> as Cursor>⟧.position self.old) }
+        ensures { StepsCursor ⟦<Merged<C> as Cursor>⟧ way self.old source.old self.new source.new
+            result }
     {
         let Place::On(was, k) = self.place else {
             return Err(CursorError::Failed);
@@ -82,21 +63,8 @@ impl<C: Cursor> Merged<C> {
 
     // Moves to the first entry of a walk in this direction.
     fn begin(&mut self, way: Direction, source: &mut C::Source) -> Result<(), CursorError>
-        ensures moves { (meant : C.Meant) → KeepsChildren C.Cursor meant self.old.children.items
-            source.old self.new.children.items source.new }
-        ensures sound { (meant : C.Meant) →
-            IsUnion C.Cursor meant self.old.children.items self.old.place source.old →
-            IsUnion C.Cursor meant self.new.children.items self.new.place source.new }
-        ensures device { C.makes (reports result) source.old source.new }
-        ensures causes { RefusesMove C.Cursor
-            (IsIntactUnion C.Cursor self.old.children.items self.old.place source.old) ⊥
-            C.steps_allocate source.old source.new result }
-        ensures broken { IsErr result
-            ↔ IsBroken (union_position C.position self.new.children.items self.new.place) }
-        ensures finds { (meant : C.Meant) → IsUnion C.Cursor meant self.old.children.items
-            self.old.place source.old → MoveFinds way AtEnd (union_of C.Cursor meant
-            self.old.children.items source.old) result (union_position C.position
-            self.new.children.items self.new.place) }
+        ensures { MovesCursor ⟦<Merged<C> as Cursor>⟧ way AtEnd self.old source.old self.new
+            source.new result }
     {
         self.place = Place::Broken;
         start_all(&mut self.children, way, source)?;

@@ -4,13 +4,10 @@ ghost use Rattle.kv_types.specs.{Entry};
 ghost use Rattle.merge_iter.specs.Positions.{WalkStart, IsOn, IfOn, IsBroken};
 ghost use Rattle.merge_iter.specs.KeptEntries.{kept_entry};
 ghost use Rattle.merge_iter.specs.ShownEntries.{IsHidden, IsJudged, IsJudgedBack, IsAhead};
-ghost use Rattle.merge_iter.specs.ShownEntries.{IfKept, IsBefore};
-ghost use Rattle.merge_iter.specs.ShownEntries.{IsFound, IsForward};
+ghost use Rattle.merge_iter.specs.ShownEntries.{IsBefore, IsFound, IsForward};
 ghost use Rattle.merge_iter.specs.ShownEntries.{view_position, left_in};
-ghost use Rattle.merge_iter.specs.TableEntries.{IsTableEntry};
 ghost use Rattle.merge_iter.specs.declared.direction.Direction.TheVariants.{Forward, Backward};
-ghost use Rattle.merge_iter.specs.Moves.{reports};
-ghost use Rattle.merge_iter.specs.LentCursors.{IsIntact, KeepsCursor, RefusesMove};
+ghost use Rattle.merge_iter.specs.LentCursors.{SearchesCursor, ShiftsCursor};
 
 use crate::cursor::Cursor;
 use crate::error::CursorError;
@@ -54,10 +51,8 @@ pub fn find_forward<C: Cursor>(
     hides: bool,
     hidden: &mut KeyBuffer,
 ) -> Result<Mode, CursorError>
-    ensures moves { KeepsCursor C.Cursor inner.old source.old inner.new source.new }
-    ensures device { C.makes (reports result) source.old source.new }
-    ensures causes { RefusesMove C.Cursor (IsIntact C.Cursor inner.old source.old) ⊥ (Unit {0})
-        source.old source.new result }
+    ensures moved { ShiftsCursor C.Cursor (Unit {0}) inner.old source.old inner.new source.new
+        result }
     ensures unbroken { (kept : Entry) →
         IfOk result (λ mode. IsBroken (view_position mode (C.position inner.new) kept) → ⊥) }
     ensures forward { IfOk result IsForward }
@@ -110,13 +105,8 @@ pub fn find_back<C: Cursor>(
     at: u64,
     kept: &mut KeptEntry,
 ) -> Result<Mode, CursorError>
-    ensures moves { KeepsCursor C.Cursor inner.old source.old inner.new source.new }
-    ensures device { C.makes (reports result) source.old source.new }
-    ensures causes { RefusesMove C.Cursor (IsIntact C.Cursor inner.old source.old) ⊥ (Unit {0})
-        source.old source.new result }
-    ensures unbroken { IfOk result
-        (λ mode. IsBroken (view_position mode (C.position inner.new) (kept_entry kept.new)) → ⊥) }
-    ensures fits { IfOk result (λ mode. IfKept mode (IsTableEntry (kept_entry kept.new))) }
+    ensures moved { SearchesCursor C.Cursor inner.old source.old inner.new source.new
+        (kept_entry kept.new) result }
     ensures left { IfOk result (λ mode. left_in (C.left inner.new) (C.most inner.new) mode Backward
         ≤ C.left inner.old Backward) }
     ensures finds { (meant : C.Meant) → (start : WalkStart) → C.is_sound meant inner.old

@@ -1,16 +1,12 @@
 //! The moves of a cursor over the entries shown at a number, by moves of the cursor below.
-ghost use Rattle.std.specs.Prelude.{◌≡◌, ◌⊎◌, ◌<◌, ◌≤◌, ℕ, IsTrue, OnOk, IfOk};
+ghost use Rattle.std.specs.Prelude.{◌≡◌, ◌⊎◌, ◌<◌, ◌≤◌, ℕ, IsTrue, OnOk};
 ghost use Rattle.kv_types.specs.{Entry, lent_key};
 ghost use Rattle.merge_iter.specs.Order.{EntryPrecedes, spot};
-ghost use Rattle.merge_iter.specs.Positions.{AtEnd, At, After, On, WalkMeets, IsOn, IfOn, IsBroken};
-ghost use Rattle.merge_iter.specs.Positions.{IsFirst};
+ghost use Rattle.merge_iter.specs.Positions.{AtEnd, At, After, On, WalkMeets, IsOn, IfOn, IsFirst};
 ghost use Rattle.merge_iter.specs.KeptEntries.{kept_entry};
-ghost use Rattle.merge_iter.specs.ShownEntries.{IsBefore, IsFound, IsSettled, view_position};
-ghost use Rattle.merge_iter.specs.ShownEntries.{IfKept, left_in};
-ghost use Rattle.merge_iter.specs.TableEntries.{IsTableEntry};
+ghost use Rattle.merge_iter.specs.ShownEntries.{IsBefore, IsSettled, left_in, view_position};
 ghost use Rattle.merge_iter.specs.declared.direction.Direction.TheVariants.{Forward, Backward};
-ghost use Rattle.merge_iter.specs.Moves.{reports};
-ghost use Rattle.merge_iter.specs.LentCursors.{IsIntact, KeepsCursor, RefusesMove};
+ghost use Rattle.merge_iter.specs.LentCursors.{FindsNext, FindsShown, ShiftsCursor};
 
 use crate::cursor::Cursor;
 use crate::error::CursorError;
@@ -28,10 +24,8 @@ fn return_to<C: Cursor>(
     kept: &KeptEntry,
 ) -> Result<(), CursorError>
     requires { IsOn (view_position mode (C.position inner.old) (kept_entry kept.now)) }
-    ensures moves { KeepsCursor C.Cursor inner.old source.old inner.new source.new }
-    ensures device { C.makes (reports result) source.old source.new }
-    ensures causes { RefusesMove C.Cursor (IsIntact C.Cursor inner.old source.old) ⊥
-        C.seeks_allocate source.old source.new result }
+    ensures moved { ShiftsCursor C.Cursor C.seeks_allocate inner.old source.old inner.new source.new
+        result }
     ensures left { OnOk result (C.left inner.new Forward ≤ left_in (C.left inner.old)
         (C.most inner.old) mode Forward) }
     ensures ready { OnOk result (IsOn (C.position inner.new)
@@ -55,10 +49,8 @@ fn leave<C: Cursor>(
     source: &mut C::Source,
     key: &mut KeyBuffer,
 ) -> Result<(), CursorError>
-    ensures moves { KeepsCursor C.Cursor inner.old source.old inner.new source.new }
-    ensures device { C.makes (reports result) source.old source.new }
-    ensures causes { RefusesMove C.Cursor (IsIntact C.Cursor inner.old source.old) ⊥ (Unit {0})
-        source.old source.new result }
+    ensures moved { ShiftsCursor C.Cursor (Unit {0}) inner.old source.old inner.new source.new
+        result }
     ensures fewer { OnOk result (C.left inner.new Forward ≤ C.left inner.old Forward) }
     ensures left { IsOn (C.position inner.old) →
         OnOk result (C.left inner.new Forward < C.left inner.old Forward) }
@@ -81,16 +73,8 @@ pub fn first_shown<C: Cursor>(
     at: u64,
     kept: &mut KeptEntry,
 ) -> Result<Mode, CursorError>
-    ensures moves { KeepsCursor C.Cursor inner.old source.old inner.new source.new }
-    ensures device { C.makes (reports result) source.old source.new }
-    ensures causes { RefusesMove C.Cursor (IsIntact C.Cursor inner.old source.old) ⊥ (Unit {0})
-        source.old source.new result }
-    ensures unbroken { IfOk result
-        (λ mode. IsBroken (view_position mode (C.position inner.new) (kept_entry kept.new)) → ⊥) }
-    ensures fits { IfOk result (λ mode. IfKept mode (IsTableEntry (kept_entry kept.new))) }
-    ensures finds { (meant : C.Meant) → C.is_sound meant inner.old source.old →
-        IsFound Forward at (C.holds meant inner.old source.old) AtEnd result (C.position inner.new)
-        (kept_entry kept.new) }
+    ensures { FindsShown C.Cursor at Forward AtEnd inner.old source.old inner.new source.new
+        (kept_entry kept.new) result }
 {
     inner.first(source)?;
     find_forward(inner, source, at, false, &mut kept.key)
@@ -103,16 +87,8 @@ pub fn last_shown<C: Cursor>(
     at: u64,
     kept: &mut KeptEntry,
 ) -> Result<Mode, CursorError>
-    ensures moves { KeepsCursor C.Cursor inner.old source.old inner.new source.new }
-    ensures device { C.makes (reports result) source.old source.new }
-    ensures causes { RefusesMove C.Cursor (IsIntact C.Cursor inner.old source.old) ⊥ (Unit {0})
-        source.old source.new result }
-    ensures unbroken { IfOk result
-        (λ mode. IsBroken (view_position mode (C.position inner.new) (kept_entry kept.new)) → ⊥) }
-    ensures fits { IfOk result (λ mode. IfKept mode (IsTableEntry (kept_entry kept.new))) }
-    ensures finds { (meant : C.Meant) → C.is_sound meant inner.old source.old →
-        IsFound Backward at (C.holds meant inner.old source.old) AtEnd result (C.position inner.new)
-        (kept_entry kept.new) }
+    ensures { FindsShown C.Cursor at Backward AtEnd inner.old source.old inner.new source.new
+        (kept_entry kept.new) result }
 {
     inner.last(source)?;
     find_back(inner, source, at, kept)
@@ -145,17 +121,8 @@ pub fn seek_shown<C: Cursor>(
     number: u64,
     kept: &mut KeptEntry,
 ) -> Result<Mode, CursorError>
-    ensures moves { KeepsCursor C.Cursor inner.old source.old inner.new source.new }
-    ensures device { C.makes (reports result) source.old source.new }
-    ensures causes { RefusesMove C.Cursor (IsIntact C.Cursor inner.old source.old) ⊥ (Unit {0})
-        source.old source.new result }
-    ensures unbroken { IfOk result
-        (λ mode. IsBroken (view_position mode (C.position inner.new) (kept_entry kept.new)) → ⊥) }
-    ensures fits { IfOk result (λ mode. IfKept mode (IsTableEntry (kept_entry kept.new))) }
-    ensures finds { (meant : C.Meant) → C.is_sound meant inner.old source.old →
-        IsFound Forward at (C.holds meant inner.old source.old)
-        (At (spot (lent_key key.entry) number)) result (C.position inner.new)
-        (kept_entry kept.new) }
+    ensures { FindsShown C.Cursor at Forward (At (spot (lent_key key.entry) number)) inner.old
+        source.old inner.new source.new (kept_entry kept.new) result }
 {
     inner.seek(source, key, at)?;
     let mode = find_forward(inner, source, at, false, &mut kept.key)?;
@@ -175,21 +142,8 @@ pub fn next_shown<C: Cursor>(
     kept: &mut KeptEntry,
 ) -> Result<Mode, CursorError>
     requires { IsOn (view_position mode (C.position inner.old) (kept_entry kept.old)) }
-    ensures moves { KeepsCursor C.Cursor inner.old source.old inner.new source.new }
-    ensures device { C.makes (reports result) source.old source.new }
-    ensures causes { RefusesMove C.Cursor (IsIntact C.Cursor inner.old source.old) ⊥ (Unit {0})
-        source.old source.new result }
-    ensures unbroken { IfOk result
-        (λ mode. IsBroken (view_position mode (C.position inner.new) (kept_entry kept.new)) → ⊥) }
-    ensures fits { IfOk result (λ mode. IfKept mode (IsTableEntry (kept_entry kept.new))) }
-    ensures left { IfOk result (λ new. left_in (C.left inner.new) (C.most inner.new) new Forward
-        < left_in (C.left inner.old) (C.most inner.old) mode Forward) }
-    ensures finds { (meant : C.Meant) → (entry : Entry) → C.is_sound meant inner.old source.old →
-        IsSettled at (C.holds meant inner.old source.old) mode (C.position inner.old)
-        (kept_entry kept.old) →
-        view_position mode (C.position inner.old) (kept_entry kept.old) ≡ On entry →
-        IsFound Forward at (C.holds meant inner.old source.old) (After entry) result
-        (C.position inner.new) (kept_entry kept.new) }
+    ensures { FindsNext C.Cursor at Forward mode (kept_entry kept.old) inner.old source.old
+        inner.new source.new (kept_entry kept.new) result }
 {
     return_to(inner, source, mode, kept)?;
     leave(inner, source, &mut kept.key)?;
@@ -204,10 +158,8 @@ fn retreat<C: Cursor>(
     kept: &KeptEntry,
 ) -> Result<(), CursorError>
     requires { IsOn (view_position mode (C.position inner.old) (kept_entry kept.now)) }
-    ensures moves { KeepsCursor C.Cursor inner.old source.old inner.new source.new }
-    ensures device { C.makes (reports result) source.old source.new }
-    ensures causes { RefusesMove C.Cursor (IsIntact C.Cursor inner.old source.old) ⊥
-        C.steps_allocate source.old source.new result }
+    ensures moved { ShiftsCursor C.Cursor C.steps_allocate inner.old source.old inner.new source.new
+        result }
     ensures left { OnOk result (C.left inner.new Backward < left_in (C.left inner.old)
         (C.most inner.old) mode Backward) }
     ensures retreats { (meant : C.Meant) → (at : ℕ) (entry : Entry) → C.is_sound meant inner.old
@@ -233,21 +185,8 @@ pub fn prev_shown<C: Cursor>(
     kept: &mut KeptEntry,
 ) -> Result<Mode, CursorError>
     requires { IsOn (view_position mode (C.position inner.old) (kept_entry kept.old)) }
-    ensures moves { KeepsCursor C.Cursor inner.old source.old inner.new source.new }
-    ensures device { C.makes (reports result) source.old source.new }
-    ensures causes { RefusesMove C.Cursor (IsIntact C.Cursor inner.old source.old) ⊥ (Unit {0})
-        source.old source.new result }
-    ensures unbroken { IfOk result
-        (λ mode. IsBroken (view_position mode (C.position inner.new) (kept_entry kept.new)) → ⊥) }
-    ensures fits { IfOk result (λ mode. IfKept mode (IsTableEntry (kept_entry kept.new))) }
-    ensures left { IfOk result (λ new. left_in (C.left inner.new) (C.most inner.new) new Backward
-        < left_in (C.left inner.old) (C.most inner.old) mode Backward) }
-    ensures finds { (meant : C.Meant) → (entry : Entry) → C.is_sound meant inner.old source.old →
-        IsSettled at (C.holds meant inner.old source.old) mode (C.position inner.old)
-        (kept_entry kept.old) →
-        view_position mode (C.position inner.old) (kept_entry kept.old) ≡ On entry →
-        IsFound Backward at (C.holds meant inner.old source.old) (After entry) result
-        (C.position inner.new) (kept_entry kept.new) }
+    ensures { FindsNext C.Cursor at Backward mode (kept_entry kept.old) inner.old source.old
+        inner.new source.new (kept_entry kept.new) result }
 {
     retreat(inner, source, mode, kept)?;
     find_back(inner, source, at, kept)

@@ -9,6 +9,7 @@ pub mod Searches
 pub mod MovedFiles
 pub mod TableCursorLaws
 pub mod TableCursors
+pub mod TableReads
 pub mod Tails
 -- What crates above name.
 pub use Rattle.sorted_table.specs.Meant.{AreAsMeant, IsBlockAtLine, as_meant_itself}
@@ -17,4 +18,5 @@ pub use Rattle.sorted_table.specs.Open.{CanBeOpen, HasItsLines, IsOpenOn, Lookup
 pub use Rattle.sorted_table.specs.Open.{LookupFinds}
 pub use Rattle.sorted_table.specs.Open.{TableServes, found_entry, greatest_key, index_lines}
 pub use Rattle.sorted_table.specs.Open.{last_line_key, table_file, table_filter}
+pub use Rattle.sorted_table.specs.TableReads.{AnswersLookup}
 pub use Rattle.sorted_table.specs.Tails.{HasTail}

@@ -34,10 +34,10 @@ pub struct Table {
 
 impl Table {
     ghost use Rattle.sorted_table.specs.Meant.{AreAsMeant};
-    ghost use Rattle.sorted_table.specs.Open.{AnswersAsMeant, CanBeOpen, FileRepresents};
-    ghost use Rattle.sorted_table.specs.Open.{HasItsLines, IsOpenOn};
-    ghost use Rattle.sorted_table.specs.Open.{LookupAnswer, LookupFinds, TableServes, greatest_key};
-    ghost use Rattle.sorted_table.specs.Open.{index_lines, last_line_key, table_file, table_filter};
+    ghost use Rattle.sorted_table.specs.Open.{CanBeOpen, FileRepresents, HasItsLines, IsOpenOn};
+    ghost use Rattle.sorted_table.specs.Open.{TableServes, greatest_key, index_lines};
+    ghost use Rattle.sorted_table.specs.Open.{last_line_key, table_file, table_filter};
+    ghost use Rattle.sorted_table.specs.TableReads.{AnswersLookup};
 
     /// Opens the table of a file. It needs three device calls, reads no block, and takes no more
     /// memory than the file is long.
@@ -93,23 +93,8 @@ impl Table {
         key: LentKey,
         at: u64,
     ) -> Result<Option<FoundVersion>, TableError>
-        ensures kept { KeepsDisk ⟦<Files<D> as Disk>⟧ files.old files.new (ReportsDevice result) ⊥
-            IsSame }
-        ensures found { (entries : List Entry) → ⟦<Files<D> as Disk>⟧.is_honest files.old →
-            TableServes (⟦<Files<D> as Disk>⟧.state files.old (table_file self.now)) self.now
-            entries → MatchResult result (LookupFinds entries (lent_key key.entry) at)
-            IsEnvironmentError }
-        ensures checked { ⟦<Files<D> as Disk>⟧.is_honest files.old →
-            IsOpenOn (⟦<Files<D> as Disk>⟧.state files.old (table_file self.now)) self.now →
-            LookupAnswer (⟦<Files<D> as Disk>⟧.state files.old (table_file self.now)) self.now
-            (lent_key key.entry) at result }
-        ensures meant { ⟦<Files<D> as Disk>⟧.is_honest files.old →
-            AnswersAsMeant (⟦<Files<D> as Disk>⟧.state files.old (table_file self.now)) self.now
-            (lent_key key.entry) at result }
-        ensures unread { (Covers (table_filter self.now) (lent_key key.entry) → ⊥) →
-            files.new ≡ files.old }
-        ensures refusals { IfErr result (λ e. IsBuilderError e → ⊥) }
-        ensures still { IsStill ⟦<Files<D> as Disk>⟧ files.old files.new }
+        ensures { AnswersLookup ⟦<Files<D> as Disk>⟧ self.now (lent_key key.entry) at
+            (Covers (table_filter self.now) (lent_key key.entry)) files.old files.new result }
     {
         self.get_hashed(alloc, files, key, KeyHashes::of(key.as_bytes()), at)
     }
@@ -124,23 +109,8 @@ impl Table {
         at: u64,
     ) -> Result<Option<FoundVersion>, TableError>
         requires { hashes ≡ hashes_of (lent_key key) }
-        ensures kept { KeepsDisk ⟦<Files<D> as Disk>⟧ files.old files.new (ReportsDevice result) ⊥
-            IsSame }
-        ensures found { (entries : List Entry) → ⟦<Files<D> as Disk>⟧.is_honest files.old →
-            TableServes (⟦<Files<D> as Disk>⟧.state files.old (table_file self.now)) self.now
-            entries → MatchResult result (LookupFinds entries (lent_key key.entry) at)
-            IsEnvironmentError }
-        ensures checked { ⟦<Files<D> as Disk>⟧.is_honest files.old →
-            IsOpenOn (⟦<Files<D> as Disk>⟧.state files.old (table_file self.now)) self.now →
-            LookupAnswer (⟦<Files<D> as Disk>⟧.state files.old (table_file self.now)) self.now
-            (lent_key key.entry) at result }
-        ensures meant { ⟦<Files<D> as Disk>⟧.is_honest files.old →
-            AnswersAsMeant (⟦<Files<D> as Disk>⟧.state files.old (table_file self.now)) self.now
-            (lent_key key.entry) at result }
-        ensures unread { (CoversHashed (table_filter self.now) hashes → ⊥) →
-            files.new ≡ files.old }
-        ensures refusals { IfErr result (λ e. IsBuilderError e → ⊥) }
-        ensures still { IsStill ⟦<Files<D> as Disk>⟧ files.old files.new }
+        ensures { AnswersLookup ⟦<Files<D> as Disk>⟧ self.now (lent_key key.entry) at
+            (CoversHashed (table_filter self.now) hashes) files.old files.new result }
     {
         if self.denies(hashes) {
             filters_cover(); // law: the filter of some keys covers each of them

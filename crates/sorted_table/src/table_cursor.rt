@@ -1,10 +1,9 @@
 //! A cursor over a table.
 ghost use Rattle.std.specs.Prelude.{◌≡◌, ◌≢◌, ◌<◌, ◌≤◌, List, None, Some, IfErr, IfOk, IfSome, Err};
-ghost use Rattle.std.specs.Prelude.{IsTrue, OnErr, OnOk, true, false, length};
+ghost use Rattle.std.specs.Prelude.{IsTrue, OnOk, false, length};
 ghost use Rattle.std.specs.Option.{ForSome};
 ghost use Rattle.std.specs.Rc.{rc_slice_items};
 ghost use Rattle.disk.specs.{IsSame, IsStill, KeepsDisk, Slot, State};
-ghost use Rattle.merge_iter.specs.{ErrorCauses, reports};
 ghost use Rattle.sorted_table.specs.MovedFiles.{MovesFiles};
 ghost use Rattle.table_format.specs.{IsBlock, IsBuilderError, ReportsDevice};
 ghost use Rattle.table_files.specs.{BlockAnswer};
@@ -14,6 +13,7 @@ ghost use Rattle.sorted_table.specs.LineSizes.{IsBounded};
 ghost use Rattle.sorted_table.specs.Meant.{AreAsMeant};
 ghost use Rattle.sorted_table.specs.TableCursors.{HasEntered, HasLines, HasReached, IsPlaceIn};
 ghost use Rattle.sorted_table.specs.TableCursors.{move_error};
+ghost use Rattle.sorted_table.specs.TableReads.{EntersBlock};
 
 use crate::block_place::BlockPlace;
 use crate::line_block::block_of_line;
@@ -123,13 +123,9 @@ impl<D: Disk + Drop> TableCursor<D> {
         starts: Vec<usize>,
     ) -> Result<(), CursorError>
         ensures table { (self.new.file ≡ self.old.file) × (self.new.lines ≡ self.old.lines) }
-        ensures keeps { KeepsFiles ⟦<Files<D> as Disk>⟧ files.old files.new }
-        ensures device { MovesFiles ⟦<Files<D> as Disk>⟧ (reports result) files.old files.new }
-        ensures causes { ErrorCauses (⟦<Files<D> as Disk>⟧.is_honest files.old × HasLines
-            (⟦<Files<D> as Disk>⟧.state files.old self.old.file) (rc_slice_items self.old.lines)) ⊥
-            (Unit {0}) (⟦<Files<D> as Disk>⟧.failures files.old)
-            (⟦<Files<D> as Disk>⟧.failures files.new) result }
-        ensures refused { OnErr result ((self.new.place ≡ None) × (self.new.has_failed ≡ true)) }
+        ensures moved { EntersBlock ⟦<Files<D> as Disk>⟧ self.old.file
+            (rc_slice_items self.old.lines) files.old files.new self.new.place self.new.has_failed
+            result }
         ensures entered { OnOk result ((self.new.has_failed ≡ false)
             × HasEntered (rc_slice_items self.old.lines) line way self.new.place) }
         ensures reads { (meant : Slot) → ⟦<Files<D> as Disk>⟧.is_honest files.old →
@@ -157,13 +153,9 @@ impl<D: Disk + Drop> TableCursor<D> {
     // Enters the block of a line, if there is such a line, unless the cursor stands in it.
     fn reach(&mut self, files: &mut Files<D>, line: usize) -> Result<(), CursorError>
         ensures table { (self.new.file ≡ self.old.file) × (self.new.lines ≡ self.old.lines) }
-        ensures keeps { KeepsFiles ⟦<Files<D> as Disk>⟧ files.old files.new }
-        ensures device { MovesFiles ⟦<Files<D> as Disk>⟧ (reports result) files.old files.new }
-        ensures causes { ErrorCauses (⟦<Files<D> as Disk>⟧.is_honest files.old × HasLines
-            (⟦<Files<D> as Disk>⟧.state files.old self.old.file) (rc_slice_items self.old.lines)) ⊥
-            (Unit {0}) (⟦<Files<D> as Disk>⟧.failures files.old)
-            (⟦<Files<D> as Disk>⟧.failures files.new) result }
-        ensures refused { OnErr result ((self.new.place ≡ None) × (self.new.has_failed ≡ true)) }
+        ensures moved { EntersBlock ⟦<Files<D> as Disk>⟧ self.old.file
+            (rc_slice_items self.old.lines) files.old files.new self.new.place self.new.has_failed
+            result }
         ensures reached { OnOk result (HasReached (rc_slice_items self.old.lines) line
             self.new.has_failed self.new.place) }
         ensures reads { (meant : Slot) → ⟦<Files<D> as Disk>⟧.is_honest files.old →

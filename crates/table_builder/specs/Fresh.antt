@@ -7,3 +7,7 @@ abbrev pub IsFresh : Slot → List ℕ → Type 0
 IsFresh (Absent back) bytes = bytes ≡ []
 IsFresh (Fresh seen back) bytes = seen ≡ bytes
 IsFresh (Kept seen kept touches) bytes = ⊥
+
+-- the file has these bytes, and a crash leaves them
+abbrev pub IsSynced : Slot → List ℕ → Type 0
+IsSynced slot bytes = slot ≡ Kept bytes bytes []

@@ -1,4 +1,5 @@
 pub mod Builders
+pub mod Calls
 pub mod Closing
 pub mod Divisions
 pub mod Fresh
@@ -10,6 +11,7 @@ pub use Rattle.table_builder.specs.Builders.{AddOutcome, AddRefusal, AddStatus, 
 pub use Rattle.table_builder.specs.Builders.{BuildsNothing, FinishStatus, HasBuilderFailed}
 pub use Rattle.table_builder.specs.Builders.{HeldOutcome, HoldsEntries, HoldsTable}
 pub use Rattle.table_builder.specs.Builders.{IsFinishedTable, builder_file, entry_count}
+pub use Rattle.table_builder.specs.Calls.{AddsEntry, FinishesTable}
 pub use Rattle.table_builder.specs.Divisions.{data_size}
 pub use Rattle.table_builder.specs.Fresh.{IsFresh}
 pub use Rattle.table_builder.specs.Keys.{first_entry}

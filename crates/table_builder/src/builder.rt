@@ -37,15 +37,13 @@ pub struct Finished {
 impl Builder {
     ghost use Rattle.std.specs.Prelude.{◌≡◌, ◌≤◌, ◌<◌, ◌+◌, ◌^◌, ℕ, List, [], ◌∷◌, ◌++◌, length};
     ghost use Rattle.std.specs.Prelude.{IfErr, IfOk, MatchResult, OnOk};
-    ghost use Rattle.disk.specs.{AlwaysLeaves, IsLeftAt, IsSameBut, KeepsDisk, Slot};
+    ghost use Rattle.disk.specs.{Slot};
     ghost use Rattle.kv_types.specs.{Entry};
-    ghost use Rattle.table_format.specs.{Block, IsEnvironmentError, IsTableEntry, ReportsDevice};
-    ghost use Rattle.table_format.specs.{TableRepresents};
+    ghost use Rattle.table_format.specs.{Block, IsEnvironmentError, IsTableEntry, TableRepresents};
     ghost use Rattle.table_format.specs.{data_bytes, entry_bytes, lent_entry};
-    ghost use Rattle.table_builder.specs.Builders.{AddOutcome, AddRefusal, AddStatus, Builds};
-    ghost use Rattle.table_builder.specs.Builders.{BuildsNothing, FinishStatus, HoldsDivision};
-    ghost use Rattle.table_builder.specs.Builders.{HeldOutcome, HoldsEntries, IsFinishedTable};
-    ghost use Rattle.table_builder.specs.Builders.{builder_file, entry_count};
+    ghost use Rattle.table_builder.specs.Builders.{AddRefusal, Builds, HoldsDivision, HoldsEntries};
+    ghost use Rattle.table_builder.specs.Builders.{IsFinishedTable, builder_file, entry_count};
+    ghost use Rattle.table_builder.specs.Calls.{AddsEntry, FinishesTable, WritesBlocks};
     ghost use Rattle.table_builder.specs.Closing.{CanAdd, CanClose, CanEnd, CheckStatus};
     ghost use Rattle.table_builder.specs.Closing.{HasClosed, HasSealed, KeepsKeys, WritesFile};
     ghost use Rattle.table_builder.specs.Divisions.{Division, data_size, division};
@@ -174,10 +172,8 @@ impl Builder {
         ensures closed { (blocks : List Block) (one : Block) → CanClose self.old blocks one →
             OnOk result (HasClosed self.new blocks one) }
         ensures written { (blocks : List Block) (one : Block) → CanClose self.old blocks one →
-            D.is_honest disk.old →
-            IsFresh (D.state disk.old (builder_file self.old)) (data_bytes blocks) →
-            MatchResult result (λ _. IsFresh (D.state disk.new (builder_file self.old))
-            (data_bytes (blocks ++ one ∷ []))) IsEnvironmentError }
+            WritesBlocks D.Disk (builder_file self.old) blocks (blocks ++ one ∷ []) disk.old
+            disk.new result }
     {
         let (file, place) = (self.file, self.written);
         self.seal(alloc)?;
@@ -197,10 +193,8 @@ impl Builder {
             OnOk result (HoldsDivision self.new (with_entry parts entry)) }
         ensures written { (parts : Division) (entry : Entry) →
             CanClose self.old parts.closed (record { front = parts.opened; last = entry }) →
-            D.is_honest disk.old →
-            IsFresh (D.state disk.old (builder_file self.old)) (data_bytes parts.closed) →
-            MatchResult result (λ _. IsFresh (D.state disk.new (builder_file self.old))
-            (data_bytes (with_entry parts entry).closed)) IsEnvironmentError }
+            WritesBlocks D.Disk (builder_file self.old) parts.closed (with_entry parts entry).closed
+            disk.old disk.new result }
     {
         if self.block.len() < BLOCK_SIZE {
             return Ok(());
@@ -208,7 +202,8 @@ impl Builder {
         self.close(alloc, disk)
     }
 
-    /// Adds an entry. Where that fills the open block, it writes the block, by one device call.
+    /// Adds an entry. Where that fills the open block, it writes the block, by one device call. A
+    /// crash at any moment since the call began leaves each other file as it was.
     pub fn add<D: Disk>(
         &mut self,
         alloc: Global,
@@ -216,19 +211,8 @@ impl Builder {
         entry: LentEntry,
     ) -> Result<(), TableError>
         requires { IsTableEntry (lent_entry entry) }
-        ensures kept { KeepsDisk D.Disk disk.old disk.new (ReportsDevice result)
-            (BuildsNothing self.old) (IsSameBut (builder_file self.old)) }
-        ensures status { AddStatus result self.old self.new (disk.new ≡ disk.old) }
-        ensures added { (entries : List Entry) → D.is_honest disk.old →
-            Builds (D.state disk.old (builder_file self.old)) self.old entries →
-            AddOutcome entries (lent_entry entry.entry) result
-            (D.state disk.new (builder_file self.old)) self.new }
-        ensures held { (entries : List Entry) → HoldsEntries self.old entries →
-            HeldOutcome entries (lent_entry entry.entry) result self.new }
-
-        // A crash at any moment since the call began leaves each other file as it was.
-        ensures any_moment { D.is_honest disk.old → AlwaysLeaves D.Disk disk.old disk.new
-            (IsLeftAt (D.state disk.old) (builder_file self.old) (λ left. Unit {0})) }
+        ensures { AddsEntry D.Disk (lent_entry entry.entry) self.old disk.old self.new disk.new
+            result }
     {
         self.check(entry)?;
         self.has_failed = true;
@@ -247,11 +231,8 @@ impl Builder {
             1 ≤ length entries →
             OnOk result (CanEnd self.new (finished_blocks (division entries)) entries) }
         ensures written { (entries : List Entry) → HoldsEntries self.old entries →
-            D.is_honest disk.old →
-            IsFresh (D.state disk.old (builder_file self.old))
-            (data_bytes (division entries).closed) →
-            MatchResult result (λ _. IsFresh (D.state disk.new (builder_file self.old))
-            (data_bytes (finished_blocks (division entries)))) IsEnvironmentError }
+            WritesBlocks D.Disk (builder_file self.old) (division entries).closed
+            (finished_blocks (division entries)) disk.old disk.new result }
     {
         if self.block.count == 0 {
             return Ok(());
@@ -297,20 +278,11 @@ impl Builder {
     }
 
     /// Finishes the table: it writes the last block, then filter, index and footer, and makes the
-    /// file durable. A builder without entries finishes no table, so ask `len` before.
+    /// file durable. A builder without entries finishes no table, so ask `len` before. A crash at
+    /// any moment since the call began leaves each other file as it was.
     pub fn finish<D: Disk>(mut self, alloc: Global, disk: &mut D) -> Result<Finished, TableError>
         requires { 0 < entry_count self }
-        ensures kept { KeepsDisk D.Disk disk.old disk.new (ReportsDevice result)
-            (BuildsNothing self) (IsSameBut (builder_file self)) }
-        ensures status { FinishStatus result self }
-        ensures finished { (entries : List Entry) → D.is_honest disk.old →
-            Builds (D.state disk.old (builder_file self)) self entries →
-            MatchResult result (IsFinishedTable (D.state disk.new (builder_file self)) entries)
-            IsEnvironmentError }
-
-        // A crash at any moment since the call began leaves each other file as it was.
-        ensures any_moment { D.is_honest disk.old → AlwaysLeaves D.Disk disk.old disk.new
-            (IsLeftAt (D.state disk.old) (builder_file self) (λ left. Unit {0})) }
+        ensures { FinishesTable D.Disk self disk.old disk.new result }
     {
         if self.has_failed {
             return Err(TableError::Failed);

@@ -22,6 +22,8 @@ mod plain;
 #[cfg(test)]
 mod sequence;
 #[cfg(test)]
+mod small_tables;
+#[cfg(test)]
 mod table_cursors;
 #[cfg(test)]
 mod table_damage;

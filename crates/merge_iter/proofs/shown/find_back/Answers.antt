@@ -1,4 +1,4 @@
-use Rattle.std.proofs.Common.{◌≡◌, refl, ◌∙◌, subst, arith, true, false, Ok}
+use Rattle.std.proofs.Common.{◌≡◌, refl, ◌∙◌, subst, arith, rules, true, false, Ok}
 use Rattle.merge_iter.specs.Positions.{IsOn, IfOn}
 use Rattle.merge_iter.specs.ShownEntries.{IsJudgedBack}
 use Rattle.merge_iter.specs.KeptEntries.{kept_entry}
@@ -77,16 +77,22 @@ returns-then-branch-clause-finds g c meant start s a =
     c.is_left.new.found (kept_entry c.is_left.new.kept) b)) c.if-branch.true
     c.in_ok-is_left.ensures) ((i.way meant) start s a)
 
-pub returns-then-branch-clause-fits : goal.returns-then-branch-clause-fits
-returns-then-branch-clause-fits g c = λ kept.
-    let i = c.loop-inner.invariant in
-    left_fits c.args.at c.loop-inner.found (kept_entry c.loop-inner.kept) c.is_left.new.found
-    (kept_entry c.is_left.new.kept) (g.C.Cursor.position c.loop-inner.inner)
-    (c.valid.ensures.0 c.loop-inner-test.true)
-    (subst (λ b. IfOn (g.C.Cursor.position c.loop-inner.inner)
-    (λ entry. IsJudgedBack c.args.at c.loop-inner.found (kept_entry c.loop-inner.kept) entry
-    c.is_left.new.found (kept_entry c.is_left.new.kept) b)) c.if-branch.true
-    c.in_ok-is_left.ensures) i.fits
+pub returns-then-branch-clause-moved : goal.returns-then-branch-clause-moved
+returns-then-branch-clause-moved g c = record {
+  moves = search rules;
+  device = search rules;
+  causes = search rules;
+  unbroken = search rules;
+  fits = λ kept.
+      let i = c.loop-inner.invariant in
+      left_fits c.args.at c.loop-inner.found (kept_entry c.loop-inner.kept) c.is_left.new.found
+      (kept_entry c.is_left.new.kept) (g.C.Cursor.position c.loop-inner.inner)
+      (c.valid.ensures.0 c.loop-inner-test.true)
+      (subst (λ b. IfOn (g.C.Cursor.position c.loop-inner.inner)
+      (λ entry. IsJudgedBack c.args.at c.loop-inner.found (kept_entry c.loop-inner.kept) entry
+      c.is_left.new.found (kept_entry c.is_left.new.kept) b)) c.if-branch.true
+      c.in_ok-is_left.ensures) i.fits;
+}
 
 pub returns-then-found-clause-finds : goal.returns-then-found-clause-finds
 returns-then-found-clause-finds g c meant start s a =

@@ -1,10 +1,19 @@
+use Rattle.std.proofs.Common.{rules}
 use Rattle.merge_iter.specs.declared.direction.Direction.TheVariants.{Forward}
 use Rattle.memtable.proofs.Lefts.{ends_by}
 use Rattle.memtable.proofs.cursor.MemCursorCursor.next.Goals as goal
 
-pub returns-clause-ends : goal.returns-clause-ends
-returns-clause-ends c =
-    let cursor = c.args.self.now in
-    let place = c.in-Some.place in
-    ends_by Forward cursor.map.now cursor.has_failed cursor.place c.next.result.0 place c.in-Some.is
-    (cursor.placed place c.in-Some.is) (c.next.ensures.first cursor.rising)
+pub returns : goal.returns
+returns c = record {
+  moves = search rules;
+  device = search rules;
+  causes = search rules;
+  broken = search rules;
+  ends =
+      let cursor = c.args.self.now in
+      let place = c.in-Some.place in
+      ends_by Forward cursor.map.now cursor.has_failed cursor.place c.next.result.0 place
+      c.in-Some.is
+      (cursor.placed place c.in-Some.is) (c.next.ensures.first cursor.rising);
+  finds = search rules;
+}

@@ -1,40 +1,44 @@
-use Rattle.std.proofs.Common.{◌+◌, Ok, ap, subst, sym}
+use Rattle.std.proofs.Common.{◌+◌, Ok, ap, rules, subst, sym}
 use Rattle.merge_iter.specs.KeptEntries.{kept_entry}
 use Rattle.merge_iter.specs.Positions.{After, IfOn}
 use Rattle.merge_iter.specs.Moves.{MoveFinds}
 use Rattle.kv_types.specs.{IsShown}
 use Rattle.merge_iter.specs.ShownEntries.{view_position}
-use Rattle.merge_iter.specs.Searches.{all_shown_alike, settled_alike}
+use Rattle.merge_iter.specs.AlikeViews.{all_shown_alike, settled_alike}
 use Rattle.merge_iter.specs.declared.direction.Direction.TheVariants.{Backward}
 use Rattle.merge_iter.proofs.Walked.{on_row}
 use Rattle.merge_iter.proofs.at_number.AtNumberCursor.prev.Goals as goal
 
-pub returns-clause-moves : goal.returns-clause-moves
-returns-clause-moves g c = record {
-  source = c.prev_shown.ensures.moves.source;
-  stays = λ meant h.
+pub returns : goal.returns
+returns g c = record {
+  moves = record {
+    source = c.prev_shown.ensures.moved.moves.source;
+    stays = λ meant h.
+        let on = on_row _ (c.valid.ensures.0 c.if-not-valid.false) in
+        let found = c.in_ok-self.ensures.finds meant on.0 h.0 h.1 on.1 in
+        let stays = c.prev_shown.ensures.moved.moves.stays meant h.0 in (
+          (
+            stays.0,
+            settled_alike c.args.self.now.at (g.C.Cursor.holds meant c.args.self.now.inner
+                c.args.source.now) (g.C.Cursor.holds meant c.prev_shown.new.inner
+                c.prev_shown.new.source) stays.1 _ _ _ found.1,
+          ),
+          all_shown_alike c.args.self.now.at (g.C.Cursor.holds meant c.args.self.now.inner
+              c.args.source.now) (g.C.Cursor.holds meant c.prev_shown.new.inner
+              c.prev_shown.new.source) stays.1,
+          stays.2,
+        );
+    size = ap (λ n. n + 2) c.prev_shown.ensures.moved.moves.size;
+  };
+  device = search rules;
+  causes = search rules;
+  broken = search rules;
+  ends = search rules;
+  finds = λ meant h.
       let on = on_row _ (c.valid.ensures.0 c.if-not-valid.false) in
       let found = c.in_ok-self.ensures.finds meant on.0 h.0 h.1 on.1 in
-      let stays = c.prev_shown.ensures.moves.stays meant h.0 in (
-        (
-          stays.0,
-          settled_alike c.args.self.now.at (g.C.Cursor.holds meant c.args.self.now.inner
-              c.args.source.now) (g.C.Cursor.holds meant c.prev_shown.new.inner
-              c.prev_shown.new.source) stays.1 _ _ _ found.1,
-        ),
-        all_shown_alike c.args.self.now.at (g.C.Cursor.holds meant c.args.self.now.inner
-            c.args.source.now) (g.C.Cursor.holds meant c.prev_shown.new.inner
-            c.prev_shown.new.source) stays.1,
-        stays.2,
-      );
-  size = ap (λ n. n + 2) c.prev_shown.ensures.moves.size;
+      subst (λ s. IfOn s (λ entry. MoveFinds {R = Unit {0}} Backward (After entry)
+      (IsShown c.args.self.now.at (g.C.Cursor.holds meant c.args.self.now.inner c.args.source.now))
+      (Ok tt) (view_position c.in_ok-self.field-0 (g.C.Cursor.position c.prev_shown.new.inner)
+      (kept_entry c.prev_shown.new.kept)))) (sym on.1) found.0;
 }
-
-pub returns-clause-finds : goal.returns-clause-finds
-returns-clause-finds g c meant h =
-    let on = on_row _ (c.valid.ensures.0 c.if-not-valid.false) in
-    let found = c.in_ok-self.ensures.finds meant on.0 h.0 h.1 on.1 in
-    subst (λ s. IfOn s (λ entry. MoveFinds {R = Unit {0}} Backward (After entry)
-    (IsShown c.args.self.now.at (g.C.Cursor.holds meant c.args.self.now.inner c.args.source.now))
-    (Ok tt) (view_position c.in_ok-self.field-0 (g.C.Cursor.position c.prev_shown.new.inner)
-    (kept_entry c.prev_shown.new.kept)))) (sym on.1) found.0

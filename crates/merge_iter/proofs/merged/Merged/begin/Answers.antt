@@ -1,34 +1,51 @@
+use Rattle.std.proofs.Common.{rules}
 use Rattle.merge_iter.specs.declared.place.Place.TheVariants as place
 use Rattle.merge_iter.specs.Positions.{AtEnd}
+use Rattle.merge_iter.specs.Moves.{all_moves}
 use Rattle.merge_iter.specs.Merging.{union_position}
-use Rattle.merge_iter.proofs.MergedMoves.{merge_after, finds_after}
+use Rattle.merge_iter.proofs.MergedMoves.{union_moves, merge_after, finds_after}
 use Rattle.merge_iter.proofs.merged.Merged.begin.Goals as goal
 
-pub returns-in_err-start_all-clause-sound : goal.returns-in_err-start_all-clause-sound
-returns-in_err-start_all-clause-sound g c meant m =
-    merge_after (g.C.Cursor.holds meant)
-    (g.C.Cursor.is_sound meant) g.C.Cursor.suits g.C.Cursor.keeps g.C.Cursor.most
-    g.C.Cursor.position c.args.self.now.children.items c.start_all.new.children.items
-    c.args.source.now c.start_all.new.source c.args.self.now.place place.Broken
-    (c.start_all.ensures.moves meant) tt m
+pub returns-in_err-start_all : goal.returns-in_err-start_all
+returns-in_err-start_all g c = record {
+  moves = all_moves (g.C.Cursor.as_is c.args.source.now) (λ meant.
+      union_moves (g.C.Cursor.holds meant) (g.C.Cursor.is_sound meant) g.C.Cursor.suits
+      g.C.Cursor.keeps g.C.Cursor.most g.C.Cursor.position (λ m. m.children.items)
+      (λ m. m.place) _ _
+      c.args.source.now c.start_all.new.source (c.start_all.ensures.moved.moves meant)
+      (λ m. merge_after (g.C.Cursor.holds meant) (g.C.Cursor.is_sound meant) g.C.Cursor.suits
+      g.C.Cursor.keeps g.C.Cursor.most g.C.Cursor.position c.args.self.now.children.items
+      c.start_all.new.children.items c.args.source.now c.start_all.new.source c.args.self.now.place
+      place.Broken (c.start_all.ensures.moved.moves meant) tt m));
+  device = search rules;
+  causes = search rules;
+  broken = search rules;
+  finds = search rules;
+}
 
-pub returns-clause-sound : goal.returns-clause-sound
-returns-clause-sound g c meant m =
-    merge_after (g.C.Cursor.holds meant)
-    (g.C.Cursor.is_sound meant) g.C.Cursor.suits g.C.Cursor.keeps g.C.Cursor.most
-    g.C.Cursor.position c.args.self.now.children.items c.start_all.new.children.items
-    c.args.source.now c.start_all.new.source c.args.self.now.place c.settle-self.result
-    (c.start_all.ensures.moves meant)
-    ((c.settle-self.ensures.settles meant) AtEnd c.start_all.new.source
-    ((c.in_ok-start_all.ensures.finds meant) m.each)).1 m
-
-pub returns-clause-finds : goal.returns-clause-finds
-returns-clause-finds g c meant m =
-    finds_after (g.C.Cursor.holds meant)
-    (g.C.Cursor.is_sound meant) g.C.Cursor.suits g.C.Cursor.keeps g.C.Cursor.most
-    g.C.Cursor.position c.args.self.now.children.items c.start_all.new.children.items
-    c.args.source.now c.start_all.new.source
-    (c.start_all.ensures.moves meant) m.each c.args.way AtEnd
-    (union_position g.C.Cursor.position c.start_all.new.children.items c.settle-self.result)
-    ((c.settle-self.ensures.settles meant) AtEnd c.start_all.new.source
-    ((c.in_ok-start_all.ensures.finds meant) m.each)).0
+pub returns : goal.returns
+returns g c = record {
+  moves = all_moves (g.C.Cursor.as_is c.args.source.now) (λ meant.
+      union_moves (g.C.Cursor.holds meant) (g.C.Cursor.is_sound meant) g.C.Cursor.suits
+      g.C.Cursor.keeps g.C.Cursor.most g.C.Cursor.position (λ m. m.children.items)
+      (λ m. m.place) _ _
+      c.args.source.now c.start_all.new.source (c.start_all.ensures.moved.moves meant)
+      (λ m. merge_after (g.C.Cursor.holds meant) (g.C.Cursor.is_sound meant) g.C.Cursor.suits
+      g.C.Cursor.keeps g.C.Cursor.most g.C.Cursor.position c.args.self.now.children.items
+      c.start_all.new.children.items c.args.source.now c.start_all.new.source c.args.self.now.place
+      c.settle-self.result (c.start_all.ensures.moved.moves meant)
+      (c.settle-self.ensures.settles meant AtEnd c.start_all.new.source
+      (c.in_ok-start_all.ensures.finds meant m.each)).1 m));
+  device = search rules;
+  causes = search rules;
+  broken = search rules;
+  finds = λ meant m. finds_after (g.C.Cursor.holds meant)
+      (g.C.Cursor.is_sound meant) g.C.Cursor.suits
+      g.C.Cursor.keeps g.C.Cursor.most g.C.Cursor.position c.args.self.now.children.items
+      c.start_all.new.children.items c.args.source.now c.start_all.new.source
+      (c.start_all.ensures.moved.moves meant) m.each
+      c.args.way AtEnd
+      (union_position g.C.Cursor.position c.start_all.new.children.items c.settle-self.result)
+      (c.settle-self.ensures.settles meant AtEnd c.start_all.new.source
+      (c.in_ok-start_all.ensures.finds meant m.each)).0;
+}

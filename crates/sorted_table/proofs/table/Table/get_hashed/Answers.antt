@@ -1,4 +1,4 @@
-use Rattle.std.proofs.Common.{List, ℕ, arith, Err, Ok, None, inl, refl, sym, subst, ◌∙◌}
+use Rattle.std.proofs.Common.{List, ℕ, arith, Err, Ok, None, inl, refl, sym, subst, ◌∙◌, rules}
 use Rattle.std.proofs.lemmas.Result.{err_from_is_err_and}
 use Rattle.std.specs.Rc.{rc_slice_items}
 use Rattle.bloom.specs.{CoversHashed, hashes_of}
@@ -20,157 +20,150 @@ use Rattle.sorted_table.proofs.TableLookups.{no_block, not_device}
 use Rattle.sorted_table.proofs.table.Table.get_hashed.Goals as goal
 
 -- the filter denies the key
-pub returns-then-denies-clause-kept : goal.returns-then-denies-clause-kept
-returns-then-denies-clause-kept g c = kept_uncalled _ (λ e. cc)
-
-pub returns-then-denies-clause-found : goal.returns-then-denies-clause-found
-returns-then-denies-clause-found g c = λ entries honest s.
-    denied_unseen entries s.represents.filter (lent_key c.args.key) c.args.at
-    c.filters_cover.ensures
-    s.represents.exact
-    (subst (λ (f : List ℕ). CoversHashed f (hashes_of (lent_key c.args.key)) → ⊥) s.filter
-    (subst (λ (h : ℕ × ℕ). CoversHashed c.args.self.now.filter.items h → ⊥) c.requires
-    (c.denies.ensures.denied.0 c.if-denies.true)))
-
-pub returns-then-denies-clause-still : goal.returns-then-denies-clause-still
-returns-then-denies-clause-still g c = λ honest. still _ _
+pub returns-then-denies : goal.returns-then-denies
+returns-then-denies g c = record {
+  kept = kept_uncalled _ (λ e. cc);
+  found = λ entries honest s.
+      denied_unseen entries s.represents.filter (lent_key c.args.key) c.args.at
+      c.filters_cover.ensures
+      s.represents.exact
+      (subst (λ (f : List ℕ). CoversHashed f (hashes_of (lent_key c.args.key)) → ⊥) s.filter
+      (subst (λ (h : ℕ × ℕ). CoversHashed c.args.self.now.filter.items h → ⊥) c.requires
+      (c.denies.ensures.denied.0 c.if-denies.true)));
+  checked = λ honest opened.
+      inl (
+        subst (λ (h : ℕ × ℕ). CoversHashed c.args.self.now.filter.items h → ⊥) c.requires
+            (c.denies.ensures.denied.0 c.if-denies.true),
+        refl,
+      );
+  meant = λ honest meant entries s agree.
+      denied_unseen entries s.represents.filter (lent_key c.args.key) c.args.at
+      c.filters_cover.ensures
+      s.represents.exact
+      (subst (λ (f : List ℕ). CoversHashed f (hashes_of (lent_key c.args.key)) → ⊥) s.filter
+      (subst (λ (h : ℕ × ℕ). CoversHashed c.args.self.now.filter.items h → ⊥) c.requires
+      (c.denies.ensures.denied.0 c.if-denies.true)));
+  unread = search rules;
+  refusals = search rules;
+  still = λ honest. still _ _;
+}
 
 -- all blocks end before the key and number
-pub returns-then-number-lines-clause-kept : goal.returns-then-number-lines-clause-kept
-returns-then-number-lines-clause-kept g c = kept_uncalled _ (λ e. cc)
-
-pub returns-then-number-lines-clause-found : goal.returns-then-number-lines-clause-found
-returns-then-number-lines-clause-found g c = λ entries honest s.
-    let lines = c.deref-lines.result.now in
-    no_block s.bytes entries s.represents lines (lent_key c.args.key) c.args.at
-    (c.deref-lines.ensures.value ∙ s.lines)
-    (λ rising. lines_early lines (spot (lent_key c.args.key) c.args.at) c.line_place-number.result
-    (omega (arith, c.if-number-lines.true)) (c.line_place-number.ensures.place rising))
-
-pub returns-then-number-lines-clause-still : goal.returns-then-number-lines-clause-still
-returns-then-number-lines-clause-still g c = λ honest. still _ _
+pub returns-then-number-lines : goal.returns-then-number-lines
+returns-then-number-lines g c = record {
+  kept = kept_uncalled _ (λ e. cc);
+  found = λ entries honest s.
+      let lines = c.deref-lines.result.now in
+      no_block s.bytes entries s.represents lines (lent_key c.args.key) c.args.at
+      (c.deref-lines.ensures.value ∙ s.lines)
+      (λ rising. lines_early lines (spot (lent_key c.args.key) c.args.at) c.line_place-number.result
+      (omega (arith, c.if-number-lines.true)) (c.line_place-number.ensures.place rising));
+  checked = λ honest opened.
+      let file = g.D.Disk.state c.args.files.now.disk c.args.self.now.file in
+      let n = c.line_place-number.result in
+      let covers = not_denied c.args.self.now.filter.items (lent_key c.args.key) c.args.hashes
+      c.denies.result c.requires c.denies.ensures.covered c.if-denies.false in
+      by_line file c.args.self.now c.deref-lines.result.now (lent_key c.args.key) c.args.at n (Ok
+      None) opened
+      covers c.deref-lines.ensures.value c.line_place-number.ensures.place
+      (none_behind file c.deref-lines.result.now (lent_key c.args.key) c.args.at n
+      (omega (arith, c.if-number-lines.true)));
+  meant = λ honest meant entries s agree.
+      let lines = c.deref-lines.result.now in
+      no_block s.bytes entries s.represents lines (lent_key c.args.key) c.args.at
+      (c.deref-lines.ensures.value ∙ s.lines)
+      (λ rising. lines_early lines (spot (lent_key c.args.key) c.args.at) c.line_place-number.result
+      (omega (arith, c.if-number-lines.true)) (c.line_place-number.ensures.place rising));
+  unread = search rules;
+  refusals = search rules;
+  still = λ honest. still _ _;
+}
 
 -- the block was not read
-pub returns-in_err-block-clause-found : goal.returns-in_err-block-clause-found
-returns-in_err-block-clause-found g c = λ entries honest s.
-    let lines = c.deref-lines.result.now in
-    let n = c.line_place-number.result in
-    let file = g.D.Disk.state c.args.files.now.disk c.args.self.now.file in
-    let at = some_of lines n (omega (arith, c.if-number-lines.false)) in
-    let t = lines_of file c.args.self.now entries lines s c.deref-lines.ensures.value in
-    let b = block_at file lines t n at.0 at.1 in
-    let e = c.in_err-block.field-0.0 in
-    let why = environmental e c.in_err-block.ensures.refusals
-    (never_damaged file lines t n at.0 e b at.1 (c.in_err-block.ensures.answers honest)) in
-    let p = err_from_is_err_and c.from_residual.result c.from_residual.ensures.1 in
-    rw (p.1, p.2) why
+pub returns-in_err-block : goal.returns-in_err-block
+returns-in_err-block g c = record {
+  kept = search rules;
+  found = λ entries honest s.
+      let lines = c.deref-lines.result.now in
+      let n = c.line_place-number.result in
+      let file = g.D.Disk.state c.args.files.now.disk c.args.self.now.file in
+      let at = some_of lines n (omega (arith, c.if-number-lines.false)) in
+      let t = lines_of file c.args.self.now entries lines s c.deref-lines.ensures.value in
+      let b = block_at file lines t n at.0 at.1 in
+      let e = c.in_err-block.field-0.0 in
+      let why = environmental e c.in_err-block.ensures.refusals
+      (never_damaged file lines t n at.0 e b at.1 (c.in_err-block.ensures.answers honest)) in
+      let p = err_from_is_err_and c.from_residual.result c.from_residual.ensures.1 in
+      rw (p.1, p.2) why;
+  checked = λ honest opened.
+      let covers = not_denied c.args.self.now.filter.items (lent_key c.args.key) c.args.hashes
+      c.denies.result c.requires c.denies.ensures.covered c.if-denies.false in
+      let file = g.D.Disk.state c.args.files.now.disk c.args.self.now.file in
+      let why = by_line file c.args.self.now c.deref-lines.result.now
+      (lent_key c.args.key) c.args.at
+      c.line_place-number.result (Err c.in_err-block.field-0.0) opened covers
+      c.deref-lines.ensures.value
+      c.line_place-number.ensures.place (
+        omega (arith, c.if-number-lines.false),
+        c.in_err-block.ensures.answers honest,
+      ) in
+      let p = err_from_is_err_and c.from_residual.result c.from_residual.ensures.1 in
+      rw (p.1, p.2) why;
+  meant = search rules;
+  unread = search rules;
+  refusals = search rules;
+  still = search rules;
+}
 
 -- what the block has of the key
-pub returns-clause-kept : goal.returns-clause-kept
-returns-clause-kept g c =
-    kept_alike _ _ (λ e. cc) (λ e. absurd (not_device c.find_in.result c.find_in.ensures.only e))
-    c.in_ok-block.ensures.kept
-
-pub returns-clause-found : goal.returns-clause-found
-returns-clause-found g c = λ entries honest s.
-    found_as (g.D.Disk.state c.args.files.now.disk c.args.self.now.file) c.args.self.now entries s
-    c.deref-lines.result.now c.line_place-number.result (lent_key c.args.key) c.args.at
-    c.in_ok-block.block
-    c.find_in.result c.deref-lines.ensures.value
-    (omega (arith, c.if-number-lines.false)) c.line_place-number.ensures.place
-    (c.in_ok-block.ensures.answers honest)
-    (λ mine is. c.find_in.ensures.found mine
-    (subst (λ (p : List ℕ). IsBlock p mine) (sym c.deref.ensures.value) is))
-
--- ---- of any open table
-
-pub returns-then-denies-clause-checked : goal.returns-then-denies-clause-checked
-returns-then-denies-clause-checked g c = λ honest opened.
-    inl (
-      subst (λ (h : ℕ × ℕ). CoversHashed c.args.self.now.filter.items h → ⊥) c.requires
-          (c.denies.ensures.denied.0 c.if-denies.true),
-      refl,
-    )
-
-pub returns-then-number-lines-clause-checked : goal.returns-then-number-lines-clause-checked
-returns-then-number-lines-clause-checked g c = λ honest opened.
-    let file = g.D.Disk.state c.args.files.now.disk c.args.self.now.file in
-    let n = c.line_place-number.result in
-    let covers = not_denied c.args.self.now.filter.items (lent_key c.args.key) c.args.hashes
-    c.denies.result c.requires c.denies.ensures.covered c.if-denies.false in
-    by_line file c.args.self.now c.deref-lines.result.now (lent_key c.args.key) c.args.at n (Ok
-    None) opened
-    covers c.deref-lines.ensures.value c.line_place-number.ensures.place
-    (none_behind file c.deref-lines.result.now (lent_key c.args.key) c.args.at n
-    (omega (arith, c.if-number-lines.true)))
-
-pub returns-in_err-block-clause-checked : goal.returns-in_err-block-clause-checked
-returns-in_err-block-clause-checked g c = λ honest opened.
-    let covers = not_denied c.args.self.now.filter.items (lent_key c.args.key) c.args.hashes
-    c.denies.result c.requires c.denies.ensures.covered c.if-denies.false in
-    let file = g.D.Disk.state c.args.files.now.disk c.args.self.now.file in
-    let why = by_line file c.args.self.now c.deref-lines.result.now (lent_key c.args.key) c.args.at
-    c.line_place-number.result (Err c.in_err-block.field-0.0) opened covers
-    c.deref-lines.ensures.value
-    c.line_place-number.ensures.place (
-      omega (arith, c.if-number-lines.false),
-      c.in_err-block.ensures.answers honest,
-    ) in
-    let p = err_from_is_err_and c.from_residual.result c.from_residual.ensures.1 in
-    rw (p.1, p.2) why
-
-pub returns-clause-checked : goal.returns-clause-checked
-returns-clause-checked g c = λ honest opened.
-    let covers = not_denied c.args.self.now.filter.items (lent_key c.args.key) c.args.hashes
-    c.denies.result c.requires c.denies.ensures.covered c.if-denies.false in
-    let file = g.D.Disk.state c.args.files.now.disk c.args.self.now.file in
-    let lines = c.deref-lines.result.now in
-    let n = c.line_place-number.result in
-    let at = some_of lines n (omega (arith, c.if-number-lines.false)) in
-    by_line file c.args.self.now lines (lent_key c.args.key) c.args.at n c.find_in.result opened
-    covers
-    c.deref-lines.ensures.value c.line_place-number.ensures.place
-    (line_answers file lines n at.0 (lent_key c.args.key) c.args.at c.in_ok-block.block
-    c.find_in.result
-    at.1 (c.in_ok-block.ensures.answers honest) (λ mine is. c.find_in.ensures.found mine
-    (subst (λ (p : List ℕ). IsBlock p mine) (sym c.deref.ensures.value) is)))
-
--- ---- of what the file was meant to be
-
-pub returns-then-denies-clause-meant : goal.returns-then-denies-clause-meant
-returns-then-denies-clause-meant g c = λ honest meant entries s agree.
-    denied_unseen entries s.represents.filter (lent_key c.args.key) c.args.at
-    c.filters_cover.ensures
-    s.represents.exact
-    (subst (λ (f : List ℕ). CoversHashed f (hashes_of (lent_key c.args.key)) → ⊥) s.filter
-    (subst (λ (h : ℕ × ℕ). CoversHashed c.args.self.now.filter.items h → ⊥) c.requires
-    (c.denies.ensures.denied.0 c.if-denies.true)))
-
-pub returns-then-number-lines-clause-meant : goal.returns-then-number-lines-clause-meant
-returns-then-number-lines-clause-meant g c = λ honest meant entries s agree.
-    let lines = c.deref-lines.result.now in
-    no_block s.bytes entries s.represents lines (lent_key c.args.key) c.args.at
-    (c.deref-lines.ensures.value ∙ s.lines)
-    (λ rising. lines_early lines (spot (lent_key c.args.key) c.args.at) c.line_place-number.result
-    (omega (arith, c.if-number-lines.true)) (c.line_place-number.ensures.place rising))
-
-pub returns-clause-meant : goal.returns-clause-meant
-returns-clause-meant g c = λ honest meant entries s agree.
-    let file = g.D.Disk.state c.args.files.now.disk c.args.self.now.file in
-    let lines = c.deref-lines.result.now in
-    let n = c.line_place-number.result in
-    let part = rc_slice_items c.in_ok-block.block in
-    let mine = rc_slice_items c.args.self.now.lines in
-    let read : IsBlockAtLine mine n file part = subst (λ l. IsBlockAtLine l n file part)
-    c.deref-lines.ensures.value (c.in_ok-block.ensures.answers honest) in
-    let here : IsBlockAtLine lines n meant part = subst (λ l. IsBlockAtLine l n meant part)
-    (sym c.deref-lines.ensures.value) (agree n part read) in
-    ok_part (LookupFinds entries (lent_key c.args.key) c.args.at) IsEnvironmentError
-    c.find_in.result
-    (found_as meant c.args.self.now entries s
-    lines n (lent_key c.args.key) c.args.at c.in_ok-block.block
-    c.find_in.result c.deref-lines.ensures.value
-    (omega (arith, c.if-number-lines.false)) c.line_place-number.ensures.place
-    here
-    (λ mine is. c.find_in.ensures.found mine
-    (subst (λ (p : List ℕ). IsBlock p mine) (sym c.deref.ensures.value) is)))
+pub returns : goal.returns
+returns g c = record {
+  kept =
+      kept_alike _ _ (λ e. cc) (λ e. absurd (not_device c.find_in.result c.find_in.ensures.only e))
+      c.in_ok-block.ensures.kept;
+  found = λ entries honest s.
+      found_as (g.D.Disk.state c.args.files.now.disk c.args.self.now.file) c.args.self.now entries s
+      c.deref-lines.result.now c.line_place-number.result (lent_key c.args.key) c.args.at
+      c.in_ok-block.block
+      c.find_in.result c.deref-lines.ensures.value
+      (omega (arith, c.if-number-lines.false)) c.line_place-number.ensures.place
+      (c.in_ok-block.ensures.answers honest)
+      (λ mine is. c.find_in.ensures.found mine
+      (subst (λ (p : List ℕ). IsBlock p mine) (sym c.deref.ensures.value) is));
+  checked = λ honest opened.
+      let covers = not_denied c.args.self.now.filter.items (lent_key c.args.key) c.args.hashes
+      c.denies.result c.requires c.denies.ensures.covered c.if-denies.false in
+      let file = g.D.Disk.state c.args.files.now.disk c.args.self.now.file in
+      let lines = c.deref-lines.result.now in
+      let n = c.line_place-number.result in
+      let at = some_of lines n (omega (arith, c.if-number-lines.false)) in
+      by_line file c.args.self.now lines (lent_key c.args.key) c.args.at n c.find_in.result opened
+      covers
+      c.deref-lines.ensures.value c.line_place-number.ensures.place
+      (line_answers file lines n at.0 (lent_key c.args.key) c.args.at c.in_ok-block.block
+      c.find_in.result
+      at.1 (c.in_ok-block.ensures.answers honest) (λ mine is. c.find_in.ensures.found mine
+      (subst (λ (p : List ℕ). IsBlock p mine) (sym c.deref.ensures.value) is)));
+  meant = λ honest meant entries s agree.
+      let file = g.D.Disk.state c.args.files.now.disk c.args.self.now.file in
+      let lines = c.deref-lines.result.now in
+      let n = c.line_place-number.result in
+      let part = rc_slice_items c.in_ok-block.block in
+      let mine = rc_slice_items c.args.self.now.lines in
+      let read : IsBlockAtLine mine n file part = subst (λ l. IsBlockAtLine l n file part)
+      c.deref-lines.ensures.value (c.in_ok-block.ensures.answers honest) in
+      let here : IsBlockAtLine lines n meant part = subst (λ l. IsBlockAtLine l n meant part)
+      (sym c.deref-lines.ensures.value) (agree n part read) in
+      ok_part (LookupFinds entries (lent_key c.args.key) c.args.at) IsEnvironmentError
+      c.find_in.result
+      (found_as meant c.args.self.now entries s
+      lines n (lent_key c.args.key) c.args.at c.in_ok-block.block
+      c.find_in.result c.deref-lines.ensures.value
+      (omega (arith, c.if-number-lines.false)) c.line_place-number.ensures.place
+      here
+      (λ mine is. c.find_in.ensures.found mine
+      (subst (λ (p : List ℕ). IsBlock p mine) (sym c.deref.ensures.value) is)));
+  unread = search rules;
+  refusals = search rules;
+  still = search rules;
+}

@@ -1,4 +1,4 @@
-use Rattle.std.proofs.Common.{◌+◌, ◌∙◌, ◌<◌, refl, ap, sym, subst, arith, IfSome, length}
+use Rattle.std.proofs.Common.{◌+◌, ◌∙◌, ◌<◌, refl, ap, sym, subst, arith, IfSome, length, rules}
 use Rattle.std.specs.Rc.{rc_slice_items}
 use Rattle.table_files.specs.{keeps_files_itself}
 use Rattle.sorted_table.specs.TableCursors.{IsPlaceIn}
@@ -9,28 +9,39 @@ use Rattle.sorted_table.proofs.TableFinds.{finds_next_block, finds_next_in, here
 use Rattle.sorted_table.proofs.TablePlaces.{moved_in}
 use Rattle.sorted_table.proofs.table_cursor.TableCursorCursor.next.Goals as goal
 
-pub returns-in_default-clause-moves : goal.returns-in_default-clause-moves
-returns-in_default-clause-moves g c =
-    cursor_moves _ (λ d. d.file) (λ d. rc_slice_items d.lines) (λ d. d.place) _ _
-    c.args.files.now c.args.files.now (keeps_files_itself _ c.args.files.now) refl refl
-    (λ m honest agree t here.
-    subst (λ o. IfSome o (IsPlaceIn t.represents.blocks)) (sym c.take.ensures.after) tt)
+pub returns-in_default : goal.returns-in_default
+returns-in_default g c = record {
+  moves =
+      cursor_moves _ (λ d. d.file) (λ d. rc_slice_items d.lines) (λ d. d.place) _ _
+      c.args.files.now c.args.files.now (keeps_files_itself _ c.args.files.now) refl refl
+      (λ m honest agree t here.
+      subst (λ o. IfSome o (IsPlaceIn t.represents.blocks)) (sym c.take.ensures.after) tt);
+  device = moves_itself _ c.args.files.now;
+  causes = search rules;
+  broken = search rules;
+  ends = search rules;
+  finds = search rules;
+}
 
-pub returns-then-advance-clause-moves : goal.returns-then-advance-clause-moves
-returns-then-advance-clause-moves g c =
-    cursor_moves _ (λ d. d.file) (λ d. rc_slice_items d.lines) (λ d. d.place) _ _
-    c.args.files.now c.args.files.now (keeps_files_itself _ c.args.files.now) refl refl
-    (λ m honest agree t here.
-    let p = c.in-Some.place in
-    moved_in t.represents.blocks p c.advance.new.self (p.at + 1) (c.if-advance.ensures.moved refl)
-    (here_of (IsPlaceIn t.represents.blocks) c.args.self.now.place p
-    (sym c.take.ensures.value ∙ c.in-Some.is) here))
-
-pub returns-then-advance-clause-finds : goal.returns-then-advance-clause-finds
-returns-then-advance-clause-finds g c = λ m s.
-    finds_next_in _ _ s.1.table c.args.self.now.has_failed c.args.self.now.place c.in-Some.place
-    c.advance.new.self (sym c.take.ensures.value ∙ c.in-Some.is) s.1.here
-    (c.if-advance.ensures.moved refl)
+pub returns-then-advance : goal.returns-then-advance
+returns-then-advance g c = record {
+  moves =
+      cursor_moves _ (λ d. d.file) (λ d. rc_slice_items d.lines) (λ d. d.place) _ _
+      c.args.files.now c.args.files.now (keeps_files_itself _ c.args.files.now) refl refl
+      (λ m honest agree t here.
+      let p = c.in-Some.place in
+      moved_in t.represents.blocks p c.advance.new.self (p.at + 1) (c.if-advance.ensures.moved refl)
+      (here_of (IsPlaceIn t.represents.blocks) c.args.self.now.place p
+      (sym c.take.ensures.value ∙ c.in-Some.is) here));
+  device = moves_itself _ c.args.files.now;
+  causes = search rules;
+  broken = search rules;
+  ends = search rules;
+  finds = λ m s.
+      finds_next_in _ _ s.1.table c.args.self.now.has_failed c.args.self.now.place c.in-Some.place
+      c.advance.new.self (sym c.take.ensures.value ∙ c.in-Some.is) s.1.here
+      (c.if-advance.ensures.moved refl);
+}
 
 pub overflow_add-line : goal.overflow_add-line
 overflow_add-line g c =
@@ -44,36 +55,31 @@ overflow_add-line g c =
     let full = old.lines.items.value.ok in
     omega (arith, within, small, full, c.line-line.ensures, last.0.line)
 
-pub returns-clause-moves : goal.returns-clause-moves
-returns-clause-moves g c =
-    cursor_moves _ (λ d. d.file) (λ d. rc_slice_items d.lines) (λ d. d.place) _ _
-    c.args.files.now c.enter.new.files c.enter.ensures.keeps c.enter.ensures.table.0
-    (ap rc_slice_items c.enter.ensures.table.1) (λ m honest agree t here.
-    entered_or_none _ _ _ c.enter.result
-    (c.enter.ensures.reads m honest agree t) c.enter.ensures.refused)
-
-pub returns-clause-ends : goal.returns-clause-ends
-returns-clause-ends g c =
-    let last = when_false c.advance.result _ c.if-advance.false c.advance.ensures.last in
-    let old = c.args.self.now in
-    let new = c.enter.new.self in
-    ends_ahead c.enter.result (rc_slice_items old.lines) (rc_slice_items new.lines) old.place
-    c.in-Some.place (c.line-line.result + 1) new.has_failed new.place
-    (ap rc_slice_items c.enter.ensures.table.1) (sym c.take.ensures.value ∙ c.in-Some.is)
-    (ap (λ n. n + 1) (c.line-line.ensures ∙ last.0.line)) new.bounded c.enter.ensures.entered
-
-pub returns-clause-finds : goal.returns-clause-finds
-returns-clause-finds g c = λ m s.
-    let last = when_false c.advance.result _ c.if-advance.false c.advance.ensures.last in
-    let old = c.args.self.now in
-    let new = c.enter.new.self in
-    finds_next_block _ _ s.1.table c.enter.result old.has_failed old.place c.in-Some.place
-    (c.line-line.result + 1) new.has_failed new.place (sym c.take.ensures.value ∙ c.in-Some.is)
-    s.1.here last.1 (ap (λ n. n + 1) (c.line-line.ensures ∙ last.0.line)) c.enter.ensures.entered
-    (c.enter.ensures.reads (m c.args.self.now.file) s.0 s.2 s.1.table)
-
-pub returns-in_default-clause-device : goal.returns-in_default-clause-device
-returns-in_default-clause-device g c = moves_itself _ c.args.files.now
-
-pub returns-then-advance-clause-device : goal.returns-then-advance-clause-device
-returns-then-advance-clause-device g c = moves_itself _ c.args.files.now
+pub returns : goal.returns
+returns g c = record {
+  moves =
+      cursor_moves _ (λ d. d.file) (λ d. rc_slice_items d.lines) (λ d. d.place) _ _
+      c.args.files.now c.enter.new.files c.enter.ensures.moved.keeps c.enter.ensures.table.0
+      (ap rc_slice_items c.enter.ensures.table.1) (λ m honest agree t here.
+      entered_or_none _ _ _ c.enter.result
+      (c.enter.ensures.reads m honest agree t) c.enter.ensures.moved.refused);
+  device = search rules;
+  causes = search rules;
+  broken = search rules;
+  ends =
+      let last = when_false c.advance.result _ c.if-advance.false c.advance.ensures.last in
+      let old = c.args.self.now in
+      let new = c.enter.new.self in
+      ends_ahead c.enter.result (rc_slice_items old.lines) (rc_slice_items new.lines) old.place
+      c.in-Some.place (c.line-line.result + 1) new.has_failed new.place
+      (ap rc_slice_items c.enter.ensures.table.1) (sym c.take.ensures.value ∙ c.in-Some.is)
+      (ap (λ n. n + 1) (c.line-line.ensures ∙ last.0.line)) new.bounded c.enter.ensures.entered;
+  finds = λ m s.
+      let last = when_false c.advance.result _ c.if-advance.false c.advance.ensures.last in
+      let old = c.args.self.now in
+      let new = c.enter.new.self in
+      finds_next_block _ _ s.1.table c.enter.result old.has_failed old.place c.in-Some.place
+      (c.line-line.result + 1) new.has_failed new.place (sym c.take.ensures.value ∙ c.in-Some.is)
+      s.1.here last.1 (ap (λ n. n + 1) (c.line-line.ensures ∙ last.0.line)) c.enter.ensures.entered
+      (c.enter.ensures.reads (m c.args.self.now.file) s.0 s.2 s.1.table);
+}

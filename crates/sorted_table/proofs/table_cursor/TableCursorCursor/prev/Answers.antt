@@ -1,4 +1,4 @@
-use Rattle.std.proofs.Common.{◌-◌, ◌∙◌, refl, ap, sym, subst, arith, IfSome}
+use Rattle.std.proofs.Common.{◌-◌, ◌∙◌, refl, ap, sym, subst, arith, IfSome, rules}
 use Rattle.std.specs.Rc.{rc_slice_items}
 use Rattle.table_files.specs.{keeps_files_itself}
 use Rattle.sorted_table.specs.TableCursors.{IsPlaceIn}
@@ -10,81 +10,90 @@ use Rattle.sorted_table.proofs.TableFinds.{here_of}
 use Rattle.sorted_table.proofs.TablePlaces.{moved_in}
 use Rattle.sorted_table.proofs.table_cursor.TableCursorCursor.prev.Goals as goal
 
-pub returns-in_default-clause-moves : goal.returns-in_default-clause-moves
-returns-in_default-clause-moves g c =
-    cursor_moves _ (λ d. d.file) (λ d. rc_slice_items d.lines) (λ d. d.place) _ _
-    c.args.files.now c.args.files.now (keeps_files_itself _ c.args.files.now) refl refl
-    (λ m honest agree t here.
-    subst (λ o. IfSome o (IsPlaceIn t.represents.blocks)) (sym c.take.ensures.after) tt)
+pub returns-in_default : goal.returns-in_default
+returns-in_default g c = record {
+  moves =
+      cursor_moves _ (λ d. d.file) (λ d. rc_slice_items d.lines) (λ d. d.place) _ _
+      c.args.files.now c.args.files.now (keeps_files_itself _ c.args.files.now) refl refl
+      (λ m honest agree t here.
+      subst (λ o. IfSome o (IsPlaceIn t.represents.blocks)) (sym c.take.ensures.after) tt);
+  device = moves_itself _ c.args.files.now;
+  causes = search rules;
+  broken = search rules;
+  ends = search rules;
+  finds = search rules;
+}
 
-pub returns-then-retreat-clause-moves : goal.returns-then-retreat-clause-moves
-returns-then-retreat-clause-moves g c =
-    cursor_moves _ (λ d. d.file) (λ d. rc_slice_items d.lines) (λ d. d.place) _ _
-    c.args.files.now c.args.files.now (keeps_files_itself _ c.args.files.now) refl refl
-    (λ m honest agree t here.
-    let p = c.in-Some.place in
-    moved_in t.represents.blocks p c.retreat.new.self (p.at - 1) (c.if-retreat.ensures.moved refl).0
-    (here_of (IsPlaceIn t.represents.blocks) c.args.self.now.place p
-    (sym c.take.ensures.value ∙ c.in-Some.is) here))
+pub returns-then-retreat : goal.returns-then-retreat
+returns-then-retreat g c = record {
+  moves =
+      cursor_moves _ (λ d. d.file) (λ d. rc_slice_items d.lines) (λ d. d.place) _ _
+      c.args.files.now c.args.files.now (keeps_files_itself _ c.args.files.now) refl refl
+      (λ m honest agree t here.
+      let p = c.in-Some.place in
+      moved_in t.represents.blocks p c.retreat.new.self (p.at - 1)
+      (c.if-retreat.ensures.moved refl).0
+      (here_of (IsPlaceIn t.represents.blocks) c.args.self.now.place p
+      (sym c.take.ensures.value ∙ c.in-Some.is) here));
+  device = moves_itself _ c.args.files.now;
+  causes = search rules;
+  broken = search rules;
+  ends = search rules;
+  finds = λ m s.
+      let moved = c.if-retreat.ensures.moved refl in
+      finds_prev_in _ _ s.1.table c.args.self.now.has_failed c.args.self.now.place c.in-Some.place
+      c.retreat.new.self (sym c.take.ensures.value ∙ c.in-Some.is) s.1.here moved.0 moved.1;
+}
 
-pub returns-then-retreat-clause-finds : goal.returns-then-retreat-clause-finds
-returns-then-retreat-clause-finds g c = λ m s.
-    let moved = c.if-retreat.ensures.moved refl in
-    finds_prev_in _ _ s.1.table c.args.self.now.has_failed c.args.self.now.place c.in-Some.place
-    c.retreat.new.self (sym c.take.ensures.value ∙ c.in-Some.is) s.1.here moved.0 moved.1
+pub returns-then-line-eq0 : goal.returns-then-line-eq0
+returns-then-line-eq0 g c = record {
+  moves =
+      cursor_moves _ (λ d. d.file) (λ d. rc_slice_items d.lines) (λ d. d.place) _ _
+      c.args.files.now c.args.files.now (keeps_files_itself _ c.args.files.now) refl refl
+      (λ m honest agree t here.
+      subst (λ o. IfSome o (IsPlaceIn t.represents.blocks)) (sym c.take.ensures.after) tt);
+  device = moves_itself _ c.args.files.now;
+  causes = search rules;
+  broken = search rules;
+  ends = search rules;
+  finds = λ m s.
+      let first = when_false c.retreat.result _ c.if-retreat.false c.retreat.ensures.first in
+      finds_none_before _ _ s.1.table c.args.self.now.has_failed c.args.self.now.place
+      c.in-Some.place
+      c.take.new.self (sym c.take.ensures.value ∙ c.in-Some.is) s.1.here
+      (sym first.0.line ∙ (sym c.line-line.ensures ∙ c.if-line-eq0.true)) first.1
+      c.take.ensures.after;
+}
 
-pub returns-then-line-eq0-clause-moves : goal.returns-then-line-eq0-clause-moves
-returns-then-line-eq0-clause-moves g c =
-    cursor_moves _ (λ d. d.file) (λ d. rc_slice_items d.lines) (λ d. d.place) _ _
-    c.args.files.now c.args.files.now (keeps_files_itself _ c.args.files.now) refl refl
-    (λ m honest agree t here.
-    subst (λ o. IfSome o (IsPlaceIn t.represents.blocks)) (sym c.take.ensures.after) tt)
-
-pub returns-then-line-eq0-clause-finds : goal.returns-then-line-eq0-clause-finds
-returns-then-line-eq0-clause-finds g c = λ m s.
-    let first = when_false c.retreat.result _ c.if-retreat.false c.retreat.ensures.first in
-    finds_none_before _ _ s.1.table c.args.self.now.has_failed c.args.self.now.place c.in-Some.place
-    c.take.new.self (sym c.take.ensures.value ∙ c.in-Some.is) s.1.here
-    (sym first.0.line ∙ (sym c.line-line.ensures ∙ c.if-line-eq0.true)) first.1
-    c.take.ensures.after
-
-pub returns-clause-moves : goal.returns-clause-moves
-returns-clause-moves g c =
-    cursor_moves _ (λ d. d.file) (λ d. rc_slice_items d.lines) (λ d. d.place) _ _
-    c.args.files.now c.enter.new.files c.enter.ensures.keeps c.enter.ensures.table.0
-    (ap rc_slice_items c.enter.ensures.table.1) (λ m honest agree t here.
-    entered_or_none _ _ _ c.enter.result
-    (c.enter.ensures.reads m honest agree t) c.enter.ensures.refused)
-
-pub returns-clause-ends : goal.returns-clause-ends
-returns-clause-ends g c =
-    let first = when_false c.retreat.result _ c.if-retreat.false c.retreat.ensures.first in
-    let old = c.args.self.now in
-    let new = c.enter.new.self in
-    ends_behind c.enter.result (rc_slice_items old.lines) (rc_slice_items new.lines) old.place
-    c.in-Some.place (c.line-line.result - 1) new.has_failed new.place
-    (ap rc_slice_items c.enter.ensures.table.1) (sym c.take.ensures.value ∙ c.in-Some.is)
-    (let some = c.if-line-eq0.false in
-    omega (arith, c.line-line.ensures, first.0.line, some)) new.bounded c.enter.ensures.entered
-
-pub returns-clause-finds : goal.returns-clause-finds
-returns-clause-finds g c = λ m s.
-    let first = when_false c.retreat.result _ c.if-retreat.false c.retreat.ensures.first in
-    let old = c.args.self.now in
-    let new = c.enter.new.self in
-    let is = sym c.take.ensures.value ∙ c.in-Some.is in
-    finds_prev_block _ _ s.1.table c.enter.result old.has_failed old.place c.in-Some.place
-    (c.line-line.result - 1) new.has_failed new.place is
-    s.1.here (let some = c.if-line-eq0.false in
-    omega (arith, c.line-line.ensures, first.0.line, some)) first.1
-    (within_lines (rc_slice_items old.lines) c.in-Some.place (old.bounded c.in-Some.place is))
-    c.enter.ensures.entered (c.enter.ensures.reads (m c.args.self.now.file) s.0 s.2 s.1.table)
-
-pub returns-in_default-clause-device : goal.returns-in_default-clause-device
-returns-in_default-clause-device g c = moves_itself _ c.args.files.now
-
-pub returns-then-retreat-clause-device : goal.returns-then-retreat-clause-device
-returns-then-retreat-clause-device g c = moves_itself _ c.args.files.now
-
-pub returns-then-line-eq0-clause-device : goal.returns-then-line-eq0-clause-device
-returns-then-line-eq0-clause-device g c = moves_itself _ c.args.files.now
+pub returns : goal.returns
+returns g c = record {
+  moves =
+      cursor_moves _ (λ d. d.file) (λ d. rc_slice_items d.lines) (λ d. d.place) _ _
+      c.args.files.now c.enter.new.files c.enter.ensures.moved.keeps c.enter.ensures.table.0
+      (ap rc_slice_items c.enter.ensures.table.1) (λ m honest agree t here.
+      entered_or_none _ _ _ c.enter.result
+      (c.enter.ensures.reads m honest agree t) c.enter.ensures.moved.refused);
+  device = search rules;
+  causes = search rules;
+  broken = search rules;
+  ends =
+      let first = when_false c.retreat.result _ c.if-retreat.false c.retreat.ensures.first in
+      let old = c.args.self.now in
+      let new = c.enter.new.self in
+      ends_behind c.enter.result (rc_slice_items old.lines) (rc_slice_items new.lines) old.place
+      c.in-Some.place (c.line-line.result - 1) new.has_failed new.place
+      (ap rc_slice_items c.enter.ensures.table.1) (sym c.take.ensures.value ∙ c.in-Some.is)
+      (let some = c.if-line-eq0.false in
+      omega (arith, c.line-line.ensures, first.0.line, some)) new.bounded c.enter.ensures.entered;
+  finds = λ m s.
+      let first = when_false c.retreat.result _ c.if-retreat.false c.retreat.ensures.first in
+      let old = c.args.self.now in
+      let new = c.enter.new.self in
+      let is = sym c.take.ensures.value ∙ c.in-Some.is in
+      finds_prev_block _ _ s.1.table c.enter.result old.has_failed old.place c.in-Some.place
+      (c.line-line.result - 1) new.has_failed new.place is
+      s.1.here (let some = c.if-line-eq0.false in
+      omega (arith, c.line-line.ensures, first.0.line, some)) first.1
+      (within_lines (rc_slice_items old.lines) c.in-Some.place (old.bounded c.in-Some.place is))
+      c.enter.ensures.entered (c.enter.ensures.reads (m c.args.self.now.file) s.0 s.2 s.1.table);
+}

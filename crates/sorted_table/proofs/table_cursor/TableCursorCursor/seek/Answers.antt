@@ -1,4 +1,4 @@
-use Rattle.std.proofs.Common.{◌≡◌, ◌∙◌, ap, sym, subst, arith, IfSome}
+use Rattle.std.proofs.Common.{◌≡◌, ◌∙◌, ap, sym, subst, arith, IfSome, rules}
 use Rattle.std.specs.Rc.{rc_slice_items}
 use Rattle.kv_types.specs.{lent_key}
 use Rattle.table_format.specs.{block_entries}
@@ -10,59 +10,74 @@ use Rattle.sorted_table.proofs.TableSeeks.{finds_none_sought, finds_sought, line
 use Rattle.sorted_table.proofs.TableSeeks.{never_late, rising_at}
 use Rattle.sorted_table.proofs.table_cursor.TableCursorCursor.seek.Goals as goal
 
-pub returns-in_err-reach-clause-moves : goal.returns-in_err-reach-clause-moves
-returns-in_err-reach-clause-moves g c =
-    cursor_moves _ (λ d. d.file) (λ d. rc_slice_items d.lines) (λ d. d.place) _ _
-    c.args.files.now c.reach.new.files c.reach.ensures.keeps c.reach.ensures.table.0
-    (ap rc_slice_items c.reach.ensures.table.1) (λ m honest agree t here.
-    subst (λ o. IfSome o (IsPlaceIn t.represents.blocks)) (sym c.in_err-reach.ensures.refused.0) tt)
+pub returns-in_err-reach : goal.returns-in_err-reach
+returns-in_err-reach g c = record {
+  moves =
+      cursor_moves _ (λ d. d.file) (λ d. rc_slice_items d.lines) (λ d. d.place) _ _
+      c.args.files.now c.reach.new.files c.reach.ensures.moved.keeps c.reach.ensures.table.0
+      (ap rc_slice_items c.reach.ensures.table.1) (λ m honest agree t here.
+      subst (λ o. IfSome o (IsPlaceIn t.represents.blocks))
+      (sym c.in_err-reach.ensures.moved.refused.0) tt);
+  device = search rules;
+  causes = search rules;
+  broken = search rules;
+  finds = search rules;
+}
 
-pub returns-in_default-clause-moves : goal.returns-in_default-clause-moves
-returns-in_default-clause-moves g c =
-    cursor_moves _ (λ d. d.file) (λ d. rc_slice_items d.lines) (λ d. d.place) _ _
-    c.args.files.now c.reach.new.files c.reach.ensures.keeps c.reach.ensures.table.0
-    (ap rc_slice_items c.reach.ensures.table.1) (λ m honest agree t here.
-    subst (λ o. IfSome o (IsPlaceIn t.represents.blocks)) (sym c.take.ensures.after) tt)
+pub returns-in_default : goal.returns-in_default
+returns-in_default g c = record {
+  moves =
+      cursor_moves _ (λ d. d.file) (λ d. rc_slice_items d.lines) (λ d. d.place) _ _
+      c.args.files.now c.reach.new.files c.reach.ensures.moved.keeps c.reach.ensures.table.0
+      (ap rc_slice_items c.reach.ensures.table.1) (λ m honest agree t here.
+      subst (λ o. IfSome o (IsPlaceIn t.represents.blocks)) (sym c.take.ensures.after) tt);
+  device = search rules;
+  causes = search rules;
+  broken = search rules;
+  finds = λ m s.
+      let lines = rc_slice_items c.args.self.now.lines in
+      let n = c.line_place-line.result in
+      let failed = c.reach.new.self.has_failed in
+      let off = subst (HasReached lines n failed) (sym c.take.ensures.value ∙ c.in_default.is)
+      c.in_ok-reach.ensures.reached in
+      finds_none_sought _ lines s.1.table
+      (lent_key c.args.key) c.args.number n failed c.take.new.self
+      (omega (arith, c.line_place-line.ensures.within, c.deref.ensures.len))
+      (line_place_in _ lines s.1.table (lent_key c.args.key) c.args.number c.deref.result.now n
+      c.deref.ensures.value c.line_place-line.ensures.place) off.1 off.0 c.take.ensures.after;
+}
 
-pub returns-in_default-clause-finds : goal.returns-in_default-clause-finds
-returns-in_default-clause-finds g c = λ m s.
-    let lines = rc_slice_items c.args.self.now.lines in
-    let n = c.line_place-line.result in
-    let failed = c.reach.new.self.has_failed in
-    let off = subst (HasReached lines n failed) (sym c.take.ensures.value ∙ c.in_default.is)
-    c.in_ok-reach.ensures.reached in
-    finds_none_sought _ lines s.1.table (lent_key c.args.key) c.args.number n failed c.take.new.self
-    (omega (arith, c.line_place-line.ensures.within, c.deref.ensures.len))
-    (line_place_in _ lines s.1.table (lent_key c.args.key) c.args.number c.deref.result.now n
-    c.deref.ensures.value c.line_place-line.ensures.place) off.1 off.0 c.take.ensures.after
-
-pub returns-clause-moves : goal.returns-clause-moves
-returns-clause-moves g c =
-    cursor_moves _ (λ d. d.file) (λ d. rc_slice_items d.lines) (λ d. d.place) _ _
-    c.args.files.now c.reach.new.files c.reach.ensures.keeps c.reach.ensures.table.0
-    (ap rc_slice_items c.reach.ensures.table.1) (λ m honest agree t here.
-    let p = c.in-Some.place in
-    moved_in t.represents.blocks p c.seek.new.self c.seek.new.self.at c.seek.ensures.same
-    (here_of (IsPlaceIn t.represents.blocks) c.reach.new.self.place p
-    (sym c.take.ensures.value ∙ c.in-Some.is) (c.in_ok-reach.ensures.reads m honest agree t here)))
-
-pub returns-clause-finds : goal.returns-clause-finds
-returns-clause-finds g c = λ m s.
-    let lines = rc_slice_items c.args.self.now.lines in
-    let n = c.line_place-line.result in
-    let t = s.1.table in
-    let p = c.in-Some.place in
-    let on = sym c.take.ensures.value ∙ c.in-Some.is in
-    let there = here_of (IsPlaceIn t.represents.blocks) c.reach.new.self.place p on
-    (c.in_ok-reach.ensures.reads (m c.args.self.now.file) s.0 s.2 t s.1.here) in
-    let line : p.line ≡ n = subst (HasReached lines n c.reach.new.self.has_failed) on
-    c.in_ok-reach.ensures.reached in
-    finds_sought _ lines t (lent_key c.args.key) c.args.number n p c.seek.new.self
-    (omega (arith, c.line_place-line.ensures.within, c.deref.ensures.len))
-    (line_place_in _ lines t (lent_key c.args.key) c.args.number c.deref.result.now n
-    c.deref.ensures.value c.line_place-line.ensures.place) there line c.seek.ensures.same
-    (c.seek.ensures.found (block_entries there.block)
-    (rising_at _ lines t (lent_key c.args.key) c.args.number p there) there.reads
-    (never_late _ lines t (lent_key c.args.key) c.args.number n p
-    (line_place_in _ lines t (lent_key c.args.key) c.args.number c.deref.result.now n
-    c.deref.ensures.value c.line_place-line.ensures.place) there line))
+pub returns : goal.returns
+returns g c = record {
+  moves =
+      cursor_moves _ (λ d. d.file) (λ d. rc_slice_items d.lines) (λ d. d.place) _ _
+      c.args.files.now c.reach.new.files c.reach.ensures.moved.keeps c.reach.ensures.table.0
+      (ap rc_slice_items c.reach.ensures.table.1) (λ m honest agree t here.
+      let p = c.in-Some.place in
+      moved_in t.represents.blocks p c.seek.new.self c.seek.new.self.at c.seek.ensures.same
+      (here_of (IsPlaceIn t.represents.blocks) c.reach.new.self.place p
+      (sym c.take.ensures.value ∙ c.in-Some.is)
+      (c.in_ok-reach.ensures.reads m honest agree t here)));
+  device = search rules;
+  causes = search rules;
+  broken = search rules;
+  finds = λ m s.
+      let lines = rc_slice_items c.args.self.now.lines in
+      let n = c.line_place-line.result in
+      let t = s.1.table in
+      let p = c.in-Some.place in
+      let on = sym c.take.ensures.value ∙ c.in-Some.is in
+      let there = here_of (IsPlaceIn t.represents.blocks) c.reach.new.self.place p on
+      (c.in_ok-reach.ensures.reads (m c.args.self.now.file) s.0 s.2 t s.1.here) in
+      let line : p.line ≡ n = subst (HasReached lines n c.reach.new.self.has_failed) on
+      c.in_ok-reach.ensures.reached in
+      finds_sought _ lines t (lent_key c.args.key) c.args.number n p c.seek.new.self
+      (omega (arith, c.line_place-line.ensures.within, c.deref.ensures.len))
+      (line_place_in _ lines t (lent_key c.args.key) c.args.number c.deref.result.now n
+      c.deref.ensures.value c.line_place-line.ensures.place) there line c.seek.ensures.same
+      (c.seek.ensures.found (block_entries there.block)
+      (rising_at _ lines t (lent_key c.args.key) c.args.number p there) there.reads
+      (never_late _ lines t (lent_key c.args.key) c.args.number n p
+      (line_place_in _ lines t (lent_key c.args.key) c.args.number c.deref.result.now n
+      c.deref.ensures.value c.line_place-line.ensures.place) there line));
+}

@@ -14,7 +14,7 @@ returns-in_err-append-clause-device g c =
     let e = c.in_err-append.field-0.0 in
     let result = c.from_residual-in_err-append.result in
     let reported = c.from_residual-in_err-append.ensures.1 in
-    let device = c.append.ensures in
+    let device = c.append.ensures.device in
     writes_as g.D.Disk c.args.self.now.file (passed_on called e result c.in_err-append.was reported)
     (not_own_on called e result c.in_err-append.was reported device.not_own)
     (λ out blocks one can.
@@ -23,4 +23,4 @@ returns-in_err-append-clause-device g c =
     let small = can.small in
     let room = can.room in
     absurd (omega (arith, out, ap length is, small, room, can.closed.written)))
-    (record { kept = device.kept; not_own = device.not_own; any_moment = device.any_moment })
+    device

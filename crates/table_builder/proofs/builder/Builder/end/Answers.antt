@@ -21,7 +21,7 @@ returns-in_err-append_last-clause-device g c =
     let e = c.in_err-append_last.field-0.0 in
     let result = c.from_residual-in_err-append_last.result in
     let reported = c.from_residual-in_err-append_last.ensures.1 in
-    let device = c.append_last.ensures in
+    let device = c.append_last.ensures.device in
     writes_as g.D.Disk c.args.self.file
     (passed_on called e result c.in_err-append_last.was reported)
     (not_own_on called e result c.in_err-append_last.was reported device.not_own)
@@ -29,7 +29,7 @@ returns-in_err-append_last-clause-device g c =
     let t = (c.in_ok-tail.ensures.tail blocks entries can).1 in
     let size = can.size in
     absurd (omega (arith, out, t, size, can.closed.written, ap length c.deref.ensures.value)))
-    (record { kept = device.kept; not_own = device.not_own; any_moment = device.any_moment })
+    device
 
 -- the file is durable, and represents the entries
 pub returns-clause-ended : goal.returns-clause-ended
