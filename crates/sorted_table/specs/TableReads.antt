@@ -19,6 +19,12 @@ use Rattle.sorted_table.specs.declared.found.FoundVersion.{FoundVersion}
 use Rattle.sorted_table.specs.declared.table.Table.{Table}
 
 module _ {D : Type 0} (g : Ghosts D) where
+  -- A call that only reads. Its errors are none of a builder.
+  pub record ReadsDisk {T : Type 0} (before now : D) (result : Result T TableError) : Type 0 where
+    pub kept : KeepsDisk g before now (ReportsDevice result) ⊥ IsSame
+    pub still : IsStill g before now
+    pub refusals : IfErr result (λ e. IsBuilderError e → ⊥)
+
   -- a lookup of a key at a number in a table, whose filter may have the key or not
   pub record AnswersLookup (table : Table) (key : StoredKey) (at : ℕ) (may_have : Type 0)
       (before now : D) (result : Result (Option FoundVersion) TableError) : Type 0 where

@@ -1,13 +1,13 @@
 //! The block of a line of an index.
 ghost use Rattle.std.specs.Prelude.{◌≡◌, ◌↔◌, ◌<◌, List, All};
-ghost use Rattle.std.specs.Prelude.{Some, IfOk, IfErr, IsTrue, MatchOption};
+ghost use Rattle.std.specs.Prelude.{Some, IfOk, IsTrue, MatchOption};
 ghost use Rattle.std.specs.Prelude.{length, slice_get};
 ghost use Rattle.std.specs.Rc.{rc_slice_items};
-ghost use Rattle.disk.specs.{IsSame, IsStill, KeepsDisk};
 ghost use Rattle.kv_types.specs.{Entry};
-ghost use Rattle.table_format.specs.{IsBlock, IsBuilderError, IsTableEntry, ReportsDevice};
+ghost use Rattle.table_format.specs.{IsBlock, IsTableEntry};
 ghost use Rattle.table_format.specs.{entries_bytes, last_entry, lent_entry};
 ghost use Rattle.sorted_table.specs.Meant.{AreAtLine, HasEndOf, IsBehindLine, LineBlockAnswer};
+ghost use Rattle.sorted_table.specs.TableReads.{ReadsDisk};
 
 use crate::lines::ends_before;
 use disk::Disk;
@@ -77,14 +77,11 @@ pub fn block_of_line<D: Disk + Drop>(
     number: usize,
 ) -> Result<RcSlice<u8>, TableError>
     requires { number < length lines.now }
-    ensures kept { KeepsDisk ⟦<Files<D> as Disk>⟧ files.old files.new (ReportsDevice result) ⊥
-        IsSame }
+    ensures device { ReadsDisk ⟦<Files<D> as Disk>⟧ files.old files.new result }
     ensures answers { ⟦<Files<D> as Disk>⟧.is_honest files.old → LineBlockAnswer lines.now number
         (⟦<Files<D> as Disk>⟧.state files.old file) result }
     ensures len { IfOk result (λ block. (line : _) → slice_get lines.now number ≡ Some line →
         length (rc_slice_items block) ≡ line.len) }
-    ensures refusals { IfErr result (λ e. IsBuilderError e → ⊥) }
-    ensures still { IsStill ⟦<Files<D> as Disk>⟧ files.old files.new }
 {
     let line = &lines[number];
     let block = files.block(alloc, file, line.place, line.len as usize)?;

@@ -1,11 +1,10 @@
 //! A cursor over a table.
-ghost use Rattle.std.specs.Prelude.{◌≡◌, ◌≢◌, ◌<◌, ◌≤◌, List, None, Some, IfErr, IfOk, IfSome, Err};
+ghost use Rattle.std.specs.Prelude.{◌≡◌, ◌≢◌, ◌<◌, ◌≤◌, List, None, IfOk, IfSome, Err};
 ghost use Rattle.std.specs.Prelude.{IsTrue, OnOk, false, length};
 ghost use Rattle.std.specs.Option.{ForSome};
 ghost use Rattle.std.specs.Rc.{rc_slice_items};
-ghost use Rattle.disk.specs.{IsSame, IsStill, KeepsDisk, Slot, State};
+ghost use Rattle.disk.specs.{Slot, State};
 ghost use Rattle.sorted_table.specs.MovedFiles.{MovesFiles};
-ghost use Rattle.table_format.specs.{IsBlock, IsBuilderError, ReportsDevice};
 ghost use Rattle.table_files.specs.{BlockAnswer};
 ghost use Rattle.table_files.specs.{KeepsFiles};
 ghost use Rattle.sorted_table.specs.BlockPlaces.{PlaceReads};
@@ -13,7 +12,7 @@ ghost use Rattle.sorted_table.specs.LineSizes.{IsBounded};
 ghost use Rattle.sorted_table.specs.Meant.{AreAsMeant};
 ghost use Rattle.sorted_table.specs.TableCursors.{HasEntered, HasLines, HasReached, IsPlaceIn};
 ghost use Rattle.sorted_table.specs.TableCursors.{move_error};
-ghost use Rattle.sorted_table.specs.TableReads.{EntersBlock};
+ghost use Rattle.sorted_table.specs.TableReads.{EntersBlock, ReadsDisk};
 
 use crate::block_place::BlockPlace;
 use crate::line_block::block_of_line;
@@ -57,8 +56,7 @@ fn first_of<D: Disk + Drop>(
     starts: Vec<usize>,
 ) -> Result<BlockPlace, TableError>
     requires { line < length (rc_slice_items lines.now) }
-    ensures kept { KeepsDisk ⟦<Files<D> as Disk>⟧ files.old files.new (ReportsDevice result) ⊥
-        IsSame }
+    ensures device { ReadsDisk ⟦<Files<D> as Disk>⟧ files.old files.new result }
     ensures first { IfOk result (λ place. (place.line ≡ line) × (place.at ≡ 0)
         × IsBounded (rc_slice_items lines.now) place) }
     ensures reads { (meant : Slot) → ⟦<Files<D> as Disk>⟧.is_honest files.old →
@@ -67,8 +65,6 @@ fn first_of<D: Disk + Drop>(
         IfOk result (IsPlaceIn table.represents.blocks) }
     ensures damaged { result ≡ Err TableError.Damaged → ⟦<Files<D> as Disk>⟧.is_honest files.old →
         HasLines (⟦<Files<D> as Disk>⟧.state files.old file) (rc_slice_items lines.now) → ⊥ }
-    ensures refusals { IfErr result (λ e. IsBuilderError e → ⊥) }
-    ensures still { IsStill ⟦<Files<D> as Disk>⟧ files.old files.new }
 {
     let block = block_of_line(alloc, files, file, lines, line)?;
     BlockPlace::new(line, block, starts)

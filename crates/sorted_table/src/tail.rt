@@ -4,10 +4,11 @@ ghost use Rattle.std.specs.Prelude.{IsTrue};
 ghost use Rattle.std.specs.Prelude.{IfOk, IfErr, IfSome, IsSome, IsSomeAnd, MatchOption};
 ghost use Rattle.std.specs.Prelude.{MatchResult};
 ghost use Rattle.std.specs.Rc.{rc_slice_items};
-ghost use Rattle.disk.specs.{IsSame, IsStill, KeepsDisk, seen};
+ghost use Rattle.disk.specs.{seen};
 ghost use Rattle.kv_types.specs.{Entry};
-ghost use Rattle.table_format.specs.{IsBuilderError, IsEnvironmentError, ReportsDevice};
+ghost use Rattle.table_format.specs.{IsEnvironmentError};
 ghost use Rattle.table_format.specs.{IsFilterPart, IsIndex, TableRepresents, block_lines};
+ghost use Rattle.sorted_table.specs.TableReads.{ReadsDisk};
 ghost use Rattle.sorted_table.specs.Tails.{FooterSays, HasReadTail, IsTail, ReadsTail, tail_bytes};
 ghost use Rattle.sorted_table.specs.declared.tail.Tail.{Tail};
 ghost use Rattle.table_format.specs.declared.IndexLine.{IndexLine};
@@ -60,7 +61,7 @@ fn tail_of(footer: &[u8], end: u64) -> Option<Tail>
 
 // Reads the footer of a file, and where it begins.
 fn read_footer<D: Disk>(disk: &mut D, file: u64) -> Result<([u8; FOOTER_SIZE], u64), TableError>
-    ensures kept { KeepsDisk D.Disk disk.old disk.new (ReportsDevice result) ⊥ IsSame }
+    ensures device { ReadsDisk D.Disk disk.old disk.new result }
     ensures footer { (bytes : List ℕ) → D.is_honest disk.old →
         seen (D.state disk.old file) ≡ Some bytes →
         MatchResult result (λ x. (x.1 + FOOTER_SIZE ≡ length bytes)
@@ -68,8 +69,6 @@ fn read_footer<D: Disk>(disk: &mut D, file: u64) -> Result<([u8; FOOTER_SIZE], u
         (λ e. FOOTER_SIZE ≤ length bytes → IsEnvironmentError e) }
     ensures present { D.is_honest disk.old → IfOk result (λ _.
         IsSome (seen (D.state disk.old file))) }
-    ensures refusals { IfErr result (λ e. IsBuilderError e → ⊥) }
-    ensures still { IsStill D.Disk disk.old disk.new }
 {
     let mut footer = [0u8; FOOTER_SIZE];
     let length = disk.length(file)?;
@@ -89,14 +88,12 @@ fn read_part<D: Disk>(
     at: u64,
     len: usize,
 ) -> Result<Vec<u8>, TableError>
-    ensures kept { KeepsDisk D.Disk disk.old disk.new (ReportsDevice result) ⊥ IsSame }
+    ensures device { ReadsDisk D.Disk disk.old disk.new result }
     ensures read { (bytes : List ℕ) → D.is_honest disk.old →
         seen (D.state disk.old file) ≡ Some bytes →
         MatchResult result (λ part. part.items ≡ take len (drop at bytes))
         (λ e. at + len ≤ length bytes → IsEnvironmentError e) }
     ensures len { IfOk result (λ part. length part.items ≡ len) }
-    ensures refusals { IfErr result (λ e. IsBuilderError e → ⊥) }
-    ensures still { IsStill D.Disk disk.old disk.new }
 {
     let mut part = vec![in alloc; 0u8; len]?;
     disk.read(file, at, &mut part)?;
@@ -110,7 +107,7 @@ pub fn read_tail<D: Disk>(
     disk: &mut D,
     file: u64,
 ) -> Result<(Vec<u8>, Tail), TableError>
-    ensures kept { KeepsDisk D.Disk disk.old disk.new (ReportsDevice result) ⊥ IsSame }
+    ensures device { ReadsDisk D.Disk disk.old disk.new result }
     ensures tail { (bytes : List ℕ) (entries : List Entry) (table : TableRepresents bytes entries) →
         D.is_honest disk.old → seen (D.state disk.old file) ≡ Some bytes →
         MatchResult result (λ x. (x.0.items ≡ tail_bytes table.blocks table.filter)
@@ -119,8 +116,6 @@ pub fn read_tail<D: Disk>(
         (λ x. IsSomeAnd (seen (D.state disk.old file)) (ReadsTail x.0.items x.1))
         (λ e. IsSomeAnd (seen (D.state disk.old file)) HasReadTail → IsEnvironmentError e) }
     ensures within { IfOk result (λ x. x.1.filter_len ≤ length x.0.items) }
-    ensures refusals { IfErr result (λ e. IsBuilderError e → ⊥) }
-    ensures still { IsStill D.Disk disk.old disk.new }
 {
     let (footer, end) = read_footer(disk, file)?;
     let Some(tail) = tail_of(&footer, end) else {

@@ -19,9 +19,12 @@ returns-in_err-block-clause-answers g c = λ honest.
     let p = err_from_is_err_and c.from_residual.result c.from_residual.ensures.1 in
     rw (p.1, p.2) why
 
-pub returns-then-not-is_at_line-clause-kept : goal.returns-then-not-is_at_line-clause-kept
-returns-then-not-is_at_line-clause-kept g c =
-    kept_alike _ _ (λ e. cc) (λ e. cc) c.in_ok-block.ensures.kept
+pub returns-then-not-is_at_line-clause-device : goal.returns-then-not-is_at_line-clause-device
+returns-then-not-is_at_line-clause-device g c = record {
+  kept = kept_alike _ _ (λ e. cc) (λ e. cc) c.in_ok-block.ensures.kept;
+  still = search rules;
+  refusals = search rules;
+}
 
 pub returns-then-not-is_at_line-clause-answers : goal.returns-then-not-is_at_line-clause-answers
 returns-then-not-is_at_line-clause-answers g c = λ honest.

@@ -1,4 +1,4 @@
-use Rattle.std.proofs.Common.{ℕ, List, ap, subst, ◌∙◌, arith}
+use Rattle.std.proofs.Common.{ℕ, List, ap, subst, ◌∙◌, arith, rules}
 use Rattle.std.proofs.lemmas.Result.{err_from_is_err_and}
 use Rattle.disk.specs.StillLemmas.{still_more}
 use Rattle.disk.specs.{seen}
@@ -28,8 +28,9 @@ returns-in_err-bytes-clause-tail g c = λ bytes entries s honest there.
     let long = long_enough bytes entries s in
     let foot = c.in_ok-footer.ensures.footer bytes honest there in
     let tail = c.in-Some.ensures.tail bytes entries s foot.0 foot.1 in
-    let there' = ap seen (c.read_footer.ensures.kept.files honest c.args.file) ∙ there in
-    let why = c.in_err-bytes.ensures.read bytes (c.read_footer.ensures.kept.honest.1 honest) there'
+    let there' = ap seen (c.read_footer.ensures.device.kept.files honest c.args.file) ∙ there in
+    let why = c.in_err-bytes.ensures.read bytes
+    (c.read_footer.ensures.device.kept.honest.1 honest) there'
     (tail_within bytes entries s c.in-Some.tail tail) in
     let p = err_from_is_err_and c.from_residual-in_err-bytes.result
     c.from_residual-in_err-bytes.ensures.1 in
@@ -40,20 +41,28 @@ returns-clause-tail g c = λ bytes entries s honest there.
     let long = long_enough bytes entries s in
     let foot = c.in_ok-footer.ensures.footer bytes honest there in
     let tail = c.in-Some.ensures.tail bytes entries s foot.0 foot.1 in
-    let there' = ap seen (c.read_footer.ensures.kept.files honest c.args.file) ∙ there in
+    let there' = ap seen (c.read_footer.ensures.device.kept.files honest c.args.file) ∙ there in
     let read = c.in_ok-bytes.ensures.read bytes
-    (c.read_footer.ensures.kept.honest.1 honest) there' in
+    (c.read_footer.ensures.device.kept.honest.1 honest) there' in
     (read ∙ tail_at bytes entries s c.in-Some.tail tail, tail)
 
-pub returns-in_err-bytes-clause-still : goal.returns-in_err-bytes-clause-still
-returns-in_err-bytes-clause-still g c = λ honest.
-    still_more (c.read_footer.ensures.still honest)
-    (c.read_part.ensures.still (c.read_footer.ensures.kept.honest.1 honest))
+pub returns-in_err-bytes-clause-device : goal.returns-in_err-bytes-clause-device
+returns-in_err-bytes-clause-device g c = record {
+  kept = search rules;
+  still = λ honest.
+      still_more (c.read_footer.ensures.device.still honest)
+      (c.read_part.ensures.device.still (c.read_footer.ensures.device.kept.honest.1 honest));
+  refusals = search rules;
+}
 
-pub returns-clause-still : goal.returns-clause-still
-returns-clause-still g c = λ honest.
-    still_more (c.read_footer.ensures.still honest)
-    (c.read_part.ensures.still (c.read_footer.ensures.kept.honest.1 honest))
+pub returns-clause-device : goal.returns-clause-device
+returns-clause-device g c = record {
+  kept = search rules;
+  still = λ honest.
+      still_more (c.read_footer.ensures.device.still honest)
+      (c.read_part.ensures.device.still (c.read_footer.ensures.device.kept.honest.1 honest));
+  refusals = search rules;
+}
 
 -- the footer says where the content stands that was read
 pub returns-clause-there : goal.returns-clause-there
@@ -62,14 +71,14 @@ returns-clause-there g c = λ honest.
     some_and (ReadsTail c.in_ok-bytes.bytes.items c.in-Some.tail) (seen slot)
     (c.in_ok-footer.ensures.present honest) (λ bytes there.
     let foot = c.in_ok-footer.ensures.footer bytes honest there in
-    let there' = ap seen (c.read_footer.ensures.kept.files honest c.args.file) ∙ there in
+    let there' = ap seen (c.read_footer.ensures.device.kept.files honest c.args.file) ∙ there in
     record {
       end = c.in_ok-footer.end;
       len = foot.0;
       says = subst (λ (p : List ℕ). FooterSays p c.in_ok-footer.end c.in-Some.tail) foot.1
           c.in-Some.ensures.says;
       content = c.in_ok-bytes.ensures.read bytes
-          (c.read_footer.ensures.kept.honest.1 honest) there';
+          (c.read_footer.ensures.device.kept.honest.1 honest) there';
     })
 
 -- a tail that the footer says where to find is read
@@ -95,6 +104,6 @@ returns-in_err-bytes-clause-there g c = λ honest.
     let foot = c.in_ok-footer.ensures.footer it.0 honest it.1 in
     let ends = c.in-Some.ensures.ends in
     let long = foot.0 in
-    let there' = ap seen (c.read_footer.ensures.kept.files honest c.args.file) ∙ it.1 in
-    c.in_err-bytes.ensures.read it.0 (c.read_footer.ensures.kept.honest.1 honest) there'
+    let there' = ap seen (c.read_footer.ensures.device.kept.files honest c.args.file) ∙ it.1 in
+    c.in_err-bytes.ensures.read it.0 (c.read_footer.ensures.device.kept.honest.1 honest) there'
     (omega (arith, ends, long)))

@@ -91,7 +91,7 @@ returns-in_err-block g c = record {
       let t = lines_of file c.args.self.now entries lines s c.deref-lines.ensures.value in
       let b = block_at file lines t n at.0 at.1 in
       let e = c.in_err-block.field-0.0 in
-      let why = environmental e c.in_err-block.ensures.refusals
+      let why = environmental e c.in_err-block.ensures.device.refusals
       (never_damaged file lines t n at.0 e b at.1 (c.in_err-block.ensures.answers honest)) in
       let p = err_from_is_err_and c.from_residual.result c.from_residual.ensures.1 in
       rw (p.1, p.2) why;
@@ -120,7 +120,7 @@ pub returns : goal.returns
 returns g c = record {
   kept =
       kept_alike _ _ (λ e. cc) (λ e. absurd (not_device c.find_in.result c.find_in.ensures.only e))
-      c.in_ok-block.ensures.kept;
+      c.in_ok-block.ensures.device.kept;
   found = λ entries honest s.
       found_as (g.D.Disk.state c.args.files.now.disk c.args.self.now.file) c.args.self.now entries s
       c.deref-lines.result.now c.line_place-number.result (lent_key c.args.key) c.args.at

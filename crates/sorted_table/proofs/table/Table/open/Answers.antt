@@ -42,7 +42,7 @@ returns-clause-opened g c = λ entries honest has.
     (c.deref.ensures.value ∙ tail.0) tail.1 in
     record {
       bytes = t.0;
-      present = ap seen (c.read_tail.ensures.kept.files honest c.args.file) ∙ t.1;
+      present = ap seen (c.read_tail.ensures.device.kept.files honest c.args.file) ∙ t.1;
       represents = t.2;
       lines = parts.0;
       filter = parts.1;
@@ -60,7 +60,7 @@ returns-clause-checked g c = λ honest.
     let is = c.deref.ensures.value in (
       subst (λ (file : Option (List ℕ)).
           IsSomeAnd file (λ bytes. HasTail bytes lines c.in_ok-lines.filter.items))
-          (sym (ap seen (c.read_tail.ensures.kept.files honest c.args.file)))
+          (sym (ap seen (c.read_tail.ensures.device.kept.files honest c.args.file)))
           (some_more (ReadsTail part tail) _ (seen old) there (λ bytes read.
           tail_there bytes part c.in_ok-lines.filter.items tail lines read
           (subst (λ (b : List ℕ).
