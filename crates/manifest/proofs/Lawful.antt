@@ -9,6 +9,7 @@ use Rattle.std.proofs.lemmas.List.Elements.{All-cons, All-nil, All-head, All-tai
 use Rattle.std.proofs.lemmas.List.Elements.{All-weaker}
 use Rattle.record_log.specs.declared.log.TheConstants.{MAX_RECORD}
 use Rattle.kv_types.specs.declared.bounds.TheConstants.{MAX_NUMBER}
+use Rattle.manifest.specs.declared.line.TheConstants.{MAX_LINES}
 use Rattle.kv_types.specs.{text_bytes}
 use Rattle.manifest.specs.declared.line.LogLine.{LogLine}
 use Rattle.manifest.specs.declared.line.TableName.{TableName}
@@ -313,8 +314,8 @@ counted_bound k spell xs all =
     let a = length-append (to_be_bytes w16 (length xs)) (flat_map spell xs) in
     omega (arith, a, b)
 
-pub change_is_short : (c : Change) → IsChange c → length c.logs_added ≤ 4096
-    → length c.tables_added ≤ 4096 → length (change_text c) ≤ MAX_RECORD
+pub change_is_short : (c : Change) → IsChange c → length c.logs_added ≤ MAX_LINES
+    → length c.tables_added ≤ MAX_LINES → length (change_text c) ≤ MAX_RECORD
 unfolding change_text
 change_is_short c is few_logs few_tables =
     let n = lengths (to_be_bytes w64 c.next_file) (to_be_bytes w64 c.floor)
@@ -369,7 +370,7 @@ change_is_short c is few_logs few_tables =
 
 -- the lists of an edit that may be taken
 pub few_added : (v : StoreVersion) (c : Change) → IsFit v c
-    → (length c.logs_added ≤ 4096) × (length c.tables_added ≤ 4096)
+    → (length c.logs_added ≤ MAX_LINES) × (length c.tables_added ≤ MAX_LINES)
 few_added v c fit = (
   omega (
     arith,

@@ -7,6 +7,7 @@ use Rattle.std.specs.List.{fold, filter, list_all, list_any}
 use Rattle.std.specs.Ordering.{is_lt}
 use Rattle.kv_types.specs.{stored_cmp}
 use Rattle.chain_model.specs.{is_part}
+use Rattle.manifest.specs.declared.line.TheConstants.{MAX_LINES}
 use Rattle.manifest.specs.declared.line.LogLine.{LogLine}
 use Rattle.manifest.specs.declared.line.TableName.{TableName}
 use Rattle.manifest.specs.declared.line.TableLine.{TableLine}
@@ -173,8 +174,8 @@ pub record IsNew (version : StoreVersion) (change : Change) : Type 0 where
 -- some logs, few lines, no file twice, and ranges apart
 pub record AreLawful (logs : List LogLine) (tables : List TableLine) : Type 0 where
   pub some : 0 < length logs
-  pub few_logs : length logs ≤ 4096
-  pub few_tables : length tables ≤ 4096
+  pub few_logs : length logs ≤ MAX_LINES
+  pub few_tables : length tables ≤ MAX_LINES
   pub files_once : IsTrue (are_once (files_of logs tables))
   pub apart : IsTrue (all_apart tables)
 

@@ -2,7 +2,6 @@
 //! has. At every moment of a change they represent the old version or the new one.
 #![tactic(auto)]
 
-mod begin;
 mod changed;
 mod edit;
 mod error;
@@ -22,6 +21,6 @@ mod version;
 
 pub use edit::VersionEdit;
 pub use error::ManifestError;
-pub use line::{LogLine, MAX_NEXT, TableLine, TableName};
+pub use line::{LogLine, MAX_LINES, MAX_NEXT, TableLine, TableName};
 pub use manifest::Manifest;
 pub use version::StoreVersion;

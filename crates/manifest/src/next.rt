@@ -12,7 +12,7 @@ use crate::changed::lines_after;
 use crate::fits::{
     all_apart, are_once, files_of, is_part, names_file, names_log, names_table, removed_files,
 };
-use crate::{LogLine, ManifestError, StoreVersion, TableLine, TableName, VersionEdit};
+use crate::{LogLine, MAX_LINES, ManifestError, StoreVersion, TableLine, TableName, VersionEdit};
 use configurations::{Config, NodeId};
 use std::alloc::{AllocError, Global};
 
@@ -134,8 +134,8 @@ fn are_lawful(alloc: Global, logs: &[LogLine], tables: &[TableLine]) -> Result<b
     let files = files_of(alloc, logs, tables)?;
     Ok(
         0 < logs.len()
-            && logs.len() <= 4096
-            && tables.len() <= 4096
+            && logs.len() <= MAX_LINES
+            && tables.len() <= MAX_LINES
             && are_once(&files)
             && all_apart(tables),
     )
