@@ -9,9 +9,9 @@ use Rattle.manifest.specs.declared.slot_pair.SlotPair.{SlotPair}
 use Rattle.manifest.specs.declared.slot_pair.TheConstants.{REWRITE_SLACK}
 use Rattle.manifest.specs.Slots.{IsSlotFile, other_slot, slot_head, head_length, IsSuperseded}
 use Rattle.manifest.specs.Replace.{HasGate}
-use Rattle.manifest.specs.Versions.{first_version}
-use Rattle.manifest.specs.Edits.{change_text}
-use Rattle.manifest.specs.Lawful.{full_change}
+use Rattle.version_edits.specs.{first_version}
+use Rattle.version_edits.specs.{change_text}
+use Rattle.version_edits.specs.{full_change}
 
 -- what stands behind the gate of a slot with one record: the generation, the id, the record behind
 -- an open gate, and a closed gate

@@ -8,9 +8,9 @@ use Rattle.record_log.specs.{HasNoRoom, IsDurableAs, file_of, first_length, gate
 use Rattle.manifest.specs.declared.manifest.Manifest.{Manifest}
 use Rattle.manifest.specs.declared.error.ManifestError.{ManifestError}
 use Rattle.manifest.specs.declared.error.ManifestError.TheVariants as manifest
-use Rattle.manifest.specs.Versions.{NodeVersion, Change, empty, AreFit, IsFit, after_all}
-use Rattle.manifest.specs.Edits.{IsChange, change_text}
-use Rattle.manifest.specs.Versions.{first_version}
+use Rattle.version_edits.specs.{NodeVersion, Change, empty, AreFit, IsFit, after_all}
+use Rattle.version_edits.specs.{IsChange, change_text}
+use Rattle.version_edits.specs.{first_version}
 use Rattle.manifest.specs.Slots.{IsNotCreated, IsSlotFile, ManifestRepresents, SlotsRead}
 use Rattle.manifest.specs.Slots.{other_slot}
 use Rattle.manifest.specs.Holds.{IsLongLog, SlotsHold, first_slot}
