@@ -15,7 +15,7 @@ use Rattle.disk.specs.MomentsLemmas.{none_yet, weaker}
 use Rattle.record_log.specs.declared.Log.{Log}
 use Rattle.record_log.specs.{IsAt, IsOldOrNewFrom, LogHolds, Represents, count_of, file_of}
 use Rattle.record_log.specs.{start_of}
-use Rattle.manifest.specs.declared.line.LogLine.{LogLine}
+use Rattle.version_edits.specs.declared.line.LogLine.{LogLine}
 use Rattle.engine.specs.declared.batch_logs.BatchLog.{BatchLog}
 use Rattle.engine.specs.declared.batch_logs.BatchLogs.{BatchLogs}
 use Rattle.engine.specs.declared.error.EngineError.{EngineError}

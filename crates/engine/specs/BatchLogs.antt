@@ -4,7 +4,7 @@ use Rattle.kv_types.specs.{BatchContent}
 use Rattle.disk.specs.{Contents, EndsOutOfRange, IsFileOutcome, State}
 use Rattle.record_log.specs.declared.log.TheConstants.{MAX_RECORD}
 use Rattle.record_log.specs.{HasFailed, LogHolds, count_of, file_of, gate_of, start_of}
-use Rattle.manifest.specs.declared.line.LogLine.{LogLine}
+use Rattle.version_edits.specs.declared.line.LogLine.{LogLine}
 use Rattle.engine.specs.declared.batch_logs.BatchLog.{BatchLog}
 use Rattle.engine.specs.declared.batch_logs.BatchLogs.{BatchLogs}
 use Rattle.engine.specs.Files.{IsLog}

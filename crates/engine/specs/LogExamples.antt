@@ -2,7 +2,7 @@
 use Rattle.std.specs.Prelude.{ℕ, ◌≤◌, List, [], ◌∷◌, length}
 use Rattle.kv_types.specs.{BatchContent}
 use Rattle.disk.specs.{Contents}
-use Rattle.manifest.specs.declared.line.LogLine.{LogLine}
+use Rattle.version_edits.specs.declared.line.LogLine.{LogLine}
 use Rattle.engine.specs.BatchLogs.{HaveBatches}
 use Rattle.engine.specs.Files.{IsLog}
 use Rattle.engine.specs.Layout.{records_from}

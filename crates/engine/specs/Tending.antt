@@ -4,7 +4,7 @@ use Rattle.kv_types.specs.declared.bounds.TheConstants.{MAX_NUMBER}
 use Rattle.kv_types.specs.{BatchContent}
 use Rattle.disk.specs.declared.Disk.{Ghosts}
 use Rattle.disk.specs.{IsSameBut, State}
-use Rattle.manifest.specs.declared.line.TheConstants.{MAX_NEXT}
+use Rattle.version_edits.specs.declared.line.TheConstants.{MAX_NEXT}
 use Rattle.manifest.specs.declared.TableLine.{TableLine}
 use Rattle.manifest.specs.{HasFullSlot, HasLongSlot, HasSameSlots, StoreVersion, counting_file}
 use Rattle.manifest.specs.{generation_of, node_version_after, spare_file}

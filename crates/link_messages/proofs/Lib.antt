@@ -2,5 +2,6 @@ pub mod Readers
 pub mod Loop
 pub mod FieldLaws
 pub mod FrameLaws
+pub mod FrameLengths
 pub mod Contents
 pub mod Streams

@@ -25,7 +25,7 @@ use Rattle.link_messages.specs.Stream.{FaultsStay}
 use Rattle.link_messages.specs.Stream.{OneSplit}
 use Rattle.link_messages.specs.Reading.{IsOr, content_at}
 use Rattle.byte_fields.specs.ReadersLemmas.{IsBytes-take, IsBytes-drop}
-use Rattle.link_messages.proofs.FrameLaws.{frames_fit}
+use Rattle.link_messages.proofs.FrameLengths.{frames_fit}
 use Rattle.link_messages.proofs.Contents.{Verdict, verdict, one_verdict}
 
 -- ---- the answers of the code

@@ -1,12 +1,13 @@
 -- The slots of a new store.
 use Rattle.std.proofs.Common.{◌≡◌, ℕ, ◌<◌, ◌≤◌, ◌^◌, List, [], ◌∷◌, length, take, drop}
-use Rattle.std.proofs.Common.{Option, Some, None, false, refl, sym, ap, subst, ◌∙◌, inl, arith}
+use Rattle.std.proofs.Common.{Option, Some, None, false, refl, sym, ap, subst, ◌∙◌, inl, inr, arith}
 use Rattle.std.proofs.Common.{append-nil}
 use Rattle.std.specs.Prelude.{IsNone}
-use Rattle.disk.specs.{State}
-use Rattle.record_log.specs.{IsClosed, Represents}
-use Rattle.record_log.specs.{IsDurableAs}
-use Rattle.record_log.specs.{LogHolds, IsAt, begun}
+use Rattle.disk.specs.declared.DiskError.{DiskError}
+use Rattle.disk.specs.{Absent, Fresh, Kept, Slot, State, seen}
+use Rattle.record_log.specs.{IsClosed, IsDiskExternal, IsDurableAs, IsExternal, IsGatedWrite}
+use Rattle.record_log.specs.{LogHolds, IsAt, Represents, begun}
+use Rattle.record_log.specs.Error.{log_error}
 use Rattle.manifest.specs.declared.slot_pair.SlotPair.{SlotPair}
 use Rattle.manifest.specs.Slots.{slot_head, head_length, IsSlot}
 use Rattle.manifest.specs.Holds.{SlotsHold, slot_behind}
@@ -20,6 +21,19 @@ begun_closed (Some bytes) = (0, drop 1 bytes, (λ e. absurd (omega (arith, e))),
 pub begun_none : (was : Option (List ℕ)) → IsNone was → begun was ≡ 0 ∷ []
 begun_none None none = refl
 begun_none (Some bytes) none = absurd cc
+
+-- a write at the first place of an absent file is one behind the gate that it begins with
+pub begun_gated : (slot : Slot) (closed behind : List ℕ) → IsNone (seen slot) →
+    closed ≡ 0 ∷ behind → 0 < length behind → IsGatedWrite slot 0 0 closed (0 ∷ behind)
+begun_gated (Absent back) closed behind none is some =
+    record { begins = refl; has = ap Some is; some = omega (arith, some) }
+begun_gated (Fresh bytes back) closed behind none is some = absurd cc
+begun_gated (Kept bytes kept touches) closed behind none is some = absurd cc
+
+-- the device's failure and want of memory say nothing of a log
+pub external_log : (e : DiskError) → IsDiskExternal e → IsExternal (log_error e)
+external_log e (inl failed) = rw failed (inl refl)
+external_log e (inr memory) = rw memory (inr refl)
 
 module _ (id : ℕ) (one : List ℕ) (short : length one < 2 ^ 32) where
   abbrev behind : List ℕ

@@ -7,11 +7,11 @@ use Rattle.disk.specs.{State, Contents}
 use Rattle.disk.specs.{LeavesSince}
 use Rattle.disk.specs.MomentsLemmas.{none_yet, weaker}
 use Rattle.manifest.specs.declared.manifest.Manifest.{Manifest}
-use Rattle.manifest.specs.Versions.{StoreVersion, NodeVersion, Change, empty, changed, IsFit}
-use Rattle.manifest.specs.Versions.{AreFit, after_all}
-use Rattle.manifest.specs.Versions.{node_version_after}
-use Rattle.manifest.specs.Lawful.{IsFullEdit}
-use Rattle.manifest.specs.Edits.{IsChange, change_text}
+use Rattle.version_edits.specs.{StoreVersion, NodeVersion, Change, empty, changed, IsFit}
+use Rattle.version_edits.specs.{AreFit, after_all}
+use Rattle.version_edits.specs.{node_version_after}
+use Rattle.version_edits.specs.{IsFullEdit}
+use Rattle.version_edits.specs.{IsChange, change_text}
 use Rattle.record_log.specs.declared.LogError.{LogError}
 use Rattle.record_log.specs.{IsExternal}
 use Rattle.manifest.specs.Errors.{IsManifestExternal, error_by_log}
@@ -20,23 +20,7 @@ use Rattle.manifest.specs.Holds.{SlotsHold}
 use Rattle.manifest.specs.Manifests.{IsRewritten, ManifestHolds, ManifestHasFailed}
 use Rattle.manifest.proofs.Records.{has_old}
 use Rattle.chain_model.specs.{IsId}
-
--- one edit more
-pub after_push : (v : StoreVersion) (changes : List Change) (one : Change)
-    → after_all v (changes ++ one ∷ []) ≡ changed (after_all v changes) one
-after_push v [] one = refl
-after_push v (first ∷ others) one = after_push (changed v first) others one
-
-pub fit_push : (v : StoreVersion) (changes : List Change) (one : Change) → AreFit v changes
-    → IsFit (after_all v changes) one → AreFit v (changes ++ one ∷ [])
-fit_push v [] one fit last = (last, tt)
-fit_push v (first ∷ others) one fit last = (fit.0, fit_push (changed v first) others one fit.1 last)
-
-pub map_push : (changes : List Change) (one : Change)
-    → map change_text (changes ++ one ∷ []) ≡ map change_text changes ++ change_text one ∷ []
-map_push [] one = refl
-map_push (first ∷ others) one =
-    ap (λ (l : List (List ℕ)). change_text first ∷ l) (map_push others one)
+use Rattle.version_edits.specs.VersionsLemmas.{after_push, fit_push, map_push}
 
 pub not_empty : (changes : List Change) (one : Change) → (changes ++ one ∷ []) ≢ []
 not_empty [] one same = absurd cc

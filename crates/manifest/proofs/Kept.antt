@@ -1,6 +1,6 @@
 -- What a call keeps of the disk: where nothing was done, where the refusal is reported anew, and
 -- where one call follows another.
-use Rattle.std.proofs.Common.{◌≡◌, ◌∙◌, ◌+◌, ◌≤◌, Err, refl, ap, subst, ℕ, List, [], ◌∷◌}
+use Rattle.std.proofs.Common.{◌≡◌, ◌∙◌, ◌≤◌, Err, refl, ap, subst, ℕ, List, [], ◌∷◌}
 use Rattle.std.proofs.Common.{inl, inr, length, length-append, arith}
 use Rattle.std.specs.Prelude.{IsErrOf}
 use Rattle.disk.specs.{EndsOutOfRange, IsSameBut, KeepsDisk, State}
@@ -74,7 +74,7 @@ slots_alone a b c second first other apart =
 
 -- a slot with one record is no longer than a file may be
 pub closed_fits : (generation id : ℕ) (one bytes : List ℕ) → length one ≤ MAX_RECORD
-    → bytes ≡ closed_slot generation id one → EndsOutOfRange 0 (length bytes + 1) → ⊥
+    → bytes ≡ closed_slot generation id one → EndsOutOfRange 0 (length bytes) → ⊥
 closed_fits generation id one bytes short is over =
     omega (arith, short, over, ap length is, length-append one (0 ∷ []))
 

@@ -1,16 +1,10 @@
-pub mod Loop
-pub mod EditLaws
-pub mod Placed
-pub mod Lawful
 pub mod Replaces
 pub mod Records
 pub mod Rewrites
 pub mod Shortened
 pub mod Begun
 pub mod Kept
-pub mod Spelled
 pub mod Edited
-pub mod Replays
 pub mod Heads
 pub mod VersionIsOne
 pub mod Opened

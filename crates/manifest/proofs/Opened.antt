@@ -16,15 +16,17 @@ use Rattle.manifest.specs.declared.head.CountingSlot.{CountingSlot}
 use Rattle.manifest.specs.declared.slot_pair.SlotPair.{SlotPair}
 use Rattle.manifest.specs.declared.error.ManifestError.{ManifestError}
 use Rattle.manifest.specs.declared.error.ManifestError.TheVariants as manifest
-use Rattle.manifest.specs.Errors.{IsManifestExternal, error_by_log}
-use Rattle.manifest.specs.Versions.{NodeVersion, Change, after_all, empty}
-use Rattle.manifest.specs.Edits.{change_text}
+use Rattle.version_edits.specs.declared.EditError.{EditError}
+use Rattle.version_edits.specs.declared.EditError.TheVariants as edit_error
+use Rattle.manifest.specs.Errors.{IsManifestExternal, error_by_edit, error_by_log}
+use Rattle.version_edits.specs.{NodeVersion, Change, after_all, empty}
+use Rattle.version_edits.specs.{change_text}
 use Rattle.manifest.specs.Slots.{IsNotCreated, IsSlot, IsSlotFile, IsSuperseded, ManifestRepresents}
 use Rattle.manifest.specs.Slots.{SlotsRead, SlotsRepresent, head_length, other_slot, slot_head}
 use Rattle.manifest.specs.Holds.{SlotsHold}
 use Rattle.manifest.specs.Heads.{NoneCounts, SlotCounts}
 use Rattle.manifest.specs.Replace.{HasGate}
-use Rattle.manifest.specs.Replays.{IsEditHistory}
+use Rattle.version_edits.specs.{IsEditHistory}
 use Rattle.manifest.specs.Laws.{VersionsAreCreated}
 use Rattle.manifest.specs.Manifests.{ManifestRefusal}
 use Rattle.manifest.specs.Opening.{AreOpened, SlotsAreKept}
@@ -175,26 +177,23 @@ log_refused it left log.TooLong c why = absurd why
 log_refused it left log.Failed c why = absurd why
 
 -- records that are no edits give no version
-pub replay_refused : (it : CountingSlot) (left : Contents) (disk : State) (e : ManifestError)
+pub replay_refused : (it : CountingSlot) (left : Contents) (disk : State) (e : EditError)
     → SlotCounts it left → SlotsAreKept disk left
-    → (e ≡ manifest.Damaged) ⊎ (e ≡ manifest.Memory)
-    → (e ≡ manifest.Damaged → (changes : List Change) → IsEditHistory changes
+    → (e ≡ edit_error.Damaged → (changes : List Change) → IsEditHistory changes
     → HasRecords disk it.slot head_length (map change_text changes) → ⊥)
-    → ManifestRefusal e left
-replay_refused it left disk e c kept (inl damaged) bad =
-    subst (λ (x : ManifestError). ManifestRefusal x left) (sym damaged) (
-      not_blank it left c,
-      λ named h.
-          let records = map change_text h.changes in
-          bad damaged h.changes (record { some = h.some; each = h.each; fit = h.fit })
-          (subst
-          (λ (file : Option (List ℕ)).
-          IsSomeAnd file (λ bytes. Represents (drop head_length bytes) records))
-          (sym (kept.read it.slot c.one))
-          (counted it left c named.id records h.records).1),
-    )
-replay_refused it left disk e c kept (inr memory) bad =
-    subst (λ (x : ManifestError). ManifestRefusal x left) (sym memory) tt
+    → ManifestRefusal (error_by_edit e) left
+replay_refused it left disk edit_error.Damaged c kept bad = (
+  not_blank it left c,
+  λ named h.
+      let records = map change_text h.changes in
+      bad refl h.changes (record { some = h.some; each = h.each; fit = h.fit })
+      (subst
+      (λ (file : Option (List ℕ)).
+      IsSomeAnd file (λ bytes. Represents (drop head_length bytes) records))
+      (sym (kept.read it.slot c.one))
+      (counted it left c named.id records h.records).1),
+)
+replay_refused it left disk edit_error.Memory c kept bad = tt
 
 -- no slot counts, or the machine refused
 pub none_refused : (e : ManifestError) (left : Contents) → IsManifestExternal e ⊎ NoneCounts e left

@@ -3,7 +3,7 @@ use Rattle.std.proofs.Common.{◌≡◌, ℕ, List, ◌∙◌, map, subst, sym}
 use Rattle.disk.specs.{State}
 use Rattle.record_log.specs.{LogHolds, file_of}
 use Rattle.manifest.specs.declared.slot_pair.SlotPair.{SlotPair}
-use Rattle.manifest.specs.Edits.{change_text}
+use Rattle.version_edits.specs.{change_text}
 use Rattle.manifest.specs.Holds.{SlotsHold}
 use Rattle.manifest.specs.Laws.{HeldVersionIsLeft, HeldVersionStays}
 use Rattle.manifest.specs.Slots.{IsSlotFile, other_slot}

@@ -9,15 +9,14 @@ use Rattle.std.proofs.lemmas.List.{take-append-drop, take_all, drop_all, length-
 use Rattle.disk.specs.declared.PendingWrite.TheVariants.{Wrote, Cut}
 use Rattle.disk.specs.declared.DiskError.{DiskError}
 use Rattle.disk.specs.{Slot, Kept, State, IsUnsynced, IsSameBut, LeavesSince, Passes, SyncOutcome}
-use Rattle.disk.specs.{IsLeftAt, WriteOutcome, synced, written}
+use Rattle.disk.specs.{IsFileOutcome, IsLeftAt, WriteOutcome, seen, written}
 use Rattle.disk.specs.States.{AgreesOutside, cut_to}
-use Rattle.disk.specs.BesideLemmas.{at_start, at_more, at_sync, same_but_join}
+use Rattle.disk.specs.BesideLemmas.{at_start, at_join, at_more, at_sync, at_weaker}
 use Rattle.std.proofs.Common.{Bool, true, false}
-use Rattle.disk.specs.Calls.{CutOutcome}
+use Rattle.disk.specs.Calls.{CanBegin, CutOutcome}
 use Rattle.disk.specs.PlacesLemmas.{window_same}
 use Rattle.disk.specs.StepsLemmas.{Only, sure_only, fails_only, writes_only}
-use Rattle.record_log.specs.{IsClosed}
-use Rattle.record_log.specs.{IsDurableAs}
+use Rattle.record_log.specs.{IsClosed, IsDurableAs, IsGatedWrite, IsPartlyOpened}
 use Rattle.manifest.specs.Replace.{HasGate, IsReplaced, IsClosedFile}
 
 -- what a crash may leave on the way
@@ -126,17 +125,6 @@ module _ (was behind : List ℕ) (z : ℕ) (rest : List ℕ) (shut : z ≢ 1) wh
         ]
       ])))
 
-  -- and with the gate open they are whole
-  pub opened_only : 0 < length behind
-      → Only (OnTheWay was behind) (Kept (1 ∷ behind) (z ∷ behind) (Wrote 0 1 ∷ []))
-  opened_only some None now = absurd now
-  opened_only some (Some c) now =
-      let found = gate_loose 1 behind c (length (z ∷ behind)) (omega arith) some now in
-      elim (cases_eq found.0 1) [
-        | inl one ↦ inr (inr (found.1, found.2 ∙ ap (λ (g : ℕ). g ∷ (behind ++ found.1)) one))
-        | inr closed ↦ inl (found.0, behind ++ found.1, closed, found.2)
-      ]
-
   -- ---- what the calls make of the slot
 
   -- a write behind the gate that is left
@@ -204,33 +192,37 @@ module _ (was behind : List ℕ) (s0 : State) (file : ℕ) (h : IsClosedFile s0 
       (subst (λ (slot : Slot). Only (OnTheWay was behind) (cut_to 1 slot)) (sym sure)
       (cut_only was behind z rest h.closed.2))
 
-  -- the write behind the gate
-  pub fill_write : {T : Type 0} (result : Result T DiskError) (s1 s2 : State)
-      → s1 file ≡ cut_to 1 (s0 file) → WriteOutcome s1 file 1 behind result s2
-      → Only (OnTheWay was behind) (s2 file)
-  fill_write result s1 s2 cut w =
+  -- behind the cut, the write is one behind the closed gate
+  pub fill_gated : (s1 : State) → s1 file ≡ cut_to 1 (s0 file) → 0 < length behind
+      → IsGatedWrite (s1 file) 0 1 behind (z ∷ behind)
+  fill_gated s1 cut some =
       let is : s1 file ≡ Kept (z ∷ []) (z ∷ rest) (Cut 1 ∷ []) = cut ∙ ap (cut_to 1) sure in
-      writes_only (OnTheWay was behind) result s1 s2 file 1 behind w
-      (subst (λ (slot : Slot). Only (OnTheWay was behind) slot) (sym is)
-      (cut_only was behind z rest h.closed.2))
-      (subst (λ (slot : Slot). Only (OnTheWay was behind) slot)
-      (sym (ap (written 1 behind) is ∙ filled_is was behind z rest h.closed.2))
-      (filled_only was behind z rest h.closed.2))
+      record {
+        begins = subst (λ (slot : Slot). CanBegin (seen slot) 1) (sym is) (omega arith);
+        has = ap (λ (slot : Slot). seen (written 1 behind slot)) is
+            ∙ ap seen (filled_is was behind z rest h.closed.2);
+        some = omega (arith, some);
+      }
 
-  -- the write of the gate
-  pub fill_gate : {T : Type 0} (result : Result T DiskError) (s1 s2 s3 s4 : State)
-      → 0 < length behind → s1 file ≡ cut_to 1 (s0 file) → s2 file ≡ written 1 behind (s1 file)
-      → s3 file ≡ synced (s2 file) → WriteOutcome s3 file 0 (1 ∷ []) result s4
-      → Only (OnTheWay was behind) (s4 file)
-  fill_gate result s1 s2 s3 s4 some cut wrote kept w =
-      let is : s3 file ≡ Kept (z ∷ behind) (z ∷ behind) [] =
-      kept ∙ ap synced (wrote ∙ ap (written 1 behind) (cut ∙ ap (cut_to 1) sure)
-      ∙ filled_is was behind z rest h.closed.2) in
-      writes_only (OnTheWay was behind) result s3 s4 file 0 (1 ∷ []) w
-      (subst (λ (slot : Slot). Only (OnTheWay was behind) slot) (sym is)
-      (closed_only was behind z behind h.closed.2))
-      (subst (λ (slot : Slot). Only (OnTheWay was behind) (written 0 (1 ∷ []) slot)) (sym is)
-      (opened_only was behind z rest h.closed.2 some))
+  -- its outcomes are on the way
+  pub fill_way : (s1 : State) → s1 file ≡ cut_to 1 (s0 file) → (left : Option (List ℕ))
+      → IsPartlyOpened (s1 file) 0 1 behind (z ∷ behind) left → OnTheWay was behind left
+  fill_way s1 cut left (inl now) =
+      let is : s1 file ≡ Kept (z ∷ []) (z ∷ rest) (Cut 1 ∷ []) = cut ∙ ap (cut_to 1) sure in
+      cut_only was behind z rest h.closed.2 left
+      (subst (λ (slot : Slot). IsFileOutcome slot left) is now)
+  fill_way s1 cut left (inr (inl now)) =
+      let is : s1 file ≡ Kept (z ∷ []) (z ∷ rest) (Cut 1 ∷ []) = cut ∙ ap (cut_to 1) sure in
+      filled_only was behind z rest h.closed.2 left
+      (subst (λ (slot : Slot). IsFileOutcome slot left)
+      (ap (written 1 behind) is ∙ filled_is was behind z rest h.closed.2) now)
+  fill_way s1 cut None (inr (inr has)) = absurd has
+  fill_way s1 cut (Some c) (inr (inr has)) =
+      let is : c ≡ has.0 ∷ (behind ++ has.1) = has.2 in
+      elim (cases_eq has.0 1) [
+        | inl one ↦ inr (inr (has.1, is ∙ ap (λ (g : ℕ). g ∷ (behind ++ has.1)) one))
+        | inr closed ↦ inl (has.0, behind ++ has.1, closed, is)
+      ]
 
 -- ---- the moments of the calls that shut a gate
 
@@ -295,46 +287,12 @@ module _ {D : Type 0} (state : D → State) (past : D → List State) (was behin
         (fill_start was behind (state d0) file h)) passes1 others1
         (fill_cut was behind (state d0) file h cut (state d1) w1)
 
-    module _ (is1 : state d1 file ≡ cut_to 1 (state d0 file)) (d2 : D) (wrote : Result T DiskError)
-        (w2 : WriteOutcome (state d1) file 1 behind wrote (state d2))
-        (others2 : IsSameBut file (state d1) (state d2))
-        (passes2 : Passes (past d1) (state d1) (past d2) (state d2)) where
-      others12 : IsSameBut file (state d0) (state d2)
-      others12 = same_but_join file (state d0) (state d1) (state d2) others1 others2
-
-      pub after_write : FillLeaves d2
-      after_write =
-          at_more (OnTheWay was behind) file (state d0) (state d1) (state d2)
-          (past d0) (past d1) (past d2) after_cut passes2 others12
-          (fill_write was behind (state d0) file h wrote (state d1) (state d2) is1 w2)
-
-      module _ (d3 : D) (synced1 : Result T DiskError)
-          (w3 : SyncOutcome (state d2) file synced1 (state d3))
-          (passes3 : Passes (past d2) (state d2) (past d3) (state d3)) where
-        pub after_sync : FillLeaves d3
-        after_sync =
-            at_sync (OnTheWay was behind) file synced1 (state d0) (state d2) (state d3)
-            (past d0) (past d2) (past d3) after_write passes3 w3
-
-        module _ (some : 0 < length behind) (is2 : state d2 file ≡ written 1 behind (state d1 file))
-            (is3 : state d3 file ≡ synced (state d2 file))
-            (others3 : IsSameBut file (state d2) (state d3))
-            (d4 : D) (opened : Result T DiskError)
-            (w4 : WriteOutcome (state d3) file 0 (1 ∷ []) opened (state d4))
-            (others4 : IsSameBut file (state d3) (state d4))
-            (passes4 : Passes (past d3) (state d3) (past d4) (state d4)) where
-          pub after_gate : FillLeaves d4
-          after_gate =
-              at_more (OnTheWay was behind) file (state d0) (state d3) (state d4)
-              (past d0) (past d3) (past d4) after_sync passes4
-              (same_but_join file (state d0) (state d3) (state d4)
-              (same_but_join file (state d0) (state d2) (state d3) others12 others3) others4)
-              (fill_gate was behind (state d0) file h opened (state d1) (state d2) (state d3)
-              (state d4) some is1 is2 is3 w4)
-
-          pub after_last : (d5 : D) (synced2 : Result T DiskError)
-              → SyncOutcome (state d4) file synced2 (state d5)
-              → Passes (past d4) (state d4) (past d5) (state d5) → FillLeaves d5
-          after_last d5 synced2 w5 passes5 =
-              at_sync (OnTheWay was behind) file synced2 (state d0) (state d4) (state d5)
-              (past d0) (past d4) (past d5) after_gate passes5 w5
+    pub after_fill : (d2 : D) → state d1 file ≡ cut_to 1 (state d0 file)
+        → LeavesSince (state d1) (past d1) (state d2) (past d2) (IsLeftAt (state d1) file
+        (IsPartlyOpened (state d1 file) 0 1 behind (h.closed.0 ∷ behind))) → FillLeaves d2
+    after_fill d2 is1 run =
+        at_join (OnTheWay was behind) file (state d0) (state d1) (state d2)
+        (past d0) (past d1) (past d2) after_cut others1
+        (at_weaker (IsPartlyOpened (state d1 file) 0 1 behind (h.closed.0 ∷ behind))
+        (OnTheWay was behind) file (state d1) (past d1) (state d2) (past d2)
+        (fill_way was behind (state d0) file h (state d1) is1) run)

@@ -1,13 +1,13 @@
 -- A slot that was written anew is short.
-use Rattle.std.proofs.Common.{◌≡◌, ◌<◌, ◌≤◌, ◌^◌, ◌+◌, ◌*◌, ℕ, List, [], ◌∷◌, append-nil, arith}
+use Rattle.std.proofs.Common.{◌≡◌, ◌<◌, ◌≤◌, ◌^◌, ◌+◌, ℕ, List, [], ◌∷◌, append-nil, arith}
 use Rattle.std.proofs.Common.{drop}
 use Rattle.std.proofs.Common.{length, length-append, refl, subst}
 use Rattle.disk.specs.{Kept, State}
 use Rattle.record_log.specs.declared.log.TheConstants.{MAX_RECORD}
 use Rattle.record_log.specs.declared.Log.{Log}
 use Rattle.record_log.specs.{FirstLengthIs, GatesAreInFiles, IsDurableLog, LogHolds, Represents}
-use Rattle.record_log.specs.{first_length, gate_of}
-use Rattle.manifest.specs.Holds.{slot_behind}
+use Rattle.record_log.specs.{gate_of}
+use Rattle.manifest.specs.Holds.{IsLongLog, slot_behind}
 use Rattle.manifest.specs.Slots.{head_length}
 use Rattle.manifest.proofs.Rewrites.{new_slot}
 
@@ -16,7 +16,7 @@ pub new_is_short : GatesAreInFiles → FirstLengthIs → (file generation id : �
     (log : Log) → length one ≤ MAX_RECORD →
     ((disk : State) → IsDurableLog disk file head_length (one ∷ [])
     → LogHolds disk log (one ∷ [])) →
-    2 * first_length log + 65536 < gate_of log + 1 → ⊥
+    IsLongLog log → ⊥
 new_is_short gates first file generation id one log short holds long =
     let behind = slot_behind generation id one in
     let bytes = 1 ∷ behind in

@@ -9,13 +9,12 @@ use Rattle.kv_types.specs.declared.bounds.TheConstants.{MAX_NUMBER}
 use Rattle.chain_model.specs.{IsId}
 use Rattle.disk.specs.{Contents}
 use Rattle.record_log.specs.{RecordsAreUnique}
-use Rattle.manifest.specs.Versions.{StoreVersion, NodeVersion, Change, empty, after_all}
-use Rattle.manifest.specs.Edits.{IsChange, ChangesDiffer, change_text}
-use Rattle.manifest.specs.Lawful.{IsVersion}
+use Rattle.version_edits.specs.{StoreVersion, NodeVersion, Change, empty, after_all}
+use Rattle.version_edits.specs.{IsChange, ChangesDiffer, change_text}
+use Rattle.version_edits.specs.{HistoriesAreLawful, IsVersion}
 use Rattle.manifest.specs.Slots.{other_slot, head_length, slot_head, IsSlot, IsSuperseded}
 use Rattle.manifest.specs.Slots.{SlotsRepresent}
 use Rattle.manifest.specs.Laws.{VersionIsOne, VersionsAreLawful}
-use Rattle.manifest.proofs.Lawful.{after_version, empty_lines}
 
 -- ---- heads
 
@@ -139,6 +138,7 @@ one_version differ unique a b left h k =
     named : ℕ → StoreVersion → NodeVersion
     named i v = record { id = i; version = v }
 
-pub versions_are_lawful : VersionsAreLawful
-versions_are_lawful named left h =
-    subst IsVersion (sym h.is) (after_version empty h.changes empty_lines h.some h.each h.fit)
+pub versions_are_lawful : HistoriesAreLawful → VersionsAreLawful
+versions_are_lawful lawful named left h =
+    subst IsVersion (sym h.is)
+    (lawful h.changes (record { some = h.some; each = h.each; fit = h.fit }))

@@ -4,6 +4,8 @@ use Rattle.disk.specs.declared.DiskError.{DiskError}
 use Rattle.disk.specs.declared.DiskError.TheVariants as disk
 use Rattle.record_log.specs.declared.LogError.{LogError}
 use Rattle.record_log.specs.declared.LogError.TheVariants as log
+use Rattle.version_edits.specs.declared.EditError.{EditError}
+use Rattle.version_edits.specs.declared.EditError.TheVariants as edit_error
 use Rattle.manifest.specs.declared.error.ManifestError.{ManifestError}
 use Rattle.manifest.specs.declared.error.ManifestError.TheVariants as manifest
 
@@ -20,6 +22,11 @@ error_by_log (log.Disk e) = error_by_disk e
 error_by_log log.Memory = manifest.Memory
 error_by_log log.TooLong = manifest.Failed
 error_by_log log.Failed = manifest.Failed
+
+-- records that give no version are damage
+abbrev pub error_by_edit : EditError → ManifestError
+error_by_edit edit_error.Damaged = manifest.Damaged
+error_by_edit edit_error.Memory = manifest.Memory
 
 -- the call was refused because the device failed
 abbrev pub ManifestFailsDevice : {T : Type 0} → Result T ManifestError → Type 0

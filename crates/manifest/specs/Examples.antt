@@ -1,6 +1,6 @@
 -- Bytes written by hand.
 use Rattle.std.specs.Prelude.{◌≡◌, List, [], ◌∷◌, ◌++◌, ℕ}
-use Rattle.manifest.specs.Edits.{table_line_bytes, table_name_bytes}
+use Rattle.version_edits.specs.Edits.{table_line_bytes, table_name_bytes}
 use Rattle.manifest.specs.Holds.{first_slot}
 
 -- the edit of a new node in the configuration of node 1 alone: the next file is 4, and log 3 begins

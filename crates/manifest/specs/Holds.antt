@@ -1,16 +1,17 @@
 -- Open slots, and the files that they are kept in.
-use Rattle.std.specs.Prelude.{◌≡◌, ◌≤◌, ℕ, List, [], ◌∷◌, ◌++◌, length, take}
+use Rattle.std.specs.Prelude.{◌≡◌, ◌≤◌, ◌<◌, ◌+◌, ◌*◌, ℕ, List, [], ◌∷◌, ◌++◌, length, take}
 use Rattle.std.specs.Int.{w16, w32, w64, to_be_bytes}
 use Rattle.kv_types.specs.declared.bounds.TheConstants.{MAX_NUMBER}
 use Rattle.disk.specs.{State}
-use Rattle.record_log.specs.{IsDurableAs}
-use Rattle.record_log.specs.{IsAt, LogHolds}
+use Rattle.record_log.specs.declared.Log.{Log}
+use Rattle.record_log.specs.{IsAt, IsDurableAs, LogHolds, first_length, gate_of}
 use Rattle.manifest.specs.declared.slot_pair.SlotPair.{SlotPair}
+use Rattle.manifest.specs.declared.slot_pair.TheConstants.{REWRITE_SLACK}
 use Rattle.manifest.specs.Slots.{IsSlotFile, other_slot, slot_head, head_length, IsSuperseded}
 use Rattle.manifest.specs.Replace.{HasGate}
-use Rattle.manifest.specs.Versions.{first_version}
-use Rattle.manifest.specs.Edits.{change_text}
-use Rattle.manifest.specs.Lawful.{full_change}
+use Rattle.version_edits.specs.{first_version}
+use Rattle.version_edits.specs.{change_text}
+use Rattle.version_edits.specs.{full_change}
 
 -- what stands behind the gate of a slot with one record: the generation, the id, the record behind
 -- an open gate, and a closed gate
@@ -33,6 +34,11 @@ pub record SlotsHold (disk : State) (slots : SlotPair) (id : ℕ) (records : Lis
   pub other_sure : IsDurableAs disk (other_slot slots.slot) other_bytes
   pub other : IsSuperseded slots.generation other_bytes
   pub gate : HasGate slots.other_is_open other_bytes
+
+-- A rewrite of the slot with this log is due. Up to its closed gate, the slot is longer than twice
+-- its first record and the slack.
+abbrev pub IsLongLog : Log → Type 0
+IsLongLog log = 2 * first_length log + REWRITE_SLACK < gate_of log + 1
 
 -- the bytes of a new slot with one record, whose gate is closed
 abbrev pub closed_slot : ℕ → ℕ → List ℕ → List ℕ

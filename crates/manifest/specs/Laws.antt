@@ -1,9 +1,8 @@
 -- The laws of the definitions that contracts use.
 use Rattle.std.specs.Prelude.{◌≡◌, ℕ}
 use Rattle.disk.specs.{Contents, IsFileOutcome, State}
-use Rattle.manifest.specs.Versions.{Change, IsFit, NodeVersion, StoreVersion, changed}
-use Rattle.manifest.specs.Edits.{IsChange}
-use Rattle.manifest.specs.Lawful.{IsVersion}
+use Rattle.version_edits.specs.{NodeVersion}
+use Rattle.version_edits.specs.{IsVersion}
 use Rattle.manifest.specs.declared.manifest.Manifest.{Manifest}
 use Rattle.manifest.specs.Manifests.{ManifestHolds}
 use Rattle.manifest.specs.Slots.{IsNotCreated, IsSlotFile, ManifestRepresents}
@@ -22,11 +21,6 @@ VersionsAreLawful = (named : NodeVersion) (left : Contents) → ManifestRepresen
 abbrev pub VersionsAreCreated : Type 0
 VersionsAreCreated = (named : NodeVersion) (left : Contents) → ManifestRepresents named left →
     IsNotCreated left → ⊥
-
--- an edit that a version may take gives a version
-abbrev pub EditsKeepVersions : Type 0
-EditsKeepVersions = (version : StoreVersion) (change : Change) → IsVersion version →
-    IsFit version change → IsChange change → IsVersion (changed version change)
 
 -- ---- of an open manifest
 

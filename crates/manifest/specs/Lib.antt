@@ -1,29 +1,23 @@
 pub mod Errors
-pub mod Versions
-pub mod VersionsLemmas
-pub mod Edits
-pub mod Lawful
-pub mod Reading
 pub mod Replace
 pub mod Slots
 pub mod Holds
 pub mod Manifests
-pub mod Replays
 pub mod Heads
 pub mod Opening
 pub mod Laws
 pub mod Examples
 -- What crates above name.
-pub use Rattle.manifest.specs.Edits.{IsChange, IsLogLine, IsTableLine, change_text}
+pub use Rattle.version_edits.specs.Edits
+pub use Rattle.version_edits.specs.Lawful
+pub use Rattle.version_edits.specs.Versions
+pub use Rattle.version_edits.specs.VersionsLemmas
+pub use Rattle.version_edits.specs.{Change, EditsKeepVersions, IsChange, IsFit, IsLogLine}
+pub use Rattle.version_edits.specs.{IsTableLine, IsVersion, NodeVersion, StoreVersion}
+pub use Rattle.version_edits.specs.{change_text, changed, first_version, node_version_after}
 pub use Rattle.manifest.specs.Errors.{IsManifestExternal, ManifestFailsDevice}
-pub use Rattle.manifest.specs.Laws.{
-  EditsKeepVersions,
-  HeldVersionIsLeft,
-  HeldVersionStays,
-  VersionIsOne,
-}
+pub use Rattle.manifest.specs.Laws.{HeldVersionIsLeft, HeldVersionStays, VersionIsOne}
 pub use Rattle.manifest.specs.Laws.{VersionsAreLawful}
-pub use Rattle.manifest.specs.Lawful.{IsVersion}
 pub use Rattle.manifest.specs.Holds.{first_slot}
 pub use Rattle.manifest.specs.Manifests.{HasFirstSlots, HasFullSlot, HasLongSlot, HasSameSlots}
 pub use Rattle.manifest.specs.Manifests.{IsNewManifest, IsOpenedManifest, IsRewritten}
@@ -34,5 +28,3 @@ pub use Rattle.manifest.specs.Manifests.{generation_of, slot_length, spare_file,
 pub use Rattle.manifest.specs.Slots.{IsNotCreated, IsSlot, IsSlotFile, IsSuperseded}
 pub use Rattle.manifest.specs.Slots.{ManifestRepresents, SlotsAreLeft, SlotsRead, SlotsRepresent}
 pub use Rattle.manifest.specs.Slots.{other_slot}
-pub use Rattle.manifest.specs.Versions.{Change, IsFit, NodeVersion, StoreVersion, changed}
-pub use Rattle.manifest.specs.Versions.{first_version, node_version_after}

@@ -1,5 +1,5 @@
 -- An open manifest, and the version that its slots represent.
-use Rattle.std.specs.Prelude.{◌≡◌, ◌≢◌, ℕ, ◌+◌, ◌*◌, ◌<◌, ◌≤◌, List, [], ◌∷◌, length, map, All}
+use Rattle.std.specs.Prelude.{◌≡◌, ◌≢◌, ℕ, ◌+◌, ◌≤◌, List, [], ◌∷◌, length, map, All}
 use Rattle.std.specs.Prelude.{IsSomeAnd, IsTrue}
 use Rattle.chain_model.specs.{IsId}
 use Rattle.disk.specs.{Contents, EndsOutOfRange, State, seen}
@@ -8,12 +8,12 @@ use Rattle.record_log.specs.{HasNoRoom, IsDurableAs, file_of, first_length, gate
 use Rattle.manifest.specs.declared.manifest.Manifest.{Manifest}
 use Rattle.manifest.specs.declared.error.ManifestError.{ManifestError}
 use Rattle.manifest.specs.declared.error.ManifestError.TheVariants as manifest
-use Rattle.manifest.specs.Versions.{NodeVersion, Change, empty, AreFit, IsFit, after_all}
-use Rattle.manifest.specs.Edits.{IsChange, change_text}
-use Rattle.manifest.specs.Versions.{first_version}
+use Rattle.version_edits.specs.{NodeVersion, Change, empty, AreFit, IsFit, after_all}
+use Rattle.version_edits.specs.{IsChange, change_text}
+use Rattle.version_edits.specs.{first_version}
 use Rattle.manifest.specs.Slots.{IsNotCreated, IsSlotFile, ManifestRepresents, SlotsRead}
 use Rattle.manifest.specs.Slots.{other_slot}
-use Rattle.manifest.specs.Holds.{SlotsHold, first_slot}
+use Rattle.manifest.specs.Holds.{IsLongLog, SlotsHold, first_slot}
 
 -- an earlier call failed, so the manifest has to be opened again
 abbrev pub ManifestHasFailed : Manifest → Type 0
@@ -54,7 +54,7 @@ first_edit_length manifest = first_length manifest.slots.log
 
 -- the slot that counts is so long that a rewrite is due
 abbrev pub HasLongSlot : Manifest → Type 0
-HasLongSlot manifest = 2 * first_edit_length manifest + 65536 < slot_length manifest
+HasLongSlot manifest = IsLongLog manifest.slots.log
 
 -- one more record of the greatest length would end past the greatest place of a file
 abbrev pub HasFullSlot : Manifest → Type 0

@@ -4,11 +4,11 @@ use Rattle.chain_model.specs.{IsId}
 use Rattle.disk.specs.{State, Contents}
 use Rattle.record_log.specs.{IsDurableAs}
 use Rattle.manifest.specs.declared.slot_pair.SlotPair.{SlotPair}
-use Rattle.manifest.specs.Versions.{NodeVersion, Change, empty, after_all}
-use Rattle.manifest.specs.Edits.{change_text}
+use Rattle.version_edits.specs.{NodeVersion, Change, empty, after_all}
+use Rattle.version_edits.specs.{change_text}
 use Rattle.manifest.specs.Slots.{IsSlotFile, SlotsRead, SlotsRepresent}
 use Rattle.manifest.specs.Holds.{SlotsHold}
-use Rattle.manifest.specs.Replays.{IsEditHistory}
+use Rattle.version_edits.specs.{IsEditHistory}
 
 -- both slots read as these contents, and a crash leaves them so
 pub record SlotsAreKept (disk : State) (left : Contents) : Type 0 where

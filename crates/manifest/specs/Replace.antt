@@ -1,7 +1,5 @@
 -- A file that is written anew behind its gate, and its gate then opened.
 use Rattle.std.specs.Prelude.{◌≡◌, ◌⊎◌, ℕ, ◌<◌, List, ◌∷◌, ◌++◌, length, Bool, true, false}
-use Rattle.disk.specs.declared.DiskError.{DiskError}
-use Rattle.disk.specs.declared.DiskError.TheVariants as disk
 use Rattle.disk.specs.{State}
 use Rattle.record_log.specs.{IsClosed}
 use Rattle.record_log.specs.{IsDurableAs}
@@ -22,7 +20,3 @@ pub record IsClosedFile (disk : State) (file : ℕ) : Type 0 where
   pub bytes : List ℕ
   pub sure : IsDurableAs disk file bytes
   pub closed : IsClosed bytes
-
--- the refusals that say nothing of the file
-abbrev pub IsDiskExternal : DiskError → Type 0
-IsDiskExternal e = (e ≡ disk.Failed) ⊎ (e ≡ disk.Memory)

@@ -6,8 +6,8 @@ use Rattle.kv_types.specs.declared.bounds.TheConstants.{MAX_NUMBER}
 use Rattle.chain_model.specs.{IsId}
 use Rattle.disk.specs.{State, Contents, IsFileOutcome, seen}
 use Rattle.record_log.specs.{IsClosed, Represents}
-use Rattle.manifest.specs.Versions.{NodeVersion, Change, empty, AreFit, after_all}
-use Rattle.manifest.specs.Edits.{IsChange, change_text}
+use Rattle.version_edits.specs.{NodeVersion, Change, empty, AreFit, after_all}
+use Rattle.version_edits.specs.{IsChange, change_text}
 
 -- ---- slots of records
 

@@ -1,12 +1,13 @@
 // The refusals of a manifest.
 ghost use Rattle.std.specs.Prelude.{◌≡◌};
 ghost use Rattle.manifest.specs.declared.error.ManifestError.TheVariants.{Memory};
-ghost use Rattle.manifest.specs.Errors.{error_by_log, error_by_disk};
+ghost use Rattle.manifest.specs.Errors.{error_by_disk, error_by_edit, error_by_log};
 
 use disk::DiskError;
 use record_log::LogError;
 use std::alloc::{AllocError, AllocFailed};
 use thiserror::Error;
+use version_edits::EditError;
 
 /// Why a manifest refused. After any refusal of `record` or `rewrite` it answers `Failed` until it
 /// is opened again. Then it has the old version or the new one.
@@ -44,6 +45,17 @@ impl From<LogError> for ManifestError {
             LogError::Disk(e) => e.into(),
             LogError::Memory => ManifestError::Memory,
             LogError::TooLong | LogError::Failed => ManifestError::Failed,
+        }
+    }
+}
+
+impl From<EditError> for ManifestError {
+    ghost from_gives = { λ d e. e ≡ error_by_edit d };
+
+    fn from(e: EditError) -> ManifestError {
+        match e {
+            EditError::Damaged => ManifestError::Damaged,
+            EditError::Memory => ManifestError::Memory,
         }
     }
 }

@@ -1,25 +1,13 @@
 //! Laws of the definitions that contracts use. The functions do nothing: their clauses are the
 //! laws.
-ghost use Rattle.manifest.specs.Edits.{ChangesDiffer};
 ghost use Rattle.manifest.specs.Examples.{FirstSlotIs, TableIs};
-ghost use Rattle.manifest.specs.Laws.{EditsKeepVersions, HeldVersionIsLeft, HeldVersionStays};
+ghost use Rattle.manifest.specs.Laws.{HeldVersionIsLeft, HeldVersionStays};
 ghost use Rattle.manifest.specs.Laws.{VersionIsOne, VersionsAreCreated, VersionsAreLawful};
 ghost use Rattle.manifest.specs.Manifests.{ManifestHasSlots, NoRoomIsFull, SlotsReachGates};
 
-use configurations::laws::test_decides_config;
 use record_log::{gates_are_in_files, records_are_unique};
-
-/// No two edits have one spelling.
-pub fn changes_differ()
-    ensures { ChangesDiffer }
-{
-    test_decides_config(); // law: the test succeeds exactly for the configurations
-}
-
-/// An edit that a version may take gives a version.
-pub fn edits_keep_versions()
-    ensures { EditsKeepVersions }
-{}
+use version_edits::laws::{fit_edits_are_short, histories_are_lawful};
+pub use version_edits::laws::{changes_differ, edits_keep_versions};
 
 /// The files that a manifest changes are the two slots.
 pub fn manifest_has_slots()
@@ -33,6 +21,7 @@ pub fn version_is_one()
     ensures created { VersionsAreCreated }
 {
     changes_differ(); // law: no two edits have one spelling
+    histories_are_lawful(); // law: edits of which each may be taken give a version
     records_are_unique(); // law: bytes represent one list of records at most
 }
 
@@ -49,6 +38,7 @@ pub fn slots_reach_gates()
     ensures full { NoRoomIsFull }
 {
     gates_are_in_files(); // law: a log's gate is within its file
+    fit_edits_are_short(); // law: an edit that may be taken is no longer than a record may be
 }
 
 /// A new slot, a table that is added and one that is given up, byte by byte.

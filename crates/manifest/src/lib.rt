@@ -2,26 +2,16 @@
 //! has. At every moment of a change they represent the old version or the new one.
 #![tactic(auto)]
 
-mod begin;
-mod changed;
-mod edit;
 mod error;
-mod fits;
 mod head;
 pub mod laws;
-mod line;
 mod manifest;
-mod next;
 mod opening;
-mod reading;
 mod replace;
-mod replay;
 mod slot_pair;
-mod spelling;
-mod version;
 
-pub use edit::VersionEdit;
 pub use error::ManifestError;
-pub use line::{LogLine, MAX_NEXT, TableLine, TableName};
 pub use manifest::Manifest;
-pub use version::StoreVersion;
+pub use version_edits::{
+    LogLine, MAX_LINES, MAX_NEXT, StoreVersion, TableLine, TableName, VersionEdit,
+};

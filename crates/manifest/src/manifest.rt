@@ -5,9 +5,9 @@ ghost use Rattle.kv_types.specs.declared.bounds.TheConstants.{MAX_NUMBER};
 ghost use Rattle.record_log.specs.declared.log.TheConstants.{MAX_RECORD};
 ghost use Rattle.disk.specs.{AlwaysLeaves, IsSameBut, IsStill, KeepsDisk, State, contents, seen};
 ghost use Rattle.manifest.specs.Errors.{ManifestFailsDevice, IsManifestExternal};
-ghost use Rattle.manifest.specs.Versions.{NodeVersion, IsFit, first_version, node_version_after};
-ghost use Rattle.manifest.specs.Edits.{IsChange, change_text};
-ghost use Rattle.manifest.specs.Lawful.{IsFullEdit, full_change};
+ghost use Rattle.version_edits.specs.{NodeVersion, IsFit, first_version, node_version_after};
+ghost use Rattle.version_edits.specs.{IsChange, change_text};
+ghost use Rattle.version_edits.specs.{IsFullEdit, full_change};
 ghost use Rattle.manifest.specs.Slots.{SlotsAreLeft, ManifestRepresents};
 ghost use Rattle.manifest.specs.Holds.{SparesOthers};
 ghost use Rattle.manifest.specs.Manifests.{ManifestHolds, ManifestHasFailed, ManifestHasNoRoom};
@@ -17,15 +17,15 @@ ghost use Rattle.manifest.specs.Manifests.{ManifestRefusal};
 ghost use Rattle.manifest.specs.Manifests.{counting_file, generation_of, slot_length, spare_file};
 ghost use Rattle.manifest.specs.Manifests.{version_of};
 
-use crate::changed::version_after;
 use crate::laws::version_is_one;
 use crate::opening::open_slots;
 use crate::slot_pair::SlotPair;
-use crate::spelling::{bytes_of, bytes_of_full};
-use crate::{LogLine, ManifestError, StoreVersion, VersionEdit};
+use crate::{ManifestError, StoreVersion, VersionEdit};
 use configurations::{Config, NodeId};
 use disk::Disk;
-use std::alloc::{AllocError, Global};
+use std::alloc::Global;
+use version_edits::laws::fit_edits_are_short;
+use version_edits::{bytes_of, first_version, full_edit_bytes, version_after};
 
 /// The manifest of a store: its two slots, and the version that they represent. Each call borrows
 /// the disk.
@@ -34,36 +34,6 @@ pub struct Manifest {
     slots: SlotPair,
     version: StoreVersion,
     has_failed: bool,
-}
-
-// The version of a new node.
-fn begun_by(alloc: Global, id: NodeId, config: &Config) -> Result<StoreVersion, AllocError>
-    ensures { IfOk result (λ version. version ≡ first_version id config.now) }
-{
-    let _ids = config.ids();
-    let mut logs = Vec::new(alloc);
-    logs.push(LogLine { file: 3, first: 1 })?;
-    Ok(StoreVersion {
-        id,
-        next_file: 4,
-        floor: 0,
-        flushed: 0,
-        epoch: 0,
-        config: config.clone()?,
-        logs,
-        tables: Vec::new(alloc),
-    })
-}
-
-// The bytes of one edit that gives the whole version.
-fn full_edit_bytes(alloc: Global, version: &StoreVersion) -> Result<Vec<u8>, AllocError>
-    ensures short { IfOk result (λ bytes. length bytes.items ≤ MAX_RECORD) }
-    ensures whole { IfOk result (λ bytes. IsFullEdit version.now bytes.items) }
-    ensures spelled { IfOk result
-        (λ bytes. bytes.items ≡ change_text (full_change version.now.version)) }
-{
-    let bytes = bytes_of_full(alloc, version)?;
-    Ok(bytes)
 }
 
 impl Manifest {
@@ -110,7 +80,7 @@ impl Manifest {
             × (ManifestHasFailed manifest → ⊥)) }
         ensures first { IfOk result (λ manifest. generation_of manifest ≡ 1) }
     {
-        let version = begun_by(alloc, id, config)?;
+        let version = first_version(alloc, id, config)?;
         let bytes = full_edit_bytes(alloc, &version)?;
         let slots = SlotPair::create(alloc, disk, id.get(), &bytes)?;
         Ok(Manifest {
@@ -173,6 +143,7 @@ impl Manifest {
         if self.has_failed {
             return Err(ManifestError::Failed);
         }
+        fit_edits_are_short(); // law: an edit that may be taken is no longer than a record may be
         self.has_failed = true;
         let bytes = bytes_of(alloc, edit)?;
         let version = version_after(alloc, &self.version, edit)?;

@@ -10,13 +10,13 @@ ghost use Rattle.manifest.specs.Slots.{IsSlotFile};
 ghost use Rattle.manifest.specs.Opening.{AreOpened, SlotsAreKept};
 
 use crate::head::{CountingSlot, counting_slot};
-use crate::replay::replay;
 use crate::slot_pair::{HEAD_LENGTH, SlotPair};
 use crate::{ManifestError, StoreVersion};
 use configurations::NodeId;
 use disk::{Disk, DiskError};
 use record_log::Log;
 use std::alloc::Global;
+use version_edits::replay;
 
 // Syncs a slot, if it is there.
 fn sync_slot<D: Disk>(disk: &mut D, file: u64) -> Result<(), ManifestError>

@@ -1,11 +1,12 @@
 // A file written anew, so that at each moment it is closed, or as it was, or whole.
 ghost use Rattle.std.specs.Prelude.{◌≡◌, ℕ, ◌+◌, ◌<◌, ◌^◌, List, ◌∷◌, length, OnOk, IfErr};
-ghost use Rattle.std.specs.Prelude.{IsErrOf, IsSomeAnd};
+ghost use Rattle.std.specs.Prelude.{IsErrOf, IsSomeAnd, MatchResult};
 ghost use Rattle.disk.specs.{AlwaysLeaves, EndsOutOfRange, IsLeftAt, IsSameBut, KeepsDisk};
-ghost use Rattle.record_log.specs.{IsDurableAs};
-ghost use Rattle.manifest.specs.Replace.{HasGate, IsReplaced, IsClosedFile, IsDiskExternal};
+ghost use Rattle.record_log.specs.{IsDiskExternal, IsDurableAs};
+ghost use Rattle.manifest.specs.Replace.{HasGate, IsReplaced, IsClosedFile};
 
 use disk::{Disk, DiskError};
+use record_log::write_gated;
 
 /// Closes the gate of a file, if it is open. Before the sync a gate that was closed is left as it
 /// is: while unsynced it might become 1.
@@ -35,20 +36,15 @@ fn fill<D: Disk>(disk: &mut D, file: u64, behind: &[u8]) -> Result<(), DiskError
     ensures kept { KeepsDisk D.Disk disk.old disk.new (IsErrOf result DiskError.Failed)
         (EndsOutOfRange 1 (length behind.now)) (IsSameBut file) }
     ensures done { D.is_honest disk.old → IsClosedFile (D.state disk.old) file →
-        OnOk result (IsDurableAs (D.state disk.new) file (1 ∷ behind.now)
-        × (1 + length behind.now < 2 ^ 63)) }
-    ensures refused { D.is_honest disk.old → IsClosedFile (D.state disk.old) file →
-        IfErr result IsDiskExternal }
+        MatchResult result (λ _. IsDurableAs (D.state disk.new) file (1 ∷ behind.now)
+        × (1 + length behind.now < 2 ^ 63)) IsDiskExternal }
     ensures any_moment { (was : List ℕ) → D.is_honest disk.old →
         IsClosedFile (D.state disk.old) file →
         AlwaysLeaves D.Disk disk.old disk.new (IsLeftAt (D.state disk.old) file
         (λ left. IsSomeAnd left (IsReplaced was behind.now))) }
 {
     disk.cut(file, 1)?;
-    disk.write_at(file, 1, behind)?;
-    disk.sync(file)?;
-    disk.write_at(file, 0, &[1])?;
-    disk.sync(file)
+    write_gated(disk, file, 0, 1, behind)
 }
 
 /// Makes a file these bytes behind an open gate.
@@ -63,11 +59,8 @@ pub fn replace<D: Disk>(
         (EndsOutOfRange 1 (length behind.now)) (IsSameBut file) }
     ensures done { (was : List ℕ) → D.is_honest disk.old →
         IsDurableAs (D.state disk.old) file was → HasGate is_open was →
-        OnOk result (IsDurableAs (D.state disk.new) file (1 ∷ behind.now)
-        × (1 + length behind.now < 2 ^ 63)) }
-    ensures refused { (was : List ℕ) → D.is_honest disk.old →
-        IsDurableAs (D.state disk.old) file was → HasGate is_open was →
-        IfErr result IsDiskExternal }
+        MatchResult result (λ _. IsDurableAs (D.state disk.new) file (1 ∷ behind.now)
+        × (1 + length behind.now < 2 ^ 63)) IsDiskExternal }
 
     // A crash at any moment since the call began.
     ensures any_moment { (was : List ℕ) → D.is_honest disk.old →

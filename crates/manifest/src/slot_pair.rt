@@ -1,5 +1,5 @@
 // The two slots of a store, as files of records.
-ghost use Rattle.std.specs.Prelude.{◌≡◌, ◌⊎◌, ◌↔◌, ℕ, ◌+◌, ◌*◌, ◌<◌, ◌≤◌, ◌^◌, List, [], ◌∷◌};
+ghost use Rattle.std.specs.Prelude.{◌≡◌, ◌⊎◌, ◌↔◌, ℕ, ◌+◌, ◌<◌, ◌≤◌, ◌^◌, List, [], ◌∷◌};
 ghost use Rattle.std.specs.Prelude.{◌++◌, IsTrue, length};
 ghost use Rattle.std.specs.Prelude.{IfOk, IfErr, OnOk, MatchResult, IsNone};
 ghost use Rattle.std.specs.Int.{w16, w32, w64, to_be_bytes};
@@ -7,16 +7,16 @@ ghost use Rattle.kv_types.specs.declared.bounds.TheConstants.{MAX_NUMBER};
 ghost use Rattle.disk.specs.{AlwaysLeaves, IsSameBut, KeepsDisk, State, seen};
 ghost use Rattle.record_log.specs.declared.log.TheConstants.{MAX_RECORD};
 ghost use Rattle.record_log.specs.{DeviceFailed, HasNoRoom};
-ghost use Rattle.record_log.specs.{IsExpected, IsExternal, file_of, first_length, gate_of};
+ghost use Rattle.record_log.specs.{IsExpected, IsExternal, file_of, gate_of};
 ghost use Rattle.manifest.specs.Slots.{SlotsAreLeft, SlotsRepresent, other_slot};
-ghost use Rattle.manifest.specs.Holds.{AreNewSlots, SlotsHold, SparesOthers, closed_slot};
+ghost use Rattle.manifest.specs.Holds.{AreNewSlots, IsLongLog, SlotsHold, SparesOthers};
+ghost use Rattle.manifest.specs.Holds.{closed_slot};
 
-use crate::begin::begin;
 use crate::head::CountingSlot;
 use crate::replace::replace;
 use byte_fields::{put_u32, put_u64};
 use disk::Disk;
-use record_log::{Log, LogError, first_lengths_are, gates_are_in_files};
+use record_log::{Log, LogError, first_lengths_are, gates_are_in_files, write_gated};
 use std::alloc::{AllocError, Global};
 
 /// The two slots of a store: one counts, and its log has records.
@@ -32,6 +32,9 @@ pub struct SlotPair {
 
 /// The place where a slot's log begins.
 pub const HEAD_LENGTH: u64 = 11;
+
+/// How much longer than twice its first record a slot is before a rewrite is due, in bytes.
+pub const REWRITE_SLACK: u64 = 65_536;
 
 // A closed gate, the generation, and the node's id.
 fn put_head(out: &mut Vec<u8>, generation: u64, id: u16) -> Result<(), AllocError>
@@ -85,7 +88,7 @@ impl SlotPair {
         let closed = bytes_of_slot(alloc, 1, id, one)?;
         let log = Log::of_one(alloc, 1, HEAD_LENGTH, one.len())?;
         Log::create(alloc, disk, 2)?;
-        begin(disk, 1, &closed)?;
+        write_gated(disk, 1, 0, 0, &closed)?;
         Ok(SlotPair {
             slot: 1,
             generation: 1,
@@ -125,14 +128,12 @@ impl SlotPair {
     /// and 65,536 bytes.
     pub fn is_long(&self) -> bool
         ensures due { (disk : State) (id : ℕ) (records : List (List ℕ)) →
-            SlotsHold disk self.now id records →
-            IsTrue result ↔ (2 * first_length self.now.log + 65536 < gate_of self.now.log + 1) }
-        ensures told { gate_of self.now.log + 1 < 2 ^ 64 →
-            IsTrue result ↔ (2 * first_length self.now.log + 65536 < gate_of self.now.log + 1) }
+            SlotsHold disk self.now id records → IsTrue result ↔ IsLongLog self.now.log }
+        ensures told { gate_of self.now.log + 1 < 2 ^ 64 → IsTrue result ↔ IsLongLog self.now.log }
     {
         gates_are_in_files(); // law: a log's gate is within its file
         let first = self.log.first_len() as u64;
-        self.log.gate() + 1 > first.saturating_mul(2).saturating_add(65_536)
+        self.log.gate() + 1 > first.saturating_mul(2).saturating_add(REWRITE_SLACK)
     }
 
     /// Adds a record to the slot that counts. Four device calls.
@@ -186,7 +187,7 @@ impl SlotPair {
             (λ _. SlotsHold (D.state disk.new) self.new id (one.now ∷ [])) IsExternal }
         ensures next { OnOk result ((file_of self.new.log ≡ other_slot self.old.slot)
             × (self.new.generation ≡ self.old.generation + 1)
-            × (2 * first_length self.new.log + 65536 < gate_of self.new.log + 1 → ⊥)) }
+            × (IsLongLog self.new.log → ⊥)) }
     {
         // laws: how long the new slot's log is
         first_lengths_are();

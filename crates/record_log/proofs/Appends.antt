@@ -6,16 +6,16 @@ use Rattle.std.specs.Prelude.{IsSomeAnd, ◌⊎◌}
 use Rattle.std.proofs.lemmas.List.{length-take, length-drop, take-append-le}
 use Rattle.disk.specs.declared.DiskError.{DiskError}
 use Rattle.disk.specs.declared.DiskError.TheVariants as disk
-use Rattle.disk.specs.{IsLeftAt, Kept, LeavesSince, Slot, State}
+use Rattle.disk.specs.{IsLeftAt, Kept, LeavesSince, Slot, State, overwritten}
 use Rattle.disk.specs.BesideLemmas.{at_start, at_weaker}
 use Rattle.disk.specs.StepsLemmas.{Only, sure_only}
 use Rattle.record_log.specs.declared.log.Log.{Log}
 use Rattle.record_log.specs.Error.{log_error}
 use Rattle.record_log.specs.Grammar.{Represents, ends_from}
-use Rattle.record_log.specs.Push.{pushed, IsPartlyPushed, IsDurableAs, behind_of}
+use Rattle.record_log.specs.Gate.{IsGatedWrite, IsPartlyOpened, IsDurableAs, behind_of, pushed}
 use Rattle.record_log.specs.Logs.{LogHolds, IsExpected, IsOldOrNewFrom}
 use Rattle.record_log.proofs.Fronts.{ends_push, end_push}
-use Rattle.record_log.proofs.Pushes.{pushed_is}
+use Rattle.record_log.proofs.Pushes.{IsPartlyPushed, gated as pushes_gated, pushed_is, way_of}
 use Rattle.record_log.proofs.Ways.{Gate, gate_at, way_stands, pushed_stands}
 
 -- before its first call an append leaves the old records
@@ -84,32 +84,40 @@ module _ (old : State) (log : Log) (records : List (List ℕ)) (one : List ℕ) 
     is = way_stands h.bytes log.start (log.start + log.end) records one short the_gate c way;
   }
 
+  -- the record's write is one behind the file's gate
+  pub gated : (behind : List ℕ) → behind ≡ behind_of one →
+      IsGatedWrite (old log.file) gate (gate + 1) behind (overwritten h.bytes (gate + 1) behind)
+  gated behind is =
+      pushes_gated h.bytes gate behind gate_within (old log.file) h.sure
+      (omega (arith, ap length is))
+
   -- the crash outcomes at each moment while the record is written behind the gate
   pub crashed : (new : State) (past since : List State) (behind : List ℕ) →
       behind ≡ behind_of one →
-      ((bytes : List ℕ) → IsDurableAs old log.file bytes → gate < length bytes →
+      ((all : List ℕ) → IsGatedWrite (old log.file) gate (gate + 1) behind all →
       LeavesSince old past new since
-      (IsLeftAt old log.file (λ left. IsSomeAnd left (IsPartlyPushed bytes gate behind)))) →
+      (IsLeftAt old log.file (IsPartlyOpened (old log.file) gate (gate + 1) behind all))) →
       LeavesSince old past new since (IsLeftAt old log.file
       (λ left. IsSomeAnd left (IsOldOrNewFrom h.bytes log.start records one)))
   crashed new past since behind is leaves =
-      at_weaker (λ left. IsSomeAnd left (IsPartlyPushed h.bytes gate behind))
+      let first = overwritten h.bytes (gate + 1) behind in
+      at_weaker (IsPartlyOpened (old log.file) gate (gate + 1) behind first)
       (λ left. IsSomeAnd left (IsOldOrNewFrom h.bytes log.start records one))
       log.file old past new since
       (λ left way.
       let P : ℕ → List ℕ → Type 0 = λ g b. IsSomeAnd left (IsPartlyPushed h.bytes g b) in
       on_the_way left
-      (subst (P (log.start + log.end)) is (subst (λ (g : ℕ). P g behind) gate_is way)))
-      (leaves h.bytes h.sure gate_within)
+      (subst (P (log.start + log.end)) is (subst (λ (g : ℕ). P g behind) gate_is
+      (way_of h.bytes gate behind gate_within (old log.file) h.sure left way))))
+      (leaves first (gated behind is))
 
   -- the file's bytes with the record behind an open gate
   pub spelled : (new : State) (behind : List ℕ) → behind ≡ behind_of one →
-      ((bytes : List ℕ) → IsDurableAs old log.file bytes → gate < length bytes →
-      IsDurableAs new log.file (pushed bytes gate behind)) →
+      IsDurableAs new log.file (pushed h.bytes gate behind) →
       IsDurableAs new log.file (pushed h.bytes (log.start + log.end) (behind_of one))
   spelled new behind is done =
       let place = log.start + log.end in
-      done h.bytes h.sure gate_within
+      done
       ∙ ap (λ (k : ℕ). Kept (pushed h.bytes k behind) (pushed h.bytes k behind) []) gate_is
       ∙ ap (λ (b : List ℕ). Kept (pushed h.bytes place b) (pushed h.bytes place b) []) is
 

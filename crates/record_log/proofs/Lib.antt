@@ -1,7 +1,8 @@
 pub mod Fronts
 pub mod First
+pub mod Gates
+pub mod GateMoments
 pub mod Pushes
-pub mod PushMoments
 pub mod Ways
 pub mod Appends
 mod Opens

@@ -7,10 +7,10 @@ use Rattle.std.proofs.lemmas.Bool.{cases_eq}
 use Rattle.std.proofs.Math.Seq.{get_or-append_seam}
 use Rattle.std.proofs.lemmas.List.{take_at, drop_at, take-append-drop, length-take, take_more}
 use Rattle.record_log.specs.Grammar.{IsClosed, entry, Represents, end_of}
-use Rattle.record_log.specs.Push.{pushed, IsPartlyPushed, behind_of}
+use Rattle.record_log.specs.Gate.{pushed, behind_of}
 use Rattle.record_log.specs.Logs.{IsOldOrNew}
 use Rattle.record_log.proofs.Fronts.{Front, front_closed, front_push}
-use Rattle.record_log.proofs.Pushes.{pushed_is}
+use Rattle.record_log.proofs.Pushes.{IsPartlyPushed, pushed_is}
 
 -- the bytes of records are their text and a closed gate
 pub front_of : (bytes : List ℕ) (records : List (List ℕ)) → Represents bytes records

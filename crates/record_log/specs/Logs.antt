@@ -10,7 +10,7 @@ use Rattle.record_log.specs.declared.log.Log.{Log}
 use Rattle.record_log.specs.declared.log.OpenedLog.{OpenedLog}
 use Rattle.record_log.specs.declared.log.TheConstants.{MAX_RECORD}
 use Rattle.record_log.specs.Grammar.{Represents, ends_from, end_of}
-use Rattle.record_log.specs.Push.{IsDurableAs}
+use Rattle.record_log.specs.Gate.{IsDurableAs}
 
 -- the file of a log
 abbrev pub file_of : Log → ℕ

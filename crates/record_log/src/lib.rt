@@ -3,11 +3,12 @@
 #![tactic(auto)]
 
 mod error;
+mod gate;
 mod laws;
 mod log;
-mod push;
 mod scan;
 
 pub use error::LogError;
+pub use gate::write_gated;
 pub use laws::{first_lengths_are, gates_are_in_files, record_bound_is, records_are_unique};
 pub use log::{Log, OpenedLog};

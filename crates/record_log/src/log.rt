@@ -5,7 +5,7 @@ ghost use Rattle.std.specs.Prelude.{IfErr, IsErrOf, IsSomeAnd, OnOk, MatchResult
 ghost use Rattle.disk.specs.{seen, AddsNoOutcome, AlwaysLeaves, IsLeftAt, IsSame, IsSameBut};
 ghost use Rattle.disk.specs.{IsStill, KeepsDisk, State};
 ghost use Rattle.record_log.specs.Error.{DeviceFailed};
-ghost use Rattle.record_log.specs.Push.{IsDurableAs, behind_of, pushed};
+ghost use Rattle.record_log.specs.Gate.{IsDurableAs, behind_of, pushed};
 ghost use Rattle.record_log.specs.Logs.{LogHolds, HasRecords, IsAt, IsPart, IsRest, ReadRefusal};
 ghost use Rattle.record_log.specs.Logs.{OpenOutcome, Appended, IsExpected};
 ghost use Rattle.record_log.specs.Logs.{IsExternal, IsArgumentError};
@@ -15,7 +15,7 @@ ghost use Rattle.record_log.specs.Logs.{gate_of, count_of, first_length, HasFail
 ghost use Rattle.record_log.specs.Logs.{HasRead};
 
 use crate::LogError;
-use crate::push::push;
+use crate::gate::write_gated;
 use crate::scan::scan;
 use disk::{Disk, DiskError};
 use std::alloc::{AllocError, Global};
@@ -269,7 +269,8 @@ impl Log {
         self.has_failed = true;
         let behind = bytes_behind(alloc, bytes)?;
         self.ends.reserve(1)?;
-        push(disk, self.file, self.gate(), &behind)?;
+        let gate = self.gate();
+        write_gated(disk, self.file, gate, gate + 1, &behind)?;
         self.end = self.end.saturating_add(5).saturating_add(bytes.len());
         self.ends.push_reserved(self.end);
         self.has_failed = false;

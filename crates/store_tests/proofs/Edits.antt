@@ -4,12 +4,12 @@ use Rattle.std.specs.List.{filter}
 use Rattle.std.proofs.lemmas.List.Elements.{All-nil}
 use Rattle.kv_types.specs.declared.bounds.TheConstants.{MAX_NUMBER}
 use Rattle.chain_model.specs.{is_part}
-use Rattle.manifest.specs.declared.line.LogLine.{LogLine}
-use Rattle.manifest.specs.declared.line.TableLine.{TableLine}
-use Rattle.manifest.specs.declared.line.TableName.{TableName}
-use Rattle.manifest.specs.Versions.{AreLawful, IsFit, StoreVersion, keeps_ids}
-use Rattle.manifest.specs.Edits.{IsChange}
-use Rattle.manifest.specs.Lawful.{IsVersion}
+use Rattle.version_edits.specs.declared.line.LogLine.{LogLine}
+use Rattle.version_edits.specs.declared.line.TableLine.{TableLine}
+use Rattle.version_edits.specs.declared.line.TableName.{TableName}
+use Rattle.version_edits.specs.Versions.{AreLawful, IsFit, StoreVersion, keeps_ids}
+use Rattle.version_edits.specs.Edits.{IsChange}
+use Rattle.version_edits.specs.Lawful.{IsVersion}
 
 -- nothing is left out
 all_stay : {A : Type 0} (xs : List A) → filter (λ x. true) xs ≡ xs

@@ -14,13 +14,19 @@ mod crashes;
 #[cfg(test)]
 mod damaged_logs;
 #[cfg(test)]
+mod damaged_slots;
+#[cfg(test)]
 mod edges;
 #[cfg(test)]
 mod faults;
 #[cfg(test)]
 mod items;
 #[cfg(test)]
+mod limits;
+#[cfg(test)]
 mod lists;
+#[cfg(test)]
+mod log_texts;
 #[cfg(test)]
 mod logs;
 #[cfg(test)]

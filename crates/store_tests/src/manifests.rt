@@ -1,7 +1,7 @@
-// The bytes of a manifest's slots, openings of slots that represent no version, and faults.
+// The bytes of a manifest's slots, which slot counts, and faults.
 ghost use Rattle.std.specs.Prelude.{IfOk};
-ghost use Rattle.manifest.specs.Edits.{IsChange};
-ghost use Rattle.manifest.specs.Versions.{IsFit};
+ghost use Rattle.version_edits.specs.Edits.{IsChange};
+ghost use Rattle.version_edits.specs.Versions.{IsFit};
 
 use crate::cases::{Case, all_hold, has_memory, holds_at, is_so};
 use crate::crashes::{Choice, arm};
@@ -13,16 +13,16 @@ use manifest::{Manifest, ManifestError, StoreVersion, VersionEdit};
 use std::alloc::{AllocError, Global};
 use std::process::Abort;
 
-// The slot of node 1 alone after its creation: a head of generation 1, a record, a closed gate. The
-// record is the next file 4, floor, flushed and epoch 0, the ids, and log 3 from batch 1.
-const SLOT: &[u8] = &[
+/// The slot of node 1 alone after its creation: a head of generation 1, a record, a closed gate.
+/// The record is the next file 4, floor, flushed and epoch 0, the ids, and log 3 from batch 1.
+pub const SLOT: &[u8] = &[
     1, 0, 0, 0, 0, 0, 0, 0, 1, 0, 1, 1, 0, 0, 0, 55, //
     0, 0, 0, 0, 0, 0, 0, 4, 0, 0, 0, 0, 0, 0, 0, 0, 0, 0, 0, 0, 0, 0, 0, 0, 0, 0, 0, 0, 1, 0, 1, //
     0, 0, 0, 1, 0, 0, 0, 0, 0, 0, 0, 3, 0, 0, 0, 0, 0, 0, 0, 1, 0, 0, 0, 0, 0,
 ];
 
-// The slot with this byte at this place.
-fn slot_with(rt: &impl Abort, alloc: Global, at: usize, byte: u8) -> Vec<u8> {
+/// The slot with this byte at this place.
+pub fn slot_with(rt: &impl Abort, alloc: Global, at: usize, byte: u8) -> Vec<u8> {
     let mut bytes = copy_of(rt, alloc, SLOT);
     *bytes.get_mut(at).expect(rt, "a place") = byte;
     bytes
@@ -38,7 +38,8 @@ fn put_file(rt: &impl Abort, disk: &mut MemDisk, file: u64, bytes: &[u8]) {
     disk.sync(file).expect(rt, "a sync");
 }
 
-fn disk_of(rt: &impl Abort, alloc: Global, first: &[u8], second: &[u8]) -> MemDisk {
+/// A disk with these two slots.
+pub fn disk_of(rt: &impl Abort, alloc: Global, first: &[u8], second: &[u8]) -> MemDisk {
     let mut disk = MemDisk::new(alloc);
     put_file(rt, &mut disk, 1, first);
     put_file(rt, &mut disk, 2, second);
@@ -120,8 +121,8 @@ pub fn refusal_of_record<D: Disk>(
     refused
 }
 
-// The generation of the slots that are opened.
-fn answer(rt: &impl Abort, alloc: Global, disk: &mut MemDisk) -> Result<u64, ManifestError> {
+/// The generation of the slots that are opened.
+pub fn answer(rt: &impl Abort, alloc: Global, disk: &mut MemDisk) -> Result<u64, ManifestError> {
     let manifest = try_open(rt, alloc, disk)?;
     Ok(manifest.generation())
 }
@@ -202,141 +203,6 @@ fn what_was_recorded_is_opened(rt: HostRuntime) {
     let refused = refusal(&rt, alloc, &mut disk, &mut manifest);
     let is_opened = refused.is_none() && numbers(&rt, alloc, &mut disk) == RAISED;
     is_so(&rt, is_opened, "rewritten");
-}
-
-const DAMAGED: Option<ManifestError> = Some(ManifestError::Damaged);
-
-const NOT_CREATED: Option<ManifestError> = Some(ManifestError::NotCreated);
-
-// The refusal of opening the slot with this byte at this place, beside a closed one.
-fn refusal_with(rt: &impl Abort, alloc: Global, at: usize, byte: u8) -> Option<ManifestError> {
-    let bytes = slot_with(rt, alloc, at, byte);
-    let mut disk = disk_of(rt, alloc, &bytes, &[0]);
-    answer(rt, alloc, &mut disk).err()
-}
-
-// A place of the slot, the byte there, and the refusal.
-struct Changed(usize, u8, Option<ManifestError>);
-
-impl Case for Changed {
-    fn holds(&self, rt: &impl Abort, alloc: Global) -> bool {
-        refusal_with(rt, alloc, self.0, self.1) == self.2
-    }
-}
-
-static CHANGED: [Changed; 27] = [
-    // The gate, the generation and the id.
-    Changed(0, 0, NOT_CREATED),
-    Changed(0, 2, NOT_CREATED),
-    Changed(1, 0x7f, None),
-    Changed(1, 0x80, DAMAGED),
-    Changed(10, 9, None),
-    Changed(10, 0, DAMAGED),
-    // The gate and the length of the record.
-    Changed(11, 0, DAMAGED),
-    Changed(15, 54, DAMAGED),
-    Changed(15, 56, DAMAGED),
-    // Next file, floor, flushed and epoch.
-    Changed(23, 5, None),
-    Changed(23, 3, DAMAGED),
-    Changed(16, 0x80, DAMAGED),
-    Changed(31, 7, None),
-    Changed(24, 0x80, DAMAGED),
-    Changed(32, 0x80, DAMAGED),
-    Changed(43, 15, None),
-    Changed(43, 16, DAMAGED),
-    // The ids.
-    Changed(44, 0, DAMAGED),
-    Changed(46, 0, DAMAGED),
-    // The log: how many, its file, its first number.
-    Changed(50, 0, DAMAGED),
-    Changed(58, 2, DAMAGED),
-    Changed(58, 4, DAMAGED),
-    Changed(66, 0, DAMAGED),
-    // A table that is given up, one that is added, and the last gate.
-    Changed(68, 1, DAMAGED),
-    Changed(70, 1, DAMAGED),
-    Changed(71, 1, DAMAGED),
-    Changed(71, 9, None),
-];
-
-#[test]
-fn damaged_slots(rt: HostRuntime) {
-    all_hold(&rt, rt.alloc(), &CHANGED);
-}
-
-// The slot with this number in the eight bytes from this place on.
-fn slot_with_number(rt: &impl Abort, alloc: Global, at: usize, number: u64) -> Vec<u8> {
-    let mut bytes = copy_of(rt, alloc, SLOT);
-    for (index, byte) in number.to_be_bytes().iter().enumerate() {
-        *bytes
-            .get_mut(at.saturating_add(index))
-            .expect(rt, "a place") = *byte;
-    }
-    bytes
-}
-
-// A place of the slot, the number there, and the refusal.
-struct Limit(usize, u64, Option<ManifestError>);
-
-impl Case for Limit {
-    fn holds(&self, rt: &impl Abort, alloc: Global) -> bool {
-        let bytes = slot_with_number(rt, alloc, self.0, self.1);
-        let mut disk = disk_of(rt, alloc, &bytes, &[0]);
-        answer(rt, alloc, &mut disk).err() == self.2
-    }
-}
-
-// 2^63, where the greatest number is one less.
-const BEHIND: u64 = 9223372036854775808;
-
-static LIMITS: [Limit; 8] = [
-    // The generation.
-    Limit(1, MAX_NUMBER, None),
-    Limit(1, BEHIND, DAMAGED),
-    // Next file and floor.
-    Limit(16, BEHIND, None),
-    Limit(16, 9223372036854775809, DAMAGED),
-    Limit(24, MAX_NUMBER, None),
-    Limit(24, BEHIND, DAMAGED),
-    // The first number of the log.
-    Limit(59, BEHIND, None),
-    Limit(59, 9223372036854775809, DAMAGED),
-];
-
-// A next file and a log's first number may be one behind the greatest number.
-#[test]
-fn numbers_at_their_limits(rt: HostRuntime) {
-    all_hold(&rt, rt.alloc(), &LIMITS);
-}
-
-#[test]
-fn each_byte_changed(rt: HostRuntime) {
-    for at in 0..72 {
-        for byte in &[0, 1, 2, 0x80, 0xff] {
-            let refused = refusal_with(&rt, rt.alloc(), at, *byte);
-            let is_told = refused.is_none() || refused == DAMAGED || refused == NOT_CREATED;
-            holds_at(&rt, at, is_told);
-        }
-    }
-}
-
-// The refusal of opening so many bytes of the slot beside a closed one.
-fn refusal_of_first(rt: &impl Abort, alloc: Global, len: usize) -> Option<ManifestError> {
-    let bytes = copy_of(rt, alloc, SLOT.get(..len).expect(rt, "at most 72 bytes"));
-    let mut disk = disk_of(rt, alloc, &bytes, &[0]);
-    answer(rt, alloc, &mut disk).err()
-}
-
-// An empty slot is not open; a longer one is, and ends before its log or inside it.
-#[test]
-fn slots_cut_short(rt: HostRuntime) {
-    let is_empty = refusal_of_first(&rt, rt.alloc(), 0) == NOT_CREATED;
-    is_so(&rt, is_empty, "an empty slot");
-    for len in 1..72 {
-        let is_damaged = refusal_of_first(&rt, rt.alloc(), len) == DAMAGED;
-        holds_at(&rt, len, is_damaged);
-    }
 }
 
 // What a slot is.

@@ -1,4 +1,4 @@
-use Rattle.link_messages.proofs.FrameLaws as frames
+use Rattle.link_messages.proofs.FrameLengths as frames
 use Rattle.link_messages.proofs.Streams as streams
 use Rattle.link_messages.proofs.laws.one_spelling.Goals as goal
 

@@ -1,5 +1,5 @@
 use Rattle.std.proofs.Common.{refl}
-use Rattle.manifest.specs.Edits.{change_text, table_line_bytes}
+use Rattle.version_edits.specs.Edits.{change_text, table_line_bytes}
 use Rattle.manifest.proofs.laws.examples.Goals as goal
 
 pub returns-clause-slot : goal.returns-clause-slot

@@ -1,6 +1,5 @@
 use Rattle.std.proofs.Common.{◌+◌, ◌<◌, ◌≤◌, ℕ, List, Option, None, Some, arith, length}
 use Rattle.std.specs.Prelude.{IsSomeAnd}
-use Rattle.manifest.proofs.Lawful.{change_is_short, few_added}
 use Rattle.manifest.specs.Manifests.{version_of}
 use Rattle.manifest.proofs.laws.slots_reach_gates.Goals as goal
 
@@ -17,6 +16,5 @@ returns-clause-reach c = λ disk manifest named h.
 -- an edit that may be taken is no longer than a record may be
 pub returns-clause-full : goal.returns-clause-full
 returns-clause-full c = λ manifest change fit is no_room.
-    let few = few_added (version_of manifest).version change fit in
-    let short = change_is_short change is few.0 few.1 in
+    let short = c.fit_edits_are_short.ensures (version_of manifest).version change fit is in
     omega (arith, short, no_room)

@@ -6,7 +6,7 @@ pub returns-clause-one : goal.returns-clause-one
 returns-clause-one c = one_version c.changes_differ.ensures c.records_are_unique.ensures
 
 pub returns-clause-lawful : goal.returns-clause-lawful
-returns-clause-lawful c = versions_are_lawful
+returns-clause-lawful c = versions_are_lawful c.histories_are_lawful.ensures
 
 pub returns-clause-created : goal.returns-clause-created
 returns-clause-created c = were_created

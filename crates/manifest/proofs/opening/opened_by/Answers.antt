@@ -2,7 +2,7 @@ use Rattle.std.proofs.Common.{Err, List, Option, ℕ, ap, arith, map, subst}
 use Rattle.std.proofs.lemmas.Result.{err_from_is_err_and}
 use Rattle.disk.specs.StillLemmas.{still}
 use Rattle.record_log.specs.{OpenRefusal}
-use Rattle.manifest.specs.Edits.{change_text}
+use Rattle.version_edits.specs.{change_text}
 use Rattle.manifest.specs.Slots.{head_length}
 use Rattle.manifest.proofs.Opened.{log_refused, opened_is, replay_refused, zero_is_no_id}
 use Rattle.manifest.proofs.opening.opened_by.Goals as goal
@@ -33,7 +33,7 @@ returns-in_err-version-clause-told g c = λ left honest kept counts.
     c.from_residual-in_err-version.ensures.1 in
     let e = c.in_err-version.field-0.0 in
     rw (p.1, p.2) (replay_refused c.args.it left (g.D.Disk.state c.args.disk.now) e counts kept
-    c.in_err-version.ensures.only (λ damaged changes history stood.
+    (λ damaged changes history stood.
     c.in_err-version.ensures.bad (ap Err damaged) changes history
     (c.in_ok-opened.ensures.opened (map change_text changes) honest stood).1))
 

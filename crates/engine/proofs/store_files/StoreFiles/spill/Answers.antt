@@ -1,7 +1,7 @@
 use Rattle.std.proofs.Common.{◌<◌, ◌+◌, Option, arith, inr, refl, subst}
 use Rattle.std.specs.Prelude.{IsNone, MatchOption}
 use Rattle.disk.specs.{seen}
-use Rattle.manifest.specs.declared.line.TheConstants.{MAX_NEXT}
+use Rattle.version_edits.specs.declared.line.TheConstants.{MAX_NEXT}
 use Rattle.manifest.specs.declared.TableLine.{TableLine}
 use Rattle.engine.specs.Errors.{IsEngineExternal}
 use Rattle.engine.specs.OpenFiles.{IsTooLarge, IsWrittenTable}

@@ -1,9 +1,9 @@
 use Rattle.std.proofs.Common.{◌≡◌, ◌∙◌, ℕ, List, ◌∷◌, false, sym, subst}
-use Rattle.manifest.specs.Versions.{NodeVersion, first_version}
+use Rattle.version_edits.specs.{NodeVersion, first_version}
 use Rattle.record_log.specs.{IsDurableAs}
-use Rattle.manifest.specs.Edits.{change_text}
+use Rattle.version_edits.specs.{change_text}
 use Rattle.manifest.specs.Holds.{AreNewSlots, slot_behind}
-use Rattle.manifest.specs.Lawful.{IsFullEdit, full_change}
+use Rattle.version_edits.specs.{IsFullEdit, full_change}
 use Rattle.manifest.proofs.Edited.{held_whole}
 use Rattle.std.proofs.Common.{refl}
 use Rattle.std.proofs.lemmas.Result.{err_from_is_err_and}

@@ -2,8 +2,7 @@ use Rattle.std.proofs.Common.{◌≤◌, ℕ, List, length, sym, subst, false, �
 use Rattle.std.proofs.lemmas.Result.{err_from_is_err_and}
 use Rattle.record_log.specs.declared.log.TheConstants.{MAX_RECORD}
 use Rattle.manifest.proofs.Edited.{met_is}
-use Rattle.manifest.proofs.Lawful.{few_added, change_is_short}
-use Rattle.manifest.specs.Versions.{NodeVersion, IsFit}
+use Rattle.version_edits.specs.{NodeVersion, IsFit}
 use Rattle.manifest.proofs.Edited.{version_since, version_start, version_held}
 use Rattle.std.proofs.Common.{refl}
 use Rattle.record_log.specs.{HasNoRoom}
@@ -48,9 +47,9 @@ returns-clause-any_moment g c = λ named honest h.
 pub returns-in_err-record-clause-recorded : goal.returns-in_err-record-clause-recorded
 returns-in_err-record-clause-recorded g c = λ named honest h.
     let text = c.deref.ensures.value ∙ c.in_ok-bytes.ensures in
-    let few = few_added c.args.self.now.version.version c.args.edit.now c.requires.fit.0 in
     let short = subst (λ (t : List ℕ). length t ≤ MAX_RECORD) (sym text)
-    (change_is_short c.args.edit.now c.requires.fit.1 few.0 few.1) in
+    (c.fit_edits_are_short.ensures c.args.self.now.version.version c.args.edit.now
+    c.requires.fit.0 c.requires.fit.1) in
     let why = c.in_err-record.ensures.met named.id _ honest h.records short in
     let p = err_from_is_err_and c.from_residual-in_err-record.result
     c.from_residual-in_err-record.ensures.1 in

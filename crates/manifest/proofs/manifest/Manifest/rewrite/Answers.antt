@@ -1,6 +1,6 @@
 use Rattle.std.proofs.Common.{sym, subst, refl, false}
 use Rattle.std.proofs.lemmas.Result.{err_from_is_err_and}
-use Rattle.manifest.specs.Lawful.{IsFullEdit}
+use Rattle.version_edits.specs.{IsFullEdit}
 use Rattle.manifest.proofs.Edited.{met_is, whole_since, whole_start, whole_held}
 use Rattle.manifest.proofs.Kept.{fails_log, kept_as, kept_still, log_fails}
 use Rattle.manifest.proofs.manifest.Manifest.rewrite.Goals as goal

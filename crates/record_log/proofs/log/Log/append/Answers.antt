@@ -1,7 +1,7 @@
 use Rattle.std.proofs.Common.{◌≡◌, ◌++◌, ◌∷◌, [], false, refl, ◌∙◌, arith}
 use Rattle.std.proofs.lemmas.Result.{err_from_is_err_and}
 use Rattle.record_log.specs.declared.log.Log.{Log}
-use Rattle.record_log.proofs.Appends.{unchanged, is_met, gate_within, crashed}
+use Rattle.record_log.proofs.Appends.{unchanged, is_met, gated, crashed}
 use Rattle.record_log.proofs.Appends.{spelled, appended}
 use Rattle.record_log.proofs.log.Log.append.Goals as goal
 
@@ -25,48 +25,50 @@ returns-in_err-reserve-clause-any_moment g c = λ records honest h.
     unchanged _ _ c.args.self.now records c.args.bytes.now h
 
 -- on the way a crash leaves the record or not
-pub returns-in_err-push-clause-any_moment : goal.returns-in_err-push-clause-any_moment
-returns-in_err-push-clause-any_moment g c = λ records honest h.
+pub returns-in_err-write_gated-clause-any_moment : goal.returns-in_err-write_gated-clause-any_moment
+returns-in_err-write_gated-clause-any_moment g c = λ records honest h.
     let old = g.D.Disk.state c.args.disk.now in
-    let new = g.D.Disk.state c.push.new.disk in
+    let new = g.D.Disk.state c.write_gated.new.disk in
     let behind = c.deref.ensures.value ∙ c.in_ok-behind.ensures in
-    crashed old c.args.self.now records c.args.bytes.now c.gate.result h (omega arith)
-    c.gate.ensures.gate new (g.D.Disk.past c.args.disk.now) (g.D.Disk.past c.push.new.disk)
-    c.deref.result.now behind (λ bytes. c.push.ensures.any_moment bytes honest)
+    crashed old c.args.self.now records c.args.bytes.now c.gate-gate.result h (omega arith)
+    c.gate-gate.ensures.gate new (g.D.Disk.past c.args.disk.now) (g.D.Disk.past c.write_gated.new.disk)
+    c.deref.result.now behind (λ all. c.write_gated.ensures.any_moment all honest)
 
 -- and so it does at the end
 pub returns-clause-any_moment : goal.returns-clause-any_moment
 returns-clause-any_moment g c = λ records honest h.
     let old = g.D.Disk.state c.args.disk.now in
-    let new = g.D.Disk.state c.push.new.disk in
+    let new = g.D.Disk.state c.write_gated.new.disk in
     let behind = c.deref.ensures.value ∙ c.in_ok-behind.ensures in
-    crashed old c.args.self.now records c.args.bytes.now c.gate.result h (omega arith)
-    c.gate.ensures.gate new (g.D.Disk.past c.args.disk.now) (g.D.Disk.past c.push.new.disk)
-    c.deref.result.now behind (λ bytes. c.push.ensures.any_moment bytes honest)
+    crashed old c.args.self.now records c.args.bytes.now c.gate-gate.result h (omega arith)
+    c.gate-gate.ensures.gate new (g.D.Disk.past c.args.disk.now) (g.D.Disk.past c.write_gated.new.disk)
+    c.deref.result.now behind (λ all. c.write_gated.ensures.any_moment all honest)
 
 -- ---- what it answers
 
 -- the device's failure and want of memory are all that the four calls meet
-pub returns-in_err-push-clause-appended : goal.returns-in_err-push-clause-appended
-returns-in_err-push-clause-appended g c = λ records honest h.
+pub returns-in_err-write_gated-clause-appended : goal.returns-in_err-write_gated-clause-appended
+returns-in_err-write_gated-clause-appended g c = λ records honest h.
     let old = g.D.Disk.state c.args.disk.now in
-    let within =
-    gate_within old c.args.self.now records c.args.bytes.now c.gate.result h (omega arith)
-    c.gate.ensures.gate in
-    let why = c.in_err-push.ensures.done h.bytes honest h.sure within in
-    let p = err_from_is_err_and c.from_residual-in_err-push.result
-    c.from_residual-in_err-push.ensures.1 in
-    rw (p.1, p.2) (is_met c.in_err-push.field-0.0 why)
+    let behind = c.deref.ensures.value ∙ c.in_ok-behind.ensures in
+    let why = c.in_err-write_gated.ensures.done _ honest
+    (gated old c.args.self.now records c.args.bytes.now c.gate-gate.result h (omega arith)
+    c.gate-gate.ensures.gate c.deref.result.now behind) in
+    let p = err_from_is_err_and c.from_residual-in_err-write_gated.result
+    c.from_residual-in_err-write_gated.ensures.1 in
+    rw (p.1, p.2) (is_met c.in_err-write_gated.field-0.0 why)
 
 -- the bytes up to the gate stay, and behind it stand those of the record
 pub returns-clause-spelled : goal.returns-clause-spelled
 returns-clause-spelled g c = λ records honest h.
     let old = g.D.Disk.state c.args.disk.now in
-    let new = g.D.Disk.state c.push.new.disk in
+    let new = g.D.Disk.state c.write_gated.new.disk in
     let behind = c.deref.ensures.value ∙ c.in_ok-behind.ensures in
-    spelled old c.args.self.now records c.args.bytes.now c.gate.result h (omega arith)
-    c.gate.ensures.gate new c.deref.result.now behind
-    (λ bytes sure within. (c.in_ok-push.ensures.done bytes honest sure within).0)
+    spelled old c.args.self.now records c.args.bytes.now c.gate-gate.result h (omega arith)
+    c.gate-gate.ensures.gate new c.deref.result.now behind
+    (c.in_ok-write_gated.ensures.done _ honest
+    (gated old c.args.self.now records c.args.bytes.now c.gate-gate.result h (omega arith)
+    c.gate-gate.ensures.gate c.deref.result.now behind)).0
 
 -- the record is one more, and the log knows where it ends
 pub returns-clause-appended : goal.returns-clause-appended
@@ -74,8 +76,6 @@ returns-clause-appended g c = λ records honest h.
     let log = c.args.self.now in
     let one = c.args.bytes.now in
     let old = g.D.Disk.state c.args.disk.now in
-    let within =
-    gate_within old log records one c.gate.result h (omega arith) c.gate.ensures.gate in
     let behind = c.deref.ensures.value ∙ c.in_ok-behind.ensures in
     let end = c.saturating_add-self.result in
     let after : Log = record {
@@ -87,7 +87,9 @@ returns-clause-appended g c = λ records honest h.
     } in
     let ends : c.push_reserved.new.self.items ≡ log.ends.items ++ end ∷ [] =
     rw (c.push_reserved.ensures.items, c.reserve.ensures.items) refl in
-    appended old log records one c.gate.result h (omega arith) c.gate.ensures.gate
-    (g.D.Disk.state c.push.new.disk) after c.deref.result.now c.saturating_add.result behind
-    (c.in_ok-push.ensures.done h.bytes honest h.sure within) refl refl c.saturating_add.ensures
+    appended old log records one c.gate-gate.result h (omega arith) c.gate-gate.ensures.gate
+    (g.D.Disk.state c.write_gated.new.disk) after c.deref.result.now c.saturating_add.result behind
+    (c.in_ok-write_gated.ensures.done _ honest
+    (gated old log records one c.gate-gate.result h (omega arith) c.gate-gate.ensures.gate
+    c.deref.result.now behind)) refl refl c.saturating_add.ensures
     c.saturating_add-self.ensures ends

@@ -1,5 +1,0 @@
-use Rattle.manifest.proofs.EditLaws.{one_spelling}
-use Rattle.manifest.proofs.laws.changes_differ.Goals as goal
-
-pub returns : goal.returns
-returns c = one_spelling c.test_decides_config.ensures

@@ -1,0 +1,7 @@
+pub mod Loop
+pub mod EditLaws
+pub mod Placed
+pub mod Lawful
+pub mod EditLengths
+pub mod Spelled
+pub mod Replays

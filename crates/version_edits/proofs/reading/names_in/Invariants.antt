@@ -1,0 +1,10 @@
+use Rattle.std.proofs.Common.{◌≡◌, ◌-◌}
+use Rattle.byte_fields.specs.{many}
+use Rattle.version_edits.specs.Reading.{table_name_at}
+use Rattle.byte_fields.specs.LoopLemmas.{with_front}
+use Rattle.version_edits.proofs.reading.names_in.Given as goal
+
+abbrev pub invariant-loop : goal.invariant-loop
+invariant-loop l =
+    with_front l.names.items (many table_name_at (l.count - l.counter) l.bytes.now)
+    ≡ many table_name_at l.count l.fn.bytes.now

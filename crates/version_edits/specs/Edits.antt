@@ -1,0 +1,77 @@
+-- The one spelling of an edit.
+use Rattle.std.specs.Prelude.{◌≡◌, ℕ, ◌<◌, ◌≤◌, ◌^◌, List, ◌∷◌, ◌++◌, length, All}
+use Rattle.std.specs.List.{flat_map}
+use Rattle.std.specs.Int.{w16, w32, w64, to_be_bytes}
+use Rattle.kv_types.specs.declared.bounds.TheConstants.{MAX_NUMBER, MAX_KEY}
+use Rattle.kv_types.specs.Order.{IsBelow}
+use Rattle.kv_types.specs.{text_bytes}
+use Rattle.configurations.specs.{IsConfig, config_text}
+use Rattle.version_edits.specs.declared.line.TheConstants.{MAX_NEXT}
+use Rattle.version_edits.specs.declared.line.LogLine.{LogLine}
+use Rattle.version_edits.specs.declared.line.TableName.{TableName}
+use Rattle.version_edits.specs.declared.line.TableLine.{TableLine}
+use Rattle.version_edits.specs.Versions.{Change}
+
+-- two bytes that count the items, and these in order
+abbrev pub counted_bytes : {A : Type 0} → (A → List ℕ) → List A → List ℕ
+counted_bytes spelled items = to_be_bytes w16 (length items) ++ flat_map spelled items
+
+-- the file of a log, and the number of its first batch, in eight bytes each
+abbrev pub log_line_bytes : LogLine → List ℕ
+log_line_bytes line = to_be_bytes w64 line.file ++ to_be_bytes w64 line.first
+
+-- a table's level in one byte, and its file in eight
+abbrev pub table_name_bytes : TableName → List ℕ
+table_name_bytes one = one.level ∷ to_be_bytes w64 one.file
+
+-- the level of a table in one byte, its file and its length in eight each
+abbrev pub table_head_bytes : TableLine → List ℕ
+table_head_bytes line = line.level ∷ to_be_bytes w64 line.file ++ to_be_bytes w64 line.length
+
+-- the head of a table's line, and its least and its greatest key
+unfoldable pub table_line_bytes : TableLine → List ℕ
+table_line_bytes line = table_head_bytes line ++ (text_bytes line.least ++ text_bytes line.greatest)
+
+-- the numbers, the ids behind their count, and four lists
+unfoldable pub change_text : Change → List ℕ
+change_text change =
+    to_be_bytes w64 change.next_file ++ to_be_bytes w64 change.floor
+    ++ to_be_bytes w64 change.flushed ++ to_be_bytes w32 change.epoch
+    ++ config_text change.ids
+    ++ counted_bytes (λ file. to_be_bytes w64 file) change.logs_gone
+    ++ counted_bytes log_line_bytes change.logs_added
+    ++ counted_bytes table_name_bytes change.tables_gone
+    ++ counted_bytes table_line_bytes change.tables_added
+
+-- a table's line names a level from 0 to 6, keys in their bounds, and the least key first
+pub record IsTableLine (line : TableLine) : Type 0 where
+  pub level : line.level ≤ 6
+  pub file : line.file ≤ MAX_NUMBER
+  pub bytes : line.length < 2 ^ 63
+  pub short_least : length line.least ≤ MAX_KEY
+  pub short_greatest : length line.greatest ≤ MAX_KEY
+  pub proper : IsBelow line.greatest line.least → ⊥
+
+-- a log's line names the number of its first batch, which is not 0, and for a log that has no room
+-- for one is 2^63
+abbrev pub IsLogLine : LogLine → Type 0
+IsLogLine line = (line.file ≤ MAX_NUMBER) × ((1 ≤ line.first) × (line.first ≤ MAX_NEXT))
+
+-- each field is within its limits
+pub record IsChange (change : Change) : Type 0 where
+  pub next_file : change.next_file ≤ MAX_NEXT
+  pub floor : change.floor ≤ MAX_NUMBER
+  pub flushed : change.flushed ≤ MAX_NUMBER
+  pub epoch : change.epoch ≤ 15
+  pub ids : IsConfig change.ids
+  pub logs_gone : (length change.logs_gone < 2 ^ 16)
+      × All (λ file. file ≤ MAX_NUMBER) change.logs_gone
+  pub logs_added : (length change.logs_added < 2 ^ 16)
+      × All IsLogLine change.logs_added
+  pub tables_gone : (length change.tables_gone < 2 ^ 16)
+      × All (λ one. (one.level ≤ 6) × (one.file ≤ MAX_NUMBER)) change.tables_gone
+  pub tables_added : (length change.tables_added < 2 ^ 16) × All IsTableLine change.tables_added
+
+-- no two edits have one spelling
+abbrev pub ChangesDiffer : Type 0
+ChangesDiffer = (a b : Change) → IsChange a → IsChange b → change_text a ≡ change_text b → a ≡ b

@@ -1,0 +1,25 @@
+-- The version that a list of records gives, one edit after the other.
+use Rattle.std.specs.Prelude.{◌≡◌, ◌≢◌, ℕ, List, [], ◌∷◌, map, All, Option, Some, None}
+use Rattle.version_edits.specs.Versions.{NodeVersion, Change, AreFit, after_all, empty}
+use Rattle.version_edits.specs.Edits.{IsChange, change_text}
+
+-- edits that give a version: there are some, and the version before each may take it
+pub record IsEditHistory (changes : List Change) : Type 0 where
+  pub some : changes ≢ []
+  pub each : All IsChange changes
+  pub fit : AreFit empty changes
+
+-- the node's version after these edits, if there are some
+abbrev pub version_after_all : ℕ → List Change → Option NodeVersion
+version_after_all id [] = None
+version_after_all id (first ∷ others) =
+    Some (record { id = id; version = after_all empty (first ∷ others) })
+
+-- the records are edits, each of which may be taken, and give this version
+pub record IsReplayed (id : ℕ) (draft : Option NodeVersion) (records : List (List ℕ))
+    : Type 0 where
+  pub changes : List Change
+  pub each : All IsChange changes
+  pub fit : AreFit empty changes
+  pub spelled : records ≡ map change_text changes
+  pub so_far : draft ≡ version_after_all id changes

@@ -1,0 +1,23 @@
+//! What a version of a store is, which edits it may take, and the one spelling of an edit. Nothing
+//! here calls a disk.
+#![tactic(auto)]
+
+mod changed;
+mod edit;
+mod error;
+mod fits;
+pub mod laws;
+mod line;
+mod next;
+mod reading;
+mod replaying;
+mod spelling;
+mod version;
+
+pub use changed::version_after;
+pub use edit::VersionEdit;
+pub use error::EditError;
+pub use line::{LogLine, MAX_LINES, MAX_NEXT, TableLine, TableName};
+pub use replaying::replay;
+pub use spelling::{bytes_of, full_edit_bytes};
+pub use version::{StoreVersion, first_version};
