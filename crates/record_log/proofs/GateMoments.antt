@@ -16,7 +16,8 @@ module _ {D : Type 0} (state : D → State) (past : D → List State) (gate at :
 
   -- on the way since the first call began
   abbrev Leaves : D → Type 0
-  Leaves new = LeavesSince (state d0) (past d0) (state new) (past new) (IsLeftAt (state d0) file Way)
+  Leaves new = LeavesSince (state d0) (past d0) (state new) (past new) (IsLeftAt
+      (state d0) file Way)
 
   module _ {T : Type 0} (d1 : D) (wrote : Result T DiskError)
       (w1 : WriteOutcome (state d0) file at bytes wrote (state d1))

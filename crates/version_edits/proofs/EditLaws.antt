@@ -25,12 +25,16 @@ use Rattle.version_edits.specs.declared.error.EditError.TheVariants as edit_erro
 use Rattle.version_edits.specs.declared.line.TableName.{TableName}
 use Rattle.version_edits.specs.declared.line.TableLine.{TableLine}
 use Rattle.version_edits.specs.Versions.{Change}
-use Rattle.version_edits.specs.Edits.{log_line_bytes, table_name_bytes, table_line_bytes, change_text}
-use Rattle.version_edits.specs.Edits.{IsTableLine, IsLogLine, IsChange, ChangesDiffer, counted_bytes}
-use Rattle.version_edits.specs.Reading.{byte_field, count_field, next_field, first_field, epoch_field}
+use Rattle.version_edits.specs.Edits.{log_line_bytes, table_name_bytes}
+use Rattle.version_edits.specs.Edits.{table_line_bytes, change_text}
+use Rattle.version_edits.specs.Edits.{IsTableLine, IsLogLine}
+use Rattle.version_edits.specs.Edits.{IsChange, ChangesDiffer, counted_bytes}
+use Rattle.version_edits.specs.Reading.{byte_field, count_field}
+use Rattle.version_edits.specs.Reading.{next_field, first_field, epoch_field}
 use Rattle.version_edits.specs.Reading.{level_field}
 use Rattle.version_edits.specs.Reading.{config_field, as_log, log_line_at, as_name, table_name_at}
-use Rattle.version_edits.specs.Reading.{as_table, has_range, table_line_at, files_at, logs_at, names_at}
+use Rattle.version_edits.specs.Reading.{as_table, has_range, table_line_at}
+use Rattle.version_edits.specs.Reading.{files_at, logs_at, names_at}
 use Rattle.version_edits.specs.Reading.{tables_at, as_change, change_front, change_of}
 use Rattle.version_edits.specs.Reading.{ReadsChange, Fields}
 

@@ -10,7 +10,8 @@ use Rattle.version_edits.specs.declared.line.TableName.{TableName}
 use Rattle.version_edits.specs.declared.line.TableLine.{TableLine}
 use Rattle.version_edits.specs.Versions.{StoreVersion, NodeVersion, Change, empty, changed, IsFit}
 use Rattle.version_edits.specs.Versions.{AreFit, after_all}
-use Rattle.version_edits.specs.Versions.{logs_left, tables_left, log_is_before, table_is_before, placed}
+use Rattle.version_edits.specs.Versions.{logs_left, tables_left}
+use Rattle.version_edits.specs.Versions.{log_is_before, table_is_before, placed}
 use Rattle.version_edits.specs.Versions.{is_new_file, names_file, names_log, version_in}
 use Rattle.version_edits.specs.Versions.{AreLawful, IsNew, IsThere, NumbersRise, keeps_ids}
 use Rattle.std.specs.Prelude.{IsTrue}

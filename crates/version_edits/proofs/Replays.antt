@@ -6,7 +6,8 @@ use Rattle.std.specs.Prelude.{Err, IsErrOf, slice_get}
 use Rattle.std.proofs.lemmas.List.{take_all}
 use Rattle.std.proofs.lemmas.List.Elements.{All-append, All-cons, All-head, All-nil, All-tail}
 use Rattle.record_log.specs.{ends_from}
-use Rattle.version_edits.specs.Versions.{StoreVersion, NodeVersion, Change, IsFit, AreFit, after_all}
+use Rattle.version_edits.specs.Versions.{StoreVersion, NodeVersion, Change}
+use Rattle.version_edits.specs.Versions.{IsFit, AreFit, after_all}
 use Rattle.version_edits.specs.Versions.{changed}
 use Rattle.version_edits.specs.Versions.{empty, version_in}
 use Rattle.version_edits.specs.Edits.{IsChange, ChangesDiffer, change_text}

@@ -3,7 +3,8 @@ ghost use Rattle.std.specs.Prelude.{◌≡◌, ◌&&◌, ◌==◌, ◌<◌, ◌�
 ghost use Rattle.std.specs.Prelude.{IfOk};
 ghost use Rattle.std.specs.List.{list_all, list_any};
 ghost use Rattle.chain_model.specs.{is_part};
-ghost use Rattle.version_edits.specs.Versions.{are_once, names_log, names_table, names_file, files_of};
+ghost use Rattle.version_edits.specs.Versions.{are_once, names_log};
+ghost use Rattle.version_edits.specs.Versions.{names_table, names_file, files_of};
 ghost use Rattle.version_edits.specs.Versions.{are_apart, all_apart};
 
 use crate::{LogLine, TableLine, TableName};

@@ -1,7 +1,8 @@
 // The version after an edit that was read, where the version may take it.
 ghost use Rattle.std.specs.Prelude.{◌≡◌, ◌⊎◌, ◌↔◌, ◌<◌, ◌≤◌, IfOk, IfErr, IsErrOf, IsTrue};
 ghost use Rattle.std.specs.List.{fold, list_all};
-ghost use Rattle.version_edits.specs.Versions.{AreLawful, IsFit, IsNew, IsThere, NumbersRise, changed};
+ghost use Rattle.version_edits.specs.Versions.{AreLawful, IsFit, IsNew};
+ghost use Rattle.version_edits.specs.Versions.{IsThere, NumbersRise, changed};
 ghost use Rattle.version_edits.specs.Versions.{is_new_file, keeps_ids, logs_left, names_log};
 ghost use Rattle.version_edits.specs.Versions.{names_table};
 ghost use Rattle.version_edits.specs.Versions.{tables_left, version_in, with_log, with_table};

@@ -11,7 +11,8 @@ ghost use Rattle.version_edits.specs.Reading.{ReadsChangeField, ReadsChange, ite
 ghost use Rattle.version_edits.specs.Reading.{byte_field, count_field, next_field, first_field};
 ghost use Rattle.version_edits.specs.Reading.{epoch_field, level_field, config_field};
 ghost use Rattle.version_edits.specs.Reading.{log_line_at, table_name_at};
-ghost use Rattle.version_edits.specs.Reading.{table_line_at, files_at, logs_at, names_at, tables_at};
+ghost use Rattle.version_edits.specs.Reading.{table_line_at, files_at};
+ghost use Rattle.version_edits.specs.Reading.{logs_at, names_at, tables_at};
 ghost use Rattle.version_edits.specs.Reading.{change_front, change_of};
 
 use crate::{EditError, LogLine, MAX_NEXT, TableLine, TableName, VersionEdit};

@@ -31,7 +31,8 @@ returns-in_err-write_gated-clause-any_moment g c = λ records honest h.
     let new = g.D.Disk.state c.write_gated.new.disk in
     let behind = c.deref.ensures.value ∙ c.in_ok-behind.ensures in
     crashed old c.args.self.now records c.args.bytes.now c.gate-gate.result h (omega arith)
-    c.gate-gate.ensures.gate new (g.D.Disk.past c.args.disk.now) (g.D.Disk.past c.write_gated.new.disk)
+    c.gate-gate.ensures.gate new (g.D.Disk.past c.args.disk.now)
+    (g.D.Disk.past c.write_gated.new.disk)
     c.deref.result.now behind (λ all. c.write_gated.ensures.any_moment all honest)
 
 -- and so it does at the end
@@ -41,7 +42,8 @@ returns-clause-any_moment g c = λ records honest h.
     let new = g.D.Disk.state c.write_gated.new.disk in
     let behind = c.deref.ensures.value ∙ c.in_ok-behind.ensures in
     crashed old c.args.self.now records c.args.bytes.now c.gate-gate.result h (omega arith)
-    c.gate-gate.ensures.gate new (g.D.Disk.past c.args.disk.now) (g.D.Disk.past c.write_gated.new.disk)
+    c.gate-gate.ensures.gate new (g.D.Disk.past c.args.disk.now)
+    (g.D.Disk.past c.write_gated.new.disk)
     c.deref.result.now behind (λ all. c.write_gated.ensures.any_moment all honest)
 
 -- ---- what it answers
