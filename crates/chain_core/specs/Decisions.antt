@@ -1,6 +1,7 @@
 -- Decisions on inputs, and their execution: the rules of the chain's model by name.
 use Rattle.std.specs.Prelude.{◌≡◌, ◌≤◌, ◌<◌, ℕ, suc, List, length, map, Option}
-use Rattle.std.specs.Prelude.{Some, None}
+use Rattle.std.specs.Prelude.{Some, None, Result, IfOk, OnErr}
+use Rattle.std.specs.Global.{Vec}
 use Rattle.kv_types.specs.declared.bounds.TheConstants.{MAX_NUMBER}
 use Rattle.kv_types.specs.{BatchContent}
 use Rattle.chain_model.specs as model_frame
@@ -14,6 +15,7 @@ use Rattle.chain_core.specs.declared.decision.Decision.{Decision}
 use Rattle.chain_core.specs.declared.decision.Decision.TheVariants as decision
 use Rattle.chain_core.specs.declared.done.Done.{Done}
 use Rattle.chain_core.specs.declared.done.Done.TheVariants as done
+use Rattle.chain_core.specs.declared.error.CoreError.{CoreError}
 use Rattle.chain_core.specs.declared.sending.Sent.{Sent}
 use Rattle.chain_core.specs.declared.pending_submit.PendingSubmit.{PendingSubmit}
 use Rattle.chain_core.specs.States.{Machine, Core, CoreRefines, committed_responses}
@@ -71,11 +73,27 @@ DoneFitsCount count (done.Accepted request) = count < MAX_NUMBER
 DoneFitsCount count done.Appended = count < MAX_NUMBER
 DoneFitsCount count (done.Acked committed have) = (committed ≤ have) × (have ≤ count)
 
+-- A decision on an input, by a node's numbers: it names the rule of each machine that they refine,
+-- and is within the bounds by the count.
+pub record IsDecisionOn (core : Core) (input : Input) (decision : Decision) : Type 0 where
+  pub decides : (n : Machine) → CoreRefines core n → Decides core.id n input decision
+  pub room : DecisionFitsCount core.count decision
+
 -- the state refines the machine of the answer, and these requests have its replies
 pub record CoreFollows (new : Core) (answer : Answer BatchContent) (due : List PendingSubmit) : Type
     0 where
   pub is : CoreRefines new answer.node
   pub replied : answer.replies ≡ committed_responses due
+
+-- The store's part of a step was applied to the state, which then follows the rule that was done.
+-- The committed number never falls, and for want of memory nothing changes.
+pub record CoreApplies (old new : Core) (done : Done)
+    (result : Result (Vec PendingSubmit) CoreError) : Type 0 where
+  pub after : (n : Machine) (batch : BatchContent) → CoreRefines old n →
+      IfOk result (λ due. CoreFollows new (done_of old.id n batch done) due.items)
+  pub rises : old.committed ≤ new.committed
+  pub same : new.id ≡ old.id
+  pub memory : OnErr result (new ≡ old)
 
 -- the model's frame of a frame between nodes
 abbrev pub frame_as : ℕ → Frame → Option (model_frame.Message BatchContent)

@@ -1,7 +1,5 @@
 // The rule for each input, by the numbers of the node that receives it.
-ghost use Rattle.std.specs.Prelude.{◌≡◌};
-ghost use Rattle.chain_core.specs.States.{Machine, CoreRefines};
-ghost use Rattle.chain_core.specs.Decisions.{Decides, DecisionFitsCount};
+ghost use Rattle.chain_core.specs.Decisions.{IsDecisionOn};
 
 use crate::{CoreState, Decision, DropReason, Input};
 use configurations::{Epoch, NodeId};
@@ -10,9 +8,7 @@ use kv_types::{Batch, Key, Number};
 use link_messages::Refusal;
 
 fn of_submit(state: &CoreState, request: Number, batch: Batch) -> Decision
-    ensures decides { (n : Machine) → CoreRefines state.now n →
-        Decides state.now.id n (Input.Submit request batch) result }
-    ensures room { DecisionFitsCount state.now.count result }
+    ensures { IsDecisionOn state.now (Input.Submit request batch) result }
 {
     if state.is_removed() {
         let refusal = Refusal::Removed;
@@ -30,9 +26,7 @@ fn of_submit(state: &CoreState, request: Number, batch: Batch) -> Decision
 }
 
 fn of_get(state: &CoreState, request: Number, key: Key, at: Option<Number>) -> Decision
-    ensures decides { (n : Machine) → CoreRefines state.now n →
-        Decides state.now.id n (Input.Get request key at) result }
-    ensures room { DecisionFitsCount state.now.count result }
+    ensures { IsDecisionOn state.now (Input.Get request key at) result }
 {
     let number = at.unwrap_or(state.committed());
     if state.is_removed() {
@@ -61,9 +55,7 @@ fn of_forward(
     number: Number,
     batch: Batch,
 ) -> Decision
-    ensures decides { (n : Machine) → CoreRefines state.now n →
-        Decides state.now.id n (Input.Forward epoch from number batch) result }
-    ensures room { DecisionFitsCount state.now.count result }
+    ensures { IsDecisionOn state.now (Input.Forward epoch from number batch) result }
 {
     if state.is_removed() {
         return Decision::Drop(DropReason::Removed);
@@ -87,9 +79,7 @@ fn of_ack(
     committed: Number,
     have: Number,
 ) -> Decision
-    ensures decides { (n : Machine) → CoreRefines state.now n →
-        Decides state.now.id n (Input.Ack epoch from committed have) result }
-    ensures room { DecisionFitsCount state.now.count result }
+    ensures { IsDecisionOn state.now (Input.Ack epoch from committed have) result }
 {
     if state.is_removed() {
         return Decision::Drop(DropReason::Removed);
@@ -107,9 +97,7 @@ fn of_ack(
 }
 
 fn of_tick(state: &CoreState) -> Decision
-    ensures decides { (n : Machine) → CoreRefines state.now n →
-        Decides state.now.id n Input.Tick result }
-    ensures room { DecisionFitsCount state.now.count result }
+    ensures { IsDecisionOn state.now Input.Tick result }
 {
     if state.is_removed() {
         return Decision::Drop(DropReason::Removed);
@@ -119,9 +107,7 @@ fn of_tick(state: &CoreState) -> Decision
 
 /// Decides what a node does with an input. It changes nothing.
 pub fn decide(state: &CoreState, input: Input) -> Decision
-    ensures decides { (n : Machine) → CoreRefines state.now n →
-        Decides state.now.id n input result }
-    ensures room { DecisionFitsCount state.now.count result }
+    ensures { IsDecisionOn state.now input result }
 {
     match input {
         Input::Submit { request, batch } => of_submit(state, request, batch),

@@ -1,14 +1,13 @@
 // The state of a node besides its batches, and the change of it by each step.
 ghost use Rattle.std.specs.Prelude.{◌≡◌, ◌<◌, ◌≤◌, suc, length, max, not};
 ghost use Rattle.std.specs.Prelude.{if◌then◌else◌};
-ghost use Rattle.std.specs.Prelude.{IfOk, OnErr};
 ghost use Rattle.kv_types.specs.declared.bounds.TheConstants.{MAX_NUMBER};
 ghost use Rattle.kv_types.specs.{BatchContent};
 ghost use Rattle.chain_model.specs.{has, is_head, is_tail, predecessor, successor, created};
-ghost use Rattle.chain_model.specs.{started, accept, append, on_ack};
+ghost use Rattle.chain_model.specs.{started, append};
 ghost use Rattle.chain_core.specs.States.{Machine, CoreRefines, PersistentRefines};
 ghost use Rattle.chain_core.specs.States.{HasOrderedNumbers};
-ghost use Rattle.chain_core.specs.Decisions.{CoreFollows, DoneFitsCount, done_of};
+ghost use Rattle.chain_core.specs.Decisions.{DoneFitsCount, CoreApplies};
 
 use crate::queue::{count_due, move_due};
 use crate::{CoreError, Done, PendingSubmit, PersistentState};
@@ -213,15 +212,14 @@ impl CoreState {
         is_tail(&self.config, self.id)
     }
 
-    // Accepts one more batch at the head, for a pending request. A tail commits it.
-    fn accept(&mut self, alloc: Global, request: Number) -> Result<Vec<PendingSubmit>, CoreError>
+    // Adds the batch of a client's request, which is pending at the head. A tail commits it.
+    fn add_submit(
+        &mut self,
+        alloc: Global,
+        request: Number,
+    ) -> Result<Vec<PendingSubmit>, CoreError>
         requires { self.old.count < MAX_NUMBER }
-        ensures after { (n : Machine) (batch : BatchContent) → CoreRefines self.old n →
-            IfOk result (λ due.
-            CoreFollows self.new (accept self.old.id n request batch) due.items) }
-        ensures rises { self.old.committed ≤ self.new.committed }
-        ensures same { self.new.id ≡ self.old.id }
-        ensures memory { OnErr result (self.new ≡ self.old) }
+        ensures { CoreApplies self.old self.new (Done.Accepted request) result }
     {
         let number = self.count.next().unwrap();
         let committed = self.committed_with(number);
@@ -234,8 +232,8 @@ impl CoreState {
         Ok(due)
     }
 
-    // Appends one more batch of the predecessor. A tail commits it.
-    fn append(&mut self)
+    // Adds a batch of the predecessor. A tail commits it.
+    fn add_batch(&mut self)
         requires { self.old.count < MAX_NUMBER }
         ensures after { (n : Machine) (batch : BatchContent) → CoreRefines self.old n →
             CoreRefines self.new (append self.old.id n (suc (length n.list)) batch).node }
@@ -248,18 +246,14 @@ impl CoreState {
     }
 
     // Applies the report of the successor.
-    fn on_ack(
+    fn apply_ack(
         &mut self,
         alloc: Global,
         committed: Number,
         have: Number,
     ) -> Result<Vec<PendingSubmit>, CoreError>
         requires { (committed ≤ have) × (have ≤ self.old.count) }
-        ensures after { (n : Machine) → CoreRefines self.old n → IfOk result (λ due.
-            CoreFollows self.new (on_ack self.old.id n committed have) due.items) }
-        ensures rises { self.old.committed ≤ self.new.committed }
-        ensures same { self.new.id ≡ self.old.id }
-        ensures memory { OnErr result (self.new ≡ self.old) }
+        ensures { CoreApplies self.old self.new (Done.Acked committed have) result }
     {
         let committed = greater(self.committed, committed);
         let mut due = Vec::new(alloc);
@@ -274,19 +268,15 @@ impl CoreState {
     /// committed, in order of number.
     pub fn after(&mut self, alloc: Global, done: Done) -> Result<Vec<PendingSubmit>, CoreError>
         requires { DoneFitsCount self.old.count done }
-        ensures after { (n : Machine) (batch : BatchContent) → CoreRefines self.old n →
-            IfOk result (λ due. CoreFollows self.new (done_of self.old.id n batch done) due.items) }
-        ensures rises { self.old.committed ≤ self.new.committed }
-        ensures same { self.new.id ≡ self.old.id }
-        ensures memory { OnErr result (self.new ≡ self.old) }
+        ensures { CoreApplies self.old self.new done result }
     {
         match done {
-            Done::Accepted { request } => self.accept(alloc, request),
+            Done::Accepted { request } => self.add_submit(alloc, request),
             Done::Appended => {
-                self.append();
+                self.add_batch();
                 Ok(Vec::new(alloc))
             }
-            Done::Acked { committed, have } => self.on_ack(alloc, committed, have),
+            Done::Acked { committed, have } => self.apply_ack(alloc, committed, have),
         }
     }
 }

@@ -1,2 +1,6 @@
 pub mod Outputs
+pub mod Causes
+pub mod Counts
 pub mod Running
+pub mod Starts
+pub mod Ends

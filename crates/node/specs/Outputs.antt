@@ -1,17 +1,19 @@
 -- The end of a step and the state that it keeps, and the contracts of private functions on its
 -- answer.
-use Rattle.std.specs.Prelude.{◌≡◌, ◌⊎◌, ℕ, List, Option, Result, MatchResult, OnOk}
+use Rattle.std.specs.Prelude.{◌≡◌, ◌⊎◌, ℕ, Bool, false, List, Option, Result, MatchResult, OnOk}
 use Rattle.kv_types.specs.{BatchContent}
 use Rattle.disk.specs.declared.Disk.{Ghosts}
-use Rattle.disk.specs.{AlwaysLeaves, KeepsDisk, State}
-use Rattle.engine.specs.{IsNearlyFull, IsOwned}
+use Rattle.disk.specs.{AlwaysLeaves, IsSame, IsStill, KeepsDisk, State}
+use Rattle.engine.specs.declared.Engine.{Engine}
+use Rattle.engine.specs.{HasEnded, IsNearlyFull, IsOwned, engine_disk, look_ups}
 use Rattle.chain_model.specs.{Message, Answer}
 use Rattle.chain_model.specs.declared.DropReason.{DropReason}
+use Rattle.chain_core.specs.declared.Decision.{Decision}
 use Rattle.chain_core.specs.declared.Done.{Done}
 use Rattle.chain_core.specs.declared.Done.TheVariants as done
 use Rattle.chain_core.specs.declared.Input.{Input}
 use Rattle.chain_core.specs.declared.PendingSubmit.{PendingSubmit}
-use Rattle.chain_core.specs.{Machine, AreFrames}
+use Rattle.chain_core.specs.{Machine, AreFrames, IsReadOf, rule_of}
 use Rattle.chain_core.specs as core
 use Rattle.node.specs.declared.node.Node.{Node}
 use Rattle.node.specs.declared.output.Output.{Output}
@@ -42,6 +44,12 @@ abbrev pub HasAppended : Done → Type 0
 HasAppended (done.Accepted request) = Unit {0}
 HasAppended done.Appended = Unit {0}
 HasAppended (done.Acked committed have) = ⊥
+
+-- whether a node acknowledges to its predecessor after the store's part, where it is the tail
+abbrev pub acks_after : Done → Bool → Bool
+acks_after (done.Accepted request) tail = false
+acks_after done.Appended tail = tail
+acks_after (done.Acked committed have) tail = false
 
 -- after the store's part, the node refines the machine of the rule, and these requests are due
 pub record NodeFollows {D : Type 0} {g : Ghosts D} (is_honest : D → Type 0) (state : D → State)
@@ -77,3 +85,27 @@ pub record KeepsNode {D T : Type 0} (g : Ghosts D) (old new : Node D g) (result 
       (IsNearlyFull (engine_of old)) IsOwned
   pub works : OnOk result (IsReady new)
   pub limits : node_limits new ≡ node_limits old
+
+-- A rule was followed: the node is kept, and it ends the step of each input that the rule is for as
+-- the machine does in the rule's answer.
+pub record FollowsRule {D : Type 0} (g : Ghosts D) (old new : Node D g)
+    (is_for : Machine → Input → Type 0) (rule : ℕ → Machine → Answer BatchContent)
+    (result : Result Output Stop) : Type 0 where
+  pub kept : KeepsNode g old new result
+  pub ends : (x : ℕ) (n : Machine) (input : Input) → is_for n input →
+      StepEnds g old new result x n input (rule x n)
+
+-- the rule that a decision names was followed
+abbrev pub ExecutesDecision : {D : Type 0} → (g : Ghosts D) → (old new : Node D g) → Decision →
+    Result Output Stop → Type 0
+ExecutesDecision g old new decision = FollowsRule g old new (λ n input. IsReadOf n input decision)
+    (λ x n. rule_of x n decision)
+
+-- An engine was only read: it has the same numbers and the same files, a crash leaves nothing new,
+-- and after an answer it works.
+pub record IsOnlyRead {D T : Type 0} (g : Ghosts D) (old new : Engine D g) (result : Result T Stop)
+    : Type 0 where
+  pub keeps : KeepsDisk g (engine_disk old) (engine_disk new) (IsDeviceStop result) ⊥ IsSame
+  pub told : look_ups new ≡ look_ups old
+  pub works : OnOk result (HasEnded new → ⊥)
+  pub still : IsStill g (engine_disk old) (engine_disk new)

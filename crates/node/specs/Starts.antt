@@ -1,12 +1,19 @@
 -- The answers of the calls that receive a disk: a node, or a refusal.
-use Rattle.std.specs.Prelude.{Result, Ok, Err}
-use Rattle.disk.specs.{Contents}
+use Rattle.std.specs.Prelude.{◌≡◌, ◌≤◌, ℕ, List, Result, Ok, Err, IsErrAnd, MatchResult}
+use Rattle.disk.specs.{Contents, KeepsDisk}
+use Rattle.disk.specs.declared.Disk.{Ghosts}
+use Rattle.chain_model.specs.{started}
+use Rattle.chain_core.specs.{Core, CoreRefines, Machine}
+use Rattle.engine.specs.declared.Engine.{Engine}
+use Rattle.engine.specs.{LookUps}
+use Rattle.engine.specs.{EngineHolds, IsDamaged, IsNotCreated, IsOpened, IsOwned, facts_of}
+use Rattle.engine.specs.{look_ups}
 use Rattle.node.specs.declared.node.Node.{Node}
 use Rattle.node.specs.declared.stop.Stop.{Stop}
 use Rattle.node.specs.declared.stop.Stop.TheVariants as stop
-use Rattle.disk.specs.declared.Disk.{Ghosts}
-use Rattle.engine.specs.{IsDamaged, IsNotCreated, IsOpened}
-use Rattle.node.specs.Steps.{disk_of, engine_of}
+use Rattle.node.specs.Steps.{HasNumbersOf, IsReady, NodeRefines, disk_of, engine_of, facts_for}
+use Rattle.node.specs.Steps.{node_limits}
+use Rattle.node.specs.Stops.{IsEnvironmental}
 
 -- the disk's files open as what the started node's store tells
 abbrev pub IsStarted : {D : Type 0} {g : Ghosts D} → Contents → Node D g → Type 0
@@ -19,7 +26,44 @@ StartRefusal stop.Damaged left = IsDamaged left
 StartRefusal stop.Memory left = Unit {0}
 StartRefusal stop.NotCreated left = IsNotCreated left
 
--- the disk that a call received: the node has it, or the refusal returns it
-abbrev pub disk_behind : {D : Type 0} {g : Ghosts D} → Result (Node D g) (Stop × D) → D
-disk_behind (Ok node) = disk_of node
-disk_behind (Err refused) = refused.1
+-- The state that a node starts with has the numbers of its store, and refines, as started, each
+-- machine that has them and this configuration.
+pub record CoreStartsFrom (told : LookUps) (ids : List ℕ) (core : Core) : Type 0 where
+  pub id : core.id ≡ told.facts.id
+  pub is : (n : Machine) → HasNumbersOf told n → n.ids ≡ ids →
+      CoreRefines core (started told.facts.id n)
+  pub count : core.count ≡ told.count
+  pub kept : core.kept ≡ told.facts.kept
+  pub rises : told.facts.floor ≤ core.committed
+
+-- A node that began with an opened engine has its facts, count and limits, and is ready. It refines
+-- each machine that the engine represents, as started.
+pub record RunsOpened {D : Type 0} (g : Ghosts D) (engine : Engine D g) (node : Node D g) :
+    Type 0 where
+  pub runs : (x : ℕ) (n : Machine) → EngineHolds g engine n.list →
+      facts_of engine ≡ facts_for x n → NodeRefines g.is_honest g.state node x (started x n)
+  pub facts : facts_of (engine_of node) ≡ facts_of engine
+  pub count : (look_ups (engine_of node)).count ≡ (look_ups engine).count
+  pub limits : node_limits node ≡ (look_ups engine).limits
+  pub works : IsReady node
+
+module _ {D : Type 0} {g : Ghosts D} where
+  -- the disk that a call received: the node has it, or the refusal returns it
+  abbrev pub disk_behind : Result (Node D g) (Stop × D) → D
+  disk_behind (Ok node) = disk_of node
+  disk_behind (Err refused) = refused.1
+
+  -- the call keeps the disk that it received, which failed exactly where it refuses for the disk
+  abbrev pub KeepsReceived : D → Result (Node D g) (Stop × D) → Type 0
+  KeepsReceived disk result = KeepsDisk g disk (disk_behind result)
+      (IsErrAnd result (λ refused. refused.0 ≡ stop.Disk)) ⊥ IsOwned
+
+  -- the node refines this machine, or the call is refused for a cause of the environment
+  abbrev pub BeginsAs : ℕ → Machine → Result (Node D g) (Stop × D) → Type 0
+  BeginsAs x n result = MatchResult result (λ node. NodeRefines g.is_honest g.state node x n)
+      (λ refused. IsEnvironmental refused.0)
+
+  -- the disk's content is what the node was started from, or explains the refusal
+  abbrev pub ExplainsStart : Contents → Result (Node D g) (Stop × D) → Type 0
+  ExplainsStart left result =
+      MatchResult result (IsStarted left) (λ refused. StartRefusal refused.0 left)

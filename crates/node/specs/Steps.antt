@@ -10,7 +10,7 @@ use Rattle.chain_model.specs.{Response}
 use Rattle.chain_model.specs as model
 use Rattle.chain_core.specs.declared.Input.{Input}
 use Rattle.chain_core.specs.declared.Input.TheVariants as input
-use Rattle.chain_core.specs.{Machine, CoreRefines, AreFrames}
+use Rattle.chain_core.specs.{Core, Machine, CoreRefines, AreFrames}
 use Rattle.engine.specs.declared.Engine.{Engine}
 use Rattle.engine.specs.{EngineHolds, Facts, FilesRepresent, HasEnded, LookUps, engine_disk}
 use Rattle.engine.specs.{facts_of, look_ups}
@@ -75,12 +75,21 @@ pub record NodeRefines {D : Type 0} {g : Ghosts D} (is_honest : D → Type 0) (s
   pub core : CoreRefines node.core n
   pub id : node.core.id ≡ x
 
+-- the property holds of each node and machine that the running node refines
+abbrev pub IfRefines : {D : Type 0} {g : Ghosts D} → Node D g → (ℕ → Machine → Type 0) → Type 0
+IfRefines {g = g} node P =
+    (x : ℕ) (n : Machine) → NodeRefines g.is_honest g.state node x n → P x n
+
+-- the engine works and has the numbers of the state
+pub record AreInStep {D : Type 0} {g : Ghosts D} (core : Core) (engine : Engine D g) : Type 0 where
+  pub works : HasEnded engine → ⊥
+  pub count : core.count ≡ (look_ups engine).count
+  pub kept : core.kept ≡ (look_ups engine).facts.kept
+  pub committed : core.committed ≡ (look_ups engine).committed
+
 -- its engine works and has the numbers of the node's state, so another step can follow
-pub record IsReady {D : Type 0} {g : Ghosts D} (node : Node D g) : Type 0 where
-  pub works : HasEnded node.engine → ⊥
-  pub count : node.core.count ≡ (look_ups node.engine).count
-  pub kept : node.core.kept ≡ (look_ups node.engine).facts.kept
-  pub committed : node.core.committed ≡ (look_ups node.engine).committed
+abbrev pub IsReady : {D : Type 0} {g : Ghosts D} → Node D g → Type 0
+IsReady node = AreInStep node.core node.engine
 
 -- the reply to a client's read: the value of its key in the map of these batches
 abbrev pub value_for : Input → ℕ → ℕ → List BatchContent → List Reply

@@ -4,7 +4,9 @@
 pub mod laws;
 mod node;
 mod output;
+mod performing;
 mod replying;
+mod starting;
 mod stop;
 
 pub use chain_core::{DropReason, Input, Sent};

@@ -2,13 +2,13 @@
 ghost use Rattle.std.specs.Prelude.{◌≡◌, ℕ, [], ◌∷◌, ◌++◌, List, map, take, Option};
 ghost use Rattle.std.specs.Prelude.{IfOk, IfErr, OnOk, option_to_list, if◌then◌else◌, Some};
 ghost use Rattle.kv_types.specs.{BatchContent, map_of};
-ghost use Rattle.chain_model.specs.{successor, Message, place, dropped_for, refused, ack, forward};
+ghost use Rattle.chain_model.specs.{Message, place, dropped_for, refused, ack, forward, is_tail};
 ghost use Rattle.chain_model.specs.{reply_read, ack_duplicate};
 ghost use Rattle.chain_core.specs.{Machine, CoreRefines, AreFrames};
-ghost use Rattle.node.specs.Outputs.{OutputHas, OutputRefines, committed_reply};
+ghost use Rattle.node.specs.Outputs.{OutputHas, OutputRefines, acks_after, committed_reply};
 
 use crate::{Output, Reply, Stop};
-use chain_core::{CoreState, DropReason, Input, PendingSubmit, Sent};
+use chain_core::{CoreState, Done, DropReason, Input, PendingSubmit, Sent};
 use kv_types::{Batch, Number, Value};
 use link_messages::Refusal;
 use std::alloc::{AllocError, Global};
@@ -27,15 +27,6 @@ fn ack_where(core: &CoreState, acks: bool) -> Option<Sent>
         AreFrames (option_to_list result) (if acks then ack core.now.id n else []) }
 {
     if acks { core.ack() } else { None }
-}
-
-// The frame of the last batch for the successor, if there is one.
-fn forward_last(core: &CoreState, batch: Batch) -> Option<Sent>
-    ensures { (n : Machine) → CoreRefines core.now n →
-        place n.list core.now.count ≡ Some batch →
-        AreFrames (option_to_list result) (forward core.now.id n core.now.count) }
-{
-    core.forward(core.count(), batch)
 }
 
 // The acknowledgements of these requests, whose batches are committed.
@@ -89,6 +80,16 @@ pub(crate) fn output_of(
     })
 }
 
+/// Whether a node acknowledges to its predecessor: a tail, after a batch of its predecessor.
+pub(crate) fn acks_after(core: &CoreState, done: &Done) -> bool
+    ensures { result ≡ acks_after done.now (is_tail core.now.ids core.now.id) }
+{
+    match done {
+        Done::Appended => core.is_tail(),
+        Done::Accepted { .. } | Done::Acked { .. } => false,
+    }
+}
+
 /// The output after an append: the batch is forwarded.
 pub(crate) fn output_of_append(
     alloc: Global,
@@ -104,7 +105,7 @@ pub(crate) fn output_of_append(
     ensures memory { IfErr result (λ e. e ≡ Stop.Memory) }
 {
     let mut sent = Vec::new(alloc);
-    push_some(&mut sent, forward_last(core, batch))?;
+    push_some(&mut sent, core.forward(core.count(), batch))?;
     output_of(alloc, core, sent, acks, due)
 }
 

@@ -1,48 +1,159 @@
-use Rattle.std.proofs.Common.{◌≡◌, ℕ, suc, List, [], ◌++◌, length}
-use Rattle.std.proofs.Common.{Bool, if◌then◌else◌, ap, subst, sym, ◌∙◌}
+use Rattle.std.proofs.Common.{◌≡◌, ◌+◌, ◌++◌, ◌∷◌, [], ap, arith, length, suc, sym, subst, ℕ, inl}
+use Rattle.std.proofs.Common.{inr, ◌∙◌, List, if◌then◌else◌}
 use Rattle.std.proofs.lemmas.Result.{err_from_is_err_and}
 use Rattle.kv_types.specs.{BatchContent}
-use Rattle.chain_model.specs.{is_tail, Message, ack, append, forward}
-use Rattle.chain_core.specs.declared.Done.TheVariants as done
+use Rattle.chain_model.specs.{Message, ack, forward, is_tail}
+use Rattle.chain_core.specs as core
+use Rattle.chain_core.specs.{done_of}
+use Rattle.engine.specs.KeepingLemmas.{answered, kept_as, kept_but, neither}
+use Rattle.engine.specs.{LookUps, engine_disk, look_ups}
+use Rattle.node.specs.Outputs.{AlwaysRefines, acks_after}
+use Rattle.node.specs.Steps.{disk_of}
 use Rattle.node.specs.Stops.{IsEnvironmental}
-use Rattle.node.proofs.Running.{ends_rule, ends_stopped}
-use Rattle.node.proofs.Running.{number_taken, taken_stands}
+use Rattle.node.proofs.Causes.{append_env, env_of, memory_told, on_ok}
+use Rattle.node.proofs.Causes.{only_memory, still_works, stop_passed}
+use Rattle.node.proofs.Counts.{counts_appended, frames_of, keeps_kept, number_taken, same_ids}
+use Rattle.node.proofs.Counts.{taken_stands}
+use Rattle.node.proofs.Counts.{taken_stands}
+use Rattle.node.proofs.Ends.{ends_rule, ends_stopped}
+use Rattle.node.proofs.Running.{appends, goes_on, kept_on, list_after_is}
 use Rattle.node.proofs.node.Node.append.Goals as goal
 
--- it stops as the store's part does
-pub returns-in_err-due-clause-ends : goal.returns-in_err-due-clause-ends
-returns-in_err-due-clause-ends g c = λ x n input r.
-    let a = append x n (suc (length n.list)) c.args.batch in
-    let result = c.from_residual.result in
-    let p = err_from_is_err_and result c.from_residual.ensures.1 in
-    let e = c.in_err-due.ensures.ends x n r in
-    ends_stopped g.D.Disk c.args.self.now c.append_batch.new.self x n a _ result p.0 p.1
-    (subst IsEnvironmental (sym p.2) e.done) e.honest e.any_moment
-
--- the appended batch is sent, and a tail acknowledges it
-pub returns-clause-ends : goal.returns-clause-ends
-returns-clause-ends g c = λ x n input r.
+-- the store stopped, and a crash leaves its batches with or without the new one
+pub returns-in_err-append : goal.returns-in_err-append
+returns-in_err-append g c =
+    let old = c.args.self.now in
     let batch = c.args.batch in
-    let d = done.Appended in
-    let a = append x n (suc (length n.list)) batch in
-    let leaves = c.steps_leave.ensures x n batch d in
-    let e = c.in_ok-due.ensures.ends x n r in
-    let follows = e.done in
-    let new = c.append_batch.new.self.core in
-    let number : new.count ≡ suc (length n.list) =
-    sym follows.runs.core.count ∙ number_taken x n batch d a leaves tt in
-    let there = taken_stands c.stands_last.ensures x n batch d a new.count leaves tt number in
-    let says = c.output_of_append.ensures.says a.node follows.runs.core there in
-    let told : Bool → List (Message BatchContent) = λ acks. if acks then ack x a.node else [] in
-    let acks = c.is_tail.result in
-    let sent : ℕ → List (Message BatchContent) = λ y.
-    forward y a.node new.count ++ (if acks then ack y a.node else []) in
-    let tail : acks ≡ is_tail a.node.ids x = c.is_tail.ensures
-    ∙ ap (λ ids. is_tail ids new.id) (sym follows.runs.core.ids)
-    ∙ ap (is_tail a.node.ids) follows.runs.id in
-    let both = ap (λ k. forward x a.node k ++ told acks) number
-    ∙ ap (λ b. forward x a.node (suc (length n.list)) ++ told b) tail in
-    ends_rule g.D.Disk c.args.self.now c.append_batch.new.self x n input batch d a
-    c.in_ok-due.due.items c.deref.result.now sent c.output_of_append.result e.any_moment leaves
-    follows
-    c.deref.ensures.value both says c.output_of_append.ensures.memory
+    let result = c.from_residual.result in
+    let e = c.in_err-append.field-0.0 in
+    record {
+      kept = record {
+        disk = kept_but g.D.Disk (λ full. inl full)
+            (kept_as g.D.Disk (stop_passed c.append.result e result c.in_err-append.was
+            c.from_residual.ensures.1) (λ a b kept. tt) c.append.ensures.keeps.disk);
+        works = rw (err_from_is_err_and result c.from_residual.ensures.1).1 tt;
+        limits = ap (λ (l : LookUps). l.limits) c.in_err-append.ensures.told;
+      };
+      ends = λ x n input any r.
+          let a = done_of x n batch c.args.done in
+          let leaves = c.steps_leave.ensures x n batch c.args.done in
+          let p = err_from_is_err_and result c.from_residual.ensures.1 in
+          let why = append_env e (look_ups old.engine).count
+          (c.in_err-append.ensures.met n.list r.store.reads)
+          (omega (arith, c.requires.room, c.requires.may.count)) in
+          ends_stopped g.D.Disk old _ x n a _ result p.0 p.1
+          (subst IsEnvironmental (sym p.2) (env_of e why))
+          (c.append.ensures.keeps.disk.honest.1 r.honest)
+          (appends g.D.Disk old (engine_disk c.append.new.self) x n batch c.args.done a leaves
+          c.requires.done r (c.append.ensures.any_moment n.list r.store));
+    }
+
+-- the batch is durable, and memory ran out
+pub returns-in_err-due : goal.returns-in_err-due
+returns-in_err-due g c =
+    let old = c.args.self.now in
+    let batch = c.args.batch in
+    let result = c.from_residual-in_err-due.result in
+    let err = c.from_residual-in_err-due.ensures.1 in
+    record {
+      kept = record {
+        disk = kept_but g.D.Disk (λ full. inl full)
+            (kept_as g.D.Disk (neither (answered c.append.result c.in_ok-append.was)
+            (memory_told result err)) (λ a b kept. tt) c.append.ensures.keeps.disk);
+        works = rw (err_from_is_err_and result err).1 tt;
+        limits = ap (λ (l : LookUps). l.limits) c.in_ok-append.ensures.told.0;
+      };
+      ends = λ x n input any r.
+          let a = done_of x n batch c.args.done in
+          let leaves = c.steps_leave.ensures x n batch c.args.done in
+          let p = err_from_is_err_and result err in
+          ends_stopped g.D.Disk old _ x n a _ result p.0 p.1 (inr p.2)
+          (c.append.ensures.keeps.disk.honest.1 r.honest)
+          (appends g.D.Disk old (engine_disk c.append.new.self) x n batch c.args.done a leaves
+          c.requires.done r (c.append.ensures.any_moment n.list r.store));
+    }
+
+-- no fewer batches are committed, and no more than there are
+pub set_committed-requires : goal.set_committed-requires
+set_committed-requires g c =
+    let may = c.requires.may in
+    let old = c.args.self.now.core in
+    let told = c.in_ok-append.ensures.told.0 in
+    let known = ap (λ (l : LookUps). l.committed) told in
+    let more = ap (λ (l : LookUps). l.count) told in
+    let count = counts_appended c.steps_leave.ensures old c.after.new.self c.args.done
+    c.in_ok-due.due.items c.requires.done c.in_ok-due.ensures.after in
+    let ordered = c.committed.ensures.ordered.committed in (
+      omega (arith, known, may.committed, c.in_ok-due.ensures.rises, c.committed.ensures.same),
+      omega (arith, more, ordered, c.committed.ensures.same, count, may.count),
+    )
+
+-- the batch is appended, and sent
+pub returns : goal.returns
+returns g c =
+    let may = c.requires.may in
+    let old = c.args.self.now in
+    let batch = c.args.batch in
+    let d = c.args.done in
+    let due = c.in_ok-due.due.items in
+    let told = c.in_ok-append.ensures.told.0 in
+    let known = c.set_committed.ensures.told in
+    let result = c.output_of_append.result in
+    record {
+      kept = record {
+        disk = kept_on g.D.Disk (sym c.set_committed.ensures.disk)
+            (kept_but g.D.Disk (λ full. inl full)
+            (kept_as g.D.Disk (neither (answered c.append.result c.in_ok-append.was)
+            (only_memory result c.output_of_append.ensures.memory)) (λ a b kept. tt)
+            c.append.ensures.keeps.disk));
+        works = on_ok result (record {
+          works = λ ended. still_works c.in_ok-append.ensures.keeps.ends may.works
+              (c.set_committed.ensures.ended.0 ended);
+          count = counts_appended c.steps_leave.ensures old.core c.after.new.self d due
+              c.requires.done c.in_ok-due.ensures.after
+              ∙ ap (λ (k : ℕ). k + 1) may.count ∙ sym (ap (λ (l : LookUps). l.count) told)
+              ∙ sym (ap (λ (l : LookUps). l.count) known);
+          kept = keeps_kept c.steps_leave.ensures old.core c.after.new.self d due
+              c.in_ok-due.ensures.after
+              ∙ may.kept ∙ sym (ap (λ (l : LookUps). l.facts.kept) told)
+              ∙ sym (ap (λ (l : LookUps). l.facts.kept) known);
+          committed = sym c.committed.ensures.same
+              ∙ sym (ap (λ (l : LookUps). l.committed) known);
+        });
+        limits = ap (λ (l : LookUps). l.limits) known ∙ ap (λ (l : LookUps). l.limits) told;
+      };
+      ends = λ x n input any r.
+          let a = done_of x n batch d in
+          let has = c.requires.done in
+          let new = c.after.new.self in
+          let leaves = c.steps_leave.ensures x n batch d in
+          let follows = subst (λ (y : ℕ). core.CoreFollows new (done_of y n batch d) due) r.id
+          (c.in_ok-due.ensures.after n batch r.core) in
+          let holds = (c.in_ok-append.ensures.appended n.list).holds r.store in
+          let facts = ap (λ (l : LookUps). l.facts) known ∙ ap (λ (l : LookUps). l.facts) told in
+          let runs = goes_on g.D.Disk old _ x n batch d a leaves r
+          (list_after_is g.D.Disk c.set_committed.new.self n batch d has
+          (c.set_committed.ensures.holds (n.list ++ batch ∷ []) holds)) facts follows.is
+          (c.in_ok-due.ensures.same ∙ r.id) in
+          let moments = subst (λ disk. AlwaysRefines g.D.Disk (disk_of old) disk x n a.node)
+          (sym c.set_committed.ensures.disk)
+          (appends g.D.Disk old (engine_disk c.append.new.self) x n batch d a leaves has r
+          (c.append.ensures.any_moment n.list r.store)) in
+          let number : new.count ≡ suc (length n.list) =
+          sym follows.is.count ∙ number_taken x n batch d a leaves has in
+          let there = taken_stands c.stands_last.ensures x n batch d a new.count leaves has number
+          in
+          let acks = c.acks_after-acks.result in
+          let ids = sym r.core.ids ∙ sym (leaves.ids ∙ same_ids n d) in
+          let tail : acks ≡ acks_after d (is_tail a.node.ids x) = c.acks_after-acks.ensures
+          ∙ ap (λ l. acks_after d (is_tail l old.core.id)) ids
+          ∙ ap (λ y. acks_after d (is_tail a.node.ids y)) r.id in
+          let sent : ℕ → List (Message BatchContent) = λ y.
+          forward y a.node new.count ++ (if acks then ack y a.node else []) in
+          let frames = ap (λ k. forward x a.node k ++ (if acks then ack x a.node else [])) number
+          ∙ frames_of x n a.node d acks has tail in
+          ends_rule g.D.Disk old _ x n input batch d a due c.deref.result.now sent result moments
+          leaves (record { runs = runs; replied = follows.replied }) c.deref.ensures.value frames
+          (c.output_of_append.ensures.says a.node follows.is there)
+          c.output_of_append.ensures.memory;
+    }

@@ -1,5 +1,5 @@
 use Rattle.engine.specs.KeepingLemmas.{kept_as}
-use Rattle.node.proofs.Running.{device_told}
+use Rattle.node.proofs.Causes.{device_told}
 use Rattle.node.proofs.node.Node.create.Goals as goal
 
 -- what the engine keeps of its disk, a refusal does

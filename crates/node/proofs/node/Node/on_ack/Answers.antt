@@ -10,18 +10,11 @@ use Rattle.engine.specs.{LookUps}
 use Rattle.node.specs.Outputs.{AlwaysRefines}
 use Rattle.node.specs.Steps.{disk_of}
 use Rattle.node.proofs.Outputs.{greater}
-use Rattle.node.proofs.Running.{at_rest, counts_told, ends_rule, ends_stopped, goes_on}
-use Rattle.node.proofs.Running.{keeps_kept, on_ok}
+use Rattle.node.proofs.Causes.{memory_told, on_ok, only_memory}
+use Rattle.node.proofs.Counts.{counts_told, keeps_kept}
+use Rattle.node.proofs.Ends.{ends_rule, ends_stopped}
+use Rattle.node.proofs.Running.{at_rest, goes_on, keeps_same}
 use Rattle.node.proofs.node.Node.on_ack.Goals as goal
-
--- nothing has changed
-pub returns-in_err-due-clause-ends : goal.returns-in_err-due-clause-ends
-returns-in_err-due-clause-ends g c = λ x n input r.
-    let a = on_ack x n c.args.committed c.args.have in
-    let p = err_from_is_err_and c.from_residual.result c.from_residual.ensures.1 in
-    let old = c.args.self.now in
-    ends_stopped g.D.Disk old _ x n a _ c.from_residual.result p.0 p.1 (inr p.2) r.honest
-    (at_rest g.D.Disk old x n a.node r)
 
 -- no fewer batches are committed, and no more than there are
 pub set_committed-requires : goal.set_committed-requires
@@ -35,48 +28,71 @@ set_committed-requires g c =
       omega (arith, ordered, c.committed-2.ensures.same, count, may.count),
     )
 
--- as many batches are counted as before, and none was given up
-pub returns-clause-works : goal.returns-clause-works
-returns-clause-works g c =
-    let may = c.requires.may in
-    let old = c.args.self.now.core in
-    let due = c.in_ok-due.due.items in
-    let count = counts_told c.steps_leave.ensures old c.after.new.self c.args.committed c.args.have
-    due c.in_ok-due.ensures.after in
-    let kept = keeps_kept c.steps_leave.ensures old c.after.new.self
-    (done.Acked c.args.committed c.args.have) due c.in_ok-due.ensures.after in
-    let told = c.set_committed.ensures.told in
-    on_ok c.output_of.result (record {
-      works = λ ended. may.works (c.set_committed.ensures.ended.0 ended);
-      count = count ∙ may.count ∙ sym (ap (λ (l : LookUps). l.count) told);
-      kept = kept ∙ may.kept ∙ sym (ap (λ (l : LookUps). l.facts.kept) told);
-      committed = sym c.committed-2.ensures.same ∙ sym (ap (λ (l : LookUps). l.committed) told);
-    })
+-- nothing has changed
+pub returns-in_err-due-clause-followed : goal.returns-in_err-due-clause-followed
+returns-in_err-due-clause-followed g c =
+    let result = c.from_residual.result in
+    let err = c.from_residual.ensures.1 in
+    record {
+      kept = record {
+        disk = keeps_same g.D.Disk _ _ result refl (memory_told result err);
+        works = rw (err_from_is_err_and result err).1 tt;
+        limits = refl;
+      };
+      ends = λ x n input any r.
+          let a = on_ack x n c.args.committed c.args.have in
+          let p = err_from_is_err_and c.from_residual.result c.from_residual.ensures.1 in
+          let old = c.args.self.now in
+          ends_stopped g.D.Disk old _ x n a _ c.from_residual.result p.0 p.1 (inr p.2) r.honest
+          (at_rest g.D.Disk old x n a.node r);
+    }
 
 -- the successor's report is passed on where more is committed
-pub returns-clause-ends : goal.returns-clause-ends
-returns-clause-ends g c = λ x n input r.
-    let old = c.args.self.now in
-    let d = done.Acked c.args.committed c.args.have in
-    let a = on_ack x n c.args.committed c.args.have in
-    let leaves = c.steps_leave.ensures x n [] d in
-    let due = c.in_ok-due.due.items in
-    let follows = subst (λ (y : ℕ). core.CoreFollows c.after.new.self (done_of y n [] d) due) r.id
-    (c.in_ok-due.ensures.after n [] r.core) in
-    let runs = goes_on g.D.Disk old _ x n [] d a leaves r
-    (c.set_committed.ensures.holds n.list r.store)
-    (ap (λ (l : LookUps). l.facts) c.set_committed.ensures.told) follows.is
-    (c.in_ok-due.ensures.same ∙ r.id) in
-    let told : Bool → List (Message BatchContent) = λ acks. if acks then ack x a.node else [] in
-    let sent : ℕ → List (Message BatchContent) =
-    λ y. if c.gt-grows.result then ack y a.node else [] in
-    let none : AreFrames c.new.result.items [] = rw c.new.ensures.items refl in
-    let grows : c.gt-grows.result ≡ nat_lt n.committed c.args.committed =
-    c.gt-grows.ensures ∙ greater c.args.committed c.committed.result
-    ∙ ap (λ k. nat_lt k c.args.committed) (c.committed.ensures.same ∙ sym r.core.committed) in
-    let moments = subst (λ disk. AlwaysRefines g.D.Disk (disk_of old) disk x n a.node)
-    (sym c.set_committed.ensures.disk) (at_rest g.D.Disk old x n a.node r) in
-    ends_rule g.D.Disk old _ x n input [] d a due c.deref.result.now sent c.output_of.result
-    moments leaves (record { runs = runs; replied = follows.replied })
-    c.deref.ensures.value (ap told grows)
-    (c.output_of.ensures.says a.node [] runs.core none) c.output_of.ensures.memory
+pub returns-clause-followed : goal.returns-clause-followed
+returns-clause-followed g c = record {
+  kept = record {
+    disk = keeps_same g.D.Disk _ _ c.output_of.result c.set_committed.ensures.disk
+        (only_memory c.output_of.result c.output_of.ensures.memory);
+    works =
+        let may = c.requires.may in
+        let old = c.args.self.now.core in
+        let due = c.in_ok-due.due.items in
+        let count = counts_told c.steps_leave.ensures old c.after.new.self c.args.committed
+        c.args.have due c.in_ok-due.ensures.after in
+        let kept = keeps_kept c.steps_leave.ensures old c.after.new.self
+        (done.Acked c.args.committed c.args.have) due c.in_ok-due.ensures.after in
+        let told = c.set_committed.ensures.told in
+        on_ok c.output_of.result (record {
+          works = λ ended. may.works (c.set_committed.ensures.ended.0 ended);
+          count = count ∙ may.count ∙ sym (ap (λ (l : LookUps). l.count) told);
+          kept = kept ∙ may.kept ∙ sym (ap (λ (l : LookUps). l.facts.kept) told);
+          committed = sym c.committed-2.ensures.same ∙ sym (ap (λ (l : LookUps). l.committed) told);
+        });
+    limits = ap (λ (l : LookUps). l.limits) c.set_committed.ensures.told;
+  };
+  ends = λ x n input any r.
+      let old = c.args.self.now in
+      let d = done.Acked c.args.committed c.args.have in
+      let a = on_ack x n c.args.committed c.args.have in
+      let leaves = c.steps_leave.ensures x n [] d in
+      let due = c.in_ok-due.due.items in
+      let follows = subst (λ (y : ℕ). core.CoreFollows c.after.new.self (done_of y n [] d) due) r.id
+      (c.in_ok-due.ensures.after n [] r.core) in
+      let runs = goes_on g.D.Disk old _ x n [] d a leaves r
+      (c.set_committed.ensures.holds n.list r.store)
+      (ap (λ (l : LookUps). l.facts) c.set_committed.ensures.told) follows.is
+      (c.in_ok-due.ensures.same ∙ r.id) in
+      let told : Bool → List (Message BatchContent) = λ acks. if acks then ack x a.node else [] in
+      let sent : ℕ → List (Message BatchContent) =
+      λ y. if c.gt-grows.result then ack y a.node else [] in
+      let none : AreFrames c.new.result.items [] = rw c.new.ensures.items refl in
+      let grows : c.gt-grows.result ≡ nat_lt n.committed c.args.committed =
+      c.gt-grows.ensures ∙ greater c.args.committed c.committed.result
+      ∙ ap (λ k. nat_lt k c.args.committed) (c.committed.ensures.same ∙ sym r.core.committed) in
+      let moments = subst (λ disk. AlwaysRefines g.D.Disk (disk_of old) disk x n a.node)
+      (sym c.set_committed.ensures.disk) (at_rest g.D.Disk old x n a.node r) in
+      ends_rule g.D.Disk old _ x n input [] d a due c.deref.result.now sent c.output_of.result
+      moments leaves (record { runs = runs; replied = follows.replied })
+      c.deref.ensures.value (ap told grows)
+      (c.output_of.ensures.says a.node [] runs.core none) c.output_of.ensures.memory;
+}

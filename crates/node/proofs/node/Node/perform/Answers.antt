@@ -1,83 +1,63 @@
-use Rattle.std.proofs.Common.{Ok, ℕ, subst}
-use Rattle.std.specs.Prelude.{IfOk}
-use Rattle.chain_model.specs.{ack_duplicate}
-use Rattle.chain_core.specs.{IsReadOf, rule_of}
+use Rattle.std.proofs.Common.{Ok, refl}
 use Rattle.chain_core.specs.declared.Decision.TheVariants as decision
-use Rattle.node.specs.Outputs.{OutputRefines}
-use Rattle.node.proofs.Running.{at_rest, ends, ends_as}
+use Rattle.node.proofs.Ends.{executes_as, executes_at_rest}
 use Rattle.node.proofs.node.Node.perform.Goals as goal
 
-pub returns-in-Accept-clause-ends : goal.returns-in-Accept-clause-ends
-returns-in-Accept-clause-ends g c = λ x n input read r.
-    ends_as g.D.Disk c.args.self.now c.accept.new.self x n input c.args.decision
-    (decision.Accept c.in-Accept.request c.in-Accept.batch) c.accept.result c.in-Accept.is
-    (c.accept.ensures.ends x n input r)
+-- what the rule promises is promised of the decision
+pub returns-in-Accept : goal.returns-in-Accept
+returns-in-Accept g c =
+    let e = c.append.ensures in
+    executes_as g.D.Disk c.args.self.now c.append.new.self c.args.decision
+    (decision.Accept c.in-Accept.request c.in-Accept.batch) c.append.result c.in-Accept.is
+    (record { kept = e.kept; ends = λ x n input read. e.ends x n input tt })
 
-pub returns-in-Append-clause-ends : goal.returns-in-Append-clause-ends
-returns-in-Append-clause-ends g c = λ x n input read r.
-    ends_as g.D.Disk c.args.self.now c.append.new.self x n input c.args.decision
-    (decision.Append c.in-Append.batch) c.append.result c.in-Append.is
-    (c.append.ensures.ends x n input r)
+pub returns-in-Append : goal.returns-in-Append
+returns-in-Append g c =
+    let e = c.append-in-Append.ensures in
+    executes_as g.D.Disk c.args.self.now c.append-in-Append.new.self c.args.decision
+    (decision.Append c.in-Append.batch) c.append-in-Append.result c.in-Append.is
+    (record { kept = e.kept; ends = λ x n input read. e.ends x n input tt })
 
-pub returns-in-OnAck-clause-ends : goal.returns-in-OnAck-clause-ends
-returns-in-OnAck-clause-ends g c = λ x n input read r.
-    ends_as g.D.Disk c.args.self.now c.on_ack.new.self x n input c.args.decision
+pub returns-in-OnAck : goal.returns-in-OnAck
+returns-in-OnAck g c =
+    executes_as g.D.Disk c.args.self.now c.on_ack.new.self c.args.decision
     (decision.OnAck c.in-OnAck.committed c.in-OnAck.have) c.on_ack.result c.in-OnAck.is
-    (c.on_ack.ensures.ends x n input r)
+    c.on_ack.ensures.followed
+
+pub returns-in-Read : goal.returns-in-Read
+returns-in-Read g c =
+    let it = c.in-Read in
+    executes_as g.D.Disk c.args.self.now c.read.new.self c.args.decision
+    (decision.Read it.request it.key it.at) c.read.result it.is c.read.ensures
+
+pub returns-in-Resend : goal.returns-in-Resend
+returns-in-Resend g c =
+    executes_as g.D.Disk c.args.self.now c.resend.new.self c.args.decision decision.Resend
+    c.resend.result c.in-Resend.is c.resend.ensures
 
 -- the output of a rule that changes nothing follows from the node's numbers and batches
-pub returns-in-AckDuplicate-clause-ends : goal.returns-in-AckDuplicate-clause-ends
-returns-in-AckDuplicate-clause-ends g c = λ x n input read r.
-    let tells = subst (λ (y : ℕ). IfOk c.ack_duplicate.result
-    (OutputRefines input (ack_duplicate y n))) r.id
-    (c.ack_duplicate.ensures.tells n input r.core) in
-    ends_as g.D.Disk c.args.self.now c.args.self.now x n input c.args.decision
-    decision.AckDuplicate c.ack_duplicate.result c.in-AckDuplicate.is
-    (ends g.D.Disk c.args.self.now c.args.self.now x n input (ack_duplicate x n)
-    c.ack_duplicate.result (at_rest g.D.Disk c.args.self.now x n n r) r
-    tells c.ack_duplicate.ensures.memory)
+pub returns-in-AckDuplicate : goal.returns-in-AckDuplicate
+returns-in-AckDuplicate g c =
+    let node = c.args.self.now in
+    let result = c.ack_duplicate.result in
+    executes_as g.D.Disk node node c.args.decision decision.AckDuplicate result
+    c.in-AckDuplicate.is
+    (executes_at_rest g.D.Disk node decision.AckDuplicate result c.requires.may (λ x n. refl)
+    (λ n input is. c.ack_duplicate.ensures.tells n input is) c.ack_duplicate.ensures.memory)
 
-pub returns-in-Read-clause-ends : goal.returns-in-Read-clause-ends
-returns-in-Read-clause-ends g c = λ x n input read r.
-    let it = c.in-Read in
-    let of_read = subst (λ d. IsReadOf n input d) it.is read in
-    ends_as g.D.Disk c.args.self.now c.read.new.self x n input c.args.decision
-    (decision.Read it.request it.key it.at) c.read.result it.is
-    (c.read.ensures.ends x n input of_read r)
-
-pub returns-in-Resend-clause-ends : goal.returns-in-Resend-clause-ends
-returns-in-Resend-clause-ends g c = λ x n input read r.
-    ends_as g.D.Disk c.args.self.now c.resend.new.self x n input c.args.decision
-    decision.Resend c.resend.result c.in-Resend.is (c.resend.ensures.ends x n input r)
-
-pub returns-in-Refuse-clause-ends : goal.returns-in-Refuse-clause-ends
-returns-in-Refuse-clause-ends g c = λ x n input read r.
+pub returns-in-Refuse : goal.returns-in-Refuse
+returns-in-Refuse g c =
+    let node = c.args.self.now in
     let known = decision.Refuse c.in-Refuse.request c.in-Refuse.refusal in
-    ends_as g.D.Disk c.args.self.now c.args.self.now x n input c.args.decision known
-    c.refuse.result c.in-Refuse.is (ends g.D.Disk c.args.self.now c.args.self.now x n input
-    (rule_of x n known) c.refuse.result
-    (at_rest g.D.Disk c.args.self.now x n n r) r
-    (c.refuse.ensures.tells n input) c.refuse.ensures.memory)
+    executes_as g.D.Disk node node c.args.decision known c.refuse.result c.in-Refuse.is
+    (executes_at_rest g.D.Disk node known c.refuse.result c.requires.may (λ x n. refl)
+    (λ n input is. c.refuse.ensures.tells n input) c.refuse.ensures.memory)
 
-pub returns-in-Drop-clause-ends : goal.returns-in-Drop-clause-ends
-returns-in-Drop-clause-ends g c = λ x n input read r.
+pub returns-in-Drop : goal.returns-in-Drop
+returns-in-Drop g c =
+    let node = c.args.self.now in
     let known = decision.Drop c.in-Drop.reason in
-    ends_as g.D.Disk c.args.self.now c.args.self.now x n input c.args.decision known
-    (Ok c.output_of_drop.result) c.in-Drop.is (ends g.D.Disk c.args.self.now c.args.self.now x n
-    input
-    (rule_of x n known) (Ok c.output_of_drop.result)
-    (at_rest g.D.Disk c.args.self.now x n n r) r
-    (c.output_of_drop.ensures n input) tt)
-
--- what the rule keeps of the node, the step does
-pub returns-in-Accept-clause-kept : goal.returns-in-Accept-clause-kept
-returns-in-Accept-clause-kept g c = c.accept.ensures.kept
-
-pub returns-in-Append-clause-kept : goal.returns-in-Append-clause-kept
-returns-in-Append-clause-kept g c = c.append.ensures.kept
-
-pub returns-in-Read-clause-kept : goal.returns-in-Read-clause-kept
-returns-in-Read-clause-kept g c = c.read.ensures.kept
-
-pub returns-in-Resend-clause-kept : goal.returns-in-Resend-clause-kept
-returns-in-Resend-clause-kept g c = c.resend.ensures.kept
+    let output = c.output_of_drop in
+    executes_as g.D.Disk node node c.args.decision known (Ok output.result) c.in-Drop.is
+    (executes_at_rest g.D.Disk node known (Ok output.result) c.requires.may (λ x n. refl)
+    (λ n input is. output.ensures n input) tt)

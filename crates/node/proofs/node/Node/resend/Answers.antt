@@ -5,30 +5,49 @@ use Rattle.chain_model.specs.{resend}
 use Rattle.engine.specs.{LookUps, engine_disk}
 use Rattle.node.specs.Outputs.{OutputRefines}
 use Rattle.node.specs.Stops.{IsEnvironmental}
-use Rattle.node.proofs.Running.{ends, ends_stopped, still_refines, still_runs}
+use Rattle.node.proofs.Ends.{ends, ends_stopped}
+use Rattle.engine.specs.KeepingLemmas.{answered, neither}
+use Rattle.node.proofs.Causes.{on_ok, only_memory, same_stop}
+use Rattle.node.proofs.Running.{kept_read, still_refines, still_runs}
 use Rattle.node.proofs.node.Node.resend.Goals as goal
 
 -- a batch could not be had
-pub returns-in_err-sent-clause-ends : goal.returns-in_err-sent-clause-ends
-returns-in_err-sent-clause-ends g c = λ x n input r.
-    let a = resend x n in
-    let p = err_from_is_err_and c.from_residual.result c.from_residual.ensures.1 in
+pub returns-in_err-sent : goal.returns-in_err-sent
+returns-in_err-sent g c =
     let old = c.args.self.now in
-    ends_stopped g.D.Disk old _ x n a _ c.from_residual.result p.0 p.1
-    (subst IsEnvironmental (sym p.2) (c.in_err-sent.ensures.sent n r.core r.store))
-    (c.resent.ensures.keeps.honest.1 r.honest)
-    (still_refines g.D.Disk old (engine_disk c.resent.new.engine) x n a.node r
-    (c.resent.ensures.still r.honest))
+    let read = c.in_err-sent.ensures.read in
+    let result = c.from_residual.result in
+    let p = err_from_is_err_and result c.from_residual.ensures.1 in
+    record {
+      kept = kept_read g.D.Disk old _ c.resent.result result c.requires c.resent.ensures.read refl
+          (same_stop c.resent.result c.in_err-sent.field-0.0 result c.in_err-sent.was
+          c.from_residual.ensures.1) (rw p.1 tt);
+      ends = λ x n input any r.
+          let a = resend x n in
+          ends_stopped g.D.Disk old _ x n a _ result p.0 p.1
+          (subst IsEnvironmental (sym p.2) (c.in_err-sent.ensures.sent n r.core r.store))
+          (read.keeps.honest.1 r.honest)
+          (still_refines g.D.Disk old (engine_disk c.resent.new.engine) x n a.node r
+          (read.still r.honest));
+    }
 
 -- the batches and what the node has are sent
-pub returns-clause-ends : goal.returns-clause-ends
-returns-clause-ends g c = λ x n input r.
+pub returns : goal.returns
+returns g c =
     let old = c.args.self.now in
-    let sent = c.in_ok-sent.ensures.sent n r.core r.store in
-    let runs = still_runs g.D.Disk old _ x n r sent.0
-    (ap (λ (l : LookUps). l.facts) c.resent.ensures.told) refl in
-    let tells = subst (λ (y : ℕ). IfOk c.output_of.result (OutputRefines input (resend y n))) r.id
-    (c.output_of.ensures.says n _ r.core sent.1) in
-    ends g.D.Disk old _ x n input (resend x n) c.output_of.result
-    (still_refines g.D.Disk old (engine_disk c.resent.new.engine) x n n r
-    (c.resent.ensures.still r.honest)) runs tells c.output_of.ensures.memory
+    let read = c.in_ok-sent.ensures.read in
+    let result = c.output_of.result in
+    record {
+      kept = kept_read g.D.Disk old _ c.resent.result result c.requires c.resent.ensures.read refl
+          (neither (answered c.resent.result c.in_ok-sent.was)
+          (only_memory result c.output_of.ensures.memory)) (on_ok result read.works);
+      ends = λ x n input any r.
+          let sent = c.in_ok-sent.ensures.sent n r.core r.store in
+          let runs = still_runs g.D.Disk old _ x n r sent.0
+          (ap (λ (l : LookUps). l.facts) read.told) refl in
+          let tells = subst (λ (y : ℕ). IfOk result (OutputRefines input (resend y n))) r.id
+          (c.output_of.ensures.says n _ r.core sent.1) in
+          ends g.D.Disk old _ x n input (resend x n) result
+          (still_refines g.D.Disk old (engine_disk c.resent.new.engine) x n n r
+          (read.still r.honest)) runs tells c.output_of.ensures.memory;
+    }

@@ -4,15 +4,16 @@ use Rattle.node.specs.Outputs.{AlwaysRefines}
 use Rattle.node.specs.Steps.{facts_for}
 use Rattle.node.specs.Stops.{IsEnvironmental}
 use Rattle.engine.specs.KeepingLemmas.{kept_as}
-use Rattle.node.proofs.Running.{device_told, env_of, not_for_files, started_from, started_or_memory}
+use Rattle.node.proofs.Causes.{device_told, env_of}
+use Rattle.node.proofs.Starts.{not_for_files, started_from, started_or_memory}
 use Rattle.node.proofs.node.Node.start.Goals as goal
 
 -- the machine that the files represent runs
 pub returns-in-Ok-clause-started : goal.returns-in-Ok-clause-started
 returns-in-Ok-clause-started g c = λ x n honest read.
     let opened = (c.in-Ok.ensures.opened (facts_for x n) n.list honest).whole read in
-    started_or_memory g.D.Disk c.run_opened.result x n
-    (c.run_opened.ensures.runs x n opened.holds opened.facts) c.run_opened.ensures.memory
+    started_or_memory g.D.Disk c.in-Ok.engine c.run_opened.result x n opened.holds opened.facts
+    c.run_opened.ensures.opened c.run_opened.ensures.memory
 
 pub returns-in-Err-clause-started : goal.returns-in-Err-clause-started
 returns-in-Err-clause-started g c = λ x n honest read.
@@ -38,7 +39,7 @@ returns-in-Ok-clause-still g c =
 pub returns-in-Ok-clause-told : goal.returns-in-Ok-clause-told
 returns-in-Ok-clause-told g c = λ honest.
     started_from g.D.Disk c.run_opened.result (contents (g.D.Disk.state c.args.disk)) c.in-Ok.engine
-    (c.in-Ok.ensures.told honest) c.run_opened.ensures.told c.run_opened.ensures.memory
+    (c.in-Ok.ensures.told honest) c.run_opened.ensures.opened c.run_opened.ensures.memory
 
 -- what the opened engine's disk leaves, the returned one does
 pub returns-in-Ok-clause-any_moment : goal.returns-in-Ok-clause-any_moment

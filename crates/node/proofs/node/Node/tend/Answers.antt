@@ -4,9 +4,9 @@ use Rattle.chain_model.specs.{silent}
 use Rattle.engine.specs.KeepingLemmas.{answered, kept_as, neither}
 use Rattle.engine.specs.{LookUps, engine_disk}
 use Rattle.node.specs.Stops.{IsEnvironmental}
-use Rattle.node.proofs.Running.{done_told, ends_stopped, env_of, still_runs, still_works}
-use Rattle.node.proofs.Running.{stop_passed}
-use Rattle.node.proofs.Running.{tends}
+use Rattle.node.proofs.Causes.{done_told, env_of, still_works, stop_passed}
+use Rattle.node.proofs.Ends.{ends_stopped}
+use Rattle.node.proofs.Running.{still_runs, tends}
 use Rattle.node.proofs.node.Node.tend.Goals as goal
 
 -- the store stopped, and a crash leaves its list

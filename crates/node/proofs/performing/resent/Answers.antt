@@ -1,16 +1,17 @@
 use Rattle.std.proofs.Common.{rules, ◌≡◌, ◌+◌, ◌-◌, ◌<◌, ◌++◌, suc, ap, ◌∙◌, sym, subst, arith, inr}
 use Rattle.std.proofs.Common.{refl}
 use Rattle.std.specs.Prelude.{option_to_list}
+use Rattle.std.proofs.lemmas.Result.{err_from_is_err_and}
 use Rattle.chain_model.specs.{forward, forwards}
 use Rattle.chain_core.specs.{AreFrames}
-use Rattle.engine.specs.KeepingLemmas.{answered, kept_as, kept_behind, neither, same_files}
-use Rattle.engine.specs.KeepingLemmas.{same_then_same, unchanged}
+use Rattle.engine.specs.KeepingLemmas.{answered, neither}
 use Rattle.engine.specs.{LookUps}
 use Rattle.node.specs.Stops.{IsEnvironmental}
-use Rattle.node.proofs.Running.{done_told, env_of, memory_told, refuses, still_works, stop_passed}
+use Rattle.node.proofs.Causes.{done_told, env_of, memory_told, refuses, still_works}
+use Rattle.node.proofs.Causes.{stop_passed}
+use Rattle.node.proofs.Running.{read_more, unread}
 use Rattle.node.proofs.Outputs.{both_sent, made_of}
-use Rattle.disk.specs.StillLemmas.{still, still_more}
-use Rattle.node.proofs.node.resent.Goals as goal
+use Rattle.node.proofs.performing.resent.Goals as goal
 
 -- the log has the batch
 pub batch-requires : goal.batch-requires
@@ -22,8 +23,8 @@ batch-requires g c =
     c.unwrap-number.ensures in
     let inside : numbers.result.start < numbers.result.end =
     omega (arith, c.loop-number.auto.number, c.loop-number-test.true) in
-    let count = ap (λ (l : LookUps). l.count) was.told in
-    let trimmed = ap (λ (l : LookUps). l.facts.kept) was.told in (
+    let count = ap (λ (l : LookUps). l.count) was.read.told in
+    let trimmed = ap (λ (l : LookUps). l.facts.kept) was.read.told in (
       omega (
         arith,
         made,
@@ -55,35 +56,32 @@ returns-in_err-push_some-clause-sent g c = λ n is holds.
     refuses c.from_residual-in_err-push_some.result _ IsEnvironmental
     c.from_residual-in_err-push_some.ensures.1 (inr refl)
 
--- the files are the same
-pub returns-in_err-batch-clause-keeps : goal.returns-in_err-batch-clause-keeps
-returns-in_err-batch-clause-keeps g c =
-    let failed = stop_passed c.batch.result c.in_err-batch.field-0.0 c.from_residual.result
-    c.in_err-batch.was c.from_residual.ensures.1 in
-    kept_behind g.D.Disk same_then_same c.loop-number.invariant.keeps (λ fails. fails)
-    (kept_as g.D.Disk failed (λ a b same. same) c.batch.ensures.keeps.disk)
+-- the engine was only read
+pub returns-in_err-batch-clause-read : goal.returns-in_err-batch-clause-read
+returns-in_err-batch-clause-read g c =
+    let result = c.from_residual.result in
+    read_more g.D.Disk c.args.engine.now c.loop-number.engine c.batch.new.self c.batch.result result
+    c.loop-number.invariant.read c.batch.ensures.keeps c.batch.ensures.told c.batch.ensures.still
+    (stop_passed c.batch.result c.in_err-batch.field-0.0 result c.in_err-batch.was
+    c.from_residual.ensures.1) (rw (err_from_is_err_and result c.from_residual.ensures.1).1 tt)
 
-pub returns-in_err-push_some-clause-keeps : goal.returns-in_err-push_some-clause-keeps
-returns-in_err-push_some-clause-keeps g c =
-    let told = memory_told c.from_residual-in_err-push_some.result
-    c.from_residual-in_err-push_some.ensures.1 in
-    kept_behind g.D.Disk same_then_same c.loop-number.invariant.keeps (λ fails. fails)
-    (kept_as g.D.Disk (neither (answered c.batch.result c.in_ok-batch.was) told)
-    (λ a b same. same) c.batch.ensures.keeps.disk)
+pub returns-in_err-push_some-clause-read : goal.returns-in_err-push_some-clause-read
+returns-in_err-push_some-clause-read g c =
+    let result = c.from_residual-in_err-push_some.result in
+    let err = c.from_residual-in_err-push_some.ensures.1 in
+    read_more g.D.Disk c.args.engine.now c.loop-number.engine c.batch.new.self c.batch.result result
+    c.loop-number.invariant.read c.batch.ensures.keeps c.batch.ensures.told c.batch.ensures.still
+    (neither (answered c.batch.result c.in_ok-batch.was) (memory_told result err))
+    (rw (err_from_is_err_and result err).1 tt)
 
-pub returns-clause-keeps : goal.returns-clause-keeps
-returns-clause-keeps g c =
-    kept_as g.D.Disk (neither (λ fails. fails) done_told) (λ a b same. same)
-    c.loop-number.invariant.keeps
+pub returns-clause-read : goal.returns-clause-read
+returns-clause-read g c = c.loop-number.invariant.read
 
 -- none was sent
 pub loop-number-init : goal.loop-number-init
 loop-number-init g c = record {
   reached = search rules;
-  told = refl;
-  works = c.requires.works;
-  still = λ honest. still _ _;
-  keeps = unchanged g.D.Disk same_files;
+  read = unread g.D.Disk c.args.engine.now c.new-sent.result c.requires.works;
   sent = λ n is holds.
       let none : c.resends-numbers.result.start - c.resends-numbers.result.start ≡ 0 =
       omega arith in
@@ -105,13 +103,10 @@ loop-number-preserved g c =
     let more : at + 1 - start ≡ suc m = omega (arith, c.loop-number.auto.number) in
     record {
       reached = search rules;
-      told = c.in_ok-batch.ensures.told ∙ was.told;
-      works = λ ended. still_works c.in_ok-batch.ensures.keeps.ends was.works ended;
-      still = λ honest.
-          still_more (was.still honest) (c.batch.ensures.still (was.keeps.honest.1 honest));
-      keeps = kept_behind g.D.Disk same_then_same was.keeps (λ fails. fails)
-          (kept_as g.D.Disk (neither (answered c.batch.result c.in_ok-batch.was) (λ fails. fails))
-          (λ a b same. same) c.batch.ensures.keeps.disk);
+      read = read_more g.D.Disk c.args.engine.now c.loop-number.engine c.batch.new.self
+          c.batch.result _ was.read c.batch.ensures.keeps c.batch.ensures.told
+          c.batch.ensures.still (neither (answered c.batch.result c.in_ok-batch.was) done_told)
+          (λ ended. still_works c.in_ok-batch.ensures.keeps.ends was.read.works ended);
       sent = λ n is holds.
           let before = was.sent n is holds in
           let made = made_of c.new.result _ at c.unwrap-number.result c.new.ensures
@@ -143,17 +138,3 @@ returns-clause-sent g c = λ n is holds.
     let whole = c.resends-numbers.ensures.all n is
     ∙ ap (λ k. forwards core.id n k (numbers.end - numbers.start)) is.successor_has in
     (was.0, subst (AreFrames at.sent.items) (sym whole) sent)
-
--- each batch leaves nothing new
-pub returns-in_err-batch-clause-still : goal.returns-in_err-batch-clause-still
-returns-in_err-batch-clause-still g c = λ honest.
-    let was = c.loop-number.invariant in
-    still_more (was.still honest) (c.batch.ensures.still (was.keeps.honest.1 honest))
-
-pub returns-in_err-push_some-clause-still : goal.returns-in_err-push_some-clause-still
-returns-in_err-push_some-clause-still g c = λ honest.
-    let was = c.loop-number.invariant in
-    still_more (was.still honest) (c.batch.ensures.still (was.keeps.honest.1 honest))
-
-pub returns-clause-still : goal.returns-clause-still
-returns-clause-still g c = λ honest. c.loop-number.invariant.still honest

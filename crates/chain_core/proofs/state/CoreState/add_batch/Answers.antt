@@ -6,7 +6,7 @@ use Rattle.chain_core.proofs.Queues.{raise}
 use Rattle.chain_core.specs.CoreState.{core_value}
 use Rattle.chain_core.proofs.Orders.{ordered_longer}
 use Rattle.chain_core.proofs.After.{follows_append, next_of}
-use Rattle.chain_core.proofs.state.CoreState.append.Goals as goal
+use Rattle.chain_core.proofs.state.CoreState.add_batch.Goals as goal
 
 pub invariant_of-self : goal.invariant_of-self
 invariant_of-self c =

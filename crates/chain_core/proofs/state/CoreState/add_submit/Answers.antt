@@ -1,5 +1,5 @@
 use Rattle.std.proofs.Common.{◌≡◌, ◌∷◌, [], ◌++◌, List, suc, refl, sym, ap, subst, ◌∙◌}
-use Rattle.std.proofs.Common.{arith}
+use Rattle.std.proofs.Common.{arith, rules}
 use Rattle.std.specs.Prelude.{if◌then◌else◌}
 use Rattle.chain_model.specs.{is_tail, accept}
 use Rattle.chain_core.specs.declared.pending_submit.PendingSubmit.{PendingSubmit}
@@ -10,7 +10,7 @@ use Rattle.chain_core.proofs.Queues.{behind_in_order, push_in_order, front_few, 
 use Rattle.chain_core.specs.CoreState.{core_value}
 use Rattle.chain_core.proofs.Orders.{ordered_longer}
 use Rattle.chain_core.proofs.After.{follows_accept, next_of}
-use Rattle.chain_core.proofs.state.CoreState.accept.Goals as goal
+use Rattle.chain_core.proofs.state.CoreState.add_submit.Goals as goal
 
 -- there are no more requests than numbers
 pub overflow_add-count_due : goal.overflow_add-count_due
@@ -50,36 +50,41 @@ invariant_of-self-2 c =
     ordered_longer (core_value c.self.inside) c.self.invariant number
     c.committed_with-committed.result c.move_due.new.pending.items next commits waits
 
-pub returns-clause-after : goal.returns-clause-after
-returns-clause-after c = λ n batch is.
-    let now = c.args.self.now in
-    let i = c.args.request in
-    let number = c.unwrap-number.result in
-    let asked : PendingSubmit = record { number = number; request = i } in
-    let committed = c.committed_with-committed.result in
-    let pending = c.move_due.new.pending.items in
-    let due = c.move_due.new.due.items in
-    let empty = c.reserve.ensures.items ∙ c.new-due.ensures.items in
-    let same = c.self.view_is in
-    let ordered = subst (λ (v : Core). IsInOrder 0 v.count v.pending) same
-    c.self.invariant.pending in
-    let next : number ≡ suc now.count =
-    next_of c.next.result _ c.self.inside.count now.count number c.next.ensures
-    c.unwrap-number.ensures (ap (λ (v : Core). v.count) same) in
-    let all : c.push_back.new.self.items ≡ now.pending ++ asked ∷ [] =
-    ◌∙◌ {A = List PendingSubmit} c.in_ok-push_back.ensures.items
-    (ap (λ (v : Core). v.pending ++ asked ∷ []) same) in
-    let out : due ≡ front committed (now.pending ++ asked ∷ []) =
-    c.move_due.ensures.due
-    ∙ (ap (λ (l : List PendingSubmit). l ++ front committed c.push_back.new.self.items) empty
-    ∙ ap (front committed) all) in
-    let left : pending ≡ behind committed (now.pending ++ asked ∷ []) =
-    c.move_due.ensures.pending ∙ ap (behind committed) all in
-    let new : Core → Core = λ v. record v {
-      count = number;
-      committed = committed;
-      pending = pending;
-    } in
-    subst (λ (v : Core). CoreFollows v (accept now.id n i batch) due) (sym (ap new same))
-    (follows_accept now n is i batch number committed next ordered
-    c.committed_with-committed.ensures pending due left out)
+pub returns : goal.returns
+returns c = record {
+  after = λ n batch is.
+      let now = c.args.self.now in
+      let i = c.args.request in
+      let number = c.unwrap-number.result in
+      let asked : PendingSubmit = record { number = number; request = i } in
+      let committed = c.committed_with-committed.result in
+      let pending = c.move_due.new.pending.items in
+      let due = c.move_due.new.due.items in
+      let empty = c.reserve.ensures.items ∙ c.new-due.ensures.items in
+      let same = c.self.view_is in
+      let ordered = subst (λ (v : Core). IsInOrder 0 v.count v.pending) same
+      c.self.invariant.pending in
+      let next : number ≡ suc now.count =
+      next_of c.next.result _ c.self.inside.count now.count number c.next.ensures
+      c.unwrap-number.ensures (ap (λ (v : Core). v.count) same) in
+      let all : c.push_back.new.self.items ≡ now.pending ++ asked ∷ [] =
+      ◌∙◌ {A = List PendingSubmit} c.in_ok-push_back.ensures.items
+      (ap (λ (v : Core). v.pending ++ asked ∷ []) same) in
+      let out : due ≡ front committed (now.pending ++ asked ∷ []) =
+      c.move_due.ensures.due
+      ∙ (ap (λ (l : List PendingSubmit). l ++ front committed c.push_back.new.self.items) empty
+      ∙ ap (front committed) all) in
+      let left : pending ≡ behind committed (now.pending ++ asked ∷ []) =
+      c.move_due.ensures.pending ∙ ap (behind committed) all in
+      let new : Core → Core = λ v. record v {
+        count = number;
+        committed = committed;
+        pending = pending;
+      } in
+      subst (λ (v : Core). CoreFollows v (accept now.id n i batch) due) (sym (ap new same))
+      (follows_accept now n is i batch number committed next ordered
+      c.committed_with-committed.ensures pending due left out);
+  rises = search rules;
+  same = search rules;
+  memory = search rules;
+}

@@ -1,0 +1,103 @@
+-- Causes for which a node stops, by the causes of its engine.
+use Rattle.std.proofs.Common.{◌≡◌, ◌↔◌, ℕ, ◌<◌, ◌≤◌, inl}
+use Rattle.std.proofs.Common.{inr}
+use Rattle.std.proofs.Common.{arith, refl, sym, ap, subst}
+use Rattle.std.specs.Prelude.{◌⊎◌, Result, Ok, Err, IfErr, IsErrAnd, MatchResult, OnOk}
+use Rattle.engine.specs.{FailsDevice, IsEngineExternal}
+use Rattle.engine.specs.{LookUps, IsReadableAnswer}
+use Rattle.engine.specs.declared.EngineError.TheVariants as engine
+use Rattle.kv_types.specs.declared.bounds.TheConstants.{MAX_NUMBER}
+use Rattle.engine.specs.declared.EngineError.{EngineError}
+use Rattle.node.specs.declared.stop.Stop.{Stop}
+use Rattle.node.specs.declared.stop.Stop.TheVariants as stop
+use Rattle.node.specs.Stops.{IsDeviceStop, IsEnvironmental, engine_stop}
+
+-- a property of every result holds of an answer
+pub on_ok : {T E P : Type 0} (result : Result T E) → P → OnOk result P
+on_ok (Ok x) p = p
+on_ok (Err e) p = tt
+
+-- an answer is no failure of the device
+pub done_told : {T : Type 0} {x : T} → IsDeviceStop (Ok x) → ⊥
+done_told fails = cc
+
+-- a call that is refused for memory alone is no failure of the device
+pub only_memory : {U : Type 0} (result : Result U Stop) → IfErr result (λ e. e ≡ stop.Memory) →
+    IsDeviceStop result → ⊥
+only_memory (Ok x) memory fails = cc
+only_memory (Err e) memory fails = cc
+
+-- nor is want of memory
+pub memory_told : {U : Type 0} (result : Result U Stop) →
+    IsErrAnd result (λ s. s ≡ stop.Memory) → IsDeviceStop result → ⊥
+memory_told (Ok x) told fails = absurd told
+memory_told (Err s) told fails = cc
+
+-- a refusal of the engine is passed on
+pub stop_passed : {T U : Type 0} (called : Result T EngineError) (e : EngineError)
+    (result : Result U Stop) → called ≡ Err e → IsErrAnd result (λ s. s ≡ engine_stop e) →
+    FailsDevice called ↔ IsDeviceStop result
+stop_passed called e (Ok x) is told = absurd told
+stop_passed called engine.Disk (Err s) is told = (λ f. ap (λ d. Err d) told, λ f. is)
+stop_passed called engine.Damaged (Err s) is told = (λ f. cc, λ f. cc)
+stop_passed called engine.Memory (Err s) is told = (λ f. cc, λ f. cc)
+stop_passed called engine.NotCreated (Err s) is told = (λ f. cc, λ f. cc)
+stop_passed called engine.Failed (Err s) is told = (λ f. cc, λ f. cc)
+stop_passed called engine.TooOld (Err s) is told = (λ f. cc, λ f. cc)
+stop_passed called engine.NotCommitted (Err s) is told = (λ f. cc, λ f. cc)
+stop_passed called engine.Exhausted (Err s) is told = (λ f. cc, λ f. cc)
+
+-- a stop is passed on
+pub same_stop : {T U : Type 0} (called : Result T Stop) (e : Stop) (result : Result U Stop) →
+    called ≡ Err e → IsErrAnd result (λ s. s ≡ e) → IsDeviceStop called ↔ IsDeviceStop result
+same_stop called e (Ok x) is told = absurd told
+same_stop called e (Err s) is told = (λ fails. cc, λ fails. cc)
+
+-- the cause that is told of an engine's is the disk exactly where that is
+pub device_told : (e : EngineError) (s : Stop) → s ≡ engine_stop e →
+    (e ≡ engine.Disk) ↔ (s ≡ stop.Disk)
+device_told engine.Disk s told = (λ f. told, λ f. refl)
+device_told engine.Damaged s told = (λ f. cc, λ f. cc)
+device_told engine.Memory s told = (λ f. cc, λ f. cc)
+device_told engine.NotCreated s told = (λ f. cc, λ f. cc)
+device_told engine.Failed s told = (λ f. cc, λ f. cc)
+device_told engine.TooOld s told = (λ f. cc, λ f. cc)
+device_told engine.NotCommitted s told = (λ f. cc, λ f. cc)
+device_told engine.Exhausted s told = (λ f. cc, λ f. cc)
+
+-- what holds of the cause holds of the refusal that tells it
+pub refuses : {T E : Type 0} (result : Result T E) {e : E} (P : T → Type 0) (Q : E → Type 0) →
+    IsErrAnd result (λ s. s ≡ e) → Q e → MatchResult result P Q
+refuses (Ok x) P Q told q = absurd told
+refuses (Err s) P Q told q = subst Q (sym told) q
+
+-- an engine that answered works on
+pub still_works : {ended was told : Type 0} → ended ↔ (was ⊎ told) → (was → ⊥) → ended → told
+still_works iff works ended = elim
+    (iff.0 ended) [ inl before ↦ absurd (works before) | inr now ↦ now ]
+
+-- an external refusal of an engine is a cause of the environment
+pub env_of : (e : EngineError) → IsEngineExternal e → IsEnvironmental (engine_stop e)
+env_of e (inl is) = inl (ap engine_stop is)
+env_of e (inr is) = inr (ap engine_stop is)
+
+-- a read of a number that the engine can read is refused for such a cause alone
+pub read_env : (T : Type 0) (told : LookUps) (at : ℕ) (e : EngineError) →
+    IsReadableAnswer {T = T} told at (Err e) → (e ≡ engine.Damaged → ⊥) → (e ≡ engine.Failed → ⊥) →
+    told.facts.floor ≤ at → at ≤ told.committed → IsEngineExternal e
+read_env T told at engine.Disk tells whole works above known = inl refl
+read_env T told at engine.Damaged tells whole works above known = absurd (whole refl)
+read_env T told at engine.Memory tells whole works above known = inr refl
+read_env T told at engine.NotCreated tells whole works above known = absurd tells
+read_env T told at engine.Failed tells whole works above known = absurd (works refl)
+read_env T told at engine.TooOld tells whole works above known =
+    absurd (omega (arith, tells, above))
+read_env T told at engine.NotCommitted tells whole works above known =
+    absurd (omega (arith, tells, known))
+read_env T told at engine.Exhausted tells whole works above known = absurd tells
+
+-- an append is refused for such a cause, where a number is left
+pub append_env : (e : EngineError) (count : ℕ) → IsEngineExternal e ⊎ ((e ≡ engine.Exhausted)
+    × (MAX_NUMBER ≤ count)) → count < MAX_NUMBER → IsEngineExternal e
+append_env e count (inl external) room = external
+append_env e count (inr full) room = absurd (omega (arith, full.1, room))

@@ -1,0 +1,158 @@
+-- Numbers, batches and facts of a node after the store's part of a step.
+use Rattle.std.proofs.Common.{◌≡◌, ℕ, ◌+◌, List, [], ◌∷◌, ◌++◌, length, true}
+use Rattle.std.proofs.Common.{suc, arith, Some, refl, sym, ap, ◌∙◌, Bool}
+use Rattle.std.specs.Prelude.{if◌then◌else◌}
+use Rattle.std.proofs.lemmas.List.{append-nil}
+use Rattle.std.proofs.Common.{replicate, length-append}
+use Rattle.std.proofs.lemmas.List.{length-replicate}
+use Rattle.kv_types.specs.{BatchContent}
+use Rattle.engine.specs.{Facts}
+use Rattle.chain_model.specs.{place, Answer, ack, forward, is_tail}
+use Rattle.chain_core.specs.declared.Done.{Done}
+use Rattle.chain_core.specs.declared.Done.TheVariants as done
+use Rattle.chain_core.specs.declared.PendingSubmit.{PendingSubmit}
+use Rattle.chain_core.specs.{Machine, Core, CoreRefines, waiting, done_of, StepLeaves}
+use Rattle.chain_core.specs.{StepsLeave, StandsLast, list_after}
+use Rattle.chain_core.specs.{frames_after, ids_after, kept_after}
+use Rattle.chain_core.specs as core
+use Rattle.node.specs.Steps.{facts_for}
+use Rattle.node.specs.Outputs.{HasAppended, acks_after}
+
+-- a machine with these numbers, and as many batches as they count
+abbrev pub machine_with : Core → Machine
+machine_with core = record {
+  list = replicate core.count [];
+  epoch = core.epoch;
+  ids = core.ids;
+  committed = core.committed;
+  floor = core.floor;
+  kept = core.kept;
+  successor_has = core.successor_has;
+  snapshots = core.snapshots;
+  pending = waiting core.pending;
+  running = true;
+}
+
+has_numbers : (core : Core) → CoreRefines core (machine_with core)
+has_numbers core = record {
+  epoch = refl;
+  ids = refl;
+  count = length-replicate core.count [];
+  committed = refl;
+  floor = refl;
+  kept = refl;
+  successor_has = refl;
+  snapshots = refl;
+  pending = refl;
+  running = refl;
+}
+
+pub appended_list : (n : Machine) (batch : BatchContent) (d : Done) → HasAppended d →
+    list_after n batch d ≡ n.list ++ batch ∷ []
+appended_list n batch (done.Accepted request) has = refl
+appended_list n batch done.Appended has = refl
+appended_list n batch (done.Acked committed have) has = absurd has
+
+-- the count after the store's part
+counted : StepsLeave → (old new : Core) (batch : BatchContent) (d : Done) (due : List PendingSubmit)
+    →
+    ((n : Machine) (batch : BatchContent) → CoreRefines old n →
+    core.CoreFollows new (done_of old.id n batch d) due) →
+    new.count ≡ length (list_after (machine_with old) batch d)
+counted law old new batch d due after =
+    let n = machine_with old in
+    sym (after n batch (has_numbers old)).is.count ∙ ap length (law old.id n batch d).list
+
+-- one batch more is counted where one was appended
+pub counts_appended : StepsLeave → (old new : Core) (d : Done) (due : List PendingSubmit) →
+    HasAppended d →
+    ((n : Machine) (batch : BatchContent) → CoreRefines old n →
+    core.CoreFollows new (done_of old.id n batch d) due) → new.count ≡ old.count + 1
+counts_appended law old new d due has after =
+    let n = machine_with old in
+    counted law old new [] d due after ∙ ap length (appended_list n [] d has)
+    ∙ length-append n.list ([] ∷ []) ∙ ap (λ k. k + 1) (length-replicate old.count [])
+
+-- as many batches as before are counted after a report of the successor
+pub counts_told : StepsLeave → (old new : Core) (committed have : ℕ) (due : List PendingSubmit) →
+    ((n : Machine) (batch : BatchContent) → CoreRefines old n →
+    core.CoreFollows new (done_of old.id n batch (done.Acked committed have)) due) →
+    new.count ≡ old.count
+counts_told law old new committed have due after =
+    counted law old new [] (done.Acked committed have) due after ∙ length-replicate old.count []
+
+same_kept : (n : Machine) (d : Done) → kept_after n d ≡ n.kept
+same_kept n (done.Accepted request) = refl
+same_kept n done.Appended = refl
+same_kept n (done.Acked committed have) = refl
+
+-- a step leaves the configuration
+pub same_ids : (n : Machine) (d : Done) → ids_after n d ≡ n.ids
+same_ids n (done.Accepted request) = refl
+same_ids n done.Appended = refl
+same_ids n (done.Acked committed have) = refl
+
+-- no batch was given up
+pub keeps_kept : StepsLeave → (old new : Core) (d : Done) (due : List PendingSubmit) →
+    ((n : Machine) (batch : BatchContent) → CoreRefines old n →
+    core.CoreFollows new (done_of old.id n batch d) due) → new.kept ≡ old.kept
+keeps_kept law old new d due after =
+    let n = machine_with old in
+    sym (after n [] (has_numbers old)).is.kept ∙ (law old.id n [] d).kept ∙ same_kept n d
+
+abbrev facts_with : (x e : ℕ) → List ℕ → (f k : ℕ) → Facts
+facts_with x e ids f k = record { id = x; epoch = e; ids = ids; floor = f; kept = k }
+
+-- equal numbers are equal facts
+facts_as : (x d e f h k l : ℕ) (ids js : List ℕ) → d ≡ e → ids ≡ js → f ≡ h → k ≡ l →
+    facts_with x d ids f k ≡ facts_with x e js h l
+facts_as x d e f h k l ids js of_epoch of_ids of_floor of_kept =
+    rw (of_epoch, of_ids, of_floor, of_kept) refl
+
+-- a step leaves the facts
+pub same_facts : (x : ℕ) (n : Machine) (batch : BatchContent) (d : Done)
+    (a : Answer BatchContent) → StepLeaves x n batch d a → facts_for x a.node ≡ facts_for x n
+same_facts x n batch (done.Accepted request) a leaves =
+    facts_as x a.node.epoch n.epoch a.node.floor n.floor a.node.kept n.kept a.node.ids n.ids
+    leaves.epoch leaves.ids leaves.floor leaves.kept
+same_facts x n batch done.Appended a leaves =
+    facts_as x a.node.epoch n.epoch a.node.floor n.floor a.node.kept n.kept a.node.ids n.ids
+    leaves.epoch leaves.ids leaves.floor leaves.kept
+same_facts x n batch (done.Acked committed have) a leaves =
+    facts_as x a.node.epoch n.epoch a.node.floor n.floor a.node.kept n.kept a.node.ids n.ids
+    leaves.epoch leaves.ids leaves.floor leaves.kept
+
+-- and one batch more, where one was appended
+pub list_is : (x : ℕ) (n : Machine) (batch : BatchContent) (d : Done) (a : Answer BatchContent) →
+    StepLeaves x n batch d a → HasAppended d → a.node.list ≡ n.list ++ batch ∷ []
+list_is x n batch d a leaves has = leaves.list ∙ appended_list n batch d has
+
+-- the number of an appended batch
+pub number_taken : (x : ℕ) (n : Machine) (batch : BatchContent) (d : Done)
+    (a : Answer BatchContent) →
+    StepLeaves x n batch d a → HasAppended d → length a.node.list ≡ suc (length n.list)
+number_taken x n batch d a leaves has =
+    omega (
+      arith,
+      ap length leaves.list,
+      ap length (appended_list n batch d has),
+      length-append n.list (batch ∷ []),
+    )
+
+-- the appended batch is at its number
+pub taken_stands : StandsLast → (x : ℕ) (n : Machine) (batch : BatchContent) (d : Done)
+    (a : Answer BatchContent) (count : ℕ) → StepLeaves x n batch d a → HasAppended d →
+    count ≡ suc (length n.list) → place a.node.list count ≡ Some batch
+taken_stands law x n batch d a count leaves has number =
+    ap (λ l. place l count) (leaves.list ∙ appended_list n batch d has)
+    ∙ ap (place (n.list ++ batch ∷ [])) number ∙ law n.list batch
+
+-- the appended batch is forwarded, and a tail acknowledges one of its predecessor
+pub frames_of : (x : ℕ) (old new : Machine) (d : Done) (acks : Bool) → HasAppended d →
+    acks ≡ acks_after d (is_tail new.ids x) →
+    forward x new (suc (length old.list)) ++ (if acks then ack x new else [])
+    ≡ frames_after x old d new
+frames_of x old new (done.Accepted request) acks has is =
+    rw is (append-nil (forward x new (suc (length old.list))))
+frames_of x old new done.Appended acks has is = rw is refl
+frames_of x old new (done.Acked committed have) acks has is = absurd has

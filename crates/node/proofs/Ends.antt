@@ -1,0 +1,112 @@
+-- Ends of steps.
+use Rattle.std.proofs.Common.{◌≡◌, ℕ, List}
+use Rattle.std.proofs.Common.{inr}
+use Rattle.std.proofs.Common.{map, None, refl, sym, subst}
+use Rattle.std.specs.Prelude.{Result, Ok, Err, IfOk, IfErr}
+use Rattle.kv_types.specs.{BatchContent}
+use Rattle.disk.specs.declared.Disk.{Ghosts}
+use Rattle.chain_model.specs.{Answer, Message}
+use Rattle.chain_core.specs.declared.Done.{Done}
+use Rattle.chain_core.specs.declared.Input.{Input}
+use Rattle.chain_core.specs.declared.PendingSubmit.{PendingSubmit}
+use Rattle.chain_core.specs.{Machine, rule_of, StepLeaves}
+use Rattle.chain_core.specs.{frames_after}
+use Rattle.chain_core.specs as core
+use Rattle.chain_core.specs.declared.Decision.{Decision}
+use Rattle.node.specs.declared.node.Node.{Node}
+use Rattle.node.specs.declared.output.Output.{Output}
+use Rattle.node.specs.declared.stop.Stop.{Stop}
+use Rattle.node.specs.declared.stop.Stop.TheVariants as stop
+use Rattle.node.specs.Steps.{NodeRefines, StepRefines, disk_of}
+use Rattle.node.specs.Stops.{IsEnvironmental}
+use Rattle.node.proofs.Outputs.{tells_rule}
+use Rattle.node.specs.Outputs.{OutputHas, OutputRefines, committed_reply, NodeFollows, CallRefines}
+use Rattle.node.specs.Outputs.{AlwaysRefines, ExecutesDecision}
+use Rattle.node.specs.Steps.{IsReady}
+use Rattle.chain_core.specs.{CoreRefines}
+use Rattle.node.proofs.Causes.{on_ok, only_memory}
+use Rattle.node.proofs.Running.{at_rest, keeps_same}
+
+module _ {D : Type 0} (g : Ghosts D) where
+  -- the output is the machine's answer, and for want of memory the node stops
+  pub ends : (old node : Node D g) (x : ℕ) (n : Machine) (input : Input)
+      (a : Answer BatchContent) (result : Result Output Stop) →
+      AlwaysRefines g (disk_of old) (disk_of node) x n a.node →
+      NodeRefines g.is_honest g.state node x a.node →
+      IfOk result (OutputRefines input a) → IfErr result (λ e. e ≡ stop.Memory) →
+      CallRefines g old node x n a (StepRefines g.is_honest g.state node x input a) result
+  ends old node x n input a (Ok output) moments r tells memory = record {
+    done = record {
+      runs = r;
+      dropped = tells.dropped;
+      frames = tells.frames;
+      replied = tells.replied;
+    };
+    honest = r.honest;
+    any_moment = moments;
+  }
+  ends old node x n input a (Err e) moments r tells memory = record {
+    done = inr memory;
+    honest = r.honest;
+    any_moment = moments;
+  }
+
+  -- the rule is that of the decision
+  pub executes_as : (old new : Node D g) (decision known : Decision) (result : Result Output Stop) →
+      decision ≡ known → ExecutesDecision g old new known result →
+      ExecutesDecision g old new decision result
+  executes_as old new decision known result is done =
+      subst (λ (d : Decision). ExecutesDecision g old new d result) (sym is) done
+
+  -- a rule that leaves the node as it is: its output follows from the node's numbers
+  pub executes_at_rest : (node : Node D g) (decision : Decision) (result : Result Output Stop) →
+      IsReady node → ((x : ℕ) (n : Machine) → (rule_of x n decision).node ≡ n) →
+      ((n : Machine) (input : Input) → CoreRefines node.core n →
+      IfOk result (OutputRefines input (rule_of node.core.id n decision))) →
+      IfErr result (λ e. e ≡ stop.Memory) → ExecutesDecision g node node decision result
+  executes_at_rest node decision result ready stays tells memory = record {
+    kept = record {
+      disk = keeps_same g (disk_of node) (disk_of node) result refl (only_memory result memory);
+      works = on_ok result ready;
+      limits = refl;
+    };
+    ends = λ x n input read r.
+        let same = sym (stays x n) in
+        ends node node x n input (rule_of x n decision) result
+        (subst (λ (m : Machine). AlwaysRefines g (disk_of node) (disk_of node) x n m) same
+        (at_rest g node x n n r))
+        (subst (λ (m : Machine). NodeRefines g.is_honest g.state node x m) same r)
+        (subst (λ (y : ℕ). IfOk result (OutputRefines input (rule_of y n decision))) r.id
+        (tells n input r.core)) memory;
+  }
+
+  -- the rule is that of the decision, also after the store's part
+  pub ends_rule : (old node : Node D g) (x : ℕ) (n : Machine) (input : Input)
+      (batch : BatchContent) (d : Done) (a : Answer BatchContent) (due told : List PendingSubmit)
+      (sent : ℕ → List (Message BatchContent)) (result : Result Output Stop) →
+      AlwaysRefines g (disk_of old) (disk_of node) x n a.node →
+      StepLeaves x n batch d a → NodeFollows g.is_honest g.state node x a due → told ≡ due →
+      sent x ≡ frames_after x n d a.node →
+      IfOk result (OutputHas None (sent node.core.id) (map committed_reply told)) →
+      IfErr result (λ e. e ≡ stop.Memory) →
+      CallRefines g old node x n a (StepRefines g.is_honest g.state node x input a) result
+  ends_rule old node x n input batch d a due told sent result moments leaves follows same frames
+      says memory =
+      let by_x = subst (λ (y : ℕ). IfOk result (OutputHas None (sent y) (map committed_reply told)))
+      follows.runs.id says in
+      let of_due = subst (λ (l : List PendingSubmit). IfOk result
+      (OutputHas None (sent x) (map committed_reply l)))
+      same by_x in
+      ends old node x n input a result moments follows.runs
+      (tells_rule x n input batch d a due (sent x) result leaves follows.replied frames of_due)
+      memory
+
+  -- a call that stops
+  pub ends_stopped : {T : Type 0} (old node : Node D g) (x : ℕ) (n : Machine) (a : Answer
+      BatchContent)
+      (IsDone : T → Type 0) (result : Result T Stop) (e : Stop) → result ≡ Err e →
+      IsEnvironmental e → g.is_honest (disk_of node) →
+      AlwaysRefines g (disk_of old) (disk_of node) x n a.node →
+      CallRefines g old node x n a IsDone result
+  ends_stopped old node x n a IsDone result e is machine honest moments =
+      rw is (record { done = machine; honest = honest; any_moment = moments })

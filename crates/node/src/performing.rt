@@ -1,0 +1,120 @@
+// The execution of a decision: what a node does by each rule of a step.
+ghost use Rattle.std.specs.Prelude.{◌≡◌, ◌<◌, ◌≤◌, IfErr, MatchResult};
+ghost use Rattle.kv_types.specs.declared.bounds.TheConstants.{MAX_NUMBER};
+ghost use Rattle.chain_model.specs.{forwards};
+ghost use Rattle.chain_core.specs.{AreFrames, CoreRefines, DecisionFitsCount, Machine, done_of};
+ghost use Rattle.engine.specs.{EngineHolds};
+ghost use Rattle.node.specs.Outputs.{ExecutesDecision, FollowsRule, HasAppended, IsOnlyRead};
+ghost use Rattle.node.specs.Steps.{AreInStep, IsReady, disk_of};
+ghost use Rattle.node.specs.Stops.{IsEnvironmental};
+
+use crate::replying::{
+    ack_duplicate, acks_after, output_of, output_of_append, output_of_drop, push_some, refuse,
+    value_output,
+};
+use crate::{Node, Output, Stop};
+use chain_core::laws::{one_by_one, stands_last, steps_leave};
+use chain_core::{CoreState, Decision, Done, Sent};
+use disk::Disk;
+use engine::Engine;
+use kv_types::{Batch, Key, Number};
+use std::alloc::Global;
+
+// The batches that a tick sends again, for the successor.
+fn resent<D: Disk + Drop>(
+    alloc: Global,
+    core: &CoreState,
+    engine: &mut Engine<D>,
+) -> Result<Vec<Sent>, Stop>
+    requires { AreInStep core.now engine.old }
+    ensures read { IsOnlyRead D.Disk engine.old engine.new result }
+    ensures sent { (n : Machine) → CoreRefines core.now n →
+        EngineHolds D.Disk engine.old n.list →
+        MatchResult result (λ sent. EngineHolds D.Disk engine.new n.list
+        × AreFrames sent.items (forwards core.now.id n n.successor_has 16)) IsEnvironmental }
+{
+    one_by_one(); // law: frames are sent one by one
+    let numbers = core.resends();
+    let mut sent = Vec::new(alloc);
+    for number in numbers.start..numbers.end {
+        let number = Number::new(number).unwrap();
+        let batch = engine.batch(alloc, number)?;
+        push_some(&mut sent, core.forward(number, batch))?;
+    }
+    Ok(sent)
+}
+
+impl<D: Disk + Drop> Node<D> {
+    // Appends a batch to the store, and then to the node's state. It is durable before it is
+    // forwarded, and a tail acknowledges a batch of its predecessor.
+    fn append(&mut self, alloc: Global, batch: Batch, done: Done) -> Result<Output, Stop>
+        requires may { IsReady self.old }
+        requires room { self.old.core.count < MAX_NUMBER }
+        requires done { HasAppended done }
+        ensures { FollowsRule D.Disk self.old self.new (λ n input. Unit {0})
+            (λ x n. done_of x n batch done) result }
+    {
+        // laws: what a step leaves of the machine, and the place of an appended batch
+        steps_leave();
+        stands_last();
+        let acks = acks_after(&self.core, &done);
+        self.engine.append(alloc, &batch)?;
+        let due = self.core.after(alloc, done)?;
+        self.engine.set_committed(self.core.committed());
+        output_of_append(alloc, &self.core, batch, acks, &due)
+    }
+
+    // Applies the successor's report, and reports to the predecessor if more is committed.
+    fn on_ack(&mut self, alloc: Global, committed: Number, have: Number) -> Result<Output, Stop>
+        requires may { IsReady self.old }
+        requires there { (committed ≤ have) × (have ≤ self.old.core.count) }
+        ensures disk { disk_of self.new ≡ disk_of self.old }
+        ensures memory { IfErr result (λ e. e ≡ Stop.Memory) }
+        ensures followed { ExecutesDecision D.Disk self.old self.new
+            (Decision.OnAck committed have) result }
+    {
+        steps_leave(); // law: what a step leaves of the machine
+        let grows = committed > self.core.committed();
+        let due = self.core.after(alloc, Done::Acked { committed, have })?;
+        self.engine.set_committed(self.core.committed());
+        output_of(alloc, &self.core, Vec::new(alloc), grows, &due)
+    }
+
+    // Sends again the batches that the successor may lack, and acknowledges again.
+    fn resend(&mut self, alloc: Global) -> Result<Output, Stop>
+        requires { IsReady self.old }
+        ensures { ExecutesDecision D.Disk self.old self.new Decision.Resend result }
+    {
+        let sent = resent(alloc, &self.core, &mut self.engine)?;
+        output_of(alloc, &self.core, sent, true, &[])
+    }
+
+    // Answers the client with the value of the key at a number.
+    fn read(&mut self, alloc: Global, request: Number, key: Key, at: Number) -> Result<Output, Stop>
+        requires { IsReady self.old }
+        ensures { ExecutesDecision D.Disk self.old self.new (Decision.Read request key at) result }
+    {
+        let value = self.engine.get(alloc, at, &key)?;
+        value_output(alloc, request, at, value)
+    }
+
+    // Executes a decision.
+    pub(crate) fn perform(&mut self, alloc: Global, decision: Decision) -> Result<Output, Stop>
+        requires may { IsReady self.old }
+        requires room { DecisionFitsCount self.old.core.count decision }
+        ensures { ExecutesDecision D.Disk self.old self.new decision result }
+    {
+        match decision {
+            Decision::Accept { request, batch } => {
+                self.append(alloc, batch, Done::Accepted { request })
+            }
+            Decision::Append { batch } => self.append(alloc, batch, Done::Appended),
+            Decision::AckDuplicate => ack_duplicate(alloc, &self.core),
+            Decision::OnAck { committed, have } => self.on_ack(alloc, committed, have),
+            Decision::Read { request, key, at } => self.read(alloc, request, key, at),
+            Decision::Resend => self.resend(alloc),
+            Decision::Refuse { request, refusal } => refuse(alloc, request, refusal),
+            Decision::Drop(reason) => Ok(output_of_drop(alloc, reason)),
+        }
+    }
+}
