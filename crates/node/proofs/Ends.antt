@@ -20,7 +20,7 @@ use Rattle.node.specs.declared.stop.Stop.TheVariants as stop
 use Rattle.node.specs.Steps.{NodeRefines, StepRefines, disk_of}
 use Rattle.node.specs.Stops.{IsEnvironmental}
 use Rattle.node.proofs.Outputs.{tells_rule}
-use Rattle.node.specs.Outputs.{OutputHas, OutputRefines, committed_reply, NodeFollows, CallRefines}
+use Rattle.node.specs.Outputs.{OutputHas, OutputRefines, committed_reply, CallRefines}
 use Rattle.node.specs.Outputs.{AlwaysRefines, ExecutesDecision}
 use Rattle.node.specs.Steps.{IsReady}
 use Rattle.chain_core.specs.{CoreRefines}
@@ -85,20 +85,20 @@ module _ {D : Type 0} (g : Ghosts D) where
       (batch : BatchContent) (d : Done) (a : Answer BatchContent) (due told : List PendingSubmit)
       (sent : ℕ → List (Message BatchContent)) (result : Result Output Stop) →
       AlwaysRefines g (disk_of old) (disk_of node) x n a.node →
-      StepLeaves x n batch d a → NodeFollows g.is_honest g.state node x a due → told ≡ due →
-      sent x ≡ frames_after x n d a.node →
+      StepLeaves x n batch d a → NodeRefines g.is_honest g.state node x a.node →
+      a.replies ≡ core.committed_responses due → told ≡ due → sent x ≡ frames_after x n d a.node →
       IfOk result (OutputHas None (sent node.core.id) (map committed_reply told)) →
       IfErr result (λ e. e ≡ stop.Memory) →
       CallRefines g old node x n a (StepRefines g.is_honest g.state node x input a) result
-  ends_rule old node x n input batch d a due told sent result moments leaves follows same frames
-      says memory =
+  ends_rule old node x n input batch d a due told sent result moments leaves runs replied same
+      frames says memory =
       let by_x = subst (λ (y : ℕ). IfOk result (OutputHas None (sent y) (map committed_reply told)))
-      follows.runs.id says in
+      runs.id says in
       let of_due = subst (λ (l : List PendingSubmit). IfOk result
       (OutputHas None (sent x) (map committed_reply l)))
       same by_x in
-      ends old node x n input a result moments follows.runs
-      (tells_rule x n input batch d a due (sent x) result leaves follows.replied frames of_due)
+      ends old node x n input a result moments runs
+      (tells_rule x n input batch d a due (sent x) result leaves replied frames of_due)
       memory
 
   -- a call that stops

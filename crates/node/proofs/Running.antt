@@ -1,5 +1,5 @@
 -- A running node after its store's part, and what its disk leaves.
-use Rattle.std.proofs.Common.{◌≡◌, ℕ, ◌+◌, List, [], ◌∷◌, ◌++◌, inl}
+use Rattle.std.proofs.Common.{◌≡◌, ℕ, List, [], ◌∷◌, ◌++◌, inl}
 use Rattle.std.proofs.Common.{inr}
 use Rattle.std.proofs.Common.{refl, sym, ap, subst, ◌∙◌}
 use Rattle.std.specs.Prelude.{◌⊎◌, ◌↔◌, Result, Ok, Err, OnOk}
@@ -20,9 +20,7 @@ use Rattle.chain_model.specs.{Answer}
 use Rattle.chain_core.specs.declared.Done.{Done}
 use Rattle.chain_core.specs.{Machine, Core, CoreRefines, StepLeaves}
 use Rattle.chain_core.specs.{list_after}
-use Rattle.chain_core.specs as core
 use Rattle.node.specs.declared.node.Node.{Node}
-use Rattle.node.specs.declared.stop.Stop.TheVariants as stop
 use Rattle.node.specs.Steps.{DiskRefines, NodeRefines, DiskAlwaysRefines, disk_of}
 use Rattle.node.specs.Steps.{IsReady, facts_for}
 use Rattle.node.specs.declared.stop.Stop.{Stop}

@@ -10,7 +10,6 @@ use Rattle.engine.specs.{EngineHolds, Facts}
 use Rattle.engine.specs.{OpensAs, facts_of, look_ups}
 use Rattle.chain_model.specs.{started}
 use Rattle.chain_core.specs.{Machine, CoreRefines}
-use Rattle.chain_core.specs as core
 use Rattle.node.specs.declared.node.Node.{Node}
 use Rattle.node.specs.declared.stop.Stop.{Stop}
 use Rattle.node.specs.declared.stop.Stop.TheVariants as stop

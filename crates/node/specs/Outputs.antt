@@ -3,7 +3,7 @@
 use Rattle.std.specs.Prelude.{◌≡◌, ◌⊎◌, ℕ, Bool, false, List, Option, Result, MatchResult, OnOk}
 use Rattle.kv_types.specs.{BatchContent}
 use Rattle.disk.specs.declared.Disk.{Ghosts}
-use Rattle.disk.specs.{AlwaysLeaves, IsSame, IsStill, KeepsDisk, State}
+use Rattle.disk.specs.{AlwaysLeaves, IsSame, IsStill, KeepsDisk}
 use Rattle.engine.specs.declared.Engine.{Engine}
 use Rattle.engine.specs.{HasEnded, IsNearlyFull, IsOwned, engine_disk, look_ups}
 use Rattle.chain_model.specs.{Message, Answer}
@@ -14,7 +14,6 @@ use Rattle.chain_core.specs.declared.Done.TheVariants as done
 use Rattle.chain_core.specs.declared.Input.{Input}
 use Rattle.chain_core.specs.declared.PendingSubmit.{PendingSubmit}
 use Rattle.chain_core.specs.{Machine, AreFrames, IsReadOf, rule_of}
-use Rattle.chain_core.specs as core
 use Rattle.node.specs.declared.node.Node.{Node}
 use Rattle.node.specs.declared.output.Output.{Output}
 use Rattle.node.specs.declared.output.Reply.{Reply}
@@ -50,12 +49,6 @@ abbrev pub acks_after : Done → Bool → Bool
 acks_after (done.Accepted request) tail = false
 acks_after done.Appended tail = tail
 acks_after (done.Acked committed have) tail = false
-
--- after the store's part, the node refines the machine of the rule, and these requests are due
-pub record NodeFollows {D : Type 0} {g : Ghosts D} (is_honest : D → Type 0) (state : D → State)
-    (new : Node D g) (x : ℕ) (a : Answer BatchContent) (due : List PendingSubmit) : Type 0 where
-  pub runs : NodeRefines is_honest state new x a.node
-  pub replied : a.replies ≡ core.committed_responses due
 
 -- a crash at any moment since the call began leaves the disk of machine n or of machine m
 abbrev pub AlwaysRefines : {D : Type 0} → Ghosts D → (old new : D) → ℕ → Machine → Machine → Type 0

@@ -153,7 +153,7 @@ returns g c =
           let frames = ap (λ k. forward x a.node k ++ (if acks then ack x a.node else [])) number
           ∙ frames_of x n a.node d acks has tail in
           ends_rule g.D.Disk old _ x n input batch d a due c.deref.result.now sent result moments
-          leaves (record { runs = runs; replied = follows.replied }) c.deref.ensures.value frames
+          leaves runs follows.replied c.deref.ensures.value frames
           (c.output_of_append.ensures.says a.node follows.is there)
           c.output_of_append.ensures.memory;
     }

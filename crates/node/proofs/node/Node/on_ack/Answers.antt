@@ -92,7 +92,6 @@ returns-clause-followed g c = record {
       let moments = subst (λ disk. AlwaysRefines g.D.Disk (disk_of old) disk x n a.node)
       (sym c.set_committed.ensures.disk) (at_rest g.D.Disk old x n a.node r) in
       ends_rule g.D.Disk old _ x n input [] d a due c.deref.result.now sent c.output_of.result
-      moments leaves (record { runs = runs; replied = follows.replied })
-      c.deref.ensures.value (ap told grows)
+      moments leaves runs follows.replied c.deref.ensures.value (ap told grows)
       (c.output_of.ensures.says a.node [] runs.core none) c.output_of.ensures.memory;
 }
