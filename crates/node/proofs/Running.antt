@@ -13,9 +13,9 @@ use Rattle.disk.specs.StillLemmas.{still}
 use Rattle.engine.specs.declared.Engine.{Engine}
 use Rattle.engine.specs.{EngineHolds, Facts, FailsDevice, FilesRepresent, IsEngineExternal, IsOneOf}
 use Rattle.engine.specs.{LookUps, OpensAs, IsReadableAnswer, facts_of, look_ups, raised_facts}
-use Rattle.engine.specs.declared.EngineError.TheVariants as engine
+use Rattle.engine.specs.EngineError.TheVariants as engine
 use Rattle.kv_types.specs.declared.bounds.TheConstants.{MAX_NUMBER}
-use Rattle.engine.specs.declared.EngineError.{EngineError}
+use Rattle.engine.specs.EngineError.{EngineError}
 use Rattle.chain_model.specs.{place, Answer, started, Message}
 use Rattle.chain_core.specs.declared.Done.{Done}
 use Rattle.chain_core.specs.declared.Done.TheVariants as done
