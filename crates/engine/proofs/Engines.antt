@@ -1,37 +1,47 @@
 -- An engine over the files that it holds, and what its calls keep.
 use Rattle.std.proofs.Common.{◌≡◌, ℕ, List, Result, Ok, Err, inl, inr, refl}
-use Rattle.std.proofs.Common.{sym, ap, subst, ◌∙◌, Bool, false}
+use Rattle.std.proofs.Common.{sym, ap, subst, ◌∙◌, Bool, false, true}
 use Rattle.std.specs.Prelude.{◌⊎◌, ◌↔◌, IfErr, IfOk, IsErrAnd, IsErrOf, IsTrue, MatchResult, OnOk}
 use Rattle.std.specs.Prelude.{is_err}
 use Rattle.kv_types.specs.declared.Limits.{Limits}
 use Rattle.kv_types.specs.{BatchContent}
 use Rattle.disk.specs.declared.Disk.{Ghosts}
-use Rattle.disk.specs.{AlwaysLeaves, Contents, DurableFileIsLeft, IsCrashOutcome, IsSame}
-use Rattle.disk.specs.{LeavesSince, OnlyLeaves, State, contents}
+use Rattle.disk.specs.{AlwaysLeaves, Contents, IsSame}
+use Rattle.disk.specs.{LeavesSince, OnlyLeaves, State}
 use Rattle.disk.specs.MomentsLemmas.{none_yet, weaker}
-use Rattle.manifest.specs.{HeldVersionIsLeft, HeldVersionStays}
 use Rattle.engine.specs.declared.engine.Engine.{Engine}
-use Rattle.engine.specs.declared.error.EngineError.{EngineError}
-use Rattle.engine.specs.declared.store_files.StoreFiles.{StoreFiles}
-use Rattle.engine.specs.declared.error.EngineError.TheVariants as engine
+use Rattle.store_files.specs.declared.error.EngineError.{EngineError}
+use Rattle.store_files.specs.declared.store_files.StoreFiles.{StoreFiles}
+use Rattle.store_files.specs.declared.error.EngineError.TheVariants as engine
 use Rattle.engine.specs.Calls.{ExplainsRefusal, ListFollows, IsAdrift, IsNoDamage}
 use Rattle.engine.specs.Calls.{IsOldOrNewSince, disk_after}
 use Rattle.engine.specs.Engines.{EngineHolds, EngineReads, EngineWasMeant, HasEnded, IsInMemory}
 use Rattle.engine.specs.Engines.{IsNearlyFull, LookUps, WasMeantInMemory, engine_disk, facts_of}
 use Rattle.engine.specs.Engines.{raised_facts}
-use Rattle.engine.specs.Errors.{EndsEngine, IsEnd, IsEngineExternal}
-use Rattle.engine.specs.Files.{Facts}
-use Rattle.engine.specs.OpenFiles.{FilesHold, OpeningRefusal, WereMeantToHold}
-use Rattle.engine.specs.StoreFiles.{FilesRepresent, IsOneOf, StillLeavesOneOf, WereMeant}
-use Rattle.engine.specs.StoreFiles.{WereOneOf}
-use Rattle.engine.specs.Tending.{TendMayFail}
-use Rattle.engine.proofs.Appended.{left_now}
-use Rattle.engine.proofs.Causes.{on_ok}
-use Rattle.engine.proofs.KeptFiles.{hold_in}
-use Rattle.engine.proofs.Meant.{still_meant}
-use Rattle.engine.proofs.MeantMoments.{CrashLaws, meant_now}
+use Rattle.store_files.specs.Errors.{EndsEngine, IsEnd, IsEngineExternal}
+use Rattle.store_files.specs.Files.{Facts}
+use Rattle.store_files.specs.HeldFiles.{HeldFilesAreLeft}
+use Rattle.store_files.specs.OpenFiles.{FilesHold, OpeningRefusal, WereMeantToHold}
+use Rattle.store_files.specs.StoreFiles.{FilesRepresent, IsOneOf, StillLeavesOneOf, WereMeant}
+use Rattle.store_files.specs.StoreFiles.{WereOneOf}
+use Rattle.store_files.specs.Tending.{TendMayFail}
 
 -- ---- what an answer says
+
+-- a refusal is none
+pub not_true : false ≡ true → ⊥
+not_true e = cc
+
+-- a property of every result holds of an answer
+pub on_ok : {T E P : Type 0} (result : Result T E) → P → OnOk result P
+on_ok (Ok x) p = p
+on_ok (Err e) p = tt
+
+-- what holds of the cause holds of the refusal that tells it
+pub refuses : {T E : Type 0} (result : Result T E) {e : E} (P : T → Type 0) (Q : E → Type 0) →
+    IsErrAnd result (λ s. s ≡ e) → Q e → MatchResult result P Q
+refuses (Ok x) P Q told q = absurd told
+refuses (Err s) P Q told q = subst Q (sym told) q
 
 -- an answer leaves an engine that works
 pub works_on_ok : {T : Type 0} (result : Result T EngineError) (ended : Bool) →
@@ -124,13 +134,6 @@ explains engine.Exhausted left told opens = told
 
 -- ---- an engine
 
--- what a crash leaves of the files that are named, and what a disk reads
-pub record LeftFiles : Type 0 where
-  pub reads : (disk : State) → IsCrashOutcome disk (contents disk)
-  pub durable : DurableFileIsLeft
-  pub version : HeldVersionIsLeft
-  pub stays : HeldVersionStays
-
 -- an engine that reads a list holds it in its files
 pub held_of : {D : Type 0} (g : Ghosts D) (engine : Engine D g) (list : List BatchContent) →
     EngineReads g engine list → FilesHold (g.state (engine_disk engine)) engine.store list
@@ -150,7 +153,7 @@ pub may_fail : {D : Type 0} (g : Ghosts D) (engine : Engine D g) →
 may_fail g engine (inl full) = inl (inr full)
 may_fail g engine (inr none) = inr (λ list r. none list r.honest (held_of g engine list r))
 
-module _ {D : Type 0} (g : Ghosts D) (laws : LeftFiles) where
+module _ {D : Type 0} (g : Ghosts D) (laws : HeldFilesAreLeft) where
   -- ---- what it holds
 
   is_inside : (engine : Engine D g) (list : List BatchContent) →
@@ -167,8 +170,7 @@ module _ {D : Type 0} (g : Ghosts D) (laws : LeftFiles) where
       record {
         honest = honest;
         works = works;
-        represents = left_now disk engine.store list held laws.durable laws.version (contents disk)
-            (laws.reads disk);
+        represents = laws.held.reads disk engine.store list held;
         count = held.known.count;
         inside = is_inside engine list held;
       }
@@ -178,8 +180,8 @@ module _ {D : Type 0} (g : Ghosts D) (laws : LeftFiles) where
       EngineHolds g engine list
   holds_of engine list r = record {
     reads = r;
-    crash = left_now (g.state (engine_disk engine)) engine.store list (held_of g engine list r)
-        laws.durable laws.version;
+    crash = laws.held.crash (g.state (engine_disk engine)) engine.store list
+        (held_of g engine list r);
   }
 
   -- ---- damaged tables
@@ -192,16 +194,11 @@ module _ {D : Type 0} (g : Ghosts D) (laws : LeftFiles) where
   unfolding WasMeantInMemory
   meant_of engine list honest works w =
       let disk = g.state (engine_disk engine) in
-      let moments : CrashLaws = record {
-        durable = laws.durable;
-        version = laws.version;
-        reads = laws.reads;
-      } in
       record {
         honest = honest;
         works = works;
-        represents = meant_now moments disk engine.store list w (contents disk) (laws.reads disk);
-        crash = meant_now moments disk engine.store list w;
+        represents = laws.meant.reads disk engine.store list w;
+        crash = laws.meant.crash disk engine.store list w;
         count = w.hold.known.count;
         inside = w;
       }
@@ -243,7 +240,7 @@ module _ {D : Type 0} (g : Ghosts D) (laws : LeftFiles) where
       FilesHold (g.state (engine_disk new)) new.store list
   stays_held old new list as_before honest held =
       subst (λ (s : StoreFiles). FilesHold (g.state (engine_disk new)) s list) (sym as_before.store)
-      (hold_in (g.state (engine_disk old)) (g.state (engine_disk new)) old.store list laws.stays
+      (laws.held.stays (g.state (engine_disk old)) (g.state (engine_disk new)) old.store list
       (as_before.same honest) held)
 
   pub reads_on : (old new : Engine D g) (list : List BatchContent) → IsAsBefore old new →
@@ -261,8 +258,8 @@ module _ {D : Type 0} (g : Ghosts D) (laws : LeftFiles) where
       (λ honest held. on_ok result (stays_held old new list as_before honest held))
       (λ honest w. on_ok result
       (subst (λ (s : StoreFiles). WereMeantToHold (g.state (engine_disk new)) s list)
-      (sym as_before.store) (still_meant (g.state (engine_disk old)) old.store list w
-      (g.state (engine_disk new)) (as_before.same honest))))
+      (sym as_before.store) (laws.meant.stays (g.state (engine_disk old))
+      (g.state (engine_disk new)) old.store list (as_before.same honest) w)))
 
   -- ---- moments
 

@@ -6,17 +6,17 @@ use Rattle.kv_types.specs.{BatchContent}
 use Rattle.disk.specs.declared.Disk.{Ghosts}
 use Rattle.disk.specs.{AlwaysLeaves, Contents, KeepsDisk, State}
 use Rattle.engine.specs.declared.engine.Engine.{Engine}
-use Rattle.engine.specs.declared.error.EngineError.{EngineError}
-use Rattle.engine.specs.declared.error.EngineError.TheVariants as engine
+use Rattle.store_files.specs.declared.error.EngineError.{EngineError}
+use Rattle.store_files.specs.declared.error.EngineError.TheVariants as engine
 use Rattle.engine.specs.Engines.{EngineHolds, EngineReads, EngineWasMeant, HasEnded, HasOnlyFiles}
 use Rattle.engine.specs.Engines.{LookUps, engine_disk, engine_files, facts_of, look_ups}
-use Rattle.engine.specs.declared.tended.Tended.{Tended}
-use Rattle.engine.specs.Errors.{EndsEngine, FailsDevice, IsEnd, IsEngineExternal}
-use Rattle.engine.specs.Tending.{IsTend, IsWorkAnswer}
+use Rattle.store_files.specs.declared.tended.Tended.{Tended}
+use Rattle.store_files.specs.Errors.{EndsEngine, FailsDevice, IsEnd, IsEngineExternal}
+use Rattle.store_files.specs.Tending.{IsTend, IsWorkAnswer}
 use Rattle.manifest.specs.{IsNotCreated}
-use Rattle.engine.specs.Files.{Facts, first_facts}
-use Rattle.engine.specs.StoreFiles.{FilesRepresent, HasFirstFiles, IsDamaged, IsOneOf, OpensAs}
-use Rattle.engine.specs.StoreFiles.{WereMeant}
+use Rattle.store_files.specs.Files.{Facts, first_facts}
+use Rattle.store_files.specs.StoreFiles.{FilesRepresent, HasFirstFiles, IsDamaged, IsOneOf, OpensAs}
+use Rattle.store_files.specs.StoreFiles.{WereMeant}
 
 -- ---- which reads are refused
 

@@ -8,16 +8,16 @@ use Rattle.disk.specs.{State, EndsOutOfRange, OnlyLeaves, contents, seen}
 use Rattle.record_log.specs.declared.log.TheConstants.{MAX_RECORD}
 use Rattle.table_files.specs.{inner_disk}
 use Rattle.engine.specs.declared.engine.Engine.{Engine}
-use Rattle.engine.specs.Files.{Facts}
+use Rattle.store_files.specs.Files.{Facts}
 use Rattle.manifest.specs.{HasFullSlot}
-use Rattle.engine.specs.BatchLogs.{HasFullLog, newest_file}
-use Rattle.engine.specs.LevelTables.{level_count}
-use Rattle.engine.specs.OpenFiles.{FilesHold, WereMeantToHold, batch_count, known_facts}
-use Rattle.engine.specs.OpenFiles.{known_version}
-use Rattle.engine.specs.Openings.{kept_files}
-use Rattle.engine.specs.Settling.{AreAlone}
-use Rattle.engine.specs.StoreFiles.{FilesRepresent, WereMeant}
-use Rattle.engine.specs.Tending.{tended_files}
+use Rattle.store_files.specs.BatchLogs.{HasFullLog, newest_file}
+use Rattle.store_files.specs.LevelTables.{level_count}
+use Rattle.store_files.specs.OpenFiles.{FilesHold, WereMeantToHold, batch_count, known_facts}
+use Rattle.store_files.specs.OpenFiles.{known_version}
+use Rattle.store_files.specs.Openings.{kept_files}
+use Rattle.store_files.specs.Settling.{AreAlone}
+use Rattle.store_files.specs.StoreFiles.{FilesRepresent, WereMeant}
+use Rattle.store_files.specs.Tending.{tended_files}
 
 -- ---- what an engine tells
 

@@ -1,17 +1,15 @@
 //! One node's store.
 ghost use Rattle.std.specs.Prelude.{◌≡◌, IfOk, IfErr, false};
 ghost use Rattle.table_files.specs.{inner_disk};
-ghost use Rattle.engine.specs.OpenFiles.{AreCounted, AreUsableFiles};
-ghost use Rattle.engine.specs.UsableProps.{props};
+ghost use Rattle.store_files.specs.OpenFiles.{AreCounted, AreUsableFiles};
+ghost use Rattle.store_files.specs.UsableProps.{props};
 
-use crate::store_files::StoreFiles;
-use crate::{EngineError, Tended};
 use configurations::{Config, Epoch, NodeId};
-use disk::laws::{durable_file_is_left, reads_are_outcomes};
 use disk::{Crash, Disk, Fault};
 use kv_types::{Batch, Key, Limits, Number, Value};
-use manifest::laws::held_versions_are_left;
 use std::alloc::Global;
+use store_files::laws::held_files_are_left;
+use store_files::{EngineError, StoreFiles, Tended};
 use table_files::Files;
 
 /// A store of batches on a disk, which it owns. The batches are numbered from 1.
@@ -62,11 +60,11 @@ impl<D: Disk + Drop> Engine<D> {
     ghost use Rattle.engine.specs.Engines.{engine_disk, engine_files, facts_of, files_of_tend};
     ghost use Rattle.engine.specs.Engines.{look_ups, newest_log_file, raised_facts};
     ghost use Rattle.engine.specs.Engines.{table_count, with_one_more, with_committed};
-    ghost use Rattle.engine.specs.Errors.{IsEngineExternal};
-    ghost use Rattle.engine.specs.Files.{Facts, IsOwned};
-    ghost use Rattle.engine.specs.Settling.{AreReadAlike};
-    ghost use Rattle.engine.specs.StoreFiles.{StillLeavesOneOf, WereOneOf};
-    ghost use Rattle.engine.specs.Tending.{IsSameBeside};
+    ghost use Rattle.store_files.specs.Errors.{IsEngineExternal};
+    ghost use Rattle.store_files.specs.Files.{Facts, IsOwned};
+    ghost use Rattle.store_files.specs.Settling.{AreReadAlike};
+    ghost use Rattle.store_files.specs.StoreFiles.{StillLeavesOneOf, WereOneOf};
+    ghost use Rattle.store_files.specs.Tending.{IsSameBeside};
 
     /// Creates a store without batches on a disk, whose files are all removed first. A refusal
     /// returns the disk, with any files.
@@ -84,10 +82,7 @@ impl<D: Disk + Drop> Engine<D> {
             (λ refused. IsEngineExternal refused.0) }
         ensures begun { IfOk result (IsNewEngine id config.now limits.now) }
     {
-        // laws: what a crash leaves of the files that are named, and what a disk reads
-        held_versions_are_left();
-        durable_file_is_left();
-        reads_are_outcomes();
+        held_files_are_left(); // law: what the disk of open files reads as, and leaves
         let mut files = files_over(alloc, disk, limits)?;
         match StoreFiles::create(alloc, &mut files, id, config) {
             Ok(store) => Ok(Engine {
@@ -127,10 +122,7 @@ impl<D: Disk + Drop> Engine<D> {
         ensures still { IfErr result (λ refused. (IsEngineExternal refused.0 → ⊥) →
             IsStill D.Disk disk refused.1) }
     {
-        // laws: what a crash leaves of the files that are named, and what a disk reads
-        held_versions_are_left();
-        durable_file_is_left();
-        reads_are_outcomes();
+        held_files_are_left(); // law: what the disk of open files reads as, and leaves
         let mut files = files_over(alloc, disk, limits)?;
         match StoreFiles::open(alloc, &mut files) {
             Ok(store) => {
@@ -186,10 +178,7 @@ impl<D: Disk + Drop> Engine<D> {
             IsOldOrNewSince D.Disk (engine_disk self.old) (engine_disk self.new)
             (facts_of self.old) list (facts_of self.old) (list ++ batch.now ∷ []) }
     {
-        // laws: what a crash leaves of the files that are named, and what a disk reads
-        held_versions_are_left();
-        durable_file_is_left();
-        reads_are_outcomes();
+        held_files_are_left(); // law: what the disk of open files reads as, and leaves
         let number = self.next_number()?;
         self.has_ended = true;
         self.store.append(alloc, &mut self.files, number, batch)?;
@@ -237,10 +226,7 @@ impl<D: Disk + Drop> Engine<D> {
             ListFollows D.Disk self.old self.new list list result }
         ensures still { IsStill D.Disk (engine_disk self.old) (engine_disk self.new) }
     {
-        // laws: what a crash leaves of the files that are named, and what a disk reads
-        held_versions_are_left();
-        durable_file_is_left();
-        reads_are_outcomes();
+        held_files_are_left(); // law: what the disk of open files reads as, and leaves
         self.may_read(at)?;
         let answer = self.store.get(alloc, &mut self.files, at, key);
         self.has_ended = answer.is_err();
@@ -261,10 +247,7 @@ impl<D: Disk + Drop> Engine<D> {
             ListFollows D.Disk self.old self.new list list result }
         ensures still { IsStill D.Disk (engine_disk self.old) (engine_disk self.new) }
     {
-        // laws: what a crash leaves of the files that are named, and what a disk reads
-        held_versions_are_left();
-        durable_file_is_left();
-        reads_are_outcomes();
+        held_files_are_left(); // law: what the disk of open files reads as, and leaves
         if self.has_ended {
             return Err(EngineError::Failed);
         }
@@ -298,10 +281,7 @@ impl<D: Disk + Drop> Engine<D> {
             (WereOneOf (facts_of self.old) list (raised_facts self.old) list)
             × MatchResult result (IsTendAnswer self.old self.new) IsEngineExternal }
     {
-        // laws: what a crash leaves of the files that are named, and what a disk reads
-        held_versions_are_left();
-        durable_file_is_left();
-        reads_are_outcomes();
+        held_files_are_left(); // law: what the disk of open files reads as, and leaves
         if self.has_ended {
             return Err(EngineError::Failed);
         }
@@ -322,10 +302,7 @@ impl<D: Disk + Drop> Engine<D> {
         ensures holds { (list : List BatchContent) → EngineHolds D.Disk self.old list →
             EngineHolds D.Disk self.new list }
     {
-        // laws: what a crash leaves of the files that are named, and what a disk reads
-        held_versions_are_left();
-        durable_file_is_left();
-        reads_are_outcomes();
+        held_files_are_left(); // law: what the disk of open files reads as, and leaves
         self.committed = number;
     }
 
@@ -414,10 +391,7 @@ impl<D: Crash + Drop> Engine<D> {
         ensures holds { (list : List BatchContent) → EngineHolds D.Disk self.old list →
             EngineHolds D.Disk self.new list }
     {
-        // laws: what a crash leaves of the files that are named, and what a disk reads
-        held_versions_are_left();
-        durable_file_is_left();
-        reads_are_outcomes();
+        held_files_are_left(); // law: what the disk of open files reads as, and leaves
         self.files.arm(fault);
     }
 }

@@ -20,7 +20,7 @@ use Rattle.chain_core.specs.declared.Input.{Input}
 use Rattle.chain_core.specs.declared.Input.TheVariants as input
 use Rattle.chain_core.specs.declared.Sent.{Sent}
 use Rattle.chain_core.specs.{AreFrames, answer_to, frame_as, Machine}
-use Rattle.engine.specs.declared.Tended.TheVariants as tended
+use Rattle.engine.specs.Tended.TheVariants as tended
 use Rattle.node.specs.declared.Output.{Output}
 use Rattle.node.specs.declared.Reply.{Reply}
 use Rattle.node.specs.declared.Stop.{Stop as Cause}

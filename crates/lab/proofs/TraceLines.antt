@@ -6,7 +6,7 @@ use Rattle.kv_types.specs.{BatchContent}
 use Rattle.chain_model.specs.{Message, Forward, Ack, Outcome}
 use Rattle.chain_model.specs.declared.DropReason.{DropReason}
 use Rattle.chain_core.specs.{Machine}
-use Rattle.engine.specs.declared.Tended.{Tended}
+use Rattle.engine.specs.Tended.{Tended}
 use Rattle.node.specs.declared.Stop.{Stop as Cause}
 use Rattle.lab.specs.declared.event.Event.{Event}
 use Rattle.lab.specs.declared.event.EventKind.{EventKind}

@@ -26,7 +26,7 @@ use Rattle.chain_model.specs.{state_after, after, nothing, stopped, node_of}
 use Rattle.disk.specs.declared.Disk.{Ghosts}
 use Rattle.node.specs.declared.Node.{Node}
 use Rattle.node.specs.declared.Stop.TheVariants.{Disk}
-use Rattle.engine.specs.declared.Tended.{Tended}
+use Rattle.engine.specs.Tended.{Tended}
 use Rattle.engine.specs.{IsTendAnswer}
 use Rattle.node.specs.{disk_of, engine_of}
 use Rattle.chain_core.specs.{Machine}
@@ -39,7 +39,7 @@ use Rattle.lab.specs.declared.event.Event.{Event}
 use Rattle.lab.specs.declared.event.EventKind.{EventKind}
 use Rattle.lab.specs.declared.event.EventKind.TheVariants.{Submit, Get, Deliver, Tick, Tend, Start}
 use Rattle.lab.specs.declared.event.EventKind.TheVariants.{Stop}
-use Rattle.engine.specs.declared.Tended.TheVariants as tended
+use Rattle.engine.specs.Tended.TheVariants as tended
 use Rattle.lab.specs.declared.delivery.Posted.{Posted}
 use Rattle.lab.specs.declared.report.Line.{Line}
 use Rattle.lab.specs.declared.report.Line.TheVariants.{Nothing}

@@ -10,7 +10,7 @@ use Rattle.chain_model.specs.{SystemEvent}
 use Rattle.chain_model.specs.declared.DropReason.{DropReason}
 use Rattle.chain_model.specs as model_frame
 use Rattle.chain_core.specs.{Machine}
-use Rattle.engine.specs.declared.Tended.{Tended}
+use Rattle.engine.specs.Tended.{Tended}
 use Rattle.node.specs.declared.Stop.{Stop as Cause}
 use Rattle.node.specs.declared.Stop.TheVariants.{Disk}
 use Rattle.node.specs.declared.Reply.TheVariants as reply

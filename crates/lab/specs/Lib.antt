@@ -19,7 +19,7 @@ pub use Rattle.disk.specs.declared.junk.Junk
 pub use Rattle.chain_model.specs.declared.refusal.Refusal
 pub use Rattle.node.specs.declared.output.Reply
 pub use Rattle.node.specs.declared.stop.Stop
-pub use Rattle.engine.specs.declared.tended.Tended
+pub use Rattle.engine.specs.Tended
 -- What crates above name.
 pub use Rattle.lab.specs.Events.{NamesNode, node_in}
 pub use Rattle.lab.specs.History.{OneHistory}

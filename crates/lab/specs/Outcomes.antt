@@ -9,7 +9,7 @@ use Rattle.disk.specs.declared.Junk.{Junk}
 use Rattle.disk.specs.{RisesByOne, CrashOutcome, IsLastLeft, Marks, State, fault_of, struck_call}
 use Rattle.chain_model.specs.{Answer, dropped_for, refused, started, stopped}
 use Rattle.chain_model.specs.Rules.{tend}
-use Rattle.engine.specs.declared.Tended.{Tended}
+use Rattle.engine.specs.Tended.{Tended}
 use Rattle.link_messages.specs.declared.Frame.{Frame}
 use Rattle.link_messages.specs.declared.Frame.TheVariants as frame
 use Rattle.chain_model.specs.declared.Refusal.TheVariants as refusal

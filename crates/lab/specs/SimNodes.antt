@@ -4,7 +4,7 @@ use Rattle.kv_types.specs.declared.Limits.{Limits}
 use Rattle.disk.specs.{Marks, State, Slots, fault_of, state_of}
 use Rattle.disk.specs.declared.disk.Disk.{Ghosts}
 use Rattle.chain_model.specs as model
-use Rattle.engine.specs.declared.Tended.{Tended}
+use Rattle.engine.specs.Tended.{Tended}
 use Rattle.chain_core.specs.{Machine}
 use Rattle.node.specs.declared.Node.{Node}
 use Rattle.node.specs.declared.Stop.{Stop as Cause}

@@ -5,9 +5,9 @@ use Rattle.std.proofs.Common.{arith, refl, sym, ap, subst}
 use Rattle.std.specs.Prelude.{◌⊎◌, Result, Ok, Err, IfErr, IsErrAnd, MatchResult, OnOk}
 use Rattle.engine.specs.{FailsDevice, IsEngineExternal}
 use Rattle.engine.specs.{LookUps, IsReadableAnswer}
-use Rattle.engine.specs.declared.EngineError.TheVariants as engine
+use Rattle.engine.specs.EngineError.TheVariants as engine
 use Rattle.kv_types.specs.declared.bounds.TheConstants.{MAX_NUMBER}
-use Rattle.engine.specs.declared.EngineError.{EngineError}
+use Rattle.engine.specs.EngineError.{EngineError}
 use Rattle.node.specs.declared.stop.Stop.{Stop}
 use Rattle.node.specs.declared.stop.Stop.TheVariants as stop
 use Rattle.node.specs.Stops.{IsDeviceStop, IsEnvironmental, engine_stop}

@@ -9,7 +9,7 @@ use Rattle.disk.specs.{AlwaysLeaves, Contents, IsCrashOutcome, IsSame, IsStill, 
 use Rattle.disk.specs.MomentsLemmas.{weaker}
 use Rattle.disk.specs.StillLemmas.{still, still_more}
 use Rattle.engine.specs.declared.Engine.{Engine}
-use Rattle.engine.specs.declared.EngineError.{EngineError}
+use Rattle.engine.specs.EngineError.{EngineError}
 use Rattle.engine.specs.{EngineHolds, Facts, FailsDevice, FilesRepresent, HasEnded, IsOneOf}
 use Rattle.engine.specs.{IsOwned}
 use Rattle.engine.specs.{KeepsEngine, LookUps, engine_disk, facts_of, look_ups, raised_facts}

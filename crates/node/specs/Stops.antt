@@ -1,7 +1,7 @@
 -- The node's report of the errors of its store.
 use Rattle.std.specs.Prelude.{◌≡◌, ◌⊎◌, Result, Err}
-use Rattle.engine.specs.declared.EngineError.{EngineError}
-use Rattle.engine.specs.declared.EngineError.TheVariants as engine
+use Rattle.engine.specs.EngineError.{EngineError}
+use Rattle.engine.specs.EngineError.TheVariants as engine
 use Rattle.node.specs.declared.stop.Stop.{Stop}
 use Rattle.node.specs.declared.stop.Stop.TheVariants as stop
 

@@ -6,7 +6,7 @@ use Rattle.record_log.specs.declared.log.TheConstants.{MAX_RECORD}
 use Rattle.record_log.specs.{file_of, gate_of}
 use Rattle.manifest.specs.{counting_file}
 use Rattle.engine.specs.Engines.{HasLongFile, engine_disk}
-use Rattle.engine.specs.OpenFiles.{known_version}
+use Rattle.store_files.specs.OpenFiles.{known_version}
 use Rattle.engine.proofs.Engines.{held_of}
 use Rattle.engine.proofs.laws.full_logs_are_long.Goals as goal
 

@@ -2,7 +2,7 @@ use Rattle.std.proofs.Common.{false, ◌⊎◌, Err, Result, inl, inr, refl, sym
 use Rattle.chain_model.specs.{silent}
 use Rattle.disk.specs.{KeepsDisk, State}
 use Rattle.engine.specs.{IsAdrift}
-use Rattle.engine.specs.declared.Tended.{Tended}
+use Rattle.engine.specs.Tended.{Tended}
 use Rattle.node.specs.declared.Stop.{Stop as Cause}
 use Rattle.node.specs.{HasLongFile, IsDeviceStop, IsNearlyFull, IsOwned, StopRefines}
 use Rattle.node.specs.{disk_of, engine_of}

@@ -1,22 +1,15 @@
 use Rattle.std.proofs.Common.{◌∷◌, [], ◌++◌, Err, ap, inl}
 use Rattle.disk.specs.MomentsLemmas.{weaker}
 use Rattle.engine.specs.Engines.{engine_disk, facts_of}
-use Rattle.engine.specs.StoreFiles.{FilesRepresent, IsOneOf}
-use Rattle.engine.proofs.Causes.{refuses}
-use Rattle.engine.proofs.Engines.{LeftFiles, goes_to, held_of, none_since, one_left}
+use Rattle.store_files.specs.StoreFiles.{FilesRepresent, IsOneOf}
+use Rattle.engine.proofs.Engines.{not_true, refuses, goes_to, held_of, none_since, one_left}
 use Rattle.engine.proofs.Engines.{only_exhausted, were_meant}
-use Rattle.engine.proofs.Records.{not_true}
 use Rattle.engine.proofs.engine.Engine.append.Goals as goal
 
 -- nothing was written
 pub returns-in_err-number-clause-any_moment : goal.returns-in_err-number-clause-any_moment
 returns-in_err-number-clause-any_moment g c = λ list h.
-    let laws : LeftFiles = record {
-      reads = c.reads_are_outcomes.ensures;
-      durable = c.durable_file_is_left.ensures;
-      version = c.held_versions_are_left.ensures.left;
-      stays = c.held_versions_are_left.ensures.same;
-    } in
+    let laws = c.held_files_are_left.ensures in
     let old = c.args.self.now in
     let more = list ++ c.args.batch.now ∷ [] in
     let disk = g.D.Disk.state (engine_disk old) in
@@ -45,12 +38,7 @@ returns-clause-any_moment g c = λ list h.
 -- one batch more
 pub returns-clause-appended : goal.returns-clause-appended
 returns-clause-appended g c = λ list.
-    let laws : LeftFiles = record {
-      reads = c.reads_are_outcomes.ensures;
-      durable = c.durable_file_is_left.ensures;
-      version = c.held_versions_are_left.ensures.left;
-      stays = c.held_versions_are_left.ensures.same;
-    } in
+    let laws = c.held_files_are_left.ensures in
     goes_to g.D.Disk laws c.args.self.now _ list (list ++ c.args.batch.now ∷ []) _
     c.append.ensures.kept.honest.1 not_true (c.in_ok-append.ensures.appended list)
     (λ honest w. (c.in_ok-append.ensures.meant list honest w).0)

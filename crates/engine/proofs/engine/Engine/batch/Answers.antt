@@ -1,8 +1,7 @@
 use Rattle.std.proofs.Common.{refl}
 use Rattle.disk.specs.StillLemmas.{still}
 use Rattle.engine.specs.Engines.{engine_disk}
-use Rattle.engine.proofs.Engines.{LeftFiles, goes_on, held_of, were_meant, works_on_ok}
-use Rattle.engine.proofs.Meant.{meant_as_is}
+use Rattle.engine.proofs.Engines.{goes_on, held_of, were_meant, works_on_ok}
 use Rattle.engine.proofs.engine.Engine.batch.Goals as goal
 
 -- no call of the disk is made
@@ -13,7 +12,8 @@ returns-then-self-clause-still g c = λ honest. still _ _
 pub returns-clause-found : goal.returns-clause-found
 returns-clause-found g c = λ list r.
     c.batch-answer.ensures.found list r.honest
-    (meant_as_is (g.D.Disk.state (engine_disk c.args.self.now)) c.args.self.now.store list
+    (c.held_files_are_left.ensures.as_is (g.D.Disk.state (engine_disk c.args.self.now))
+    c.args.self.now.store list
     (held_of g.D.Disk c.args.self.now list r))
 
 pub returns-clause-meant : goal.returns-clause-meant
@@ -22,12 +22,7 @@ returns-clause-meant g c = λ list m.
 
 pub returns-clause-kept : goal.returns-clause-kept
 returns-clause-kept g c = λ list.
-    let laws : LeftFiles = record {
-      reads = c.reads_are_outcomes.ensures;
-      durable = c.durable_file_is_left.ensures;
-      version = c.held_versions_are_left.ensures.left;
-      stays = c.held_versions_are_left.ensures.same;
-    } in
+    let laws = c.held_files_are_left.ensures in
     goes_on g.D.Disk laws c.args.self.now _ list c.batch-answer.result (record {
       store = refl;
       honest = c.batch-answer.ensures.kept.honest.1;

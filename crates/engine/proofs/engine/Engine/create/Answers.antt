@@ -1,17 +1,11 @@
 use Rattle.std.proofs.Common.{[], subst, sym}
-use Rattle.engine.proofs.Engines.{LeftFiles, holds_of, reads_of, told_of}
-use Rattle.engine.proofs.Records.{not_true}
+use Rattle.engine.proofs.Engines.{not_true, holds_of, reads_of, told_of}
 use Rattle.engine.proofs.engine.Engine.create.Goals as goal
 
 -- the store has no batch
 pub returns-in-Ok-clause-created : goal.returns-in-Ok-clause-created
 returns-in-Ok-clause-created g c = λ honest.
-    let laws : LeftFiles = record {
-      reads = c.reads_are_outcomes.ensures;
-      durable = c.durable_file_is_left.ensures;
-      version = c.held_versions_are_left.ensures.left;
-      stays = c.held_versions_are_left.ensures.same;
-    } in
+    let laws = c.held_files_are_left.ensures in
     let honest' = subst g.D.Disk.is_honest (sym c.in_ok-files.ensures.files) honest in
     holds_of g.D.Disk laws _ []
     (reads_of g.D.Disk laws _ [] (c.create.ensures.kept.honest.1 honest') not_true

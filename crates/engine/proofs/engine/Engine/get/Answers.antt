@@ -1,10 +1,9 @@
 use Rattle.std.proofs.Common.{◌≤◌, arith, refl}
 use Rattle.disk.specs.StillLemmas.{still}
-use Rattle.engine.specs.OpenFiles.{batch_count}
+use Rattle.store_files.specs.OpenFiles.{batch_count}
 use Rattle.engine.specs.Engines.{engine_disk}
-use Rattle.engine.proofs.Engines.{LeftFiles, answers_or_machine, goes_on, held_of, match_of}
+use Rattle.engine.proofs.Engines.{answers_or_machine, goes_on, held_of, match_of}
 use Rattle.engine.proofs.Engines.{were_meant, works_on_ok}
-use Rattle.engine.proofs.Meant.{meant_as_is}
 use Rattle.engine.proofs.engine.Engine.get.Goals as goal
 
 -- no call of the disk is made
@@ -21,7 +20,8 @@ returns-clause-found g c = λ list r.
     let held = held_of g.D.Disk c.args.self.now list r in
     answers_or_machine c.get-answer.result _ (match_of c.get-answer.result _
     (c.get-answer.ensures.found list r.honest
-    (meant_as_is (g.D.Disk.state (engine_disk c.args.self.now)) c.args.self.now.store list held)
+    (c.held_files_are_left.ensures.as_is (g.D.Disk.state (engine_disk c.args.self.now))
+    c.args.self.now.store list held)
     readable.0 count) (c.get-answer.ensures.intact list r.honest held))
 
 -- and it is what they were meant to have
@@ -36,12 +36,7 @@ returns-clause-meant g c = λ list m.
 
 pub returns-clause-kept : goal.returns-clause-kept
 returns-clause-kept g c = λ list.
-    let laws : LeftFiles = record {
-      reads = c.reads_are_outcomes.ensures;
-      durable = c.durable_file_is_left.ensures;
-      version = c.held_versions_are_left.ensures.left;
-      stays = c.held_versions_are_left.ensures.same;
-    } in
+    let laws = c.held_files_are_left.ensures in
     goes_on g.D.Disk laws c.args.self.now _ list c.get-answer.result (record {
       store = refl;
       honest = c.get-answer.ensures.kept.honest.1;

@@ -1,12 +1,11 @@
 use Rattle.std.proofs.Common.{◌∙◌, ap, refl, subst, sym}
 use Rattle.std.proofs.lemmas.Result.{err_from_is_err_and}
 use Rattle.disk.specs.{contents, seen}
-use Rattle.engine.specs.OpenFiles.{OpeningRefusal}
-use Rattle.engine.specs.StoreFiles.{FilesRepresent, IsOneOf, StillLeavesOneOf, WereMeant}
-use Rattle.engine.specs.StoreFiles.{WereOneOf}
-use Rattle.engine.proofs.Engines.{LeftFiles, explains, holds_of, leaves_since_same, meant_of}
+use Rattle.store_files.specs.OpenFiles.{OpeningRefusal}
+use Rattle.store_files.specs.StoreFiles.{FilesRepresent, IsOneOf, StillLeavesOneOf, WereMeant}
+use Rattle.store_files.specs.StoreFiles.{WereOneOf}
+use Rattle.engine.proofs.Engines.{not_true, explains, holds_of, leaves_since_same, meant_of}
 use Rattle.engine.proofs.Engines.{reads_of, still_refused}
-use Rattle.engine.proofs.Records.{not_true}
 use Rattle.engine.proofs.engine.Engine.open.Goals as goal
 
 -- there was no memory for the cache
@@ -25,12 +24,7 @@ returns-in_err-files-clause-any_moment g c = λ facts list facts' list' honest.
 -- what the files represent is held, and what they were meant to represent
 pub returns-in-Ok-clause-opened : goal.returns-in-Ok-clause-opened
 returns-in-Ok-clause-opened g c = λ facts list honest.
-    let laws : LeftFiles = record {
-      reads = c.reads_are_outcomes.ensures;
-      durable = c.durable_file_is_left.ensures;
-      version = c.held_versions_are_left.ensures.left;
-      stays = c.held_versions_are_left.ensures.same;
-    } in
+    let laws = c.held_files_are_left.ensures in
     let same = sym c.in_ok-files.ensures.files in
     let honest' = subst g.D.Disk.is_honest same honest in
     let opens = c.in-Ok.ensures.opened facts list honest' in

@@ -1,4 +1,4 @@
-use Rattle.engine.proofs.Engines.{LeftFiles, closed_by, ends_by, goes_to, may_fail, no_refusal}
+use Rattle.engine.proofs.Engines.{closed_by, ends_by, goes_to, may_fail, no_refusal}
 use Rattle.engine.proofs.Engines.{held_of, not_raised, on_first, on_second, were_meant}
 use Rattle.engine.proofs.Engines.{were_not_raised, works_on_ok}
 use Rattle.engine.proofs.engine.Engine.tend.Goals as goal
@@ -30,12 +30,7 @@ returns-clause-keeps g c =
 -- the list stays
 pub returns-clause-tended : goal.returns-clause-tended
 returns-clause-tended g c = λ list.
-    let laws : LeftFiles = record {
-      reads = c.reads_are_outcomes.ensures;
-      durable = c.durable_file_is_left.ensures;
-      version = c.held_versions_are_left.ensures.left;
-      stays = c.held_versions_are_left.ensures.same;
-    } in
+    let laws = c.held_files_are_left.ensures in
     goes_to g.D.Disk laws c.args.self.now _ list list c.tend-answer.result
     c.tend-answer.ensures.kept.honest.1
     (works_on_ok c.tend-answer.result c.is_err-self.result c.is_err-self.ensures.value)

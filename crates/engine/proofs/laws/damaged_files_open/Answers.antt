@@ -1,5 +1,0 @@
-use Rattle.engine.proofs.MeantOpenings.{damaged_open}
-use Rattle.engine.proofs.laws.damaged_files_open.Goals as goal
-
-pub returns : goal.returns
-returns c = damaged_open c.version_is_one.ensures.lawful

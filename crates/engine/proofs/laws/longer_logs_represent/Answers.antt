@@ -1,5 +1,0 @@
-use Rattle.engine.proofs.FlushedFiles.{longer_logs_represent}
-use Rattle.engine.proofs.laws.longer_logs_represent.Goals as goal
-
-pub returns : goal.returns
-returns c = longer_logs_represent c.appends_keep.ensures

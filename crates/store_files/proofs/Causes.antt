@@ -1,0 +1,65 @@
+-- Causes of a refusal, by the errors of the layers below.
+use Rattle.std.proofs.Common.{◌≡◌, ◌⊎◌, ℕ, ◌≤◌, List, length, Result, Ok, Err, inl, inr, ap, arith}
+use Rattle.std.proofs.Common.{subst, sym}
+use Rattle.std.specs.Prelude.{IfErr, IfOk, IsErrAnd, MatchResult, OnOk, IsErrOf}
+use Rattle.record_log.specs.declared.LogError.{LogError}
+use Rattle.record_log.specs.declared.LogError.TheVariants as log
+use Rattle.record_log.specs.declared.Log.{Log}
+use Rattle.record_log.specs as log_stands
+use Rattle.store_files.specs.declared.error.EngineError.{EngineError}
+use Rattle.store_files.specs.declared.error.EngineError.TheVariants as engine
+use Rattle.store_files.specs.Errors.{error_of_log, IsEngineExternal}
+
+-- an external error of a log is one of the engine
+pub log_is_external : (e : LogError) → log_stands.IsExternal e → IsEngineExternal (error_of_log e)
+log_is_external e (inl failed) = inl (ap error_of_log failed)
+log_is_external e (inr memory) = inr (ap error_of_log memory)
+
+pub working_log : (e : LogError) → log_stands.IsExternal e ⊎ (e ≡ log.Failed) →
+    (e ≡ log.Failed → ⊥) → IsEngineExternal (error_of_log e)
+working_log e (inl external) works = log_is_external e external
+working_log e (inr failed) works = absurd (works failed)
+
+-- a refusal that is no damage is external
+pub undamaged : {T : Type 0} (result : Result T EngineError) →
+    IfErr result (λ e. (e ≡ engine.Damaged) ⊎ (e ≡ engine.Memory)) →
+    (IsErrOf result engine.Damaged → ⊥) → IfErr result IsEngineExternal
+undamaged (Ok x) only whole = tt
+undamaged (Err e) (inl damaged) whole = absurd (whole (ap (λ d. Err d) damaged))
+undamaged (Err e) (inr memory) whole = inr memory
+
+-- a log that works, with a record that fits, reports external errors alone
+pub met : (limit : ℕ) (e : LogError) (old new : Log) (one : List ℕ) →
+    log_stands.AppendOutcome {T = Unit {0}} limit (Err e) old new one → length one ≤ limit →
+    (log_stands.HasFailed old → ⊥) → log_stands.IsExpected e → IsEngineExternal (error_of_log e)
+met limit e old new one tells fits works (inl external) = log_is_external e external
+met limit (log.Disk e) old new one tells fits works (inr own) =
+    elim own [ inl long ↦ absurd cc | inr failed ↦ absurd cc ]
+met limit log.Memory old new one tells fits works (inr own) =
+    elim own [ inl long ↦ absurd cc | inr failed ↦ absurd cc ]
+met limit log.TooLong old new one tells fits works (inr own) =
+    let long = tells.1 in
+    absurd (omega (arith, long, fits))
+met limit log.Failed old new one tells fits works (inr own) = absurd (works tells.0)
+
+-- a property of every result holds of an answer
+pub on_ok : {T E P : Type 0} (result : Result T E) → P → OnOk result P
+on_ok (Ok x) p = p
+on_ok (Err e) p = tt
+
+-- what holds of the cause holds of the refusal that tells it
+pub refuses : {T E : Type 0} (result : Result T E) {e : E} (P : T → Type 0) (Q : E → Type 0) →
+    IsErrAnd result (λ s. s ≡ e) → Q e → MatchResult result P Q
+refuses (Ok x) P Q told q = absurd told
+refuses (Err s) P Q told q = subst Q (sym told) q
+
+pub if_refuses : {T E : Type 0} (result : Result T E) {e : E} (Q : E → Type 0) →
+    IsErrAnd result (λ s. s ≡ e) → Q e → IfErr result Q
+if_refuses (Ok x) Q told q = tt
+if_refuses (Err s) Q told q = subst Q (sym told) q
+
+-- a refusal has no answer
+pub answers_nothing : {T E : Type 0} (result : Result T E) (P : E → Type 0) (Q : T → Type 0) →
+    IsErrAnd result P → IfOk result Q
+answers_nothing (Ok x) P Q told = absurd told
+answers_nothing (Err s) P Q told = tt

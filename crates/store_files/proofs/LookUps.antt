@@ -1,0 +1,139 @@
+-- What a lookup in memory and tables finds is what the map has.
+use Rattle.std.proofs.Common.{◌≡◌, ◌↔◌, ℕ, ◌≤◌, ◌<◌, List, [], ◌∷◌, length, Option, Some, None}
+use Rattle.std.proofs.Common.{Contains, Err, Ok, Result, ap, arith, inl, inr, subst, suc, sym, zero}
+use Rattle.std.proofs.Common.{◌+◌, ◌-◌, ◌∙◌}
+use Rattle.std.specs.Prelude.{IfErr, drop, slice_get, IfOk, IfSome, IsSomeAnd, MatchResult, take}
+use Rattle.std.specs.Option.{option_flatten, option_map}
+use Rattle.std.proofs.lemmas.List.Elements.{All-contains}
+use Rattle.kv_types.specs.declared.bounds.TheConstants.{MAX_VALUE}
+use Rattle.kv_types.specs.{BatchContent, Entry, IsUnseen, map_of}
+use Rattle.disk.specs.{Contents}
+use Rattle.memtable.specs.declared.Memtable.{Memtable}
+use Rattle.memtable.specs.{TableHolds}
+use Rattle.table_format.specs.{IsTableEntry, TableRepresents}
+use Rattle.sorted_table.specs.declared.FoundVersion.{FoundVersion}
+use Rattle.sorted_table.specs.{found_entry}
+use Rattle.store_model.specs.PlacesLemmas.{contains_cases, slice_get-drop}
+use Rattle.chain_model.specs.{place}
+use Rattle.store_model.specs.Claims.{LookUpsAreMaps}
+use Rattle.store_model.specs.{LevelTable, NewestHas, StoreRepresents, StoreState, memory_entries}
+use Rattle.manifest.specs.declared.TableLine.{TableLine}
+use Rattle.store_files.specs.declared.error.EngineError.{EngineError}
+use Rattle.store_files.specs.declared.error.EngineError.TheVariants as engine
+use Rattle.store_files.specs.Errors.{IsEngineExternal}
+use Rattle.store_files.specs.LevelTables.{AreTablesOf, IsTableOf, TableLookUpsAreMaps, TablesFind}
+use Rattle.store_files.specs.LevelTables.{found_value}
+use Rattle.store_files.proofs.Entries.{newest_in, unseen_in}
+
+-- the memtable has the entries that belong in memory
+abbrev pub HasMemory : Memtable → List BatchContent → StoreState → Type 0
+HasMemory table list store =
+    (entry : Entry) → TableHolds table entry ↔ memory_entries list store entry
+
+-- what memory has of a key
+pub memory_shows : LookUpsAreMaps → (list : List BatchContent) (store : StoreState)
+    → StoreRepresents list store → (at : ℕ) → store.floor ≤ at → at ≤ length list
+    → (key : List ℕ) (table : Memtable) (value : Option (List ℕ)) → HasMemory table list store
+    → NewestHas at (TableHolds table) key value → value ≡ map_of (take at list) key
+memory_shows law list store h at floor count key table value same newest =
+    law list store h at floor count key (Some value)
+    (inl (newest.0, newest_in at (TableHolds table) (memory_entries list store) same _ newest.1))
+
+-- where it has nothing, what the tables have
+pub tables_show : TableLookUpsAreMaps → (list : List BatchContent) (store : StoreState)
+    → StoreRepresents list store → (at : ℕ) → store.floor ≤ at → at ≤ length list
+    → (key : List ℕ) (table : Memtable) (found : Option FoundVersion) → HasMemory table list store
+    → IsUnseen at (TableHolds table) key → TablesFind at store.tables key found
+    → option_flatten (found_value found) ≡ map_of (take at list) key
+tables_show law list store h at floor count key table found same unseen finds =
+    law list store h at floor count key found
+    (unseen_in at (TableHolds table) (memory_entries list store) same key unseen) finds
+
+-- ---- values that tables have are short
+
+-- an entry of a table that a line names is one of a table
+entry_fits : (left : Contents) (line : TableLine) (table : LevelTable) → IsTableOf left line table
+    → (entry : Entry) → Contains table.entries entry → IsTableEntry entry
+entry_fits left line table is entry has = on_bytes (left line.file) is.represents
+  where
+    on_bytes : (file : Option (List ℕ)) → IsSomeAnd file
+        (λ bytes. (length bytes ≡ line.length) × TableRepresents bytes table.entries)
+        → IsTableEntry entry
+    on_bytes None h = absurd h
+    on_bytes (Some bytes) h = All-contains IsTableEntry table.entries entry h.1.each has
+
+entries_fit : (left : Contents) (lines : List TableLine) (tables : List LevelTable)
+    → AreTablesOf left lines tables → (table : LevelTable) → Contains tables table
+    → (entry : Entry) → Contains table.entries entry → IsTableEntry entry
+entries_fit left [] [] h table has entry there = absurd (let lt = has.1 in omega (arith, lt))
+entries_fit left [] (t ∷ tables) h table has entry there = absurd h
+entries_fit left (line ∷ lines) [] h table has entry there = absurd h
+entries_fit left (line ∷ lines) (t ∷ tables) h table has entry there =
+    elim (contains_cases t tables table has) [
+      | inl same ↦ subst (λ (u : LevelTable). Contains u.entries entry → IsTableEntry entry) same
+          (entry_fits left line t h.0 entry) there
+      | inr later ↦ entries_fit left lines tables h.1 table later entry there
+    ]
+
+too_long : (value : Option (List ℕ)) → IfSome value (λ bytes. length bytes ≤ MAX_VALUE)
+    → IsSomeAnd value (λ bytes. MAX_VALUE < length bytes) → ⊥
+too_long None short long = absurd long
+too_long (Some bytes) short long = omega (arith, short, long)
+
+-- so no value that is found is too long
+pub found_short : (left : Contents) (lines : List TableLine) (tables : List LevelTable)
+    → AreTablesOf left lines tables → (at : ℕ) (key : List ℕ) (found : Option FoundVersion)
+    → TablesFind at tables key found
+    → IsSomeAnd (option_flatten (found_value found)) (λ bytes. MAX_VALUE < length bytes) → ⊥
+found_short left lines tables h at key None finds long = absurd long
+found_short left lines tables h at key (Some found) finds long =
+    let seen = finds.2.seen.0 in
+    let fits = entries_fit left lines tables h seen.0 seen.1 (found_entry key found) seen.3 in
+    too_long (option_map (λ value. value.items) found.value) fits.value long
+
+-- the answer of a lookup is also what that is
+pub told_as : {found map : Option (List ℕ)} (result : Result (Option (List ℕ)) EngineError)
+    → IfOk result (λ value. value ≡ found) → found ≡ map → IfOk result (λ value. value ≡ map)
+told_as (Ok value) is same = is ∙ same
+told_as (Err e) is same = tt
+
+-- so it is not refused for its length
+pub never_long : (found : Option FoundVersion) (result : Result (Option (List ℕ)) EngineError)
+    → IfErr result (λ e. (e ≡ engine.Damaged)
+    × IsSomeAnd (option_flatten (found_value found)) (λ bytes. MAX_VALUE < length bytes))
+    → (IsSomeAnd (option_flatten (found_value found)) (λ bytes. MAX_VALUE < length bytes) → ⊥)
+    → IfErr result IsEngineExternal
+never_long found (Ok value) damaged short = tt
+never_long found (Err e) damaged short = absurd (short damaged.1)
+
+-- ---- a batch of the logs
+
+-- the batch of a number, by its place
+placed : (list : List BatchContent) (i : ℕ) (batch : BatchContent) →
+    slice_get list i ≡ Some batch → place list (suc i) ≡ Some batch
+placed [] i batch got = absurd cc
+placed (x ∷ list) zero batch got = got
+placed (x ∷ list) (suc i) batch got = placed list i batch got
+
+pub batch_found : (list : List BatchContent) (number : ℕ)
+    (result : Result BatchContent EngineError) → 0 < number →
+    MatchResult result (λ b. slice_get list (number - 1) ≡ Some b) IsEngineExternal →
+    MatchResult result (λ b. place list number ≡ Some b) IsEngineExternal
+batch_found list number (Ok b) some found =
+    let next : number ≡ suc (number - 1) = omega (arith, some) in
+    ap (place list) next ∙ placed list (number - 1) b found
+batch_found list number (Err e) some machine = machine
+
+-- its place in the list, of which so many were trimmed
+pub found_behind : (list : List BatchContent) (trimmed number : ℕ)
+    (result : Result BatchContent EngineError) → trimmed < number
+    → MatchResult result (λ b. slice_get (drop trimmed list) (number - suc trimmed) ≡ Some b)
+    IsEngineExternal
+    → MatchResult result (λ b. place list number ≡ Some b) IsEngineExternal
+found_behind list trimmed number (Ok b) behind found =
+    let there : trimmed + (number - suc trimmed) ≡ number - 1 = omega (arith, behind) in
+    let is = ap (slice_get list) (sym there)
+    ∙ sym (slice_get-drop trimmed list (number - suc trimmed))
+    ∙ found in
+    batch_found list number (Ok b) (omega (arith, behind)) is
+found_behind list trimmed number (Err e) behind machine = machine

@@ -1,0 +1,79 @@
+use Rattle.std.proofs.Common.{◌≤◌, ℕ, List, Option, subst}
+use Rattle.disk.specs.{contents}
+use Rattle.disk.specs.StillLemmas.{still}
+use Rattle.memtable.specs.{TableHolds}
+use Rattle.store_files.specs.LevelTables.{EntriesHave}
+use Rattle.store_files.specs.OpenFiles.{known_store}
+use Rattle.store_files.specs.Errors.{IsEngineExternal}
+use Rattle.store_files.proofs.Causes.{if_refuses}
+use Rattle.store_files.proofs.LookUps.{found_short, memory_shows, never_long, tables_show, told_as}
+use Rattle.store_files.proofs.Meant.{own_blocks, zip_was}
+use Rattle.store_files.proofs.store_files.StoreFiles.get.Goals as goal
+
+-- no call of the disk
+pub returns-in_err-value-clause-still : goal.returns-in_err-value-clause-still
+returns-in_err-value-clause-still g c = λ honest.
+    still (g.D.Disk.state c.args.files.now.disk) (g.D.Disk.past c.args.files.now.disk)
+
+pub returns-in-Some-clause-still : goal.returns-in-Some-clause-still
+returns-in-Some-clause-still g c = λ honest.
+    still (g.D.Disk.state c.args.files.now.disk) (g.D.Disk.past c.args.files.now.disk)
+
+-- what memory has is what the map has
+pub returns-in-Some-clause-found : goal.returns-in-Some-clause-found
+returns-in-Some-clause-found g c = λ list honest w floor count.
+    let h = w.hold in
+    let files = c.args.self.now in
+    let newest = subst (λ (o : Option (Option (List ℕ))).
+    EntriesHave c.args.at (TableHolds files.memtable) c.args.key.now o) c.in-Some.is
+    c.in_ok-value.ensures.found in
+    memory_shows c.look_ups_are_maps.ensures.maps list (known_store files h.known.tables)
+    h.known.store
+    c.args.at floor (subst (λ (n : ℕ). c.args.at ≤ n) h.known.count count) c.args.key.now
+    files.memtable
+    c.in-Some.value h.known.entries newest
+
+-- where it has nothing, what the tables have is
+pub returns-clause-found : goal.returns-clause-found
+returns-clause-found g c = λ list honest w floor count.
+    let h = w.hold in
+    let files = c.args.self.now in
+    let disk = g.D.Disk.state c.args.files.now.disk in
+    let lines = files.manifest.version.version.tables in
+    let unseen = subst (λ (o : Option (Option (List ℕ))).
+    EntriesHave c.args.at (TableHolds files.memtable) c.args.key.now o) c.in_default.is
+    c.in_ok-value.ensures.found in
+    let rise = c.levels_rise.ensures.lines (contents w.meant) lines h.known.tables
+    h.known.usable.version.lines.tables_in_order h.known.read in
+    let finds = c.in_ok-get.ensures.found w.meant h.known.tables
+    (known_store files h.known.tables).flushed honest
+    (zip_was disk w.meant files.tables.tables.items h.known.tables h.known.served
+    w.disk_is.blocks) h.known.store.tables rise in
+    let shows = tables_show c.table_look_ups_are_maps.ensures.maps list
+    (known_store files h.known.tables) h.known.store c.args.at floor
+    (subst (λ (n : ℕ). c.args.at ≤ n) h.known.count count) c.args.key.now files.memtable
+    c.in_ok-get.field-0 h.known.entries unseen finds in
+    told_as c.value_of.result c.value_of.ensures.value shows
+
+-- what undamaged tables have is no value that is too long
+pub returns-clause-intact : goal.returns-clause-intact
+returns-clause-intact g c = λ list honest h.
+    let files = c.args.self.now in
+    let disk = g.D.Disk.state c.args.files.now.disk in
+    let lines = files.manifest.version.version.tables in
+    let rise = c.levels_rise.ensures.lines (contents disk) lines h.known.tables
+    h.known.usable.version.lines.tables_in_order h.known.read in
+    let finds = c.in_ok-get.ensures.found disk h.known.tables
+    (known_store files h.known.tables).flushed honest
+    (zip_was disk disk files.tables.tables.items h.known.tables h.known.served
+    (own_blocks disk files.tables.tables.items)) h.known.store.tables rise in
+    never_long c.in_ok-get.field-0 c.value_of.result c.value_of.ensures.damaged
+    (found_short (contents disk) lines h.known.tables h.known.read c.args.at c.args.key.now
+    c.in_ok-get.field-0 finds)
+
+-- undamaged tables are read
+pub returns-in_err-get-clause-intact : goal.returns-in_err-get-clause-intact
+returns-in_err-get-clause-intact g c = λ list honest h.
+    if_refuses c.from_residual-in_err-get.result IsEngineExternal
+    c.from_residual-in_err-get.ensures.1
+    (c.in_err-get.ensures.intact h.known.tables honest h.known.served)

@@ -1,0 +1,134 @@
+use Rattle.std.proofs.Common.{◌∙◌, ℕ, List, ap, subst}
+use Rattle.manifest.specs.{NodeVersion}
+use Rattle.store_files.specs.Errors.{IsEngineExternal}
+use Rattle.store_files.specs.Openings.{kept_files}
+use Rattle.disk.specs.{seen}
+use Rattle.store_files.specs.Settling.{AreSwept, IsReadAlike}
+use Rattle.store_files.specs.StoreFiles.{IsOneOf, WereOneOf}
+use Rattle.store_files.proofs.Causes.{answers_nothing, if_refuses, refuses}
+use Rattle.store_files.proofs.KeptFiles.{settled_as, still_keeps}
+use Rattle.store_files.proofs.MeantOpenings.{settled_as_meant}
+use Rattle.store_files.proofs.OpenMoments.{settling_keeps_each}
+use Rattle.store_files.proofs.store_files.StoreFiles.open.Goals as goal
+
+-- the files that are read are those that the disk represents
+pub returns-in_err-files-clause-opened : goal.returns-in_err-files-clause-opened
+returns-in_err-files-clause-opened g c = λ facts list honest. record {
+  whole = λ represents. refuses c.from_residual.result _ IsEngineExternal
+      c.from_residual.ensures.1
+      ((c.in_err-files.ensures.opened facts list honest).whole represents);
+  meant = λ were. answers_nothing c.from_residual.result _ _ c.from_residual.ensures.1;
+}
+
+pub returns-clause-opened : goal.returns-clause-opened
+returns-clause-opened g c = λ facts list honest.
+    let s1 = g.D.Disk.state c.read_files.new.disk in
+    let s2 = g.D.Disk.state c.remove_others.new.disk in
+    let honest1 = c.read_files.ensures.kept.honest.1 honest in
+    let files = c.in_ok-files.files in
+    let is = c.deref.ensures.value ∙ c.in_ok-kept.ensures
+    ∙ ap (λ (n : NodeVersion). kept_files n.version) c.state.ensures in
+    record {
+      whole = λ represents.
+          let found = (c.in_ok-files.ensures.opened facts list honest).whole represents in (
+            found.0,
+            settled_as c.held_versions_are_left.ensures.same list files c.deref.result.now s1 s2
+                found.1 is (c.remove_others.ensures.kept.files honest1)
+                (c.in_ok-remove_others.ensures.alone honest1),
+          );
+      meant = λ were.
+          let found = (c.in_ok-files.ensures.opened facts list honest).meant were in (
+            found.0,
+            settled_as_meant c.held_versions_are_left.ensures.same list files c.deref.result.now
+                s1 s2 found.1 is (c.remove_others.ensures.kept.files honest1)
+                (c.in_ok-remove_others.ensures.alone honest1),
+          );
+    }
+
+-- no file is left that the version does not name, and those that it names read as before
+pub returns-clause-swept : goal.returns-clause-swept
+returns-clause-swept g c = λ honest.
+    let s0 = g.D.Disk.state c.args.disk.now in
+    let s1 = g.D.Disk.state c.read_files.new.disk in
+    let s2 = g.D.Disk.state c.remove_others.new.disk in
+    let honest1 = c.read_files.ensures.kept.honest.1 honest in
+    let alike : IsReadAlike s0 s1 = c.in_ok-files.ensures.alike honest in
+    let spares = c.remove_others.ensures.kept.files honest1 in
+    subst (λ (l : List ℕ). AreSwept l s0 s2)
+    (c.deref.ensures.value ∙ c.in_ok-kept.ensures
+    ∙ ap (λ (n : NodeVersion). kept_files n.version) c.state.ensures)
+    (record {
+      alike = λ file has. ap seen (spares file has) ∙ alike file;
+      alone = c.in_ok-remove_others.ensures.alone honest1;
+    })
+
+-- at each moment the disk leaves only files of these stores
+pub returns-in_err-files-clause-any_moment : goal.returns-in_err-files-clause-any_moment
+returns-in_err-files-clause-any_moment g c = λ facts list facts' list' honest. record {
+  whole = λ only. still_keeps (IsOneOf facts list facts' list') (g.D.Disk.state c.args.disk.now)
+      (g.D.Disk.past c.args.disk.now) (g.D.Disk.state c.read_files.new.disk)
+      (g.D.Disk.past c.read_files.new.disk) only (c.read_files.ensures.still honest);
+  meant = λ only. still_keeps (WereOneOf facts list facts' list')
+      (g.D.Disk.state c.args.disk.now) (g.D.Disk.past c.args.disk.now)
+      (g.D.Disk.state c.read_files.new.disk) (g.D.Disk.past c.read_files.new.disk) only
+      (c.read_files.ensures.still honest);
+}
+
+pub returns-in_err-kept-clause-any_moment : goal.returns-in_err-kept-clause-any_moment
+returns-in_err-kept-clause-any_moment g c = λ facts list facts' list' honest. record {
+  whole = λ only. still_keeps (IsOneOf facts list facts' list') (g.D.Disk.state c.args.disk.now)
+      (g.D.Disk.past c.args.disk.now) (g.D.Disk.state c.read_files.new.disk)
+      (g.D.Disk.past c.read_files.new.disk) only (c.read_files.ensures.still honest);
+  meant = λ only. still_keeps (WereOneOf facts list facts' list')
+      (g.D.Disk.state c.args.disk.now) (g.D.Disk.past c.args.disk.now)
+      (g.D.Disk.state c.read_files.new.disk) (g.D.Disk.past c.read_files.new.disk) only
+      (c.read_files.ensures.still honest);
+}
+
+pub returns-in_err-remove_others-clause-any_moment :
+    goal.returns-in_err-remove_others-clause-any_moment
+returns-in_err-remove_others-clause-any_moment g c = λ facts list facts' list' honest.
+    let honest1 = c.read_files.ensures.kept.honest.1 honest in
+    let is = c.deref.ensures.value ∙ c.in_ok-kept.ensures
+    ∙ ap (λ (n : NodeVersion). kept_files n.version) c.state.ensures in
+    let each = settling_keeps_each facts list facts' list'
+    c.held_versions_are_left.ensures.left c.version_is_one.ensures.one
+    c.version_is_one.ensures.lawful c.in_ok-files.files c.deref.result.now
+    (g.D.Disk.state c.args.disk.now) (g.D.Disk.state c.read_files.new.disk)
+    (g.D.Disk.state c.remove_others.new.disk) (g.D.Disk.past c.args.disk.now)
+    (g.D.Disk.past c.read_files.new.disk) (g.D.Disk.past c.remove_others.new.disk)
+    (c.in_ok-files.ensures.held honest) is (c.read_files.ensures.still honest)
+    (c.remove_others.ensures.any_moment honest1) in
+    record { whole = each.0; meant = each.1 }
+
+pub returns-clause-any_moment : goal.returns-clause-any_moment
+returns-clause-any_moment g c = λ facts list facts' list' honest.
+    let honest1 = c.read_files.ensures.kept.honest.1 honest in
+    let is = c.deref.ensures.value ∙ c.in_ok-kept.ensures
+    ∙ ap (λ (n : NodeVersion). kept_files n.version) c.state.ensures in
+    let each = settling_keeps_each facts list facts' list'
+    c.held_versions_are_left.ensures.left c.version_is_one.ensures.one
+    c.version_is_one.ensures.lawful c.in_ok-files.files c.deref.result.now
+    (g.D.Disk.state c.args.disk.now) (g.D.Disk.state c.read_files.new.disk)
+    (g.D.Disk.state c.remove_others.new.disk) (g.D.Disk.past c.args.disk.now)
+    (g.D.Disk.past c.read_files.new.disk) (g.D.Disk.past c.remove_others.new.disk)
+    (c.in_ok-files.ensures.held honest) is (c.read_files.ensures.still honest)
+    (c.remove_others.ensures.any_moment honest1) in
+    record { whole = each.0; meant = each.1 }
+
+-- a refusal of the reading left what there was, and one of a removal is external
+pub returns-in_err-files-clause-still : goal.returns-in_err-files-clause-still
+returns-in_err-files-clause-still g c =
+    if_refuses c.from_residual.result _ c.from_residual.ensures.1
+    (λ other. c.read_files.ensures.still)
+
+pub returns-in_err-kept-clause-still : goal.returns-in_err-kept-clause-still
+returns-in_err-kept-clause-still g c =
+    if_refuses c.from_residual-in_err-kept.result _ c.from_residual-in_err-kept.ensures.1
+    (λ other. c.read_files.ensures.still)
+
+pub returns-in_err-remove_others-clause-still : goal.returns-in_err-remove_others-clause-still
+returns-in_err-remove_others-clause-still g c =
+    if_refuses c.from_residual-in_err-remove_others.result _
+    c.from_residual-in_err-remove_others.ensures.1 (λ other honest. absurd (other
+    (c.in_err-remove_others.ensures.alone (c.read_files.ensures.kept.honest.1 honest))))

@@ -1,0 +1,17 @@
+pub mod Errors
+pub mod Layout
+pub mod Files
+pub mod BatchLogs
+pub mod LevelTables
+pub mod StoreFiles
+pub mod LogExamples
+pub mod Stores
+pub mod Settling
+pub mod OpenFiles
+pub mod UsableProps
+pub mod Openings
+pub mod Replaying
+pub mod TableWriting
+pub mod Tending
+pub mod HeldFiles
+pub mod KeepingLemmas

@@ -1,0 +1,221 @@
+-- The open files of a store with tables: what they hold in memory, and what their disk represents.
+use Rattle.std.specs.Prelude.{◌≡◌, ◌≢◌, ◌↔◌, ℕ, suc, ◌+◌, ◌-◌, ◌≤◌, List, length, drop}
+use Rattle.std.specs.Prelude.{All, Contains, IfOk, IsNone, MatchResult, Result}
+use Rattle.kv_types.specs.declared.bounds.TheConstants.{MAX_NUMBER}
+use Rattle.kv_types.specs.{BatchContent, Entry, IsBatch}
+use Rattle.disk.specs.{Contents, IsDurable, State, contents, seen}
+use Rattle.memtable.specs.declared.Memtable.{Memtable}
+use Rattle.memtable.specs.{TableHolds}
+use Rattle.store_model.specs.{FitsRange, LevelTable, StoreRepresents, StoreState, memory_entries}
+use Rattle.store_model.specs.{replayed_entries}
+use Rattle.manifest.specs.declared.LogLine.{LogLine}
+use Rattle.manifest.specs.declared.TableLine.{TableLine}
+use Rattle.manifest.specs.{IsNotCreated, IsTableLine, IsVersion, ManifestHasFailed, ManifestHolds}
+use Rattle.manifest.specs.{ManifestRepresents, NodeVersion, StoreVersion, version_of}
+use Rattle.store_files.specs.declared.batch_logs.BatchLogs.{BatchLogs}
+use Rattle.store_files.specs.declared.error.EngineError.{EngineError}
+use Rattle.store_files.specs.declared.error.EngineError.TheVariants as engine
+use Rattle.store_files.specs.declared.store_files.StoreFiles.{StoreFiles}
+use Rattle.store_files.specs.Files.{Facts}
+use Rattle.store_files.specs.BatchLogs.{AreUsable, HaveBatches, LogsHold, first_number, lines_of}
+use Rattle.store_files.specs.BatchLogs.{next_number}
+use Rattle.store_files.specs.LevelTables.{AreServed, AreTablesOf, FileFits, HasMeantBlocks}
+use Rattle.store_files.specs.LevelTables.{IsTableAsMeant, IsTableOf, table_lines}
+use Rattle.store_files.specs.declared.levels.LevelTables.{LevelTables}
+use Rattle.store_files.specs.Stores.{IsNumberedTo}
+use Rattle.store_files.specs.Errors.{IsEngineExternal}
+use Rattle.store_files.specs.StoreFiles.{AreOrderedNumbers, FilesRepresent, OpensAs, WereMeant}
+use Rattle.store_files.specs.StoreFiles.{store_of_version}
+use Rattle.store_files.specs.TableWriting.{PassesLimit}
+
+-- ---- logs that were read
+
+-- the memtable has the entries of these batches, numbered from this one on, that have a greater
+-- number than those in tables
+abbrev pub HasReplayed : Memtable → ℕ → ℕ → List BatchContent → Type 0
+HasReplayed memtable first flushed batches =
+    (entry : Entry) → TableHolds memtable entry ↔ replayed_entries (first - 1) flushed batches entry
+
+-- the lines name these batches, each of which has a number
+pub record AreBatchesOf (left : Contents) (lines : List LogLine) (first : ℕ)
+    (batches : List BatchContent) : Type 0 where
+  pub positive : 1 ≤ first
+  pub have : HaveBatches left first lines batches
+  pub each : All IsBatch batches
+  pub few : first - 1 + length batches ≤ MAX_NUMBER
+
+-- what was read of the logs that lines name: all their batches, and the entries above those in
+-- tables
+pub record AreReplayed (left : Contents) (lines : List LogLine) (flushed : ℕ) (logs : BatchLogs)
+    (memtable : Memtable) : Type 0 where
+  pub batches : List BatchContent
+  pub had : AreBatchesOf left lines (first_number logs) batches
+  pub count : next_number logs ≡ first_number logs + length batches
+  pub entries : HasReplayed memtable (first_number logs) flushed batches
+
+-- the logs are those of the lines and can take another batch, and the memtable has not failed
+pub record AreOpenLogs (lines : List LogLine) (logs : BatchLogs) (memtable : Memtable) : Type 0
+  where
+    pub named : lines_of logs ≡ lines
+    pub usable : AreUsable logs
+    pub numbered : IsNumberedTo memtable (next_number logs - 1)
+    pub few : next_number logs ≤ suc MAX_NUMBER
+
+-- ---- a table that was written
+
+-- the memtable has an entry
+abbrev pub HasEntry : Memtable → Type 0
+HasEntry memtable = (entry : Entry) × TableHolds memtable entry
+
+-- The table of the memtable's entries is durably in the file, which the line names in level 0.
+pub record IsWrittenTable (disk : State) (memtable : Memtable) (file : ℕ) (line : TableLine)
+    : Type 0 where
+  pub table : LevelTable
+  pub is : IsTableOf (contents disk) line table
+  pub at : line.file ≡ file
+  pub level : line.level ≡ 0
+  pub proper : IsTableLine line
+  pub durable : IsDurable (disk file)
+  pub range : FitsRange table
+  pub entries : (entry : Entry) → Contains table.entries entry ↔ TableHolds memtable entry
+
+-- some of the memtable's entries, in order, already pass the limit of a table's data
+abbrev pub IsTooLarge : Memtable → Type 0
+IsTooLarge memtable = PassesLimit (TableHolds memtable)
+
+-- ---- what the open files know
+
+-- the node and its version
+abbrev pub known_version : StoreFiles → NodeVersion
+known_version files = version_of files.manifest
+
+-- how many batches were trimmed from the front of the logs
+abbrev pub trimmed_count : StoreFiles → ℕ
+trimmed_count files = first_number files.logs - 1
+
+-- the number of the last batch
+abbrev pub batch_count : StoreFiles → ℕ
+batch_count files = next_number files.logs - 1
+
+-- the facts that open files know
+abbrev pub known_facts : StoreFiles → Facts
+known_facts files = record {
+  id = (known_version files).id;
+  epoch = (known_version files).version.epoch;
+  ids = (known_version files).version.ids;
+  floor = (known_version files).version.floor;
+  kept = trimmed_count files;
+}
+
+-- the store of the model, with the tables that its files give
+abbrev pub known_store : StoreFiles → List LevelTable → StoreState
+known_store files tables =
+    store_of_version (known_version files).version (trimmed_count files) tables
+
+-- the numbers of open files and this committed number are in order
+pub record AreCounted (store : StoreFiles) (number : ℕ) : Type 0 where
+  pub kept : trimmed_count store ≤ (known_facts store).floor
+  pub floor : (known_facts store).floor ≤ number
+  pub committed : number ≤ batch_count store
+  pub few : batch_count store ≤ MAX_NUMBER
+
+-- The open files can take another batch. No file is under way: the first free one is that of the
+-- version.
+pub record AreUsableFiles (files : StoreFiles) : Type 0 where
+  pub works : ManifestHasFailed files.manifest → ⊥
+  pub version : IsVersion (known_version files).version
+  pub logs : AreUsable files.logs
+  pub lines : lines_of files.logs ≡ (known_version files).version.logs
+  pub tables : table_lines files.tables ≡ (known_version files).version.tables
+  pub memtable : IsNumberedTo files.memtable (batch_count files)
+  pub numbers : AreOrderedNumbers (known_version files).version (trimmed_count files)
+      (batch_count files)
+  pub free : files.free_file ≡ (known_version files).version.next_file
+
+-- ---- what the open files hold
+
+-- The open files know what the disk durably represents: the list of batches, and the facts. Files
+-- of any other number may exist.
+pub record FilesAreRead (disk : State) (files : StoreFiles)
+    (list : List BatchContent) : Type 0 where
+  pub usable : AreUsableFiles files
+  pub manifest : ManifestHolds disk files.manifest (known_version files)
+  pub logs : LogsHold disk files.logs (suc (trimmed_count files)) (drop (trimmed_count files) list)
+  pub tables : List LevelTable
+  pub read : AreTablesOf (contents disk) (known_version files).version.tables tables
+  pub served : AreServed disk files.tables tables
+  pub durable : All (λ line. IsDurable (disk line.file)) (known_version files).version.tables
+  pub store : StoreRepresents list (known_store files tables)
+  pub entries : (entry : Entry) →
+      TableHolds files.memtable entry ↔ memory_entries list (known_store files tables) entry
+  pub count : batch_count files ≡ length list
+  pub each : All IsBatch list
+
+-- the open files hold it: besides, no file exists with the number of the first free one or a
+-- greater one
+pub record FilesHold (disk : State) (files : StoreFiles) (list : List BatchContent) : Type 0 where
+  pub known : FilesAreRead disk files list
+  pub unused : (file : ℕ) → files.free_file ≤ file → IsNone (seen (disk file))
+
+-- ---- damaged tables
+
+-- The disk is as it was meant to be, but for damaged blocks of the version's tables: each other
+-- file is the same, and a table's file durably has each block that is not damaged.
+pub record IsAsMeant (disk meant : State) (version : StoreVersion) (opened : LevelTables) : Type 0
+  where
+    pub others : (file : ℕ) → All (λ line. line.file ≢ file) version.tables →
+        disk file ≡ meant file
+    pub tables : All (λ line. IsTableAsMeant (disk line.file) (meant line.file)) version.tables
+    pub blocks : All (HasMeantBlocks disk meant) opened.tables.items
+    pub durable : All (λ line. IsDurable (disk line.file)) version.tables
+
+-- the open files were meant to know the list: they would, had the disk no damaged block
+pub record WereMeantToRead (disk : State) (files : StoreFiles) (list : List BatchContent) : Type 0
+  where
+    pub meant : State
+    pub read : FilesAreRead meant files list
+    pub disk_is : IsAsMeant disk meant (known_version files).version files.tables
+
+-- and they were meant to hold it
+pub record WereMeantToHold (disk : State) (files : StoreFiles) (list : List BatchContent) : Type 0
+  where
+    pub meant : State
+    pub hold : FilesHold meant files list
+    pub disk_is : IsAsMeant disk meant (known_version files).version files.tables
+
+-- ---- what an opening tells
+
+-- The slots represent the version that the open files know, its logs have so many batches, and its
+-- tables' files fit their lines.
+pub record FilesOpenAs (left : Contents) (files : StoreFiles) : Type 0 where
+  pub version : ManifestRepresents (known_version files) left
+  pub batches : List BatchContent
+  pub logs : AreBatchesOf left (known_version files).version.logs (suc (trimmed_count files))
+      batches
+  pub count : batch_count files ≡ trimmed_count files + length batches
+  pub tables : All (FileFits left) (known_version files).version.tables
+
+-- why files were not opened: an external refusal, no store was created, or one was and lacks
+-- something of what an opening reads
+abbrev pub OpeningRefusal : EngineError → Contents → Type 0
+OpeningRefusal engine.Disk left = Unit {0}
+OpeningRefusal engine.Damaged left =
+    (IsNotCreated left → ⊥) × ((facts : Facts) (count : ℕ) → OpensAs left facts count → ⊥)
+OpeningRefusal engine.Memory left = Unit {0}
+OpeningRefusal engine.NotCreated left = IsNotCreated left
+OpeningRefusal engine.Failed left = ⊥
+OpeningRefusal engine.TooOld left = ⊥
+OpeningRefusal engine.NotCommitted left = ⊥
+OpeningRefusal engine.Exhausted left = ⊥
+
+-- ---- an opening
+
+-- Of files that represent these facts and the list, the open files have it, or the refusal is
+-- external. Of files that were meant to, open files were meant to have it.
+pub record OpensFor (facts : Facts) (list : List BatchContent) (left : Contents)
+    (have were_meant_to_have : StoreFiles → Type 0) (result : Result StoreFiles EngineError)
+    : Type 0 where
+  pub whole : FilesRepresent facts list left → MatchResult result
+      (λ files. (known_facts files ≡ facts) × have files) IsEngineExternal
+  pub meant : WereMeant facts list left → IfOk result
+      (λ files. (known_facts files ≡ facts) × were_meant_to_have files)

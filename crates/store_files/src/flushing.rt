@@ -1,0 +1,201 @@
+// A flush: the entries in memory become a table of level 0, and a new log takes the next batches.
+ghost use Rattle.std.specs.Prelude.{◌≡◌, ◌≢◌, ◌↔◌, ◌≤◌, List, IfErr, IfOk, IsTrue, MatchOption};
+ghost use Rattle.std.specs.Prelude.{MatchResult, OnOk};
+ghost use Rattle.kv_types.specs.{BatchContent};
+ghost use Rattle.disk.specs.{AlwaysLeaves, IsSameBut, KeepsDisk};
+ghost use Rattle.manifest.specs.{HasFullSlot, IsChange, IsFit, IsVersion};
+ghost use Rattle.memtable.specs.{HasFailedAdd};
+ghost use Rattle.store_files.specs.Errors.{FailsDevice, IsEnd, IsEngineExternal};
+ghost use Rattle.store_files.specs.Files.{IsOwned};
+ghost use Rattle.store_files.specs.OpenFiles.{AreUsableFiles, FilesHold, HasEntry, IsTooLarge};
+ghost use Rattle.store_files.specs.OpenFiles.{WereMeantToHold, batch_count, known_facts};
+ghost use Rattle.store_files.specs.OpenFiles.{known_version};
+ghost use Rattle.store_files.specs.StoreFiles.{FilesRepresent, WereMeant, flush_change};
+ghost use Rattle.store_files.specs.Tending.{HasSpilled, HeldAndSpilled, IsFlushedBy, IsNextTable};
+ghost use Rattle.store_files.specs.TableWriting.{IsNewLine};
+ghost use Rattle.store_files.specs.Tending.{IsSameBeside, LacksPlace, MeantAndSpilled, TendMayFail};
+ghost use Rattle.store_files.specs.Tending.{tended_files};
+
+use crate::EngineError;
+use crate::error::refusal_of_edit;
+use crate::levels::OpenTable;
+use crate::store_files::StoreFiles;
+use crate::table_writing::write_table;
+use disk::Disk;
+use disk::laws::{durable_file_is_left, durable_is_left};
+use kv_types::Number;
+use manifest::laws::{
+    edits_keep_versions, held_versions_are_left, manifest_has_slots, slots_reach_gates,
+};
+use manifest::{LogLine, MAX_NEXT, StoreVersion, TableLine, VersionEdit};
+use memtable::Memtable;
+use merge_iter::Cursor;
+use std::alloc::{AllocError, Global};
+use std::mem;
+use store_model::flushes_keep;
+
+/// A new table of level 0: its line, and the open table.
+#[derive(Drop)]
+pub(crate) struct Flushed {
+    pub(crate) line: TableLine,
+    pub(crate) table: OpenTable,
+}
+
+/// Whether the memtable has entries.
+pub(crate) fn has_entries(memtable: &Memtable) -> Result<bool, EngineError>
+    requires works { HasFailedAdd memtable.now → ⊥ }
+    ensures any { IfOk result (λ any. IsTrue any ↔ HasEntry memtable.now) }
+    ensures memory { IfErr result (λ e. e ≡ EngineError.Memory) }
+{
+    let mut cursor = memtable.cursor()?;
+    cursor.first(&mut ())?;
+    Ok(cursor.valid())
+}
+
+/// Whether a flush lacks a place in the version, where this file is the first that is free.
+pub(crate) fn lacks_place(version: &StoreVersion, free: u64) -> bool
+    ensures { IsTrue result ↔ LacksPlace version.now.version free }
+{
+    version.tables.len() >= 4096 || version.logs.len() >= 4096 || free > MAX_NEXT - 2
+}
+
+// The edit of a flush, where this file is the first that is free and there are so many batches: a
+// table more, and a log for the next ones.
+fn flush_edit(
+    alloc: Global,
+    version: &StoreVersion,
+    free: u64,
+    count: Number,
+    line: TableLine,
+) -> Result<VersionEdit, AllocError>
+    requires place { LacksPlace version.now.version free → ⊥ }
+    requires free { version.now.version.next_file ≤ free }
+    requires flushed { version.now.version.flushed ≤ count }
+    requires next { IsNewLine free line }
+    ensures edit { IfOk result (λ edit. edit ≡ flush_change version.now.version free count line) }
+    ensures fit { IfOk result (λ edit. IsFit version.now.version edit × IsChange edit) }
+{
+    let mut logs_added = Vec::new(alloc);
+    logs_added.push(LogLine {
+        file: free + 1,
+        first: count.get() + 1,
+    })?;
+    let mut tables_added = Vec::new(alloc);
+    tables_added.push(line)?;
+    Ok(VersionEdit {
+        next_file: free + 2,
+        floor: version.floor,
+        flushed: count.get(),
+        epoch: version.epoch,
+        config: version.config.clone()?,
+        logs_gone: Vec::new(alloc),
+        logs_added,
+        tables_gone: Vec::new(alloc),
+        tables_added,
+    })
+}
+
+impl StoreFiles {
+    /// Writes the entries in memory as a table of level 0 into a free file, and opens it. Where
+    /// the table would pass the limit of its data there is none.
+    pub(crate) fn spill<D: Disk>(
+        &self,
+        alloc: Global,
+        disk: &mut D,
+    ) -> Result<Option<Flushed>, EngineError>
+        requires usable { AreUsableFiles self.now }
+        requires some { HasEntry self.now.memtable }
+        requires place { LacksPlace (known_version self.now).version self.now.free_file → ⊥ }
+        ensures kept { KeepsDisk D.Disk disk.old disk.new (FailsDevice result)
+            (TendMayFail D.Disk disk.old self.now)
+            (IsSameBut self.now.free_file) }
+        ensures spilled { (list : List BatchContent) → D.is_honest disk.old →
+            FilesHold (D.state disk.old) self.now list → MatchResult result
+            (λ made. MatchOption made
+            (IsTooLarge self.now.memtable × FilesHold (D.state disk.new) self.now list)
+            (HasSpilled (D.state disk.old) (D.state disk.new) self.now)) IsEngineExternal }
+        ensures meant { (list : List BatchContent) → D.is_honest disk.old →
+            WereMeantToHold (D.state disk.old) self.now list → MatchResult result
+            (λ made. MatchOption made
+            (IsTooLarge self.now.memtable × WereMeantToHold (D.state disk.new) self.now list)
+            (HasSpilled (D.state disk.old) (D.state disk.new) self.now)) IsEngineExternal
+            × AlwaysLeaves D.Disk disk.old disk.new (WereMeant (known_facts self.now) list) }
+        ensures line { IfOk result (λ made. MatchOption made (IsTooLarge self.now.memtable)
+            (λ it. IsNextTable self.now it.line)) }
+        ensures opened { IfOk result (λ made. MatchOption made (Unit {0})
+            (λ it. it.table.line ≡ it.line)) }
+        ensures causes { IfErr result IsEnd }
+
+        // A crash at any moment since the call began leaves files of the same store.
+        ensures any_moment { (list : List BatchContent) → D.is_honest disk.old →
+            FilesHold (D.state disk.old) self.now list → AlwaysLeaves D.Disk disk.old disk.new
+            (FilesRepresent (known_facts self.now) list) }
+    {
+        // laws: what a crash leaves of the files that are named
+        held_versions_are_left();
+        durable_file_is_left();
+        let Some(line) = write_table(alloc, disk, self.free_file, &self.memtable)? else {
+            return Ok(None);
+        };
+        let table = OpenTable::open(alloc, disk, &line)?;
+        Ok(Some(Flushed { line, table }))
+    }
+
+    /// Names a new table of level 0 in the manifest, with a new log for the next batches. No entry
+    /// is in memory then.
+    pub(crate) fn install<D: Disk>(
+        &mut self,
+        alloc: Global,
+        disk: &mut D,
+        made: Flushed,
+    ) -> Result<(), EngineError>
+        requires usable { AreUsableFiles self.old }
+        requires place { LacksPlace (known_version self.old).version self.old.free_file → ⊥ }
+        requires next { IsNextTable self.old made.line }
+        requires opened { made.table.line ≡ made.line }
+        ensures kept { KeepsDisk D.Disk disk.old disk.new (FailsDevice result)
+            (HasFullSlot self.old.manifest) IsOwned }
+        ensures touches { D.is_honest disk.old → IsSameBeside (tended_files self.old)
+            (D.state disk.old) (D.state disk.new) }
+        ensures installed { (list : List BatchContent) → D.is_honest disk.old →
+            HeldAndSpilled (D.state disk.old) self.old list made → MatchResult result
+            (λ _. FilesHold (D.state disk.new) self.new list) IsEngineExternal }
+        ensures meant { (list : List BatchContent) → D.is_honest disk.old →
+            MeantAndSpilled (D.state disk.old) self.old list made → MatchResult result
+            (λ _. WereMeantToHold (D.state disk.new) self.new list) IsEngineExternal
+            × AlwaysLeaves D.Disk disk.old disk.new (WereMeant (known_facts self.old) list) }
+        ensures told { MatchResult result
+            (λ _. AreUsableFiles self.new × ((batch_count self.new ≡ batch_count self.old)
+            × IsFlushedBy made.line self.old self.new))
+            (λ _. batch_count self.new ≡ batch_count self.old) }
+        ensures facts { known_facts self.new ≡ known_facts self.old }
+        ensures causes { IfErr result IsEnd }
+
+        // A crash at any moment since the call began leaves files of the same store.
+        ensures any_moment { (list : List BatchContent) → D.is_honest disk.old →
+            HeldAndSpilled (D.state disk.old) self.old list made →
+            AlwaysLeaves D.Disk disk.old disk.new
+            (FilesRepresent (known_facts self.old) list) }
+    {
+        // laws: what a crash leaves of the files that are named; that a manifest has the slots,
+        // and an edit gives a version; and that a flush keeps the list
+        held_versions_are_left();
+        durable_file_is_left();
+        manifest_has_slots();
+        slots_reach_gates();
+        edits_keep_versions();
+        flushes_keep();
+        let count = self.logs.last_number();
+        let Flushed { line, table } = made;
+        let free = self.free_file;
+        let edit = flush_edit(alloc, self.manifest.state(), free, count, line)?;
+        self.logs.begin(alloc, disk, free + 1)?;
+        if let Err(e) = self.manifest.record(alloc, disk, &edit) {
+            return Err(refusal_of_edit(e));
+        }
+        self.free_file = free + 2;
+        self.tables.add(table)?;
+        drop(mem::replace(&mut self.memtable, Memtable::new(alloc)));
+        Ok(())
+    }
+}

@@ -1,0 +1,111 @@
+//! Laws of the definitions that contracts use. The functions do nothing: their clauses are the
+//! laws.
+ghost use Rattle.store_files.specs.HeldFiles.{HeldFilesAreLeft};
+ghost use Rattle.store_files.specs.LevelTables.{FlushedTablesRise, LinesInOrderRise};
+ghost use Rattle.store_files.specs.LevelTables.{TableLookUpsAreMaps, TablesFindForStores};
+ghost use Rattle.store_files.specs.StoreFiles.{DamagedFilesOpen, FirstFilesRepresent};
+ghost use Rattle.store_files.specs.StoreFiles.{FlushesRepresent};
+ghost use Rattle.store_files.specs.StoreFiles.{LongerLogsRepresent, StoreFilesAreNamed};
+ghost use Rattle.store_files.specs.StoreFiles.{StoreFilesAreOne};
+ghost use Rattle.store_files.specs.StoreFiles.{StoreFilesShowMaps};
+ghost use Rattle.store_files.specs.LogExamples.{LaterLogIsBehind, TwoLogsHaveThree};
+
+use disk::laws::{durable_file_is_left, reads_are_outcomes};
+use kv_types::laws::spellings_differ;
+use manifest::laws::{held_versions_are_left, version_is_one};
+use record_log::records_are_unique;
+use store_model::{appends_keep, empty_represents, flushes_keep, look_ups_are_maps};
+
+/// Tables stand in order of level where their lines in a manifest stand in order, and with a table
+/// of level 0 more.
+// law: of `LevelsRise`
+pub fn levels_rise()
+    ensures lines { LinesInOrderRise }
+    ensures flushed { FlushedTablesRise }
+{}
+
+/// Where memory has no entry of a key, what a lookup in the tables finds is what one in the store
+/// finds, and so it is what the map has.
+// law: of `TablesFind`
+pub fn table_look_ups_are_maps()
+    ensures store { TablesFindForStores }
+    ensures maps { TableLookUpsAreMaps }
+{
+    store_model::look_ups_are_maps(); // law: what a store finds first is what the map has
+}
+
+/// What slots, logs and tables represent together depends on the files that they name alone.
+// law: of `FilesRepresent`
+pub fn store_files_are_named()
+    ensures { StoreFilesAreNamed }
+{}
+
+/// Files represent one node's facts and one list of batches at most, the trimmed batches apart.
+// law: of `FilesRepresent`
+pub fn store_files_are_one()
+    ensures { StoreFilesAreOne }
+{
+    version_is_one(); // law: files represent one version at most
+    // laws: and each log one list of batches
+    records_are_unique();
+    spellings_differ();
+}
+
+/// What open files hold is what their disk reads as and what each crash leaves, and files that are
+/// the same hold the same. So it is with what they were meant to hold.
+// law: of `FilesHold` and `WereMeantToHold`
+pub fn held_files_are_left()
+    ensures { HeldFilesAreLeft }
+{
+    // laws: what a crash leaves of the files that are named, and what a disk reads
+    held_versions_are_left();
+    durable_file_is_left();
+    reads_are_outcomes();
+}
+
+/// Files that were meant to represent a list open as it, where of tables only blocks are damaged.
+// law: of `WereMeant`
+pub fn damaged_files_open()
+    ensures { DamagedFilesOpen }
+{
+    version_is_one(); // law: files represent a lawful version
+}
+
+/// What a lookup in memory and tables finds is what the map of so many first batches has.
+// law: of `FilesRepresent`
+pub fn store_files_show_maps()
+    ensures { StoreFilesShowMaps }
+{
+    look_ups_are_maps();
+}
+
+/// The first version of a node and a log without records represent the empty list.
+// law: of `FilesRepresent`
+pub fn first_files_represent()
+    ensures { FirstFilesRepresent }
+{
+    empty_represents();
+}
+
+/// With the memtable in a table, a new log, and both in the manifest, the files represent the same
+/// list.
+// law: of `FilesRepresent`
+pub fn flushes_represent()
+    ensures { FlushesRepresent }
+{
+    flushes_keep();
+}
+
+/// With one more batch in the logs, the files represent the list with that batch.
+// law: of `FilesRepresent`
+pub fn longer_logs_represent()
+    ensures { LongerLogsRepresent }
+{
+    appends_keep();
+}
+
+/// Two logs with three batches, and two of which the second begins with batch 4.
+pub fn log_examples()
+    ensures three { TwoLogsHaveThree }
+    ensures behind { LaterLogIsBehind }
+{}

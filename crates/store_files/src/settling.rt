@@ -1,0 +1,47 @@
+// What an opening does to the files of a store: it syncs tables, and removes what nothing names.
+ghost use Rattle.std.specs.Prelude.{◌≡◌, IfErr, OnOk, MatchResult};
+ghost use Rattle.disk.specs.{AlwaysLeaves, IsStill, KeepsDisk};
+ghost use Rattle.store_files.specs.Errors.{FailsDevice, IsEnd, IsEngineExternal};
+ghost use Rattle.store_files.specs.Settling.{AddsNothing, AreAlone, AreLeftOf, AreSynced, AreThere};
+ghost use Rattle.store_files.specs.Settling.{SparesFiles};
+
+use crate::EngineError;
+use disk::Disk;
+use manifest::TableLine;
+use std::alloc::Global;
+
+/// Makes the files of these tables durable. `Damaged` only where one is absent.
+pub(crate) fn sync_tables<D: Disk>(disk: &mut D, lines: &[TableLine]) -> Result<(), EngineError>
+    ensures kept { KeepsDisk D.Disk disk.old disk.new (FailsDevice result) ⊥ AddsNothing }
+    ensures synced { D.is_honest disk.old →
+        OnOk result (AreSynced (D.state disk.old) (D.state disk.new) lines.now) }
+    ensures there { D.is_honest disk.old → AreThere (D.state disk.old) lines.now →
+        IfErr result IsEngineExternal }
+    ensures causes { IfErr result IsEnd }
+    ensures still { IsStill D.Disk disk.old disk.new }
+{
+    for line in lines {
+        disk.sync(line.file)?;
+    }
+    Ok(())
+}
+
+/// Removes each file but these.
+pub(crate) fn remove_others<D: Disk>(disk: &mut D, kept: &[u64]) -> Result<(), EngineError>
+    ensures kept { KeepsDisk D.Disk disk.old disk.new (FailsDevice result) ⊥
+        (SparesFiles kept.now) }
+    ensures alone { D.is_honest disk.old →
+        MatchResult result (λ _. AreAlone kept.now (D.state disk.new)) IsEngineExternal }
+
+    // A crash at any moment since the call began leaves these files as it might have before.
+    ensures any_moment { D.is_honest disk.old →
+        AlwaysLeaves D.Disk disk.old disk.new (AreLeftOf kept.now (D.state disk.old)) }
+    ensures causes { IfErr result IsEnd }
+{
+    for file in disk.files()? {
+        if !kept.contains(&file) {
+            disk.remove(file)?;
+        }
+    }
+    Ok(())
+}

@@ -1,0 +1,182 @@
+//! The open files of a store: manifest, logs and tables, and the entries that no table has yet.
+ghost use Rattle.std.specs.Prelude.{◌≡◌, ◌⊎◌, ℕ, ◌+◌, ◌<◌, ◌≤◌, List, [], ◌∷◌, ◌++◌, take, Some};
+ghost use Rattle.std.specs.Prelude.{length, IfErr, IfOk, IsSomeAnd, MatchResult};
+ghost use Rattle.std.specs.Option.{option_flatten};
+ghost use Rattle.kv_types.specs.declared.bounds.TheConstants.{MAX_VALUE};
+ghost use Rattle.kv_types.specs.{BatchContent, map_of};
+ghost use Rattle.disk.specs.{AlwaysLeaves, IsSame, IsSameBut, IsStill, KeepsDisk};
+ghost use Rattle.chain_model.specs.{place};
+ghost use Rattle.store_files.specs.BatchLogs.{HasFullLog, newest_file};
+ghost use Rattle.store_files.specs.Errors.{FailsDevice, IsEnd, IsEngineExternal};
+ghost use Rattle.store_files.specs.OpenFiles.{AreUsableFiles, FilesHold, batch_count, known_facts};
+ghost use Rattle.store_files.specs.OpenFiles.{WereMeantToHold, trimmed_count};
+ghost use Rattle.memtable.specs.{HasFailedAdd, TableHolds};
+ghost use Rattle.store_files.specs.LevelTables.{EntriesHave, found_value};
+ghost use Rattle.store_files.specs.StoreFiles.{FilesRepresent, WereOneOf};
+
+use crate::EngineError;
+use crate::batch_logs::BatchLogs;
+use crate::laws::{levels_rise, table_look_ups_are_maps};
+use crate::levels::LevelTables;
+use disk::Disk;
+use disk::laws::{durable_file_is_left, durable_is_left, reads_are_outcomes};
+use kv_types::{Batch, Key, Number, Value};
+use manifest::Manifest;
+use manifest::laws::held_versions_are_left;
+use memtable::{Found, Memtable};
+use sorted_table::FoundVersion;
+use std::alloc::Global;
+use store_model::{appends_keep, look_ups_are_maps};
+use table_files::Files;
+
+/// The open files of a store. Each call that reaches them is lent the disk.
+#[derive(Drop)]
+pub struct StoreFiles {
+    pub manifest: Manifest,
+    pub logs: BatchLogs,
+    pub tables: LevelTables,
+    // The entries of the batches that no table has.
+    pub(crate) memtable: Memtable,
+    // The first file that is free: no file has this number or a greater one.
+    pub(crate) free_file: u64,
+}
+
+// What memory has of the key: a value, a deletion, or nothing.
+fn memory_value(
+    memtable: &Memtable,
+    at: Number,
+    key: &Key,
+) -> Result<Option<Option<Value>>, EngineError>
+    requires works { HasFailedAdd memtable.now → ⊥ }
+    ensures found { IfOk result (EntriesHave at (TableHolds memtable.now) key.now) }
+    ensures memory { IfErr result (λ e. e ≡ EngineError.Memory) }
+{
+    match memtable.get(key, at)? {
+        Found::Value(value) => Ok(Some(Some(value.clone()?))),
+        Found::Deleted => Ok(Some(None)),
+        Found::None => Ok(None),
+    }
+}
+
+// The value of a version that was found; a deletion has none.
+fn value_of(found: Option<FoundVersion>) -> Result<Option<Value>, EngineError>
+    ensures value { IfOk result (λ value. value ≡ option_flatten (found_value found)) }
+    ensures damaged { IfErr result (λ e. (e ≡ EngineError.Damaged)
+        × IsSomeAnd (option_flatten (found_value found)) (λ bytes. MAX_VALUE < length bytes)) }
+{
+    let Some(found) = found else {
+        return Ok(None);
+    };
+    let Some(bytes) = found.value else {
+        return Ok(None);
+    };
+    match Value::new(bytes) {
+        Ok(value) => Ok(Some(value)),
+        Err(_) => Err(EngineError::Damaged),
+    }
+}
+
+impl StoreFiles {
+    /// The least number that can be read.
+    pub fn floor(&self) -> Number
+        ensures { result ≡ (known_facts self.now).floor }
+    {
+        Number::new(self.manifest.state().floor).unwrap()
+    }
+
+    /// Appends the batch with the next number. It needs four device calls.
+    pub fn append<D: Disk>(
+        &mut self,
+        alloc: Global,
+        disk: &mut D,
+        number: Number,
+        batch: &Batch,
+    ) -> Result<(), EngineError>
+        requires usable { AreUsableFiles self.old }
+        requires next { number ≡ batch_count self.old + 1 }
+        ensures kept { KeepsDisk D.Disk disk.old disk.new (FailsDevice result)
+            (HasFullLog self.old.logs) (IsSameBut (newest_file self.old.logs)) }
+        ensures appended { (list : List BatchContent) → D.is_honest disk.old →
+            FilesHold (D.state disk.old) self.old list → MatchResult result
+            (λ _. FilesHold (D.state disk.new) self.new (list ++ batch.now ∷ [])) IsEngineExternal }
+        ensures meant { (list : List BatchContent) → D.is_honest disk.old →
+            WereMeantToHold (D.state disk.old) self.old list → MatchResult result
+            (λ _. WereMeantToHold (D.state disk.new) self.new (list ++ batch.now ∷ []))
+            IsEngineExternal × AlwaysLeaves D.Disk disk.old disk.new (WereOneOf
+            (known_facts self.old) list (known_facts self.old) (list ++ batch.now ∷ [])) }
+
+        // A crash at any moment since the call began, whatever it answers, leaves the old batches,
+        // with or without the new one.
+        ensures any_moment { (list : List BatchContent) → D.is_honest disk.old →
+            FilesHold (D.state disk.old) self.old list →
+            AlwaysLeaves D.Disk disk.old disk.new (λ left.
+            FilesRepresent (known_facts self.old) list left
+            ⊎ FilesRepresent (known_facts self.old) (list ++ batch.now ∷ []) left) }
+        ensures counts { MatchResult result
+            (λ _. AreUsableFiles self.new × (batch_count self.new ≡ batch_count self.old + 1))
+            (λ _. batch_count self.new ≡ batch_count self.old) }
+        ensures facts { known_facts self.new ≡ known_facts self.old }
+        ensures causes { IfErr result IsEnd }
+    {
+        // laws: a crash leaves what is durable, and the version of an open manifest
+        durable_is_left();
+        durable_file_is_left();
+        held_versions_are_left();
+        reads_are_outcomes(); // law: a crash may leave what is read
+        appends_keep(); // law: with one batch more a store represents one more
+        let _edits = batch.edits(); // law: these are a batch
+        self.memtable.add(number, batch)?;
+        self.logs.append(alloc, disk, number, batch)
+    }
+
+    /// The batch of a number that the logs have, read from its log.
+    pub fn batch<D: Disk>(
+        &self,
+        alloc: Global,
+        disk: &mut D,
+        number: Number,
+    ) -> Result<Batch, EngineError>
+        requires usable { AreUsableFiles self.now }
+        requires there { (trimmed_count self.now < number) × (number ≤ batch_count self.now) }
+        ensures kept { KeepsDisk D.Disk disk.old disk.new (FailsDevice result) ⊥ IsSame }
+        ensures found { (list : List BatchContent) → D.is_honest disk.old →
+            WereMeantToHold (D.state disk.old) self.now list →
+            MatchResult result (λ batch. place list number ≡ Some batch) IsEngineExternal }
+        ensures causes { IfErr result IsEnd }
+        ensures still { IsStill D.Disk disk.old disk.new }
+    {
+        self.logs.batch(alloc, disk, number)
+    }
+
+    /// The value of a key in the map of the first `at` batches: looked up in memory, and then in
+    /// the tables. `Damaged` only where a block of a table is damaged.
+    pub fn get<D: Disk + Drop>(
+        &self,
+        alloc: Global,
+        files: &mut Files<D>,
+        at: Number,
+        key: &Key,
+    ) -> Result<Option<Value>, EngineError>
+        requires usable { AreUsableFiles self.now }
+        ensures kept { KeepsDisk ⟦<Files<D> as Disk>⟧ files.old files.new (FailsDevice result) ⊥
+            IsSame }
+        ensures found { (list : List BatchContent) → ⟦<Files<D> as Disk>⟧.is_honest files.old →
+            WereMeantToHold (⟦<Files<D> as Disk>⟧.state files.old) self.now list →
+            (known_facts self.now).floor ≤ at → at ≤ batch_count self.now →
+            IfOk result (λ value. value ≡ map_of (take at list) key.now) }
+        ensures intact { (list : List BatchContent) → ⟦<Files<D> as Disk>⟧.is_honest files.old →
+            FilesHold (⟦<Files<D> as Disk>⟧.state files.old) self.now list →
+            IfErr result IsEngineExternal }
+        ensures causes { IfErr result IsEnd }
+        ensures still { IsStill ⟦<Files<D> as Disk>⟧ files.old files.new }
+    {
+        levels_rise(); // law: tables stand in order of level
+        // laws: what memory or else the tables have of a key is what the map has
+        look_ups_are_maps();
+        table_look_ups_are_maps();
+        if let Some(value) = memory_value(&self.memtable, at, key)? {
+            return Ok(value);
+        }
+        value_of(self.tables.get(alloc, files, key, at)?)
+    }
+}
