@@ -1,30 +1,33 @@
 -- What a file is opened as, and why it is not.
 use Rattle.std.proofs.Common.{◌≡◌, ℕ, List, Option, Some, None, drop, inl, inr, refl, sym, ap}
-use Rattle.std.proofs.Common.{subst, ◌∙◌, arith}
+use Rattle.std.proofs.Common.{length, subst, ◌∙◌, arith, ◌<◌}
 use Rattle.std.specs.Prelude.{IsSomeAnd}
-use Rattle.disk.specs.{State}
+use Rattle.disk.specs.{State, seen}
+use Rattle.disk.specs.Calls.{IsRefusalOf}
+use Rattle.disk.specs.declared.DiskError.{DiskError}
 use Rattle.disk.specs.declared.DiskError.TheVariants as disk
 use Rattle.record_log.specs.declared.error.LogError.{LogError}
 use Rattle.record_log.specs.declared.error.LogError.TheVariants as log
 use Rattle.record_log.specs.declared.log.OpenedLog.{OpenedLog}
+use Rattle.record_log.specs.Error.{log_error}
 use Rattle.record_log.specs.Grammar.{Represents, ends_from, end_of}
-use Rattle.record_log.specs.Logs.{OpenRefusal, ReadRefusal, HasRead, HasRecords, LogHolds}
+use Rattle.record_log.specs.Logs.{OpenRefusal, HasRead, HasRecords, LogHolds}
 use Rattle.record_log.specs.Logs.{IsExternal, IsRest}
 use Rattle.record_log.proofs.Fronts.{one_reading}
 use Rattle.record_log.proofs.First.{nothing_past}
 
 -- a file that ends before the log begins represents no records
-pub declines_bytes : (e : LogError) (bytes : Option (List ℕ)) (start : ℕ) →
-    ReadRefusal e bytes start → OpenRefusal e bytes start
-declines_bytes (log.Disk disk.Failed) bytes start why = tt
-declines_bytes (log.Disk disk.NoFile) bytes start why = why
-declines_bytes (log.Disk disk.Short) None start why = absurd why
-declines_bytes (log.Disk disk.Short) (Some it) start why =
-    λ records. nothing_past it start records why
-declines_bytes (log.Disk disk.Memory) bytes start why = absurd why
-declines_bytes log.Memory bytes start why = tt
-declines_bytes log.TooLong bytes start why = absurd why
-declines_bytes log.Failed bytes start why = absurd why
+pub declines_bytes : (e : DiskError) (old : State) (file start : ℕ) →
+    IsRefusalOf e old file start → OpenRefusal (log_error e) (seen (old file)) start
+declines_bytes disk.Failed old file start why = tt
+declines_bytes disk.NoFile old file start why = why
+declines_bytes disk.Short old file start why = ends_before (seen (old file)) why
+  where
+    ends_before : (bytes : Option (List ℕ)) → IsSomeAnd bytes (λ it. length it < start) →
+        OpenRefusal (log.Disk disk.Short) bytes start
+    ends_before None short = absurd short
+    ends_before (Some it) short = λ records. nothing_past it start records short
+declines_bytes disk.Memory old file start why = tt
 
 -- opening a file that represents records is refused for environment errors alone
 pub declined : (e : LogError) (bytes : Option (List ℕ)) (start : ℕ) (records : List (List ℕ))

@@ -1,20 +1,20 @@
 -- Where a record's bytes are.
 use Rattle.std.proofs.Common.{◌≡◌, ℕ, zero, suc, ◌+◌, ◌-◌, ◌^◌, ◌<◌, ◌≤◌, min, List, [], ◌∷◌, ◌++◌}
-use Rattle.std.proofs.Common.{length, take, drop, Some, Result, Ok, Err, Vec, Global}
+use Rattle.std.proofs.Common.{length, take, drop, Some}
 use Rattle.std.proofs.Common.{refl, sym, ap, subst, ◌∙◌, inl, inr, append_assoc, length-append}
 use Rattle.std.proofs.Common.{arith}
-use Rattle.std.specs.Prelude.{IsSomeAnd, IsNone, IfErr, MatchResult, slice_get}
-use Rattle.std.specs.Prelude.{slice_index_or, ◌⊎◌}
+use Rattle.std.specs.Prelude.{IsSomeAnd, IsNone, slice_get}
+use Rattle.std.specs.Prelude.{slice_index_or}
 use Rattle.std.specs.Int.{w32, to_be_bytes}
 use Rattle.std.proofs.lemmas.List.{take_at, drop_at, drop-drop, length-drop}
+use Rattle.disk.specs.declared.DiskError.{DiskError}
 use Rattle.disk.specs.declared.DiskError.TheVariants as disk'
 use Rattle.disk.specs.{State, Slot, seen}
+use Rattle.disk.specs.Calls.{IsRefusalOf}
 use Rattle.record_log.specs.declared.log.Log.{Log}
-use Rattle.record_log.specs.declared.error.LogError.{LogError}
-use Rattle.record_log.specs.declared.error.LogError.TheVariants as log'
 use Rattle.record_log.specs.Grammar.{Represents, entry, ends_from}
-use Rattle.record_log.specs.Logs.{LogHolds, IsExternal, IsArgumentError, IsPart}
-use Rattle.record_log.specs.Logs.{ReadRefusal}
+use Rattle.record_log.specs.Error.{log_error}
+use Rattle.record_log.specs.Logs.{LogHolds, IsExternal, IsPart}
 
 -- record number i of those that begin at a place: its bytes, and what stands around them
 pub record Span (bytes : List ℕ) (at : ℕ) (records : List (List ℕ)) (i : ℕ) : Type 0 where
@@ -152,29 +152,14 @@ module _ (disk : State) (log : Log) (records : List (List ℕ)) (i begin len at 
       within begin_is len_is part (parts.1 ∙ ap (take len) moved)
 
   -- a record that a log has is there to be read
-  pub there : (e : LogError) → ReadRefusal e (seen (disk log.file)) (at + len) →
-      (IsArgumentError e → ⊥) →
-      IsExternal e ⊎ (e ≡ log'.Failed)
-  there (log'.Disk disk'.Failed) why own = inl (inl refl)
-  there (log'.Disk disk'.NoFile) why own =
+  pub there : (e : DiskError) → IsRefusalOf e disk log.file (at + len) → IsExternal (log_error e)
+  there disk'.Failed why = inl refl
+  there disk'.NoFile why =
       let gone : IsNone (Some h.bytes) = subst (λ (slot : Slot). IsNone (seen slot)) h.sure why in
       absurd cc
-  there (log'.Disk disk'.Short) why own =
+  there disk'.Short why =
       let p = in_file in
       let P : List ℕ → Type 0 = λ it. length it < at + len in
       let short : P h.bytes = subst (λ (slot : Slot). IsSomeAnd (seen slot) P) h.sure why in
       absurd (omega (arith, short, p.fits))
-  there (log'.Disk disk'.Memory) why own = absurd why
-  there log'.Memory why own = inl (inr refl)
-  there log'.TooLong why own = absurd (own (inl refl))
-  there log'.Failed why own = inr refl
-
-  -- so what the read answers is what is promised of the record
-  pub answers : (result : Result (Vec ℕ Global) LogError)
-      → MatchResult result (λ v. IsPart disk log.file at len v.items)
-      (λ e. ReadRefusal e (seen (disk log.file)) (at + len))
-      → IfErr result (λ e. IsArgumentError e → ⊥)
-      → MatchResult result (λ v. slice_get records i ≡ Some v.items)
-      (λ e. IsExternal e ⊎ (e ≡ log'.Failed))
-  answers (Ok v) read own = given v.items read
-  answers (Err e) why own = there e why own
+  there disk'.Memory why = inr refl

@@ -114,16 +114,6 @@ pub record IsRest (old : State) (file start : ℕ) (new : State) (rest : List �
   pub fits : length whole < 2 ^ 63
   pub is : rest ≡ drop start whole
 
--- why a file's bytes up to a place are not read: it is absent, or ends before that place
-abbrev pub ReadRefusal : LogError → Option (List ℕ) → ℕ → Type 0
-ReadRefusal (log.Disk disk.Failed) bytes place = Unit {0}
-ReadRefusal (log.Disk disk.NoFile) bytes place = IsNone bytes
-ReadRefusal (log.Disk disk.Short) bytes place = IsSomeAnd bytes (λ it. length it < place)
-ReadRefusal (log.Disk disk.Memory) bytes place = ⊥
-ReadRefusal log.Memory bytes place = Unit {0}
-ReadRefusal log.TooLong bytes place = ⊥
-ReadRefusal log.Failed bytes place = ⊥
-
 -- a log that has not failed, in this file from this place on
 pub record IsAt (file start : ℕ) (log : Log) : Type 0 where
   pub in_file : file_of log ≡ file

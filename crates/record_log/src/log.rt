@@ -6,9 +6,10 @@ ghost use Rattle.disk.specs.{seen, AddsNoOutcome, AlwaysLeaves, IsLeftAt, IsSame
 ghost use Rattle.disk.specs.{IsStill, KeepsDisk, State};
 ghost use Rattle.record_log.specs.Error.{DeviceFailed};
 ghost use Rattle.record_log.specs.Gate.{IsDurableAs, behind_of, pushed};
-ghost use Rattle.record_log.specs.Logs.{LogHolds, HasRecords, IsAt, IsPart, IsRest, ReadRefusal};
+ghost use Rattle.record_log.specs.Logs.{LogHolds, HasRecords, IsAt, IsPart, IsRest};
 ghost use Rattle.record_log.specs.Logs.{OpenOutcome, Appended, IsExpected};
-ghost use Rattle.record_log.specs.Logs.{IsExternal, IsArgumentError};
+ghost use Rattle.record_log.specs.Logs.{IsExternal};
+ghost use Rattle.disk.specs.Calls.{IsRefusalOf};
 ghost use Rattle.record_log.specs.Logs.{IsOldOrNewFrom, EndsInRange, begun, file_of, start_of};
 ghost use Rattle.record_log.specs.Logs.{IsDurableLog};
 ghost use Rattle.record_log.specs.Logs.{gate_of, count_of, first_length, HasFailed, HasNoRoom};
@@ -55,12 +56,11 @@ fn bytes_at<D: Disk>(
     file: u64,
     at: u64,
     len: usize,
-) -> Result<Vec<u8>, LogError>
-    ensures kept { KeepsDisk D.Disk disk.old disk.new (DeviceFailed result) ⊥ IsSame }
+) -> Result<Vec<u8>, DiskError>
+    ensures kept { KeepsDisk D.Disk disk.old disk.new (IsErrOf result DiskError.Failed) ⊥ IsSame }
     ensures read { D.is_honest disk.old →
         MatchResult result (λ bytes. IsPart (D.state disk.old) file at len bytes.items)
-        (λ e. ReadRefusal e (seen (D.state disk.old file)) (at + len)) }
-    ensures not_own { IfErr result (λ e. IsArgumentError e → ⊥) }
+        (λ e. IsRefusalOf e (D.state disk.old) file (at + len)) }
     ensures still { IsStill D.Disk disk.old disk.new }
 {
     let mut bytes = vec![in alloc; 0u8; len]?;
@@ -74,17 +74,18 @@ fn synced_from<D: Disk>(
     disk: &mut D,
     file: u64,
     start: u64,
-) -> Result<Vec<u8>, LogError>
-    ensures kept { KeepsDisk D.Disk disk.old disk.new (DeviceFailed result) ⊥ (AddsNoOutcome file) }
+) -> Result<Vec<u8>, DiskError>
+    ensures kept { KeepsDisk D.Disk disk.old disk.new (IsErrOf result DiskError.Failed) ⊥
+        (AddsNoOutcome file) }
     ensures read { D.is_honest disk.old → MatchResult result
         (λ bytes. IsRest (D.state disk.old) file start (D.state disk.new) bytes.items)
-        (λ e. ReadRefusal e (seen (D.state disk.old file)) start) }
+        (λ e. IsRefusalOf e (D.state disk.old) file start) }
     ensures still { IsStill D.Disk disk.old disk.new }
 {
     disk.sync(file)?;
     let length = disk.length(file)?;
     if length < start {
-        return Err(LogError::Disk(DiskError::Short));
+        return Err(DiskError::Short);
     }
     bytes_at(alloc, disk, file, start, (length - start) as usize)
 }
@@ -120,8 +121,7 @@ impl Log {
         ensures kept { KeepsDisk D.Disk disk.old disk.new (DeviceFailed result) ⊥ (IsSameBut file) }
         ensures created { D.is_honest disk.old → EndsInRange (seen (D.state disk.old file)) →
             MatchResult result (λ log. LogHolds (D.state disk.new) log []) IsExternal }
-        ensures spelled { D.is_honest disk.old →
-            OnOk result
+        ensures spelled { D.is_honest disk.old → OnOk result
             (IsDurableAs (D.state disk.new) file (begun (seen (D.state disk.old file)))) }
         ensures at { IfOk result (IsAt file 0) }
         ensures empty { IfOk result (λ log. (gate_of log ≡ 0) × (count_of log ≡ 0)) }
@@ -162,7 +162,9 @@ impl Log {
         ensures still { IsStill D.Disk disk.old disk.new }
     {
         let bytes = synced_from(alloc, disk, file, start)?;
-        let (ends, end) = scan(alloc, &bytes)?;
+        let Some((ends, end)) = scan(alloc, &bytes)? else {
+            return Err(LogError::Disk(DiskError::Short));
+        };
         let log = Log {
             file,
             start,
@@ -255,9 +257,8 @@ impl Log {
         // A crash at any moment since the call began, whatever it answers, leaves the old records,
         // with or without the new one.
         ensures any_moment { (records : List (List ℕ)) → D.is_honest disk.old →
-            (held : LogHolds (D.state disk.old) self.old records) →
-            AlwaysLeaves D.Disk disk.old disk.new (IsLeftAt (D.state disk.old) (file_of self.old)
-            (λ left. IsSomeAnd left
+            (held : LogHolds (D.state disk.old) self.old records) → AlwaysLeaves D.Disk disk.old
+            disk.new (IsLeftAt (D.state disk.old) (file_of self.old) (λ left. IsSomeAnd left
             (IsOldOrNewFrom held.bytes (start_of self.old) records bytes.now))) }
     {
         if self.has_failed {
@@ -298,6 +299,6 @@ impl Log {
         }
         let (begin, len) = self.span(index);
         let at = self.start.saturating_add(begin as u64);
-        bytes_at(alloc, disk, self.file, at, len)
+        Ok(bytes_at(alloc, disk, self.file, at, len)?)
     }
 }

@@ -3,8 +3,6 @@ ghost use Rattle.std.specs.Prelude.{◌≡◌, ◌≤◌, ◌++◌, ◌<◌, ◌
 ghost use Rattle.std.specs.Prelude.{Err, IsErr, MatchOption};
 ghost use Rattle.record_log.specs.Grammar.{IsClosed, Represents, entry, ends_from, end_of};
 
-use crate::LogError;
-use disk::DiskError;
 use std::alloc::{AllocError, Global};
 
 /// Bytes that represent no records.
@@ -35,21 +33,21 @@ fn first_of(bytes: &[u8]) -> Result<Option<(&[u8], &[u8])>, Malformed>
     Ok(Some(tail.split_at(len)))
 }
 
-/// The places where the records of the bytes end, and the place where the last ends.
-pub fn scan(alloc: Global, bytes: &[u8]) -> Result<(Vec<usize>, usize), LogError>
-    ensures found { IfOk result (λ found. (records : List (List ℕ)) × Represents bytes.now records
-        × (found.0.items ≡ ends_from 0 records) × (found.1 ≡ end_of 0 records)) }
-    ensures only { IfErr result (λ e. (e ≡ LogError.Disk DiskError.Short) ⊎ (e ≡ LogError.Memory)) }
-    ensures short { result ≡ Err (LogError.Disk DiskError.Short) →
-        (records : List (List ℕ)) → Represents bytes.now records → ⊥ }
+/// The places where the records of the bytes end, and the place where the last ends. `None` where
+/// the bytes represent no records.
+pub fn scan(alloc: Global, bytes: &[u8]) -> Result<Option<(Vec<usize>, usize)>, AllocError>
+    ensures { IfOk result (λ found. MatchOption found
+        ((records : List (List ℕ)) → Represents bytes.now records → ⊥)
+        (λ it. (records : List (List ℕ)) × Represents bytes.now records
+        × (it.0.items ≡ ends_from 0 records) × (it.1 ≡ end_of 0 records))) }
 {
     let mut ends = Vec::new(alloc);
     let mut end = 0;
     let mut rest = bytes;
     loop {
         match first_of(rest) {
-            Err(Malformed) => return Err(LogError::Disk(DiskError::Short)),
-            Ok(None) => return Ok((ends, end)),
+            Err(Malformed) => return Ok(None),
+            Ok(None) => return Ok(Some((ends, end))),
             Ok(Some((_record, after))) => {
                 end = bytes.len().saturating_sub(after.len());
                 ends.push(end)?;

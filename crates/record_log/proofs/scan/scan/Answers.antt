@@ -3,16 +3,16 @@ use Rattle.record_log.proofs.Fronts.{front_closed, stands_behind, passed_push}
 use Rattle.record_log.proofs.scan.scan.Goals as goal
 
 -- the bytes of records have the remaining records behind those that were passed
-pub returns-in-Err-clause-short : goal.returns-in-Err-clause-short
-returns-in-Err-clause-short c = λ _ records s.
+pub returns-in-Err : goal.returns-in-Err
+returns-in-Err c = λ records s.
     let passed = c.loop-ends.invariant in
     let rest = c.loop-ends.rest.now in
     let more = stands_behind c.args.bytes.now passed.records rest records passed.front s in
     c.in-Err.ensures.malformed refl more.0 more.2
 
 -- a closed gate ends those that were passed
-pub returns-in-Ok-None-clause-found : goal.returns-in-Ok-None-clause-found
-returns-in-Ok-None-clause-found c =
+pub returns-in-Ok-None : goal.returns-in-Ok-None
+returns-in-Ok-None c =
     let passed = c.loop-ends.invariant in
     let closed = rw c.in-Ok-None.field-0-is at c.in-Ok-None.ensures in
     let stands = front_closed c.args.bytes.now passed.records c.loop-ends.rest.now passed.front

@@ -3,6 +3,7 @@ use Rattle.std.proofs.lemmas.Result.{err_from_is_err_and}
 use Rattle.disk.specs.{seen}
 use Rattle.record_log.specs.declared.log.Log.{Log}
 use Rattle.record_log.specs.declared.log.OpenedLog.{OpenedLog}
+use Rattle.record_log.specs.Error.{log_error}
 use Rattle.record_log.specs.Grammar.{Represents}
 use Rattle.record_log.specs.Logs.{HasRead}
 use Rattle.record_log.proofs.Opens.{declines_bytes, declined, had_them, holds_them, read_them}
@@ -12,30 +13,30 @@ use Rattle.record_log.proofs.log.Log.open.Goals as goal
 pub returns-in_err-bytes-clause-told : goal.returns-in_err-bytes-clause-told
 returns-in_err-bytes-clause-told g c = λ honest.
     let p = err_from_is_err_and c.from_residual.result c.from_residual.ensures.1 in
-    let bytes = seen (g.D.Disk.state c.args.disk.now c.args.file) in
-    let why = c.in_err-bytes.ensures.read honest in
-    rw (p.1, p.2) (declines_bytes c.in_err-bytes.field-0.0 bytes c.args.start why)
+    rw (p.1, p.2) (declines_bytes c.in_err-bytes.field-0.0 (g.D.Disk.state c.args.disk.now)
+    c.args.file c.args.start (c.in_err-bytes.ensures.read honest))
 
 -- opening a file that represents records is refused for environment errors alone
 pub returns-in_err-bytes-clause-opened : goal.returns-in_err-bytes-clause-opened
 returns-in_err-bytes-clause-opened g c = λ records honest stood.
     let p = err_from_is_err_and c.from_residual.result c.from_residual.ensures.1 in
+    let e = c.in_err-bytes.field-0.0 in
     let bytes = seen (g.D.Disk.state c.args.disk.now c.args.file) in
-    let why = declines_bytes c.in_err-bytes.field-0.0 bytes c.args.start
+    let why = declines_bytes e (g.D.Disk.state c.args.disk.now) c.args.file c.args.start
     (c.in_err-bytes.ensures.read honest) in
-    rw (p.1, p.2) (declined c.in_err-bytes.field-0.0 bytes c.args.start records why stood)
+    rw (p.1, p.2) (declined (log_error e) bytes c.args.start records why stood)
 
 -- the file is durable with the bytes that were read, of which the scan found the records
 pub returns-clause-told : goal.returns-clause-told
 returns-clause-told g c = λ honest.
-    let found = c.in_ok-ends.ensures.found in
+    let found = rw c.in-Some.is at c.in_ok-ends.ensures in
     let old = g.D.Disk.state c.args.disk.now in
     let new = g.D.Disk.state c.synced_from.new.disk in
     let log : Log = record {
       file = c.args.file;
       start = c.args.start;
-      ends = c.in_ok-ends.ends;
-      end = c.in_ok-ends.end;
+      ends = c.in-Some.ends;
+      end = c.in-Some.end;
       has_failed = false;
     } in
     let opened : OpenedLog = record { log = log; bytes = c.in_ok-bytes.bytes } in
@@ -60,14 +61,14 @@ returns-clause-told g c = λ honest.
 -- what the scan found are the file's records
 pub returns-clause-opened : goal.returns-clause-opened
 returns-clause-opened g c = λ records honest stood.
-    let found = c.in_ok-ends.ensures.found in
+    let found = rw c.in-Some.is at c.in_ok-ends.ensures in
     let old = g.D.Disk.state c.args.disk.now in
     let new = g.D.Disk.state c.synced_from.new.disk in
     let log : Log = record {
       file = c.args.file;
       start = c.args.start;
-      ends = c.in_ok-ends.ends;
-      end = c.in_ok-ends.end;
+      ends = c.in-Some.ends;
+      end = c.in-Some.end;
       has_failed = false;
     } in
     let opened : OpenedLog = record { log = log; bytes = c.in_ok-bytes.bytes } in
