@@ -32,23 +32,11 @@ log_fails log.Failed f = absurd cc
 
 pub fails_log : {T U : Type 0} (e : LogError) → DeviceFailed {T = U} (Err e)
     → ManifestFailsDevice {T = T} (Err (error_by_log e))
-fails_log (log.Disk disk.Failed) f = refl
-fails_log (log.Disk disk.NoFile) f = absurd cc
-fails_log (log.Disk disk.Short) f = absurd cc
-fails_log (log.Disk disk.Memory) f = absurd cc
-fails_log log.Memory f = absurd cc
-fails_log log.TooLong f = absurd cc
-fails_log log.Failed f = absurd cc
+fails_log e f = let is : e ≡ log.Disk disk.Failed = cc in ap (λ x. Err (error_by_log x)) is
 
 pub log_again : {T U : Type 0} (e : LogError) → DeviceFailed {T = T} (Err e)
     → DeviceFailed {T = U} (Err e)
-log_again (log.Disk disk.Failed) f = refl
-log_again (log.Disk disk.NoFile) f = absurd cc
-log_again (log.Disk disk.Short) f = absurd cc
-log_again (log.Disk disk.Memory) f = absurd cc
-log_again log.Memory f = absurd cc
-log_again log.TooLong f = absurd cc
-log_again log.Failed f = absurd cc
+log_again e f = let is : e ≡ log.Disk disk.Failed = cc in ap Err is
 
 -- the refusals of a disk that a log reports as the device's
 pub disk_fails : {T U : Type 0} (e : DiskError) → DeviceFailed {T = T} (Err (log_error e))
@@ -60,10 +48,7 @@ disk_fails disk.Memory f = absurd cc
 
 pub fails_disk : {T U : Type 0} (e : DiskError) → IsErrOf {T = U} (Err e) disk.Failed
     → DeviceFailed {T = T} (Err (log_error e))
-fails_disk disk.Failed f = refl
-fails_disk disk.NoFile f = absurd cc
-fails_disk disk.Short f = absurd cc
-fails_disk disk.Memory f = absurd cc
+fails_disk e f = let is : e ≡ disk.Failed = cc in ap (λ x. Err (log_error x)) is
 
 -- ---- slots
 
