@@ -1,22 +1,34 @@
 -- A node that takes an input, by the state that it had.
-use Rattle.std.proofs.Common.{◌≡◌, ◌⊎◌, ℕ, [], inl, refl, subst}
+use Rattle.std.proofs.Common.{◌≡◌, ◌↔◌, ◌⊎◌, ◌∷◌, ℕ, Bool, List, [], None, Option, true, length}
+use Rattle.std.proofs.Common.{inl, refl, subst, sym}
 use Rattle.std.specs.Prelude.{IsSome}
 use Rattle.kv_types.specs.declared.Limits.{Limits}
 use Rattle.chain_core.specs.{Machine}
 use Rattle.disk.specs.declared.Fault.{Fault}
+use Rattle.disk.specs.declared.Junk.{Junk}
+use Rattle.disk.specs.declared.Mark.TheVariants.{Crashed}
 use Rattle.disk.specs.declared.disk.Disk.{Ghosts}
+use Rattle.disk.specs.{HasStruck, IsArmed, IsLastLeft, KeepsDisk, State, fault_of}
 use Rattle.node.specs.declared.Node.{Node}
 use Rattle.node.specs.declared.Output.{Output}
-use Rattle.node.specs.{IsReady}
+use Rattle.node.specs.declared.Stop.{Stop as Cause}
+use Rattle.node.specs.declared.Stop.TheVariants.{Disk}
+use Rattle.node.specs.{HasLongFile, IsEnvironmental, IsReady}
 use Rattle.lab.specs.declared.input.NodeInput.{NodeInput}
 use Rattle.lab.specs.declared.input.NodeInput.TheVariants as to_node
+use Rattle.lab.specs.declared.input.StepOutcome.{StepOutcome}
 use Rattle.lab.specs.declared.input.StepOutcome.TheVariants as done
 use Rattle.lab.specs.declared.node_state.NodeState.{NodeState}
 use Rattle.lab.specs.declared.node_state.NodeState.TheVariants.{Up, Down}
-use Rattle.lab.specs.Outcomes.{DropsResting, HasDispatched, IsAnswerAtRest, OutcomeRefines, Rests}
-use Rattle.lab.specs.Outcomes.{RestsOn, StateFollows, TendsNot, has_struck_in}
-use Rattle.lab.specs.SimNodes.{IsDown, StateIsReady, StateRefines, disk_in}
-use Rattle.lab.proofs.Faults.{idle_in}
+use Rattle.lab.specs.Disks.{HasGrown, IsMarkedSo, junk_at_end}
+use Rattle.lab.specs.Events.{line_cause}
+use Rattle.lab.specs.Outcomes.{DiskFits, DropsResting, HasCrashed, HasDispatched, IsAnswerAtRest}
+use Rattle.lab.specs.Outcomes.{IsIgnored, MarksFit, OutcomeRefines, Rests, RestsOn, StateFollows}
+use Rattle.lab.specs.Outcomes.{StopsByItself, TendsNot, has_struck_in, input_junk}
+use Rattle.lab.specs.SimNodes.{IsDown, StateHasLimits, StateIsReady, StateIsSound, StateRefines}
+use Rattle.lab.specs.SimNodes.{disk_in}
+use Rattle.lab.proofs.Faults.{IsSpent, disk_fits, explained, grown_end, idle_in, marked_end, spent}
+use Rattle.lab.proofs.Faults.{stopped_so, struck_at}
 
 -- a node that is up is ready where it says so, and one that is down is
 pub ready_up : {D : Type 0} {g : Ghosts D} (node : Node D g) → IsReady node → StateIsReady (Up node)
@@ -27,17 +39,26 @@ ready_up node ready other same =
 pub ready_down : {D : Type 0} (g : Ghosts D) (disk : D) → StateIsReady {g = g} (Down disk)
 ready_down g disk other same = absurd cc
 
+-- the same, where the input and the state before it are known
+pub dispatched_as : {D : Type 0} {g : Ghosts D} {old new : NodeState D g} {did : StepOutcome}
+    {own : NodeInput} (limits : Limits) (it : Fault) {node_input : NodeInput}
+    {was : NodeState D g} → node_input ≡ own → was ≡ old →
+    HasDispatched g limits it own old new did → HasDispatched g limits it node_input was new did
+dispatched_as {g = g} {new = new} {did = did} {own = own} limits it {was = was} is state took =
+    subst (λ (k : NodeInput). HasDispatched g limits it k was new did) (sym is)
+    (subst (λ (m : NodeState _ g). HasDispatched g limits it own m new did) (sym state) took)
+
 -- a node that answered and did nothing else has taken its input
 pub answered_only : {D : Type 0} (g : Ghosts D) (limits : Limits) (it : Fault)
     (node_input : NodeInput)
     (old : NodeState D g) (output : Output) → StateIsReady old →
-    IsDown old ⊎ IsSome output.dropped →
+    IsDown old ⊎ IsSome output.dropped → IsIgnored old node_input →
     ((x : ℕ) (n : Machine) → StateRefines g.is_honest g.state old x n →
     OutcomeRefines g.is_honest g.state it (has_struck_in g.past it (disk_in old) old) x n
     node_input old old (done.Answered output)) →
     StateFollows g.is_honest g.state g.failures g.past old node_input old →
     HasDispatched g limits it node_input old old (done.Answered output)
-answered_only g limits it node_input old output ready may refines follows = record {
+answered_only g limits it node_input old output ready may ignored refines follows = record {
   ready = ready;
   refines = refines;
   disk = λ honest. record {
@@ -45,11 +66,11 @@ answered_only g limits it node_input old output ready may refines follows = reco
     count = refl;
     same = λ down. refl;
   };
-  only = λ x n r reliable stops. absurd cc;
+  only = λ sound reliable stops. absurd cc;
   follows = follows;
   grows = λ x n r. ([], refl);
   marked = λ honest. inl (may, refl, refl);
-  forgets = λ honest unarmed. unarmed;
+  forgets = λ honest unarmed. unarmed ignored;
   limits = λ has. has;
 }
 
@@ -60,18 +81,101 @@ pub answered_at_rest : {D : Type 0} (g : Ghosts D) (limits : Limits) (it : Fault
     HasDispatched g limits it node_input (Down disk) (Down disk) (done.Answered output)
 answered_at_rest g limits it (to_node.Step inp) disk output other is =
     answered_only g limits it (to_node.Step inp) (Down disk) output (ready_down g disk)
-    (inl tt)
+    (inl tt) tt
     (λ x n r. Rests r.2 r (output, refl, is n)) refl
 answered_at_rest g limits it (to_node.BadFrame why) disk output other is =
     answered_only g limits it (to_node.BadFrame why) (Down disk) output (ready_down g disk)
-    (inl tt)
+    (inl tt) tt
     (λ x n r. DropsResting r.2 r (output, refl, is)) refl
 answered_at_rest g limits it to_node.Tend disk output other is =
     answered_only g limits it to_node.Tend (Down disk) output (ready_down g disk)
-    (inl tt)
+    (inl tt) tt
     (λ x n r. TendsNot r.2 r (output, refl, is)) refl
 answered_at_rest g limits it to_node.Start disk output other is = absurd (other refl)
 answered_at_rest g limits it (to_node.Stop junk) disk output other is =
     answered_only g limits it (to_node.Stop junk) (Down disk) output (ready_down g disk)
-    (inl tt)
+    (inl tt) tt
     (λ x n r. RestsOn r.2 r (output, refl, is)) refl
+
+-- the disk of a state that refines a machine, or is sound, is honest
+pub honest_in : {D : Type 0} (g : Ghosts D) (it : NodeState D g) (x : ℕ) (n : Machine) →
+    StateRefines g.is_honest g.state it x n → g.is_honest (disk_in it)
+honest_in g (Up node) x n r = r.honest
+honest_in g (Down disk) x n r = r.0
+
+honest_of : {D : Type 0} (g : Ghosts D) (it : NodeState D g) → StateIsSound g it →
+    g.is_honest (disk_in it)
+honest_of g (Up node) sound = sound.2.honest
+honest_of g (Down disk) sound = sound
+
+-- a state that refines a machine is sound
+pub sound : {D : Type 0} (g : Ghosts D) (it : NodeState D g) (x : ℕ) (n : Machine) →
+    StateRefines g.is_honest g.state it x n → StateIsSound g it
+sound g (Up node) x n r = (x, n, r)
+sound g (Down disk) x n r = r.0
+
+-- A node that was in this state stopped by itself, once its disk was armed with the fault, and the
+-- calls of its step left this disk, which then crashed.
+module _ {D : Type 0} (g : Ghosts D) (it : Fault) (was new : NodeState D g) (did : StepOutcome)
+    (armed left : D) (stop : Cause) (has_failed cause : Type 0)
+    (IsKept : State → State → Type 0) (arms : IsArmed g it (disk_in was) armed)
+    (keeps : KeepsDisk g armed left has_failed cause IsKept) (to : has_failed → stop ≡ Disk)
+    (from : stop ≡ Disk → has_failed)
+    (told : (struck : Bool) → ((struck ≡ true) ↔ HasStruck g.marks g.past left) →
+    did ≡ done.Stopped (line_cause it struck stop))
+    (crashes : (struck : Bool) → ((struck ≡ true) ↔ HasStruck g.marks g.past left) →
+    g.is_honest left →
+    HasCrashed g.state g.failures g.past (junk_at_end it struck) left new
+    × IsLastLeft (g.past left) (g.state left))
+  where
+    abbrev struck : Bool
+    struck = has_struck_in g.past it (disk_in was) new
+
+    spent_so : g.is_honest (disk_in was) → IsSpent g (struck_at g it (disk_in was) left) has_failed
+        cause (disk_in was) left
+    spent_so honest = spent g it (disk_in was) armed left has_failed cause IsKept arms keeps honest
+
+    -- the disk that it left is honest
+    pub honest_left : g.is_honest (disk_in was) → g.is_honest left
+    honest_left honest = (spent_so honest).honest
+
+    -- it stopped for its device or for memory: for its device where the fault struck
+    pub halts_so : g.is_honest (disk_in was) → IsEnvironmental stop → StopsByItself it struck did
+    halts_so honest = stopped_so g it (disk_in was) left stop new did has_failed cause
+        (spent_so honest) to from told crashes
+
+    -- so it took an input that does not stop it
+    pub halted : (given : Limits) (node_input : NodeInput) → input_junk node_input ≡ None →
+        StateIsReady new →
+        ((b : Bool) → ((b ≡ true) ↔ HasStruck g.marks g.past left) → g.is_honest left →
+        IsMarkedSo g.state g.past g.marks
+        ((length (g.past left), Crashed (junk_at_end it b)) ∷ g.marks left) (disk_in new)) →
+        (g.is_honest left → fault_of (g.marks (disk_in new)) ≡ None) →
+        StateHasLimits new given →
+        ((x : ℕ) (n : Machine) → StateRefines g.is_honest g.state was x n →
+        OutcomeRefines g.is_honest g.state it struck x n node_input was new did) →
+        (StateIsSound g was → cause → HasLongFile (g.state (disk_in was))) →
+        StateFollows g.is_honest g.state g.failures g.past was node_input new →
+        ((x : ℕ) (n : Machine) → StateRefines g.is_honest g.state was x n →
+        HasGrown g.past (disk_in was) left) →
+        HasDispatched g given it node_input was new did
+    halted given node_input unstopped ready stamped forgets limits refines long follows grows =
+        record {
+          ready = ready;
+          refines = refines;
+          disk = λ honest. subst (λ (j : Option Junk).
+              DiskFits g.state g.failures g.past j it struck did (disk_in was) new) (sym unstopped)
+              (disk_fits g it (disk_in was) left stop new did has_failed cause (spent_so honest)
+              to from told crashes);
+          only = λ is reliable. explained g it (disk_in was) left stop new did has_failed cause
+              (spent_so (honest_of g was is)) to from told crashes reliable (long is);
+          follows = follows;
+          grows = λ x n r. grown_end g it (disk_in was) left stop new did has_failed cause
+              (spent_so (honest_in g was x n r)) to from told crashes (grows x n r);
+          marked = λ honest. subst (λ (j : Option Junk).
+              MarksFit g.state g.past g.marks j it struck did (disk_in was) new) (sym unstopped)
+              (marked_end g it (disk_in was) left stop new did has_failed cause (spent_so honest)
+              to from told crashes armed has_failed cause IsKept arms keeps honest stamped);
+          forgets = λ honest _. forgets (honest_left honest);
+          limits = λ _. limits;
+        }

@@ -18,8 +18,8 @@ use Rattle.lab.specs.Disks.{DisksFollow, AllFollow}
 use Rattle.lab.specs.Events.{modelled, lines_of_event, ChoiceFits}
 use Rattle.lab.specs.SimNodes.{Choice, IsUnarmed, state, failures, marks}
 use Rattle.lab.specs.Traces.{modelled_from, lines_from, AllFit}
-use Rattle.lab.specs.Worlds.{PostedRefines, SimNodeRefines, RunRefines, frames_in_steps}
-use Rattle.lab.specs.Worlds.{AllNodesFollow, HaveLimits, NodesFollow, NodesRefine}
+use Rattle.lab.specs.Worlds.{AllNodesFollow, HaveLimits, NodesFollow, NodesRefine, PostedRefines}
+use Rattle.lab.specs.Worlds.{RunRefines, SimNodeRefines, WorldRun, extended, frames_in_steps}
 use Rattle.lab.specs.Worlds.{frames_of_step}
 
 -- one event more at the end
@@ -171,16 +171,24 @@ pub record Next (cs : Configurations) (w : SystemState BatchContent) (old : ℕ 
   pub unarmed : (x : ℕ) → IsUnarmed (disks x)
   pub each : All (SimNodeRefines (state_after cs w (modelled i event.kind choice)).nodes disks) sims
 
-module _ (cs : Configurations) (events : List Event) (choices : List Choice)
-    (steps : List (List Line)) (sims : List SimNode) (posted : List Posted)
-    (made : RunRefines sims posted cs events choices steps)
+module _ (past : WorldRun) (sims : List SimNode) (posted : List Posted)
+    (made : RunRefines sims posted past)
   where
+    abbrev cs : Configurations
+    cs = past.configs
+
+    abbrev events : List Event
+    events = past.events
+
+    abbrev choices : List Choice
+    choices = past.choices
+
     -- the world of the model so far
     abbrev pub so_far : SystemState BatchContent
     so_far = reached cs (modelled_from 1 events choices)
 
     -- there are as many steps as events
-    pub length-steps : length steps ≡ length events
+    pub length-steps : length past.steps ≡ length events
     length-steps = ap length made.trace.traced
         ∙ length-lines_from cs 1 events choices (first_state cs) made.trace.one_each
 
@@ -188,8 +196,7 @@ module _ (cs : Configurations) (events : List Event) (choices : List Choice)
     pub grown : (i : ℕ) (event : Event) (choice : Choice) (now : List SimNode) (more : List Posted)
         (lines : List Line) → i ≡ length events + 1 →
         Next cs so_far made.disks i event choice now more lines →
-        RunRefines now more cs (events ++ event ∷ []) (choices ++ choice ∷ [])
-        (steps ++ lines ∷ [])
+        RunRefines now more (extended past event choice lines)
     grown i event choice now more lines at next =
         let place : i ≡ 1 + length events = omega (arith, at) in
         let here = run-push cs event choice 1 i events choices (first_state cs)
@@ -215,7 +222,7 @@ module _ (cs : Configurations) (events : List Event) (choices : List Choice)
               next.frames;
           sent = omega (
             arith,
-            frames_in_steps-push steps lines,
+            frames_in_steps-push past.steps lines,
             made.sent,
             next.counted,
             AllZip-long PostedRefines posted so_far.frames made.frames,

@@ -10,7 +10,9 @@ mod Deliveries
 mod SimNodes
 mod Growing
 mod Addressees
+mod Moves
 mod Worlds
+mod WorldSteps
 mod Nodes
 mod TraceLines
 mod Histories

@@ -18,7 +18,7 @@ use Rattle.lab.specs.SimNodes.{IsUnarmed, StateHasLimits, StateRefines, disk_in,
 use Rattle.lab.specs.Disks.{IsNewDisk}
 use Rattle.lab.specs.SimNodes.{failures, marks}
 use Rattle.lab.specs.Worlds.{SimNodeRefines, IsCreated, AreCreated, IsLeft, AreLeft, RunRefines}
-use Rattle.lab.specs.Worlds.{HaveLimits, IsReportOf}
+use Rattle.lab.specs.Worlds.{HaveLimits, IsReportOf, empty_run}
 use Rattle.lab.proofs.Disks.{with_disk, disk_here, disk_elsewhere}
 use Rattle.lab.proofs.SimNodes.{ids_of}
 
@@ -147,7 +147,7 @@ all_have config (s ∷ sims) differ all = (
 
 -- a world whose nodes were just created has made the run of no events
 pub begun : (cs : Configurations) (limits : Limits) (sims : List SimNode) → Lawful cs →
-    AreCreated (at_epoch cs 0) (at_epoch cs 0) limits sims → RunRefines sims [] cs [] [] []
+    AreCreated (at_epoch cs 0) (at_epoch cs 0) limits sims → RunRefines sims [] (empty_run cs)
 begun cs limits sims lawful are =
     let all = recursion_from_All (IsCreated (at_epoch cs 0)) sims are.each in
     let none = none_failed (at_epoch cs 0) sims all in

@@ -30,8 +30,8 @@ use Rattle.lab.specs.SimNodes.{failures, marks}
 use Rattle.lab.specs.Runs.{IsRun, RunningRefines}
 use Rattle.lab.specs.Traces.{modelled_from, IsTrace}
 use Rattle.lab.specs.declared.world.World.{World}
-use Rattle.lab.specs.Worlds.{SimNodeRefines, IsLeft, AreLeft, RunRefines}
-use Rattle.lab.specs.Worlds.{AreNodesAfter, AreReportsAfter, HasRun, IsReportOf, WorldHasLimits}
+use Rattle.lab.specs.Worlds.{AreLeft, AreNodesAfter, AreReportsAfter, HasRun, IsLeft, IsReportOf}
+use Rattle.lab.specs.Worlds.{RunRefines, SimNodeRefines, WorldHasLimits, WorldRun}
 use Rattle.lab.proofs.Histories.{numbered_same, submitted_same, all_speak}
 use Rattle.lab.proofs.Nodes.{reported_ids}
 
@@ -87,12 +87,20 @@ pub disk_represents : {g : Ghosts Slots} → ((node : Node Slots g) (x : ℕ) (n
 disk_represents law (Up node) x n is = law node x n is
 disk_represents law (Down disk) x n is = is.1
 
-module _ (sims : List SimNode) (posted : List Posted) (cs : Configurations) (events : List Event)
-    (choices : List Choice) (steps : List (List Line))
-    (made : RunRefines sims posted cs events choices steps) where
+module _ (sims : List SimNode) (posted : List Posted) (past : WorldRun)
+    (made : RunRefines sims posted past) where
+  abbrev cs : Configurations
+  cs = past.configs
+
+  abbrev events : List Event
+  events = past.events
+
+  abbrev choices : List Choice
+  choices = past.choices
+
   -- what is left of a world's nodes is a run
-  pub run_left : (report : Report) → report.steps.items ≡ steps →
-      AreLeft sims report.nodes.items → ReadsAreFresh cs events choices steps →
+  pub run_left : (report : Report) → report.steps.items ≡ past.steps →
+      AreLeft sims report.nodes.items → ReadsAreFresh cs events choices past.steps →
       NodesKeepEnough cs events choices → IsRun cs events choices report
   run_left report same left fresh enough =
       let nodes = report.nodes.items in
@@ -152,23 +160,20 @@ module _ (sims : List SimNode) (posted : List Posted) (cs : Configurations) (eve
       }
 
 -- a report of a world that has run these events is of the nodes that they left, with its limits
--- logs
-pub reported_run : {E : Type 0} (world : World) (cs : Configurations) (limits : Limits)
-    (events : List Event) (choices : List Choice) (steps : List (List Line)) →
-    HasRun world cs events choices steps → WorldHasLimits world limits →
-    (result : Result Report E) →
-    IfOk result (IsRun cs events choices) →
+pub reported_run : {E : Type 0} (world : World) (limits : Limits) (past : WorldRun) →
+    HasRun world past → WorldHasLimits world limits → (result : Result Report E) →
+    IfOk result (IsRun past.configs past.events past.choices) →
     IfOk result (λ report. AllZip IsReportOf world.nodes.items report.nodes.items) →
-    IfOk result (λ report. (choices : List Choice) × IsRun cs events choices report
-    × AreReportsAfter cs limits events choices report.nodes.items)
-reported_run world cs limits events choices steps run has (Ok report) is own = (
-  choices,
+    IfOk result (λ report. (choices : List Choice) × IsRun past.configs past.events choices report
+    × AreReportsAfter past.configs limits past.events choices report.nodes.items)
+reported_run world limits past run has (Ok report) is own = (
+  past.choices,
   is,
   record {
     sims = world.nodes.items;
-    after = subst (λ (own : Limits). AreNodesAfter cs own events choices world.nodes.items)
-        has.given run.came;
+    after = subst (λ (own : Limits). AreNodesAfter past.configs own past.events past.choices
+        world.nodes.items) has.given run.came;
     own = own;
   },
 )
-reported_run world cs limits events choices steps run has (Err e) is own = tt
+reported_run world limits past run has (Err e) is own = tt

@@ -25,6 +25,6 @@ pub use Rattle.lab.specs.Events.{NamesNode, node_in}
 pub use Rattle.lab.specs.History.{OneHistory}
 pub use Rattle.lab.specs.Runs.{AreNumbersOf, IsRun}
 pub use Rattle.lab.specs.SimNodes.{Choice}
-pub use Rattle.lab.specs.Worlds.{AreNodesAfter, AreReportsAfter, HasRun, WorldHasLimits}
+pub use Rattle.lab.specs.Worlds.{AreNodesAfter, AreReportsAfter, HasRun, WorldHasLimits, WorldRun}
 pub use Rattle.lab.specs.Worlds.{IsReportOf, ShowsTables}
 pub use Rattle.lab.specs.Worlds.{frames_of_step, frames_in_steps}

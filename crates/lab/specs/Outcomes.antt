@@ -35,7 +35,8 @@ use Rattle.lab.specs.declared.report.Line.{Line}
 use Rattle.lab.specs.declared.report.Line.TheVariants as line
 use Rattle.lab.specs.Disks.{HasGrown, IsCrashOf, IsMarkedBy, before_crash, has_reached, junk_at_end}
 use Rattle.lab.specs.Events.{dropped_lines, line_cause}
-use Rattle.lab.specs.SimNodes.{StateHasLimits, StateIsReady, StateRefines, IsDown, disk_in}
+use Rattle.lab.specs.SimNodes.{StateHasLimits, StateIsReady, StateIsSound, StateRefines, IsDown}
+use Rattle.lab.specs.SimNodes.{disk_in}
 
 -- ---- what a node answers
 
@@ -292,6 +293,14 @@ StateFollows is_honest state failures past (Down disk) to_node.Tend new = new �
 StateFollows is_honest state failures past (Down disk) to_node.Start new = Unit {0}
 StateFollows is_honest state failures past (Down disk) (to_node.Stop junk) new = new ≡ Down disk
 
+-- a node has nothing to do for this input
+abbrev pub IsIgnored : {D : Type 0} {g : Ghosts D} → NodeState D g → NodeInput → Type 0
+IsIgnored (Up node) (to_node.Step inp) = ⊥
+IsIgnored (Up node) to_node.Tend = ⊥
+IsIgnored (Up node) (to_node.Stop junk) = ⊥
+IsIgnored (Down disk) to_node.Start = ⊥
+IsIgnored _ _ = Unit {0}
+
 -- ---- one input of a node
 
 -- a node in the old state took this input, with this fault armed, and these limits if it was
@@ -305,9 +314,8 @@ pub record HasDispatched {D : Type 0} (g : Ghosts D) (given : Limits) (fault : F
   pub disk : g.is_honest (disk_in old) →
       DiskFits g.state g.failures g.past (input_junk node_input) fault
       (has_struck_in g.past fault (disk_in old) new) did (disk_in old) new
-  pub only : (x : ℕ) (n : Machine) → StateRefines g.is_honest g.state old x n →
-      g.is_reliable (disk_in old) → IsExplained (g.state (disk_in old))
-      (has_struck_in g.past fault (disk_in old) new) did
+  pub only : StateIsSound g old → g.is_reliable (disk_in old) →
+      IsExplained (g.state (disk_in old)) (has_struck_in g.past fault (disk_in old) new) did
   pub follows : StateFollows g.is_honest g.state g.failures g.past old node_input new
   -- it has the same disk
   pub grows : (x : ℕ) (n : Machine) → StateRefines g.is_honest g.state old x n →
@@ -316,7 +324,8 @@ pub record HasDispatched {D : Type 0} (g : Ghosts D) (given : Limits) (fault : F
       MarksFit g.state g.past g.marks (input_junk node_input) fault
       (has_struck_in g.past fault (disk_in old) new) did (disk_in old) new
   -- the fault is forgotten
-  pub forgets : g.is_honest (disk_in old) → fault_of (g.marks (disk_in old)) ≡ None →
+  pub forgets : g.is_honest (disk_in old) →
+      (IsIgnored old node_input → fault_of (g.marks (disk_in old)) ≡ None) →
       fault_of (g.marks (disk_in new)) ≡ None
   -- a node that is up has the given limits, if it was down or had those
   pub limits : StateHasLimits old given → StateHasLimits new given

@@ -42,6 +42,11 @@ abbrev pub StateRefines : {D : Type 0} {g : Ghosts D} → (D → Type 0) → (D 
 StateRefines is_honest state (Up node) x n = NodeRefines is_honest state node x n
 StateRefines is_honest state (Down disk) x n = DownRefines is_honest state disk x n
 
+-- a running node refines some machine, or the disk of one that is down is honest
+abbrev pub StateIsSound : {D : Type 0} (g : Ghosts D) → NodeState D g → Type 0
+StateIsSound g (Up node) = (x : ℕ) × (n : Machine) × NodeRefines g.is_honest g.state node x n
+StateIsSound g (Down disk) = g.is_honest disk
+
 -- what the code may choose in a step: how it went, whether the event's fault struck in it, why the
 -- node stopped if it did, and what it did if it tended: whether its floor rises then, and which
 -- batches it gives up

@@ -1,7 +1,7 @@
 -- A world of simulated nodes, and the run of the model that it refines.
 use Rattle.std.specs.Prelude.{◌≡◌, ℕ, suc, ◌+◌, ◌≤◌, List, [], ◌∷◌, ◌++◌, length, map}
 use Rattle.std.specs.Prelude.{MatchOption, Option, Some, None}
-use Rattle.std.specs.Prelude.{All, true, ◌≢◌, ◌<◌, get_or, slice_index, slice_set}
+use Rattle.std.specs.Prelude.{All, true, false, ◌≢◌, ◌<◌, get_or, slice_index, slice_set}
 use Rattle.std.specs.List.{AllZip, HoldsAt}
 use Rattle.kv_types.specs.declared.Limits.{Limits}
 use Rattle.kv_types.specs.{BatchContent}
@@ -10,7 +10,7 @@ use Rattle.chain_model.specs as model_frame
 use Rattle.disk.specs.declared.Fault.{Fault}
 use Rattle.disk.specs.declared.Junk.{Junk}
 use Rattle.disk.specs.declared.disk.Disk.{Ghosts}
-use Rattle.disk.specs.{IsReliable, Slots, past_states}
+use Rattle.disk.specs.{Slots, past_states}
 use Rattle.node.specs.declared.Node.{Node}
 use Rattle.engine.specs.{IsTendAnswer, table_count}
 use Rattle.node.specs.{disk_of, engine_of}
@@ -21,7 +21,6 @@ use Rattle.chain_core.specs.declared.Sent.{Sent}
 use Rattle.lab.specs.declared.input.NodeInput.{NodeInput}
 use Rattle.lab.specs.declared.input.StepOutcome.{StepOutcome}
 use Rattle.lab.specs.declared.event.Event.{Event}
-use Rattle.lab.specs.declared.event.EventRecord.{EventRecord}
 use Rattle.lab.specs.declared.event.EventKind.TheVariants.{Stop, Tend}
 use Rattle.lab.specs.declared.node_state.NodeState.{NodeState}
 use Rattle.lab.specs.declared.node_state.NodeState.TheVariants.{Up, Down}
@@ -35,10 +34,8 @@ use Rattle.lab.specs.declared.world.World.{World}
 use Rattle.lab.specs.SimNodes.{Choice, StateRefines, disk_in, is_honest, state, failures, marks}
 use Rattle.lab.specs.SimNodes.{StateHasLimits, IsDown, IsUnarmed}
 use Rattle.lab.specs.Events.{NamesNode, modelled}
-use Rattle.lab.specs.Outcomes.{OutcomeRefines, DiskFits, MarksFit, StateFollows, input_junk}
-use Rattle.lab.specs.Outcomes.{sent_by}
-use Rattle.lab.specs.Outcomes.{IsExplained, has_struck_in, outcome_lines}
-use Rattle.lab.specs.Disks.{AreDisksAfter, DiskFollows, HasGrown, HaveDisks, IsNewDisk, IsDiskOf}
+use Rattle.lab.specs.Outcomes.{HasDispatched, outcome_lines, sent_by}
+use Rattle.lab.specs.Disks.{AreDisksAfter, DiskFollows, HaveDisks, IsNewDisk, IsDiskOf}
 use Rattle.lab.specs.Disks.{IsCrashOf}
 use Rattle.lab.specs.Freshness.{NodesKeepEnough, ReadsAreFresh}
 use Rattle.lab.specs.History.{IsHistory}
@@ -151,48 +148,46 @@ pub record ShowsTables (sims : List SimNode) (x : ℕ) (numbers : Numbers) : Typ
   pub at : IsIndexOf sims index x
   pub tables : HoldsAt (λ sim. HasTablesIn sim.state numbers) sims index
 
--- Node x took this input with this fault: this outcome and its new state refine every machine that
--- it was. Every other node is as it was.
+-- Node x took this input with this fault, and these limits if it was started: its new state and
+-- its outcome. Every other node is as it was.
 pub record HasMoved (sims : List SimNode) (x : ℕ) (node_input : NodeInput) (fault : Fault)
-    (did : StepOutcome) (now : List SimNode) : Type 0 where
+    (given : Limits) (did : StepOutcome) (now : List SimNode) : Type 0 where
   pub index : ℕ
   pub at : IsIndexOf sims index x
   pub sim : SimNode
   pub others : now ≡ slice_set sims index sim
   pub id : sim.id ≡ x
-  pub refines : (y : ℕ) (n : Machine) →
-      StateRefines is_honest state (get_or sims index sim).state y n →
-      OutcomeRefines is_honest state fault
-      (has_struck_in past_states fault (disk_in (get_or sims index sim).state) sim.state) y n
-      node_input
-      (get_or sims index sim).state sim.state did
-  pub disk : DiskFits state failures past_states (input_junk node_input) fault
-      (has_struck_in past_states fault (disk_in (get_or sims index sim).state) sim.state) did
-      (disk_in (get_or sims index sim).state) sim.state
-  pub only : (y : ℕ) (n : Machine) →
-      StateRefines is_honest state (get_or sims index sim).state y n →
-      IsReliable (disk_in (get_or sims index sim).state) →
-      IsExplained (state (disk_in (get_or sims index sim).state))
-      (has_struck_in past_states fault (disk_in (get_or sims index sim).state) sim.state) did
-  pub follows : StateFollows is_honest state failures past_states
-      (get_or sims index sim).state node_input
-      sim.state
-  pub grows : (y : ℕ) (n : Machine) →
-      StateRefines is_honest state (get_or sims index sim).state y n →
-      HasGrown past_states (disk_in (get_or sims index sim).state) (disk_in sim.state)
-  pub marked : MarksFit state past_states marks (input_junk node_input) fault
-      (has_struck_in past_states fault (disk_in (get_or sims index sim).state) sim.state) did
-      (disk_in (get_or sims index sim).state) sim.state
-  -- the fault is forgotten
-  pub forgets : IsUnarmed (disk_in (get_or sims index sim).state) → IsUnarmed (disk_in sim.state)
+  pub dispatched : HasDispatched _ given fault node_input (get_or sims index sim).state sim.state
+      did
 
 -- .. the frames that it sent are posted, and these are its lines
 pub record HasStepped (sims : List SimNode) (posted : List Posted) (x : ℕ) (node_input : NodeInput)
-    (fault : Fault) (lines : List Line) (now : List SimNode) (more : List Posted) : Type 0 where
+    (fault : Fault) (given : Limits) (lines : List Line) (now : List SimNode) (more : List Posted)
+    : Type 0 where
   pub did : StepOutcome
-  pub took : HasMoved sims x node_input fault did now
+  pub took : HasMoved sims x node_input fault given did now
   pub sent : HasPosted posted (sent_by did) more
   pub traced : lines ≡ outcome_lines x (length posted) did
+
+-- a run of a world: its configurations, its events, what was chosen in each, and the lines of each
+pub record WorldRun : Type 0 where
+  pub configs : Configurations
+  pub events : List Event
+  pub choices : List Choice
+  pub steps : List (List Line)
+
+-- the run of no event
+abbrev pub empty_run : Configurations → WorldRun
+empty_run cs = record { configs = cs; events = []; choices = []; steps = [] }
+
+-- .. and one with an event more
+abbrev pub extended : WorldRun → Event → Choice → List Line → WorldRun
+extended run event choice lines = record {
+  configs = run.configs;
+  events = run.events ++ event ∷ [];
+  choices = run.choices ++ choice ∷ [];
+  steps = run.steps ++ lines ∷ [];
+}
 
 -- An event acted on node x, which is machine n after it, and the disk that the node has follows
 -- from the one that it had. Every other node is as it was.
@@ -220,31 +215,31 @@ abbrev pub NodesFollow : Option (ℕ × Machine) → Event → Choice → model_
 NodesFollow None event choice o old new = new ≡ old
 NodesFollow (Some at) event choice o old new = HasActedOn event choice o at.0 at.1 old new
 
--- these nodes follow by the outcome of the event in the model, behind the events before it
-abbrev pub FollowRun : Configurations → List Event → List Choice → Event → Choice → List SimNode
-    → List SimNode → Type 0
-FollowRun cs events choices event choice old new =
-    let o = model_frame.outcome (model_frame.reached cs (modelled_from 1 events choices)) cs
-    (modelled (suc (length events)) event.kind choice) in
+-- these nodes follow by the outcome of the event in the model, behind a run
+abbrev pub FollowRun : WorldRun → Event → Choice → List SimNode → List SimNode → Type 0
+FollowRun run event choice old new =
+    let o = model_frame.outcome
+    (model_frame.reached run.configs (modelled_from 1 run.events run.choices)) run.configs
+    (modelled (suc (length run.events)) event.kind choice) in
     NodesFollow o.acted_on event choice o old new
 
--- Nodes, posted frames and lines refine the model's run of these events: how each step went was
--- chosen so, and then nodes, disks, frames and lines are those of that run.
-pub record RunRefines (sims : List SimNode) (posted : List Posted) (cs : Configurations)
-    (events : List Event) (choices : List Choice) (steps : List (List Line)) : Type 0 where
-  pub lawful : Lawful cs
-  pub trace : IsTrace cs events choices steps
-  pub frames : AllZip PostedRefines posted (model_frame.reached cs
-      (modelled_from 1 events choices)).frames
-  pub sent : frames_in_steps steps ≡ length posted
-  pub nodes : map (λ sim. sim.id) sims ≡ at_epoch cs 0
+-- Nodes, posted frames and lines refine the model's run: how each step went was chosen so, and then
+-- nodes, disks, frames and lines are those of that run.
+pub record RunRefines (sims : List SimNode) (posted : List Posted) (run : WorldRun) : Type 0 where
+  pub lawful : Lawful run.configs
+  pub trace : IsTrace run.configs run.events run.choices run.steps
+  pub frames : AllZip PostedRefines posted (model_frame.reached run.configs
+      (modelled_from 1 run.events run.choices)).frames
+  pub sent : frames_in_steps run.steps ≡ length posted
+  pub nodes : map (λ sim. sim.id) sims ≡ at_epoch run.configs 0
   pub disks : ℕ → Slots
-  pub after : AreDisksAfter state failures past_states marks cs events choices disks
+  pub after : AreDisksAfter state failures past_states marks run.configs run.events run.choices
+      disks
   -- no disk failed more often than there are events
-  pub few : (x : ℕ) → failures (disks x) ≤ length events
+  pub few : (x : ℕ) → failures (disks x) ≤ length run.events
   pub unarmed : (x : ℕ) → IsUnarmed (disks x)
-  pub each : All (SimNodeRefines (model_frame.node_of cs (modelled_from 1 events choices)) disks)
-      sims
+  pub each : All (SimNodeRefines (model_frame.node_of run.configs
+      (modelled_from 1 run.events run.choices)) disks) sims
 
 -- each of these nodes refines the machine of its id
 abbrev pub NodesRefine : (ℕ → Machine) → List SimNode → Type 0
@@ -280,25 +275,20 @@ pub record AreReportsAfter (cs : Configurations) (limits : Limits) (events : Lis
   pub after : AreNodesAfter cs limits events choices sims
   pub own : AllZip IsReportOf sims reports
 
--- the events that were applied
-abbrev pub events_in : List EventRecord → List Event
-events_in taken = map (λ it. it.event) taken
+-- The world has run so, and keeps its configurations, its events and the lines of each; its nodes
+-- came of them, with its limits.
+pub record HasRun (world : World) (run : WorldRun) : Type 0 where
+  pub configs : world.configs ≡ run.configs
+  pub kept : world.steps.items ≡ run.steps
+  pub taken : world.events.items ≡ run.events
+  pub made : RunRefines world.nodes.items world.frames.items run
+  pub came : AreNodesAfter run.configs world.limits run.events run.choices world.nodes.items
 
--- the world has these configurations and applied these events, in each of which was chosen so, and
--- keeps them and the lines of each; its nodes came of them, with its limits
-pub record HasRun (world : World) (cs : Configurations) (events : List Event)
-    (choices : List Choice) (steps : List (List Line)) : Type 0 where
-  pub configs : world.configs ≡ cs
-  pub kept : world.steps.items ≡ steps
-  pub taken : events_in world.events.items ≡ events
-  pub made : RunRefines world.nodes.items world.frames.items cs events choices steps
-  pub came : AreNodesAfter cs world.limits events choices world.nodes.items
-
--- the world kept an event with its lines, and its configurations
+-- the world kept an event with its lines, and goes on; it is as it was otherwise
 pub record HasKept (old new : World) (event : Event) (lines : List Line) : Type 0 where
-  pub taken : events_in new.events.items ≡ events_in old.events.items ++ event ∷ []
+  pub taken : new.events.items ≡ old.events.items ++ event ∷ []
   pub kept : new.steps.items ≡ old.steps.items ++ lines ∷ []
-  pub configs : new.configs ≡ old.configs
+  pub others : new ≡ record old { events = new.events; steps = new.steps; ended = false }
 
 -- the world starts nodes with these limits, and each of its nodes that is up has them
 pub record WorldHasLimits (world : World) (limits : Limits) : Type 0 where
@@ -310,62 +300,40 @@ abbrev pub WorldKeepsLimits : World → World → Type 0
 WorldKeepsLimits old new =
     (limits : Limits) → WorldHasLimits old limits → WorldHasLimits new limits
 
--- the world kept an event that brought nothing to any node, and is as it was otherwise
-pub record HasPassed (old new : World) (event : Event) : Type 0 where
-  pub keeps : HasKept old new event (line.Nothing ∷ [])
-  pub nodes : new.nodes.items ≡ old.nodes.items
-  pub frames : new.frames.items ≡ old.frames.items
-  pub limits : new.limits ≡ old.limits
-
--- the world kept an event, and node x took its input
-pub record HasDelivered (old new : World) (event : Event) (x : ℕ) (node_input : NodeInput) : Type 0
-  where
-    pub lines : List Line
-    pub keeps : HasKept old new event lines
-    pub stepped : HasStepped old.nodes.items old.frames.items x node_input event.fault lines
-        new.nodes.items new.frames.items
-    pub limits : WorldKeepsLimits old new
-
 -- The world has run one event more, with its lines, and its very nodes follow, as was chosen.
-pub record HasFollowed (old new : World) (cs : Configurations) (events : List Event)
-    (choices : List Choice) (steps : List (List Line)) (event : Event) : Type 0 where
+pub record HasFollowed (old new : World) (past : WorldRun) (event : Event) : Type 0 where
   pub choice : Choice
   pub lines : List Line
-  pub run : HasRun new cs (events ++ event ∷ []) (choices ++ choice ∷ []) (steps ++ lines ∷ [])
-  pub nodes : FollowRun cs events choices event choice old.nodes.items new.nodes.items
+  pub run : HasRun new (extended past event choice lines)
+  pub nodes : FollowRun past event choice old.nodes.items new.nodes.items
 
 -- the run is as it was, and so is each node
-pub record HasStayed (old new : World) (cs : Configurations) (events : List Event)
-    (choices : List Choice) (steps : List (List Line)) : Type 0 where
-  pub run : HasRun new cs events choices steps
+pub record HasStayed (old new : World) (past : WorldRun) : Type 0 where
+  pub run : HasRun new past
   pub nodes : new.nodes.items ≡ old.nodes.items
 
--- The event names a node of the world, or none, and was applied. Or it names another node, and all
+-- An event was applied if it names a node of the world, or none. Where it names another node, all
 -- stays.
-pub data HasApplied (old new : World) (cs : Configurations) (events : List Event)
-    (choices : List Choice) (steps : List (List Line)) (event : Event) : Type 0 where
-  Takes : NamesNode cs event.kind → HasFollowed old new cs events choices steps event
-      → HasApplied old new cs events choices steps event
-  Ignores : (NamesNode cs event.kind → ⊥) → HasStayed old new cs events choices steps
-      → HasApplied old new cs events choices steps event
+pub record HasApplied (old new : World) (past : WorldRun) (event : Event) : Type 0 where
+  pub follows : NamesNode past.configs event.kind → HasFollowed old new past event
+  pub nothing : (NamesNode past.configs event.kind → ⊥) → HasStayed old new past
 
 -- a step was refused, and so is every later one
 abbrev pub WorldHasEnded : World → Type 0
 WorldHasEnded world = world.ended ≡ true
 
--- the lines so far are those of a run of the model over these events, and each node has the disk
--- that they left, which represents its machine's whole list, and which has no fault; reads at the
--- last tail are fresh, and no node gives up what another one may lack
-pub record IsRunSoFar (world : World) (cs : Configurations) (events : List Event)
-    (choices : List Choice) (steps : List (List Line)) : Type 0 where
-  pub trace : IsTrace cs events choices steps
+-- the lines of the run are those of the model over these events, and each node has the disk that
+-- they left, which represents its machine's whole list, and which has no fault; reads at the last
+-- tail are fresh, and no node gives up what another one may lack
+pub record IsRunSoFar (world : World) (run : WorldRun) : Type 0 where
+  pub trace : IsTrace run.configs run.events run.choices run.steps
   pub disks : HaveDisks state failures past_states marks (λ (sim : SimNode). sim.id)
-      (λ (sim : SimNode). disk_in sim.state) cs events choices world.nodes.items
+      (λ (sim : SimNode). disk_in sim.state) run.configs run.events run.choices world.nodes.items
   pub unarmed : All (λ sim. IsUnarmed (disk_in sim.state)) world.nodes.items
-  pub fresh : ReadsAreFresh cs events choices steps
-  pub enough : NodesKeepEnough cs events choices
+  pub fresh : ReadsAreFresh run.configs run.events run.choices run.steps
+  pub enough : NodesKeepEnough run.configs run.events run.choices
 
 -- .. and there is one history of them
-abbrev pub HasHistory : World → Configurations → List Event → List (List Line) → Type 0
-HasHistory world cs events steps = IsHistory state (λ (sim : SimNode). sim.id)
-    (λ (sim : SimNode). disk_in sim.state) cs events steps world.nodes.items
+abbrev pub HasHistory : World → WorldRun → Type 0
+HasHistory world run = IsHistory state (λ (sim : SimNode). sim.id)
+    (λ (sim : SimNode). disk_in sim.state) run.configs run.events run.steps world.nodes.items

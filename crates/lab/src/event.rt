@@ -29,12 +29,6 @@ impl Event {
     }
 }
 
-/// An event that a world took, in its place of the run.
-#[derive(Drop)]
-pub struct EventRecord {
-    pub event: Event,
-}
-
 /// What happens, apart from a fault of the disk: a client's request, a frame that arrives, a turn
 /// of a node, or a start or stop of its machine.
 #[derive(Drop)]

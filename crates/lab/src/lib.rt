@@ -20,7 +20,7 @@ pub use configurations::{Config, ConfigError, Configs, Epoch, NodeId};
 pub use disk::{Fault, Junk, JunkBytes, MemDisk};
 pub use engine::Tended;
 pub use error::LabError;
-pub use event::{Event, EventKind, EventRecord, names_node, names_nodes};
+pub use event::{Event, EventKind, names_node, names_nodes};
 pub use kv_types::{Batch, Key, Limits, Number, Value};
 pub use link_messages::Refusal;
 pub use node::{DropReason, Reply, Stop};

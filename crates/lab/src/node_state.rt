@@ -6,15 +6,11 @@ ghost use Rattle.chain_model.specs.{Answer, stopped};
 ghost use Rattle.disk.specs.declared.Mark.TheVariants.{Crashed};
 ghost use Rattle.disk.specs.{HasStruck, IsLastLeft, fault_of};
 ghost use Rattle.chain_core.specs.{Machine};
-ghost use Rattle.node.specs.{DiskAlwaysRefines, IsReady, NodeRefines, StopRefines, disk_of};
-ghost use Rattle.node.specs.{node_limits};
-ghost use Rattle.lab.specs.Disks.{HasGrown, IsMarkedSo, junk_at_end};
+ghost use Rattle.node.specs.{IsReady, StopRefines};
+ghost use Rattle.lab.specs.Disks.{IsMarkedSo, junk_at_end};
 ghost use Rattle.lab.specs.Events.{line_cause};
-ghost use Rattle.lab.specs.SimNodes.{DownRefines, StateHasLimits, StateIsReady, StateRefines};
-ghost use Rattle.lab.specs.SimNodes.{disk_in};
-ghost use Rattle.lab.specs.Outcomes.{DiskFits, HasCrashed, HasHandled, HasStarted, HasDispatched};
-ghost use Rattle.lab.specs.Outcomes.{HasTended, MarksFit};
-ghost use Rattle.lab.specs.Outcomes.{IsExplained, has_struck_in};
+ghost use Rattle.lab.specs.SimNodes.{StateHasLimits, StateIsReady, StateRefines, disk_in};
+ghost use Rattle.lab.specs.Outcomes.{HasCrashed, HasDispatched};
 
 use crate::input::{NodeInput, StepOutcome, dropped, output_at_rest};
 use disk::laws::{crashed_is_durable, durable_is_left};
@@ -88,23 +84,8 @@ fn start<D: Crash + Drop>(
     fault: Fault,
     limits: &Limits,
 ) -> (NodeState<D>, StepOutcome)
-    ensures ready { StateIsReady result.0 }
-    ensures refines { (x : ℕ) (n : Machine) →
-        DownRefines D.is_honest D.state disk x n →
-        HasStarted D.is_honest D.state fault
-        (has_struck_in D.past fault disk result.0) x n result.0 result.1 }
-    ensures disk { D.is_honest disk →
-        DiskFits D.state D.failures D.past None fault
-        (has_struck_in D.past fault disk result.0) result.1 disk result.0 }
-    ensures only { D.is_honest disk → D.is_reliable disk → IsExplained (D.state disk)
-        (has_struck_in D.past fault disk result.0) result.1 }
-    ensures grows { (x : ℕ) (n : Machine) → DownRefines D.is_honest D.state disk x n →
-        HasGrown D.past disk (disk_in result.0) }
-    ensures marked { D.is_honest disk →
-        MarksFit D.state D.past D.marks None fault
-        (has_struck_in D.past fault disk result.0) result.1 disk result.0 }
-    ensures forgets { D.is_honest disk → fault_of (D.marks (disk_in result.0)) ≡ None }
-    ensures limits { StateHasLimits result.0 limits.now }
+    ensures { HasDispatched D.Disk limits.now fault NodeInput.Start (NodeState.Down disk)
+        result.0 result.1 }
 {
     disk.arm(&fault);
     match Node::start(alloc, disk, limits) {
@@ -130,27 +111,8 @@ fn step<D: Crash + Drop>(
     fault: Fault,
 ) -> (NodeState<D>, StepOutcome)
     requires { IsReady node }
-    ensures ready { StateIsReady result.0 }
-    ensures refines { (x : ℕ) (n : Machine) → NodeRefines D.is_honest D.state node x n →
-        HasHandled D.is_honest D.state fault
-        (has_struck_in D.past fault (disk_of node) result.0) x n input result.0
-        result.1 }
-    ensures disk { D.is_honest (disk_of node) →
-        DiskFits D.state D.failures D.past None fault
-        (has_struck_in D.past fault (disk_of node) result.0) result.1 (disk_of node)
-        result.0 }
-    ensures only { (x : ℕ) (n : Machine) → NodeRefines D.is_honest D.state node x n →
-        D.is_reliable (disk_of node) → IsExplained (D.state (disk_of node))
-        (has_struck_in D.past fault (disk_of node) result.0) result.1 }
-    ensures grows { (x : ℕ) (n : Machine) → NodeRefines D.is_honest D.state node x n →
-        HasGrown D.past (disk_of node) (disk_in result.0) }
-    ensures marked { D.is_honest (disk_of node) →
-        MarksFit D.state D.past D.marks None fault
-        (has_struck_in D.past fault (disk_of node) result.0) result.1 (disk_of node)
-        result.0 }
-    ensures forgets { D.is_honest (disk_of node) →
-        fault_of (D.marks (disk_in result.0)) ≡ None }
-    ensures limits { StateHasLimits result.0 (node_limits node) }
+    ensures { (limits : Limits) → HasDispatched D.Disk limits fault (NodeInput.Step input)
+        (NodeState.Up node) result.0 result.1 }
 {
     full_logs_are_long::<D>(); // law: where a log is nearly full, a file is long
     node.arm(&fault);
@@ -171,27 +133,8 @@ fn tend<D: Crash + Drop>(
     fault: Fault,
 ) -> (NodeState<D>, StepOutcome)
     requires { IsReady node }
-    ensures ready { StateIsReady result.0 }
-    ensures refines { (x : ℕ) (n : Machine) → NodeRefines D.is_honest D.state node x n →
-        HasTended D.is_honest D.state fault
-        (has_struck_in D.past fault (disk_of node) result.0) x n (NodeState.Up node) result.0
-        result.1 }
-    ensures disk { D.is_honest (disk_of node) →
-        DiskFits D.state D.failures D.past None fault
-        (has_struck_in D.past fault (disk_of node) result.0) result.1 (disk_of node)
-        result.0 }
-    ensures only { (x : ℕ) (n : Machine) → NodeRefines D.is_honest D.state node x n →
-        D.is_reliable (disk_of node) → IsExplained (D.state (disk_of node))
-        (has_struck_in D.past fault (disk_of node) result.0) result.1 }
-    ensures grows { (x : ℕ) (n : Machine) → NodeRefines D.is_honest D.state node x n →
-        HasGrown D.past (disk_of node) (disk_in result.0) }
-    ensures marked { D.is_honest (disk_of node) →
-        MarksFit D.state D.past D.marks None fault
-        (has_struck_in D.past fault (disk_of node) result.0) result.1 (disk_of node)
-        result.0 }
-    ensures forgets { D.is_honest (disk_of node) →
-        fault_of (D.marks (disk_in result.0)) ≡ None }
-    ensures limits { StateHasLimits result.0 (node_limits node) }
+    ensures { (limits : Limits) → HasDispatched D.Disk limits fault NodeInput.Tend
+        (NodeState.Up node) result.0 result.1 }
 {
     full_logs_are_long::<D>(); // law: where a log is nearly full, a file is long
     node.arm(&fault);
@@ -202,38 +145,6 @@ fn tend<D: Crash + Drop>(
             (NodeState::Up(node), StepOutcome::Tended(did))
         }
         Err(stop) => stop_by_itself(node.into_disk(), stop, fault),
-    }
-}
-
-// A node that is up takes an input, on a disk with this fault.
-fn dispatch_up<D: Crash + Drop>(
-    alloc: Global,
-    node: Node<D>,
-    input: NodeInput,
-    fault: Fault,
-) -> (NodeState<D>, StepOutcome)
-    requires { IsReady node }
-    ensures { (limits : Limits) →
-        HasDispatched D.Disk limits fault input (NodeState.Up node) result.0 result.1 }
-{
-    match input {
-        NodeInput::Step(input) => step(alloc, node, input, fault),
-        NodeInput::Tend => tend(alloc, node, fault),
-        NodeInput::BadFrame(why) => {
-            drop(fault);
-            let output = dropped(alloc, why);
-            (NodeState::Up(node), StepOutcome::Answered(output))
-        }
-        NodeInput::Start => {
-            drop(fault);
-            let output = dropped(alloc, DropReason::Running);
-            (NodeState::Up(node), StepOutcome::Answered(output))
-        }
-        NodeInput::Stop(junk) => {
-            drop(fault);
-            let state = crash(node.into_disk(), junk);
-            (state, StepOutcome::Stopped(None))
-        }
     }
 }
 
@@ -258,7 +169,7 @@ fn dispatch_down<D: Crash + Drop>(
 
 impl<D: Crash + Drop> NodeState<D> {
     /// Dispatches an input to the node, whose disk has the fault meanwhile: the state that it
-    /// leaves, and the outcome.
+    /// leaves, and the outcome. Refused where memory runs out.
     pub fn dispatch(
         self,
         alloc: Global,
@@ -270,9 +181,28 @@ impl<D: Crash + Drop> NodeState<D> {
         ensures { IfOk result
             (λ it. HasDispatched D.Disk limits.now fault input self it.0 it.1) }
     {
-        match self {
-            NodeState::Up(node) => Ok(dispatch_up(alloc, node, input, fault)),
-            NodeState::Down(disk) => dispatch_down(alloc, disk, &input, fault, limits),
+        let node = match self {
+            NodeState::Up(node) => node,
+            NodeState::Down(disk) => return dispatch_down(alloc, disk, &input, fault, limits),
+        };
+        match input {
+            NodeInput::Step(input) => Ok(step(alloc, node, input, fault)),
+            NodeInput::Tend => Ok(tend(alloc, node, fault)),
+            NodeInput::BadFrame(why) => {
+                drop(fault);
+                let output = dropped(alloc, why);
+                Ok((NodeState::Up(node), StepOutcome::Answered(output)))
+            }
+            NodeInput::Start => {
+                drop(fault);
+                let output = dropped(alloc, DropReason::Running);
+                Ok((NodeState::Up(node), StepOutcome::Answered(output)))
+            }
+            NodeInput::Stop(junk) => {
+                drop(fault);
+                let state = crash(node.into_disk(), junk);
+                Ok((state, StepOutcome::Stopped(None)))
+            }
         }
     }
 }

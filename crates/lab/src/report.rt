@@ -107,7 +107,8 @@ pub struct Report {
 }
 
 impl Report {
-    /// The lines of each event, without the nodes.
+    /// The lines of each event, without the nodes. A crate that ends a report by this call need not
+    /// prove the drop of all that nodes hold.
     pub fn into_steps(self) -> Vec<Lines>
         ensures { result ≡ self.steps }
     {

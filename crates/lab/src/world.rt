@@ -1,36 +1,27 @@
 // A world of simulated nodes, stepped event by event.
-ghost use Rattle.std.specs.Prelude.{◌≡◌, ℕ, List, [], ◌∷◌, ◌++◌, IfOk, IsErr, MatchResult, OnOk};
-ghost use Rattle.std.specs.Prelude.{MatchOption};
-ghost use Rattle.std.specs.Prelude.{map};
-ghost use Rattle.std.specs.Prelude.{IfSome, true};
+ghost use Rattle.std.specs.Prelude.{◌≡◌, ℕ, IfOk, IfSome, IsErr, MatchOption, MatchResult};
+ghost use Rattle.std.specs.Prelude.{OnErr, OnOk, true};
 ghost use Rattle.std.specs.List.{AllZip};
-ghost use Rattle.chain_model.specs.{Configurations, at_epoch, has};
-ghost use Rattle.lab.specs.declared.event.Event.{Event};
-ghost use Rattle.lab.specs.declared.report.Line.{Line};
-ghost use Rattle.lab.specs.Events.{NamesNode};
+ghost use Rattle.chain_model.specs.{at_epoch, has};
 ghost use Rattle.chain_core.specs.{Machine};
 ghost use Rattle.disk.specs.{Slots};
 ghost use Rattle.node.specs.{NodeRefines};
-ghost use Rattle.lab.specs.SimNodes.{Choice, StateHasLimits, StateRefines, disk_in};
-ghost use Rattle.lab.specs.SimNodes.{is_honest, state};
+ghost use Rattle.lab.specs.SimNodes.{StateHasLimits, StateRefines, disk_in, is_honest, state};
 ghost use Rattle.lab.specs.Runs.{AreNumbersOf, IsRun, NumbersRefine};
 ghost use Rattle.lab.specs.History.{OneHistory};
-ghost use Rattle.lab.specs.Worlds.{HasRun, HasApplied, WorldHasEnded};
-ghost use Rattle.lab.specs.Worlds.{AreCreated, AreLeft, IsCreated};
-ghost use Rattle.lab.specs.Worlds.{IsLeft, IsReportOf, IsRunSoFar, HasFollowed, HasHistory};
-ghost use Rattle.lab.specs.Worlds.{HasStayed, HaveLimits, IsIndexOf, WorldHasLimits};
-ghost use Rattle.lab.specs.Worlds.{WorldKeepsLimits};
-ghost use Rattle.lab.specs.Worlds.{HasDelivered, HasMoved, HasNoNode, HasPassed, HasTablesOf};
-ghost use Rattle.lab.specs.Worlds.{ShowsTables};
-ghost use Rattle.lab.specs.Worlds.{events_in, frames_in_steps};
+ghost use Rattle.lab.specs.Worlds.{AreCreated, AreLeft, HasApplied, HasHistory, HasKept, HasNoNode};
+ghost use Rattle.lab.specs.Worlds.{HasRun, HasStepped, HasTablesOf, IsCreated, IsIndexOf, IsLeft};
+ghost use Rattle.lab.specs.Worlds.{IsReportOf, IsRunSoFar, ShowsTables, WorldHasEnded};
+ghost use Rattle.lab.specs.Worlds.{WorldHasLimits, WorldKeepsLimits, WorldRun, empty_run};
+ghost use Rattle.lab.specs.Worlds.{frames_in_steps};
 
 use crate::delivery::{Posted, delivery_of};
-use crate::input::{NodeInput, StepOutcome};
+use crate::input::NodeInput;
 use crate::node_state::NodeState;
 use crate::report::{Line, Lines, NodeReport, Numbers, Report};
 use crate::sim_node::SimNode;
 use crate::trace::{one_line, trace_of};
-use crate::{Event, EventRecord, LabError};
+use crate::{Event, LabError};
 use chain_model::{in_order, keeps_enough, one_history, reads_fresh, run_is_outcomes};
 use configurations::{Config, Configs, NodeId};
 use disk::{Fault, MemDisk};
@@ -48,7 +39,7 @@ pub struct World {
     limits: Limits,
     nodes: Vec<SimNode>,
     frames: Vec<Posted>,
-    events: Vec<EventRecord>,
+    events: Vec<Event>,
     steps: Vec<Lines>,
     // A step was refused.
     ended: bool,
@@ -144,16 +135,6 @@ fn left_of_all(alloc: Global, nodes: Vec<SimNode>) -> Result<Vec<NodeReport>, Al
     Ok(reports)
 }
 
-// Keeps an event that was applied.
-fn keep(events: &mut Vec<EventRecord>, event: &Event) -> Result<(), AllocError>
-    ensures { OnOk result (events_in events.new.items
-        ≡ events_in events.old.items ++ event.now ∷ []) }
-{
-    let event = event.clone()?;
-    events.push(EventRecord { event })?;
-    Ok(())
-}
-
 // Where the node with this id is.
 fn index_of(nodes: &[SimNode], id: NodeId) -> Option<usize>
     ensures { MatchOption result (HasNoNode nodes.now id)
@@ -162,34 +143,40 @@ fn index_of(nodes: &[SimNode], id: NodeId) -> Option<usize>
     nodes.iter().position(|node| node.id == id)
 }
 
-// Delivers an input to the node at an index, with this fault armed meanwhile. Where memory is short
-// the node is lost.
-fn step_at(
+// Dispatches what an event delivers to the node at this index, with the event's fault, and posts
+// the frames that it sends: the lines of that. Where memory is short the node is lost.
+fn deliver(
     alloc: Global,
     nodes: &mut [SimNode],
+    frames: &mut Vec<Posted>,
+    event: &Event,
     index: usize,
     delivery: (NodeId, NodeInput),
-    fault: Fault,
     limits: &Limits,
-) -> Result<StepOutcome, AllocError>
+) -> Result<Lines, AllocError>
     requires { IsIndexOf nodes.old index delivery.0 }
-    ensures moved { IfOk result
-        (λ did. HasMoved nodes.old delivery.0 delivery.1 fault did nodes.new) }
-    ensures limits { HaveLimits nodes.old limits.now →
-        IfOk result (λ _. HaveLimits nodes.new limits.now) }
+    ensures { IfOk result (λ lines. HasStepped nodes.old frames.old.items delivery.0 delivery.1
+        event.now.fault limits.now lines nodes.new frames.new.items) }
 {
     let (id, input) = delivery;
+    let fault = match event.fault.clone() {
+        Ok(fault) => fault,
+        Err(e) => {
+            drop(input);
+            return Err(e);
+        }
+    };
     let state = NodeState::Down(MemDisk::new(alloc));
     let node = mem::replace(&mut nodes[index], SimNode { id, state });
     let (state, outcome) = node.state.dispatch(alloc, input, fault, limits)?;
     drop(mem::replace(&mut nodes[index], SimNode { id, state }));
-    Ok(outcome)
+    trace_of(alloc, frames, id, outcome)
 }
 
 impl World {
     /// Creates the nodes of the first configuration.
     pub fn new(alloc: Global, configs: &Configs, limits: &Limits) -> Result<World, LabError>
-        ensures ran { IfOk result (λ world. HasRun world configs.now [] [] []) }
+        ensures ran { IfOk result (λ world. HasRun world (empty_run configs.now)) }
         ensures goes_on { IfOk result (λ world. WorldHasEnded world → ⊥) }
         ensures limits { IfOk result (λ world. WorldHasLimits world limits.now) }
     {
@@ -204,84 +191,23 @@ impl World {
         })
     }
 
-    // Keeps an event that brings nothing to any node.
-    fn pass_over(&mut self, alloc: Global, event: &Event) -> Result<(), LabError>
-        ensures { OnOk result (HasPassed self.old self.new event.now) }
+    // Keeps an event with its lines, and goes on.
+    fn keep(&mut self, event: &Event, lines: Lines) -> Result<(), LabError>
+        ensures kept { OnOk result (HasKept self.old self.new event.now lines) }
+        ensures ends { OnErr result (self.new.ended ≡ self.old.ended) }
     {
-        keep(&mut self.events, event)?;
-        self.steps.push(one_line(alloc, Line::Nothing)?)?;
-        Ok(())
-    }
-
-    // Delivers the input of an event to the node at this index, and keeps the event and its lines.
-    fn deliver(
-        &mut self,
-        alloc: Global,
-        event: &Event,
-        index: usize,
-        delivery: (NodeId, NodeInput),
-    ) -> Result<(), LabError>
-        requires { IsIndexOf self.old.nodes.items index delivery.0 }
-        ensures { OnOk result (HasDelivered self.old self.new event.now delivery.0 delivery.1) }
-    {
-        let to = delivery.0;
-        let fault = match event.fault.clone() {
-            Ok(fault) => fault,
-            Err(e) => {
-                drop(delivery);
-                return Err(LabError::from(e));
-            }
-        };
-        let outcome = step_at(alloc, &mut self.nodes, index, delivery, fault, &self.limits)?;
-        let lines = trace_of(alloc, &mut self.frames, to, outcome)?;
         self.steps.push(lines)?;
-        keep(&mut self.events, event)?;
+        self.events.push(event.clone()?)?;
+        self.ended = false;
         Ok(())
-    }
-
-    // Applies an event to the node that it is for, if the world has it.
-    fn apply(&mut self, alloc: Global, event: &Event) -> Result<(), LabError>
-        ensures ran { (cs : Configurations) (events : List Event) (choices : List Choice)
-            (steps : List (List Line)) →
-            HasRun self.old cs events choices steps →
-            OnOk result (HasApplied self.old self.new cs events choices steps event.now) }
-        ensures limits { OnOk result (WorldKeepsLimits self.old self.new) }
-    {
-        // No run that memory holds has more events than there are numbers.
-        let Some(request) = Number::new(self.steps.len() as u64 + 1) else {
-            return Err(LabError::Memory);
-        };
-        // law: in every run of the model frames are in order
-        in_order::<Batch>();
-        let Some(delivery) = delivery_of(alloc, &self.frames, request, &event.kind)? else {
-            return self.pass_over(alloc, event);
-        };
-        let to = delivery.0;
-        let Some(index) = index_of(&self.nodes, to) else {
-            drop(delivery);
-            return Ok(());
-        };
-        self.deliver(alloc, event, index, delivery)
     }
 
     /// Applies an event to the node that it is for. One that names a node which the world does not
     /// have does nothing. After an error the world is at its end: every later step is refused, and
-    /// what
-    /// `sent`, `numbers`, `report` and `events` say of it is left open.
+    /// what `sent`, `numbers`, `report` and `events` say of it is left open.
     pub fn step(&mut self, alloc: Global, event: &Event) -> Result<(), LabError>
-        ensures ran { (cs : Configurations) (events : List Event) (choices : List Choice)
-            (steps : List (List Line)) →
-            HasRun self.old cs events choices steps → NamesNode cs event.now.kind →
-            OnOk result ((choice : Choice) × (lines : List Line) × HasRun self.new cs
-            (events ++ event.now ∷ []) (choices ++ choice ∷ []) (steps ++ lines ∷ [])) }
-        ensures nothing { (cs : Configurations) (events : List Event) (choices : List Choice)
-            (steps : List (List Line)) →
-            HasRun self.old cs events choices steps → (NamesNode cs event.now.kind → ⊥) →
-            OnOk result (HasStayed self.old self.new cs events choices steps) }
-        ensures follows { (cs : Configurations) (events : List Event) (choices : List Choice)
-            (steps : List (List Line)) →
-            HasRun self.old cs events choices steps → NamesNode cs event.now.kind →
-            OnOk result (HasFollowed self.old self.new cs events choices steps event.now) }
+        ensures ran { (run : WorldRun) → HasRun self.old run →
+            OnOk result (HasApplied self.old self.new run event.now) }
         ensures ends { MatchResult result (λ _. WorldHasEnded self.new
             → ⊥) (λ _. WorldHasEnded self.new) }
         ensures again { WorldHasEnded self.old → IsErr result }
@@ -290,16 +216,36 @@ impl World {
         if self.ended {
             return Err(LabError::Memory);
         }
-        let applied = self.apply(alloc, event);
-        self.ended = applied.is_err();
-        applied
+        self.ended = true;
+        // No run that memory holds has more events than there are numbers.
+        let Some(request) = Number::new(self.steps.len() as u64 + 1) else {
+            return Err(LabError::Memory);
+        };
+        // law: in every run of the model frames are in order
+        in_order::<Batch>();
+        let Some(delivery) = delivery_of(alloc, &self.frames, request, &event.kind)? else {
+            return self.keep(event, one_line(alloc, Line::Nothing)?);
+        };
+        let Some(index) = index_of(&self.nodes, delivery.0) else {
+            drop(delivery);
+            self.ended = false;
+            return Ok(());
+        };
+        let lines = deliver(
+            alloc,
+            &mut self.nodes,
+            &mut self.frames,
+            event,
+            index,
+            delivery,
+            &self.limits,
+        )?;
+        self.keep(event, lines)
     }
 
     /// How many frames were sent so far.
     pub fn sent(&self) -> u64
-        ensures { (cs : Configurations) (events : List Event) (choices : List Choice)
-            (steps : List (List Line)) →
-            HasRun self.now cs events choices steps → result ≡ frames_in_steps steps }
+        ensures { (run : WorldRun) → HasRun self.now run → result ≡ frames_in_steps run.steps }
     {
         self.frames.len() as u64
     }
@@ -307,10 +253,9 @@ impl World {
     /// The numbers of a node as it is now: none of one that is down, or that the world does not
     /// have.
     pub fn numbers(&self, id: NodeId) -> Option<Numbers>
-        ensures run { (cs : Configurations) (events : List Event) (choices : List Choice)
-            (steps : List (List Line)) →
-            HasRun self.now cs events choices steps → has (at_epoch cs 0) id ≡ true →
-            AreNumbersOf cs events choices id result }
+        ensures run { (run : WorldRun) → HasRun self.now run →
+            has (at_epoch run.configs 0) id ≡ true →
+            AreNumbersOf run.configs run.events run.choices id result }
         ensures tables { IfSome result (ShowsTables self.now.nodes.items id) }
     {
         let Some(index) = index_of(&self.nodes, id) else {
@@ -324,16 +269,9 @@ impl World {
 
     /// The lines of each event so far. The world keeps the disks.
     pub fn report(&self) -> &[Lines]
-        ensures steps { (cs : Configurations) (events : List Event) (choices : List Choice)
-            (steps : List (List Line)) →
-            HasRun self.now cs events choices steps → result.now ≡ steps }
-        ensures run { (cs : Configurations) (events : List Event) (choices : List Choice)
-            (steps : List (List Line)) →
-            HasRun self.now cs events choices steps
-            → IsRunSoFar self.now cs events choices result.now }
-        ensures history { (cs : Configurations) (events : List Event) (choices : List Choice)
-            (steps : List (List Line)) →
-            HasRun self.now cs events choices steps → HasHistory self.now cs events result.now }
+        ensures steps { (run : WorldRun) → HasRun self.now run → result.now ≡ run.steps }
+        ensures run { (run : WorldRun) → HasRun self.now run → IsRunSoFar self.now run }
+        ensures history { (run : WorldRun) → HasRun self.now run → HasHistory self.now run }
     {
         // laws: reads at the last tail are fresh, and nothing is given up that may be needed
         reads_fresh::<Batch>();
@@ -347,26 +285,20 @@ impl World {
     }
 
     /// The events that were applied so far.
-    pub fn events(&self) -> &[EventRecord]
-        ensures { (cs : Configurations) (events : List Event) (choices : List Choice)
-            (steps : List (List Line)) →
-            HasRun self.now cs events choices steps → events_in result.now ≡ events }
+    pub fn events(&self) -> &[Event]
+        ensures { (run : WorldRun) → HasRun self.now run → result.now ≡ run.events }
     {
         &self.events
     }
 
     /// The report of the run: its lines, and each node at the end.
     pub fn finish(self, alloc: Global) -> Result<Report, LabError>
-        ensures steps { (cs : Configurations) (events : List Event) (choices : List Choice)
-            (steps : List (List Line)) →
-            HasRun self cs events choices steps
-            → IfOk result (λ report. report.steps.items ≡ steps) }
-        ensures run { (cs : Configurations) (events : List Event) (choices : List Choice)
-            (steps : List (List Line)) →
-            HasRun self cs events choices steps → IfOk result (IsRun cs events choices) }
-        ensures history { (cs : Configurations) (events : List Event) (choices : List Choice)
-            (steps : List (List Line)) →
-            HasRun self cs events choices steps → IfOk result (OneHistory cs events) }
+        ensures steps { (run : WorldRun) → HasRun self run →
+            IfOk result (λ report. report.steps.items ≡ run.steps) }
+        ensures run { (run : WorldRun) → HasRun self run →
+            IfOk result (IsRun run.configs run.events run.choices) }
+        ensures history { (run : WorldRun) → HasRun self run →
+            IfOk result (OneHistory run.configs run.events) }
         ensures own { IfOk result
             (λ report. AllZip IsReportOf self.nodes.items report.nodes.items) }
         ensures ended { WorldHasEnded self → IsErr result }
@@ -393,7 +325,8 @@ impl World {
         Ok(Report { steps, nodes })
     }
 
-    /// Lets the world go, with its nodes. No report is made.
+    /// Lets the world go, with its nodes. No report is made. A crate that ends a world by this call
+    /// need not prove the drop of all that it holds.
     pub fn close(self) {
         drop(self);
     }

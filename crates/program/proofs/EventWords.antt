@@ -27,7 +27,8 @@ use Rattle.program.proofs.FaultWords.{AreOfFault, joined}
 use Rattle.program.proofs.Ids.{number_begins}
 use Rattle.program.proofs.Placing.{bears, number_back}
 use Rattle.program.proofs.ReadBack.{number_read, junk_read, event_read}
-use Rattle.program.proofs.OneText.{name_of, one_event, one_junk, one_number, first_word}
+use Rattle.program.proofs.OneText.{first_word}
+use Rattle.program.proofs.OneEvent.{name_of, one_event, one_junk, one_number}
 use Rattle.program.proofs.OneText.{words_behind}
 
 -- ---- no word of an event begins a fault

@@ -20,7 +20,8 @@ use Rattle.program.specs.Actions.{error_of}
 use Rattle.program.specs.Reading.{Places, ReadsLine, ReadsWords, begins}
 use Rattle.program.specs.Scripts.{IsStatement, is_skipped, words_of}
 use Rattle.program.proofs.EventWords.{opens}
-use Rattle.program.proofs.OneText.{first_word, name_of}
+use Rattle.program.proofs.OneText.{first_word}
+use Rattle.program.proofs.OneEvent.{name_of}
 
 never_shows : (what : EventKind) → bytes_eq (name_of what) (codes "show") ≡ false
 never_shows (Submit node edits) = refl

@@ -14,9 +14,13 @@ pub mod Printed
 pub mod Written
 pub mod Leaving
 pub mod Flowing
+pub mod Settling
+pub mod StatementResults
+pub mod StatementRuns
 pub mod Items
 pub mod Wholes
 pub mod OneText
+pub mod OneEvent
 pub mod ReadBack
 pub mod EventWords
 pub mod ReadScripts

@@ -20,7 +20,7 @@ use Rattle.program.specs.Laws.{AreAlike, ScriptsDiffer}
 use Rattle.program.specs.Scripts.{words_of, is_skipped, statement, AreStatements, IsOtherStatement}
 use Rattle.program.specs.Scripts.{IsScriptWith, IsStatement, NamesOneNode, SetsLog, SetsUp}
 use Rattle.program.specs.Scripts.{default_log}
-use Rattle.program.proofs.OneText.{name_of, one_number}
+use Rattle.program.proofs.OneEvent.{name_of, one_number}
 use Rattle.program.proofs.EventWords.{one_whole, opens}
 use Rattle.program.proofs.Ids.{ids_read}
 use Rattle.program.proofs.ReadScripts.{first_byte, not_skipped, statement_passes}

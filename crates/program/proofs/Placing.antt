@@ -33,7 +33,7 @@ use Rattle.program.specs.Faults.{spelling_fault}
 use Rattle.program.specs.Reading.{IsOfOneNode, Places, PlacesNode, ReadsFaultAs, ReadsWords}
 use Rattle.program.proofs.FaultWords.{split_words}
 use Rattle.program.proofs.Numbers.{own}
-use Rattle.program.proofs.OneText.{name_of, named}
+use Rattle.program.proofs.OneEvent.{name_of, named}
 use Rattle.program.proofs.ReadBack.{event_read}
 
 pub number_back : (n : ℕ) → n < 2 ^ 63 → digits_value 10 (decimal n) ≡ n

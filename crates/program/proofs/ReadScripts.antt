@@ -31,7 +31,7 @@ use Rattle.program.proofs.FaultWords.{all_before}
 use Rattle.program.proofs.Placing.{is_of_place, number_back, of_one_node}
 use Rattle.program.proofs.Ids.{ids_read, number_begins}
 use Rattle.program.proofs.ReadBack.{number_read}
-use Rattle.program.proofs.OneText.{name_of}
+use Rattle.program.proofs.OneEvent.{name_of}
 use Rattle.program.proofs.EventWords.{divides, divided_read, opens}
 
 -- ---- a line of words that begin so is not skipped

@@ -14,7 +14,8 @@ use Rattle.lab.specs.declared.Line.TheVariants as line
 use Rattle.lab.specs.declared.Numbers.{Numbers}
 use Rattle.lab.specs.declared.World.{World}
 use Rattle.lab.specs.Tended.TheVariants as tended
-use Rattle.lab.specs.{AreNumbersOf, Choice, HasRun, ShowsTables, WorldHasLimits, frames_in_steps}
+use Rattle.lab.specs.{AreNumbersOf, Choice, HasRun, ShowsTables, WorldHasLimits, WorldRun}
+use Rattle.lab.specs.{frames_in_steps}
 use Rattle.program.specs.declared.script.setup.Setup.{Setup}
 use Rattle.program.specs.declared.script.statement.Action.{Action}
 use Rattle.program.specs.declared.script.statement.Action.TheVariants.{Event, Invalid, Flow}
@@ -153,9 +154,18 @@ abbrev pub one_step : lab.Event → Choice → List Line → Stretch
 one_step event choice lines =
     record { events = event ∷ []; choices = choice ∷ []; steps = lines ∷ [] }
 
+-- .. as a run at the nodes that were set up
+abbrev pub run_of : Setup → Stretch → WorldRun
+run_of setup past = record {
+  configs = setup.configs;
+  events = past.events;
+  choices = past.choices;
+  steps = past.steps;
+}
+
 -- the world has run this far, at the nodes that were set up, with their limits
 pub record HasRunTo (world : World) (setup : Setup) (past : Stretch) : Type 0 where
-  pub run : HasRun world setup.configs past.events past.choices past.steps
+  pub run : HasRun world (run_of setup past)
   pub limits : WorldHasLimits world setup.limits
 
 -- what is shown of a node are its numbers after all that happened, and how many tables its store

@@ -5,7 +5,7 @@ ghost use Rattle.std.specs.Prelude.{true};
 ghost use Rattle.lab.specs.Configuration.{at_epoch, has};
 ghost use Rattle.lab.specs.Machine.{without};
 ghost use Rattle.lab.specs.declared.Line.{Line};
-ghost use Rattle.lab.specs.{Choice, HasRun, NamesNode, frames_in_steps, frames_of_step};
+ghost use Rattle.lab.specs.{Choice, NamesNode, frames_in_steps, frames_of_step};
 ghost use Rattle.program.specs.ScriptRuns.{HasRunTo, HasSettled, HasTurned, IsRising, faultless};
 ghost use Rattle.program.specs.ScriptRuns.{Stretch, busy, deliveries, delivery, followed_by};
 ghost use Rattle.program.specs.ScriptRuns.{has_worked};

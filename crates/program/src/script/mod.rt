@@ -2,6 +2,7 @@
 
 mod action;
 mod command;
+mod configuration;
 mod edit;
 mod error;
 mod extent;

@@ -7,20 +7,8 @@ use Rattle.lab.proofs.node_state.dispatch_down.Goals as goal
 
 pub returns-in-Start : goal.returns-in-Start
 returns-in-Start g c =
-    let e = c.start.ensures in
     subst (λ (k : NodeInput). HasDispatched g.D.Disk c.args.limits.now c.args.fault k
-    (Down c.args.disk)
-    c.start.result.0 c.start.result.1) (sym c.in-Start.is) (record {
-      ready = e.ready;
-      refines = e.refines;
-      disk = e.disk;
-      only = λ x n r reliable. e.only r.0 reliable;
-      follows = tt;
-      grows = e.grows;
-      marked = e.marked;
-      forgets = λ honest unarmed. e.forgets honest;
-      limits = λ has. e.limits;
-    })
+    (Down c.args.disk) c.start.result.0 c.start.result.1) (sym c.in-Start.is) c.start.ensures
 
 pub returns : goal.returns
 returns g c =

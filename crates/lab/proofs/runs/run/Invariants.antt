@@ -8,5 +8,10 @@ use Rattle.lab.proofs.runs.run.Given as goal
 abbrev pub invariant-loop-event : goal.invariant-loop-event
 invariant-loop-event l =
     (choices : List Choice) × (steps : List (List Line))
-    × HasRun l.world l.fn.configs (take l.event-index l.events) choices steps
+    × HasRun l.world (record {
+      configs = l.fn.configs;
+      events = take l.event-index l.events;
+      choices = choices;
+      steps = steps;
+    })
     × WorldHasLimits l.world l.fn.limits

@@ -1,7 +1,8 @@
 use Rattle.std.proofs.Common.{subst, sym, arith, add-one, drop}
 use Rattle.program.specs.declared.script.statement.Statement.{Statement}
+use Rattle.program.specs.ScriptRuns.{run_of}
 use Rattle.program.specs.Scripts.{Names}
-use Rattle.program.proofs.Flowing.{drop_past, goes_next, goes_nowhere, gone}
+use Rattle.program.proofs.StatementRuns.{drop_past, goes_next, goes_nowhere, gone}
 use Rattle.program.proofs.run_input.run_statements.Goals as goal
 
 -- no_stretch ran yet
@@ -32,12 +33,12 @@ returns c =
     let i = c.loop-statement.statement-index in
     let g = c.loop-statement.invariant in
     let made = c.in_ok-report.ensures in
-    let past = g.past in
+    let past = run_of setup g.past in
     gone c.loop-statement.script_run.world setup c.loop-statement.script_run.left.items all
     (drop i all)
     c.loop-statement.turns.items c.in_ok-report.report g
     (drop_past all i (omega (arith, c.loop-statement-test.false)))
-    (made.steps setup.configs past.events past.choices past.steps g.run.run)
-    (made.run setup.configs past.events past.choices past.steps g.run.run)
-    (made.history setup.configs past.events past.choices past.steps g.run.run)
+    (made.steps past g.run.run)
+    (made.run past g.run.run)
+    (made.history past g.run.run)
     made.own

@@ -1,5 +1,5 @@
 use Rattle.std.proofs.Common.{drop}
-use Rattle.program.proofs.Flowing.{Goes}
+use Rattle.program.proofs.StatementRuns.{Goes}
 use Rattle.program.proofs.run_input.run_statements.Given as goal
 
 -- the statements so far ran, and with those that are left make the whole

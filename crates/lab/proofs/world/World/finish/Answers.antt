@@ -2,32 +2,33 @@ use Rattle.disk.specs.{past_states}
 use Rattle.lab.specs.declared.report.NodeReport.{NodeReport}
 use Rattle.lab.specs.declared.report.Report.{Report}
 use Rattle.lab.specs.SimNodes.{state, failures, marks}
-use Rattle.lab.specs.Runs.{IsRun}
 use Rattle.lab.specs.Traces.{modelled_from}
 use Rattle.lab.proofs.Freshness.{keep_needed, reads_are_fresh}
 use Rattle.lab.proofs.Reports.{one_of, run_left}
 use Rattle.lab.proofs.world.World.finish.Goals as goal
 
 pub returns-clause-run : goal.returns-clause-run
-returns-clause-run c = λ cs events choices steps run.
+returns-clause-run c = λ past run.
     let made = run.made in
     let report : Report = record { steps = c.args.self.steps; nodes = c.in_ok-nodes.nodes } in
-    run_left c.args.self.nodes.items c.args.self.frames.items cs events choices steps made report
-    run.kept c.in_ok-nodes.ensures
-    (reads_are_fresh cs events choices steps c.reads_fresh.ensures made.lawful made.trace)
-    (keep_needed cs events choices c.keeps_enough.ensures made.lawful)
+    run_left c.args.self.nodes.items c.args.self.frames.items past made report run.kept
+    c.in_ok-nodes.ensures
+    (reads_are_fresh past.configs past.events past.choices past.steps c.reads_fresh.ensures
+    made.lawful made.trace)
+    (keep_needed past.configs past.events past.choices c.keeps_enough.ensures made.lawful)
 
 pub returns-clause-history : goal.returns-clause-history
-returns-clause-history c = λ cs events choices steps run.
+returns-clause-history c = λ past run.
     let made = run.made in
+    let es = modelled_from 1 past.events past.choices in
     let report : Report = record { steps = c.args.self.steps; nodes = c.in_ok-nodes.nodes } in
-    let is : IsRun cs events choices report =
-    run_left c.args.self.nodes.items c.args.self.frames.items cs events choices steps made report
-    run.kept c.in_ok-nodes.ensures
-    (reads_are_fresh cs events choices steps c.reads_fresh.ensures made.lawful made.trace)
-    (keep_needed cs events choices c.keeps_enough.ensures made.lawful) in
-    let es = modelled_from 1 events choices in
+    let is = run_left c.args.self.nodes.items c.args.self.frames.items past made report run.kept
+    c.in_ok-nodes.ensures
+    (reads_are_fresh past.configs past.events past.choices past.steps c.reads_fresh.ensures
+    made.lawful made.trace)
+    (keep_needed past.configs past.events past.choices c.keeps_enough.ensures made.lawful) in
     one_of state failures past_states marks (λ (node : NodeReport). node.id)
     (λ (node : NodeReport). node.disk)
-    cs events choices report.steps.items report.nodes.items is.trace is.disks
-    (c.one_history.ensures cs es made.lawful) (c.run_is_outcomes.ensures cs es)
+    past.configs past.events past.choices report.steps.items report.nodes.items is.trace is.disks
+    (c.one_history.ensures past.configs es made.lawful)
+    (c.run_is_outcomes.ensures past.configs es)

@@ -1,7 +1,6 @@
-use Rattle.std.proofs.Common.{ℕ, List, [], refl, sym, ap, subst}
-use Rattle.lab.specs.declared.event.EventRecord.{EventRecord}
+use Rattle.std.proofs.Common.{ℕ, List, refl, sym, subst}
 use Rattle.lab.specs.declared.delivery.Posted.{Posted}
-use Rattle.lab.specs.Worlds.{AreCreated, RunRefines, events_in}
+use Rattle.lab.specs.Worlds.{AreCreated, RunRefines, empty_run}
 use Rattle.lab.proofs.Nodes.{begun}
 use Rattle.lab.proofs.world.World.new.Goals as goal
 
@@ -15,9 +14,9 @@ returns-clause-ran c =
     record {
       configs = c.in_ok-clone.ensures;
       kept = c.new-3.ensures.items;
-      taken = ap (λ (l : List EventRecord). events_in l) c.new-2.ensures.items;
-      made = subst (λ (l : List Posted). RunRefines sims l cs [] [] []) (sym c.new.ensures.items)
-          (begun cs limits sims c.first.ensures.lawful are);
+      taken = c.new-2.ensures.items;
+      made = subst (λ (l : List Posted). RunRefines sims l (empty_run cs))
+          (sym c.new.ensures.items) (begun cs limits sims c.first.ensures.lawful are);
       came = record { first = sims; created = are; follow = refl };
     }
 

@@ -8,7 +8,7 @@ use Rattle.lab.proofs.world.World.numbers.Goals as goal
 
 -- the world has a node of the first configuration
 pub returns-in_default-clause-run : goal.returns-in_default-clause-run
-returns-in_default-clause-run c = λ cs events choices steps run there.
+returns-in_default-clause-run c = λ past run there.
     let sims = c.args.self.now.nodes.items in
     let x = c.args.id in
     absurd (has_one sims x (subst (λ (ids : List ℕ). has ids x ≡ true) (sym run.made.nodes) there)

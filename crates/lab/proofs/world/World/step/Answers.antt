@@ -1,67 +1,119 @@
+use Rattle.std.proofs.Common.{List, [], ◌∷◌, ◌∙◌, refl, subst, sym, true}
+use Rattle.std.specs.Prelude.{OnOk}
+use Rattle.std.specs.Vec.{with_items}
+use Rattle.std.proofs.lemmas.List.{with_items_is}
+use Rattle.std.proofs.lemmas.Option.{MatchOption-at_none}
 use Rattle.std.proofs.lemmas.Result.{on_ok_weaker}
-use Rattle.lab.specs.Worlds.{Takes, Ignores}
+use Rattle.lab.specs.declared.delivery.Posted.{Posted}
+use Rattle.lab.specs.declared.report.Line.{Line}
+use Rattle.lab.specs.declared.report.Line.TheVariants.{Nothing}
+use Rattle.lab.specs.declared.sim_node.SimNode.{SimNode}
+use Rattle.lab.specs.declared.world.World.{World}
+use Rattle.lab.specs.Worlds.{HasKept, HasNoNode, HasStepped, IsIndexOf}
+use Rattle.lab.proofs.Moves.{as_many, limited}
+use Rattle.lab.proofs.Worlds.{FitsDelivery}
+use Rattle.lab.proofs.WorldSteps.{delivered_after, ends_so, ignored_after, keeps_limits}
+use Rattle.lab.proofs.WorldSteps.{passed_after}
 use Rattle.lab.proofs.world.World.step.Goals as goal
 
+-- no frame has the place: the event is kept with the line of that
+passed : (c : goal.After-keep) → OnOk c.keep.result
+    (HasKept (record c.args.self.now { ended = true }) c.keep.new.self c.args.event.now
+    (Nothing ∷ []))
+passed c = subst (λ (l : List Line). OnOk c.keep.result
+    (HasKept (record c.args.self.now { ended = true }) c.keep.new.self c.args.event.now l))
+    c.in_ok-one_line.ensures c.keep.ensures.kept
+
+pub returns-in_default-2-clause-ran : goal.returns-in_default-2-clause-ran
+returns-in_default-2-clause-ran c = λ past run.
+    let self = c.args.self.now in
+    let event = c.args.event.now in
+    let found = c.in_ok-delivery.field-0 in
+    let fits = subst (λ (l : List Posted). FitsDelivery l c.in-Some.request event.kind found)
+    c.deref.ensures.value c.in_ok-delivery.ensures in
+    on_ok_weaker c.keep.result (passed_after c.in_order.ensures self c.len.result
+    c.in-Some.request c.len.ensures c.in-Some.ensures.0 c.in-Some.ensures.1 event found fits past
+    run c.in_default-2.is c.keep.new.self) (passed c)
+
+pub returns-in_default-2-clause-ends : goal.returns-in_default-2-clause-ends
+returns-in_default-2-clause-ends c =
+    ends_so c.keep.result (record c.args.self.now { ended = true }) c.keep.new.self
+    c.args.event.now (Nothing ∷ []) refl (passed c) c.keep.ensures.ends
+
+pub returns-in_default-2-clause-limits : goal.returns-in_default-2-clause-limits
+returns-in_default-2-clause-limits c =
+    let self = c.args.self.now in
+    on_ok_weaker c.keep.result (λ keeps. keeps_limits self (record self { ended = true })
+    c.keep.new.self c.args.event.now (Nothing ∷ []) refl keeps (λ has. has)) (passed c)
+
+-- the world does not have the node
+pub returns-in_default-index_of-clause-ran : goal.returns-in_default-index_of-clause-ran
+returns-in_default-index_of-clause-ran c = λ past run.
+    let self = c.args.self.now in
+    let event = c.args.event.now in
+    let it = c.in-Some-2.delivery in
+    let found = c.in_ok-delivery.field-0 in
+    let fits = subst (λ (l : List Posted). FitsDelivery l c.in-Some.request event.kind found)
+    c.deref.ensures.value c.in_ok-delivery.ensures in
+    ignored_after c.in_order.ensures self c.len.result c.in-Some.request c.len.ensures
+    c.in-Some.ensures.0 c.in-Some.ensures.1 event found fits past run it c.in-Some-2.is
+    (subst (λ (l : List SimNode). HasNoNode l it.0) c.deref-2.ensures.value
+    (MatchOption-at_none (HasNoNode c.deref-2.result.now it.0)
+    (λ index. IsIndexOf c.deref-2.result.now index it.0) c.in_default-index_of.is
+    c.index_of.ensures))
+
+pub returns-in_default-index_of-clause-limits : goal.returns-in_default-index_of-clause-limits
+returns-in_default-index_of-clause-limits c = λ limits has.
+    record { given = has.given; nodes = has.nodes }
+
+-- the world once its node took the step
+abbrev mid : (c : goal.After-keep-2) → World
+mid c = record c.args.self.now {
+  nodes = with_items c.args.self.now.nodes c.deliver.new.nodes;
+  frames = c.deliver.new.frames;
+  ended = true;
+}
+
+stepped : (c : goal.After-keep-2) →
+    HasStepped c.args.self.now.nodes.items c.args.self.now.frames.items c.in-Some-2.delivery.0
+    c.in-Some-2.delivery.1 c.args.event.now.fault c.args.self.now.limits c.in_ok-lines.lines
+    (mid c).nodes.items (mid c).frames.items
+stepped c =
+    let self = c.args.self.now in
+    let it = c.in-Some-2.delivery in
+    let fault = c.args.event.now.fault in
+    let now = c.deliver.new.nodes in
+    let h = subst (λ (l : List SimNode). HasStepped l self.frames.items it.0 it.1 fault
+    self.limits c.in_ok-lines.lines now c.deliver.new.frames.items) c.deref_mut.ensures.value
+    c.in_ok-lines.ensures in
+    let size = as_many self.nodes.items it.0 it.1 fault self.limits h.did now h.took
+    ∙ sym self.nodes.ok.0 in
+    subst (λ (l : List SimNode). HasStepped self.nodes.items self.frames.items it.0 it.1 fault
+    self.limits c.in_ok-lines.lines l c.deliver.new.frames.items)
+    (sym (with_items_is self.nodes now size)) h
+
 pub returns-clause-ran : goal.returns-clause-ran
-returns-clause-ran c = λ cs events choices steps run names.
-    on_ok_weaker c.apply-applied.result
-    (elim [
-      | Takes _ more ↦ (
-        more.choice,
-        more.lines,
-        record {
-          configs = more.run.configs;
-          kept = more.run.kept;
-          taken = more.run.taken;
-          made = more.run.made;
-          came = more.run.came;
-        },
-      )
-      | Ignores other _ ↦ absurd (other names)
-    ])
-    (c.apply-applied.ensures.ran cs events choices steps run)
+returns-clause-ran c = λ past run.
+    let self = c.args.self.now in
+    let event = c.args.event.now in
+    let found = c.in_ok-delivery.field-0 in
+    let fits = subst (λ (l : List Posted). FitsDelivery l c.in-Some.request event.kind found)
+    c.deref.ensures.value c.in_ok-delivery.ensures in
+    on_ok_weaker c.keep-2.result (delivered_after c.in_order.ensures self c.len.result
+    c.in-Some.request c.len.ensures c.in-Some.ensures.0 c.in-Some.ensures.1 event found fits past
+    run c.in-Some-2.delivery c.in-Some-2.is (mid c) c.keep-2.new.self c.in_ok-lines.lines refl
+    (stepped c)) c.keep-2.ensures.kept
 
-pub returns-clause-nothing : goal.returns-clause-nothing
-returns-clause-nothing c = λ cs events choices steps run other.
-    on_ok_weaker c.apply-applied.result
-    (elim [
-      | Takes names _ ↦ absurd (other names)
-      | Ignores _ same ↦ record {
-        run = record {
-          configs = same.run.configs;
-          kept = same.run.kept;
-          taken = same.run.taken;
-          made = same.run.made;
-          came = same.run.came;
-        };
-        nodes = same.nodes;
-      }
-    ])
-    (c.apply-applied.ensures.ran cs events choices steps run)
-
-pub returns-clause-follows : goal.returns-clause-follows
-returns-clause-follows c = λ cs events choices steps run names.
-    on_ok_weaker c.apply-applied.result
-    (elim [
-      | Takes _ more ↦ record {
-        choice = more.choice;
-        lines = more.lines;
-        run = record {
-          configs = more.run.configs;
-          kept = more.run.kept;
-          taken = more.run.taken;
-          made = more.run.made;
-          came = more.run.came;
-        };
-        nodes = more.nodes;
-      }
-      | Ignores other _ ↦ absurd (other names)
-    ])
-    (c.apply-applied.ensures.ran cs events choices steps run)
+pub returns-clause-ends : goal.returns-clause-ends
+returns-clause-ends c =
+    ends_so c.keep-2.result (mid c) c.keep-2.new.self c.args.event.now c.in_ok-lines.lines refl
+    c.keep-2.ensures.kept c.keep-2.ensures.ends
 
 pub returns-clause-limits : goal.returns-clause-limits
 returns-clause-limits c =
-    on_ok_weaker c.apply-applied.result
-    (λ keeps limits has. let now = keeps limits has in
-    record { given = now.given; nodes = now.nodes })
-    c.apply-applied.ensures.limits
+    let self = c.args.self.now in
+    let it = c.in-Some-2.delivery in
+    let h = stepped c in
+    on_ok_weaker c.keep-2.result (λ keeps. keeps_limits self (mid c) c.keep-2.new.self
+    c.args.event.now c.in_ok-lines.lines refl keeps (limited self.nodes.items it.0 it.1
+    c.args.event.now.fault self.limits h.did (mid c).nodes.items h.took)) c.keep-2.ensures.kept

@@ -1,7 +1,7 @@
 use Rattle.std.proofs.Common.{◌+◌, ◌++◌}
 use Rattle.lab.specs.{frames_in_steps, frames_of_step}
 use Rattle.program.specs.ScriptRuns.{places_after}
-use Rattle.program.proofs.Flowing.{left_as, left_delivered}
+use Rattle.program.proofs.StatementResults.{left_as, left_delivered}
 use Rattle.program.proofs.Leaving.{all_rise}
 use Rattle.program.proofs.script_run.ScriptRun.event.Goals as goal
 

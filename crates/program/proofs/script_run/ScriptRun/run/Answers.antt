@@ -1,9 +1,9 @@
 use Rattle.std.proofs.Common.{List, ◌++◌, refl, sym, ap, ◌∙◌, append_assoc}
 use Rattle.lab.specs.declared.Line.{Line}
-use Rattle.program.specs.ScriptRuns.{followed_by}
+use Rattle.program.specs.ScriptRuns.{followed_by, run_of}
 use Rattle.program.specs.declared.statement_result.Note.TheVariants as note
-use Rattle.program.proofs.Flowing.{turned_by_event, turned_by_flow, turned_by_settle}
-use Rattle.program.proofs.Flowing.{turned_by_show, turned_without}
+use Rattle.program.proofs.StatementResults.{turned_by_event, turned_by_flow, turned_by_settle}
+use Rattle.program.proofs.StatementResults.{turned_by_show, turned_without}
 use Rattle.program.proofs.script_run.ScriptRun.run.Goals as goal
 
 pub returns-in_ok-event-in-Event : goal.returns-in_ok-event-in-Event
@@ -43,6 +43,6 @@ returns-in-Show c = λ setup past run named up.
     c.args.self.now c.in-Show.node c.numbers.result c.shown-note.result c.in-Show.is
     c.shown-note.ensures refl
     run
-    (c.numbers.ensures.run setup.configs past.events past.choices past.steps run.run
+    (c.numbers.ensures.run (run_of setup past) run.run
     (rw c.in-Show.is at named))
     c.numbers.ensures.tables)

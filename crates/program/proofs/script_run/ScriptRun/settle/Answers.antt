@@ -1,6 +1,6 @@
 use Rattle.std.proofs.Common.{◌++◌, ◌∙◌, add-one, arith, refl, sym}
 use Rattle.program.specs.ScriptRuns.{followed_by, one_step, tending}
-use Rattle.program.proofs.Flowing.{settles_none, settles_on, settled, settled_most}
+use Rattle.program.proofs.Settling.{settles_none, settles_on, settled, settled_most}
 use Rattle.program.proofs.script_run.ScriptRun.settle.Goals as goal
 
 -- no tend yet

@@ -3,7 +3,7 @@ use Rattle.std.specs.Fmt.{decimal}
 use Rattle.std.specs.List.{list_all}
 use Rattle.program.specs.Words.{is_number}
 use Rattle.program.specs.Faults.{numbers_of}
-use Rattle.program.proofs.script.reader.numbers.Given as goal
+use Rattle.program.proofs.script.configuration.numbers.Given as goal
 
 -- the words so far are numbers, and these
 abbrev pub invariant-loop-word : goal.invariant-loop-word

@@ -2,7 +2,7 @@ use Rattle.std.proofs.Common.{◌≡◌, map, rules, sym, ◌∙◌, arith, fals
 use Rattle.std.proofs.lemmas.Bool.Decides.{nat_tests}
 use Rattle.program.specs.Words.{has_fault}
 use Rattle.program.proofs.FaultWords.{all_before}
-use Rattle.program.proofs.script.reader.config.Goals as goal
+use Rattle.program.proofs.script.configuration.config.Goals as goal
 
 pub returns : goal.returns
 returns c =

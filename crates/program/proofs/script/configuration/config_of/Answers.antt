@@ -1,7 +1,7 @@
 use Rattle.std.proofs.Common.{◌∙◌, subst, List, ℕ}
 use Rattle.lab.specs.Configs.{IsConfig}
 use Rattle.program.proofs.Ids.{no_config_of}
-use Rattle.program.proofs.script.reader.config_of.Goals as goal
+use Rattle.program.proofs.script.configuration.config_of.Goals as goal
 
 pub returns-in-Ok : goal.returns-in-Ok
 returns-in-Ok c =

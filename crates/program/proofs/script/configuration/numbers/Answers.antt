@@ -3,7 +3,7 @@ use Rattle.std.proofs.lemmas.Grind.{common_steps}
 use Rattle.std.proofs.lemmas.Grind.{common_steps}
 use Rattle.program.specs.Words.{is_number}
 use Rattle.program.proofs.Places.{all_texts}
-use Rattle.program.proofs.script.reader.numbers.Goals as goal
+use Rattle.program.proofs.script.configuration.numbers.Goals as goal
 
 pub returns-in_default : goal.returns-in_default
 returns-in_default c = rw (all_texts is_number c.args.words.now) (grind (arith, common_steps))

@@ -1,0 +1,110 @@
+-- A node of a world that took an input, between the others.
+use Rattle.std.proofs.Common.{◌≡◌, ℕ, ◌+◌, ◌<◌, List, length, get_or, slice_set, Bool, false}
+use Rattle.std.proofs.Common.{refl, sym, ap, subst, ◌∙◌}
+use Rattle.std.proofs.lemmas.Bool.{false≢true}
+use Rattle.std.proofs.lemmas.List.{get_or_default, length-set, set-set}
+use Rattle.std.proofs.lemmas.List.Elements.{All-get_or, All-set}
+use Rattle.std.specs.Prelude.{All, Err, IfOk, Ok, OnOk, Result}
+use Rattle.kv_types.specs.declared.Limits.{Limits}
+use Rattle.disk.specs.declared.Disk.{Ghosts}
+use Rattle.disk.specs.declared.Fault.{Fault}
+use Rattle.disk.specs.declared.Junk.{Junk}
+use Rattle.disk.specs.{Slots, past_states}
+use Rattle.chain_model.specs.{stopped}
+use Rattle.chain_core.specs.{Machine}
+use Rattle.engine.specs.Tended.{Tended}
+use Rattle.engine.specs.{IsTendAnswer}
+use Rattle.node.specs.declared.Node.{Node}
+use Rattle.node.specs.{disk_of, engine_of}
+use Rattle.lab.specs.declared.input.NodeInput.{NodeInput}
+use Rattle.lab.specs.declared.input.NodeInput.TheVariants as to_node
+use Rattle.lab.specs.declared.input.StepOutcome.{StepOutcome}
+use Rattle.lab.specs.declared.node_state.NodeState.{NodeState}
+use Rattle.lab.specs.declared.node_state.NodeState.TheVariants.{Up, Down}
+use Rattle.lab.specs.declared.sim_node.SimNode.{SimNode}
+use Rattle.lab.specs.Disks.{IsCrashOf}
+use Rattle.lab.specs.Outcomes.{HasCrashed, HasDispatched, HasTended, Halts, IsTendedAnswer}
+use Rattle.lab.specs.Outcomes.{StateFollows, Tends, TendsNot, has_struck_in}
+use Rattle.lab.specs.SimNodes.{Choice, StateHasLimits, StateRefines, disk_in, is_honest, state}
+use Rattle.lab.specs.SimNodes.{failures}
+use Rattle.lab.specs.Worlds.{HasMoved, HaveLimits, IsIndexOf}
+use Rattle.lab.proofs.Outcomes.{TellsChosen}
+
+-- what holds of an answer follows from two facts on it
+pub if_ok_both : {T E P : Type 0} {Q R : T → Type 0} (r : Result T E) → OnOk r P → IfOk r Q →
+    (P → (v : T) → Q v → R v) → IfOk r R
+if_ok_both (Ok v) first second both = both first v second
+if_ok_both (Err e) first second both = tt
+
+-- a running node that was stopped is down, and its disk is a crash of the one that it had
+pub crash_of : {g : Ghosts Slots} (junk : Junk) (own : Node Slots g) (old new : NodeState Slots g)
+    → old ≡ Up own →
+    StateFollows is_honest state failures past_states old (to_node.Stop junk) new →
+    IsCrashOf state failures past_states junk (disk_of own) (disk_in new)
+crash_of {g = g} junk own old new runs follows =
+    crashed new (subst (λ (m : NodeState Slots g).
+    StateFollows is_honest state failures past_states m
+    (to_node.Stop junk) new) runs follows tt)
+  where
+    crashed : (left : NodeState Slots g)
+        → HasCrashed state failures past_states junk (disk_of own) left →
+        IsCrashOf state failures past_states junk (disk_of own) (disk_in left)
+    crashed (Up other) has = absurd has
+    crashed (Down disk) has = has
+
+-- a running node that tended, and runs on, told what was chosen
+pub tended_so : {g : Ghosts Slots} (it : Fault) (struck : Bool) (x : ℕ) (n : Machine)
+    (old new : NodeState Slots g) (did : StepOutcome) (choice : Choice) →
+    HasTended is_honest state it struck x n old new did → TellsChosen choice did →
+    (was now : Node Slots g) → old ≡ Up was → new ≡ Up now →
+    IsTendAnswer (engine_of was) (engine_of now) choice.tended
+tended_so {g = g} it struck x n old new did choice (Tends up is told) chose was now ran runs =
+    let answer = told.0 in
+    let said : choice.tended ≡ answer = subst (λ (d : StepOutcome). TellsChosen choice d) told.1
+    chose in
+    subst (λ (d : Tended). IsTendedAnswer (Up was) (Up now) d) (sym said)
+    (subst (λ (m : NodeState Slots g). IsTendedAnswer (Up was) m answer) runs
+    (subst (λ (m : NodeState Slots g). IsTendedAnswer m new answer) ran told.2))
+tended_so {g = g} it struck x n old new did choice (Halts up stop is) chose was now ran runs =
+    absurd (false≢true (subst (λ (m : NodeState Slots g). StateRefines is_honest state m x
+    (stopped n)) runs is).core.running)
+tended_so {g = g} it struck x n old new did choice (TendsNot off is answered) chose was now ran
+    runs =
+    absurd (false≢true (sym off ∙ (subst (λ (m : NodeState Slots g). StateRefines is_honest state m
+    x n) runs is).core.running))
+
+-- whether the fault struck between these states of a node
+abbrev pub struck_by : Fault → SimNode → SimNode → Bool
+struck_by it was now = has_struck_in past_states it (disk_in was.state) now.state
+
+-- the node at this index was replaced twice, by its new state in the end
+pub moved : (old : List SimNode) (i x : ℕ) (between was was' now : SimNode)
+    (node_input : NodeInput) (it : Fault) (limits : Limits) (did : StepOutcome) →
+    IsIndexOf old i x → was ≡ get_or old i was' → now.id ≡ x →
+    HasDispatched _ limits it node_input was.state now.state did →
+    HasMoved old x node_input it limits did (slice_set (slice_set old i between) i now)
+moved old i x between was was' now node_input it limits did at out id took = record {
+  index = i;
+  at = at;
+  sim = now;
+  others = set-set old i between now;
+  id = id;
+  dispatched = subst (λ (s : SimNode).
+      HasDispatched _ limits it node_input s.state now.state did)
+      (out ∙ get_or_default old i was' now at.within) took;
+}
+
+-- each node that is up has the limits that it had
+pub limited : (old : List SimNode) (x : ℕ) (node_input : NodeInput) (it : Fault) (limits : Limits)
+    (did : StepOutcome) (now : List SimNode) → HasMoved old x node_input it limits did now →
+    HaveLimits old limits → HaveLimits now limits
+limited old x node_input it limits did now t all =
+    let Has : SimNode → Type 0 = λ sim. StateHasLimits sim.state limits in
+    subst (λ (l : List SimNode). All Has l) (sym t.others) (All-set Has old t.index t.sim
+    (t.dispatched.limits (All-get_or Has old t.index t.sim t.at.within all)) all)
+
+-- .. and there are as many nodes as before
+pub as_many : (old : List SimNode) (x : ℕ) (node_input : NodeInput) (it : Fault) (limits : Limits)
+    (did : StepOutcome) (now : List SimNode) → HasMoved old x node_input it limits did now →
+    length now ≡ length old
+as_many old x node_input it limits did now t = ap length t.others ∙ length-set old t.index t.sim

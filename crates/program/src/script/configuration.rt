@@ -1,0 +1,102 @@
+//! The configuration of a script: the numbers of its line, as the ids of nodes.
+ghost use Rattle.std.specs.Prelude.{◌≡◌, ◌≢◌, ◌⊎◌, map, true, false, Some, None, IfOk, MatchResult};
+ghost use Rattle.std.specs.Prelude.{MatchOption};
+ghost use Rattle.std.specs.Fmt.{decimal};
+ghost use Rattle.std.specs.List.{list_all};
+ghost use Rattle.lab.specs.Configs.{IsConfig, is_config};
+ghost use Rattle.program.specs.declared.script.error.ScriptError.TheVariants.{OutOfMemory};
+ghost use Rattle.program.specs.declared.script.error.ScriptError.TheVariants.{BadConfiguration};
+ghost use Rattle.program.specs.Words.{is_number};
+ghost use Rattle.program.specs.Faults.{numbers_of, config_fault};
+
+use super::error::ScriptError;
+use super::fault::split_fault;
+use super::statement::ParserState;
+use super::word::number;
+use lab::{Config, ConfigError, test_decides_config};
+use std::alloc::{AllocError, Global};
+
+// The numbers that words spell.
+fn numbers(alloc: Global, words: &[&[u8]]) -> Result<Option<Vec<u64>>, AllocError>
+    ensures { IfOk result (λ found.
+        MatchOption found (list_all is_number (map (λ w. w.now) words.now) ≡ false)
+        (λ ns. (list_all is_number (map (λ w. w.now) words.now) ≡ true)
+        × (map (λ w. w.now) words.now ≡ map decimal ns.items)
+        × (numbers_of (map (λ w. w.now) words.now) ≡ ns.items))) }
+{
+    let mut numbers = Vec::new(alloc);
+    for word in words {
+        let Some(n) = number(word) else {
+            return Ok(None);
+        };
+        numbers.push(n)?;
+    }
+    Ok(Some(numbers))
+}
+
+// The ids that numbers may be.
+fn ids_of(alloc: Global, numbers: &[u64]) -> Result<Option<Vec<u16>>, AllocError>
+    ensures { IfOk result (λ found. MatchOption found (is_config numbers.now ≡ false)
+        (λ ids. ids.items ≡ numbers.now)) }
+{
+    let mut ids = Vec::new(alloc);
+    for &number in numbers {
+        let Ok(id) = u16::try_from(number) else {
+            return Ok(None);
+        };
+        ids.push(id)?;
+    }
+    Ok(Some(ids))
+}
+
+// What is wrong with a script's ids.
+fn config_error(error: ConfigError) -> ScriptError
+    ensures { (result ≡ OutOfMemory)
+        ⊎ ((result ≡ BadConfiguration) × (error ≢ ConfigError.Memory)) }
+{
+    match error {
+        ConfigError::Memory => ScriptError::OutOfMemory,
+        _ => ScriptError::BadConfiguration,
+    }
+}
+
+// The configuration of the nodes of these numbers.
+fn config_of(alloc: Global, numbers: &[u64]) -> Result<Config, ScriptError>
+    ensures { MatchResult result
+        (λ config. (config ≡ numbers.now) × IsConfig config × (is_config numbers.now ≡ true))
+        (λ e. e ≢ OutOfMemory → (e ≡ BadConfiguration) × (is_config numbers.now ≡ false)) }
+{
+    test_decides_config(); // law: the test succeeds exactly for the configurations
+    let Some(ids) = ids_of(alloc, numbers)? else {
+        return Err(ScriptError::BadConfiguration);
+    };
+    match Config::new(alloc, ids) {
+        Ok(config) => Ok(config),
+        Err(error) => Err(config_error(error)),
+    }
+}
+
+/// The configuration of a line, which is the only one.
+pub fn config(alloc: Global, before: &ParserState, args: &[&[u8]]) -> Result<Config, ScriptError>
+    ensures { MatchResult result
+        (λ config. (config_fault before.now (map (λ w. w.now) args.now) ≡ None)
+        × (map (λ w. w.now) args.now ≡ map decimal config) × IsConfig config
+        × (numbers_of (map (λ w. w.now) args.now) ≡ config) × (before.now.configs ≡ None))
+        (λ e. e ≢ OutOfMemory →
+        config_fault before.now (map (λ w. w.now) args.now) ≡ Some e) }
+{
+    let (words, behind) = split_fault(args);
+    let Some(numbers) = numbers(alloc, words)? else {
+        return Err(ScriptError::BadNumber);
+    };
+    if !behind.is_empty() {
+        return Err(ScriptError::BadFault);
+    }
+    if before.begun {
+        return Err(ScriptError::OutOfPlace);
+    }
+    if before.configs.is_some() {
+        return Err(ScriptError::BadConfiguration);
+    }
+    config_of(alloc, &numbers)
+}
