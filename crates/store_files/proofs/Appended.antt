@@ -298,5 +298,6 @@ appended_told disk files list h batch is new logs memtable lines others keeps st
     counts held =
     held_after disk files list h batch is new logs memtable lines others keeps stays counts.0
     counts.1 entries held
-appended_told disk files list h batch is new logs memtable lines others keeps stays entries Q (Err e)
+appended_told disk files list h batch is new logs memtable lines others keeps stays entries Q (Err
+    e)
     counts machine = machine

@@ -26,11 +26,11 @@ pub record TendKeeps {D T : Type 0} (g : Ghosts D)
   pub usable : OnOk result (AreUsableFiles new)
   pub did : MatchResult result Did IsEnd
   pub tended : (list : List BatchContent) → g.is_honest disk → Held (g.state disk) list →
-      ListFollowsOn g (λ _ state. FilesHold state new list) (FilesRepresent (known_facts old) list) disk
-      later result
+      ListFollowsOn g (λ _ state. FilesHold state new list) (FilesRepresent (known_facts old) list)
+      disk later result
   pub meant : (list : List BatchContent) → g.is_honest disk → WereHeld (g.state disk) list →
-      ListFollowsOn g (λ _ state. WereMeantToHold state new list) (WereMeant (known_facts old) list) disk
-      later result
+      ListFollowsOn g (λ _ state. WereMeantToHold state new list) (WereMeant (known_facts old) list)
+      disk later result
 
 -- so does a call that finds the files as the last one left them
 abbrev pub FilesAreTended : {D T : Type 0} → Ghosts D → Type 0 → (T → Type 0) → D → D →

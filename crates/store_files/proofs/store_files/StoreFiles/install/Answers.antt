@@ -32,7 +32,6 @@ use Rattle.store_files.proofs.TendKeeps.{refusal_on_ok, refused_before, refused_
 use Rattle.store_files.proofs.TendedFiles.{beside_both, counting_alone, log_alone}
 use Rattle.store_files.proofs.Tends.{edit_ends, edit_failed, edit_is_external}
 use Rattle.store_files.proofs.store_files.StoreFiles.install.Goals as goal
-use Rattle.store_files.proofs.store_files.StoreFiles.install.Goals.{After-begin, After-record}
 
 -- the new log has a file of its own
 pub begin-requires-clause-new : goal.begin-requires-clause-new
@@ -73,21 +72,19 @@ returns-in_err-edit g c =
 
 -- ---- the log
 
--- the edit is that of the flush
-edit_so : (g : _) (c : After-begin g) → IsFlushOf c.args.self.now c.args.made.line
-    (c.args.self.now.free_file + 1) c.in_ok-edit.edit
-edit_so g c = record {
-  usable = c.requires.usable;
-  place = c.requires.place;
-  next = c.requires.next.next;
-  at = refl;
-  is = edit_is c.args.self.now c.args.made.line c.state.result.now c.last_number-count.result
-      c.in_ok-edit.edit c.state.ensures c.last_number-count.ensures c.in_ok-edit.ensures.edit;
-}
-
 -- it was not begun
 pub returns-in_err-begin : goal.returns-in_err-begin
 returns-in_err-begin g c =
+    let so : IsFlushOf c.args.self.now c.args.made.line (c.args.self.now.free_file + 1)
+    c.in_ok-edit.edit = record {
+      usable = c.requires.usable;
+      place = c.requires.place;
+      next = c.requires.next.next;
+      at = refl;
+      is = edit_is c.args.self.now c.args.made.line c.state.result.now
+          c.last_number-count.result c.in_ok-edit.edit c.state.ensures
+          c.last_number-count.ensures c.in_ok-edit.ensures.edit;
+    } in
     let files = c.args.self.now in
     let result = c.from_residual-in_err-begin.result in
     let told = c.from_residual-in_err-begin.ensures.1 in
@@ -116,18 +113,18 @@ returns-in_err-begin g c =
       tended = λ list honest hs. record {
         list = refuses result _ IsEngineExternal told
             (c.in_err-begin.ensures.begun (suc trimmed) (drop trimmed list) honest
-            (new_ends (edit_so g c) s1 list c.args.made.table hs)
-            (spilled_named (edit_so g c) s1 list c.args.made.table hs).held);
-        any_moment = log_begins (edit_so g c) s1 list c.args.made.table hs law held.left held.same
+            (new_ends so s1 list c.args.made.table hs)
+            (spilled_named so s1 list c.args.made.table hs).held);
+        any_moment = log_begins so s1 list c.args.made.table hs law held.left held.same
             p1 p2 s2
             (c.begin.ensures.any_moment honest);
       };
       meant = λ list honest ms. record {
         list = refuses result _ IsEngineExternal told
             (c.in_err-begin.ensures.begun (suc trimmed) (drop trimmed list) honest
-            (meant_ends (edit_so g c) s1 list c.args.made.table ms)
-            (meant_logs (edit_so g c) s1 list c.args.made.table ms));
-        any_moment = log_was_begun (edit_so g c) s1 list c.args.made.table ms law held.left
+            (meant_ends so s1 list c.args.made.table ms)
+            (meant_logs so s1 list c.args.made.table ms));
+        any_moment = log_was_begun so s1 list c.args.made.table ms law held.left
             held.same p1 p2 s2
             (c.begin.ensures.any_moment honest);
       };
@@ -135,90 +132,19 @@ returns-in_err-begin g c =
 
 -- ---- the edit
 
-module _ (g : _) (c : After-record g) where
-  touches_so : g.D.Disk.is_honest c.args.disk.now → IsSameBeside (tended_files c.args.self.now)
-      (g.D.Disk.state c.args.disk.now) (g.D.Disk.state c.record.new.disk)
-  touches_so honest =
-      let files = c.args.self.now in
-      let s1 = g.D.Disk.state c.args.disk.now in
-      let s2 = g.D.Disk.state c.begin.new.disk in
-      let s3 = g.D.Disk.state c.record.new.disk in
-      beside_both files s1 s2 s3 (log_alone files s1 s2 (files.free_file + 1) refl
-      (c.begin.ensures.kept.files honest)) (counting_alone files s2 s3
-      (c.record.ensures.kept.files (c.begin.ensures.kept.honest.1 honest)))
-
-  -- of files that hold a list
-  module _ (list : List BatchContent) (honest : g.D.Disk.is_honest c.args.disk.now)
-      (hs : HeldAndSpilled (g.D.Disk.state c.args.disk.now) c.args.self.now list c.args.made)
-    where
-      began_so : LogsHold (g.D.Disk.state c.begin.new.disk) c.begin.new.self
-          (suc (trimmed_count c.args.self.now)) (drop (trimmed_count c.args.self.now) list)
-      began_so =
-          let s1 = g.D.Disk.state c.args.disk.now in
-          let trimmed = trimmed_count c.args.self.now in
-          c.in_ok-begin.ensures.begun (suc trimmed) (drop trimmed list) honest
-          (new_ends (edit_so g c) s1 list c.args.made.table hs)
-          (spilled_named (edit_so g c) s1 list c.args.made.table hs).held
-
-      manifest_so : ManifestHolds (g.D.Disk.state c.begin.new.disk) c.args.self.now.manifest
-          (known_version c.args.self.now)
-      manifest_so = manifest_begun (edit_so g c) (g.D.Disk.state c.args.disk.now) list
-          c.args.made.table hs
-          (g.D.Disk.state c.begin.new.disk) (c.begin.ensures.kept.files honest) c.begin.new.self
-          c.in_ok-begin.ensures.told.2 began_so c.flushes_keep.ensures.list
-          c.held_versions_are_left.ensures.same
-
-      moments_so : AlwaysLeaves g.D.Disk c.args.disk.now c.record.new.disk
-          (FilesRepresent (known_facts c.args.self.now) list)
-      moments_so = edit_is_recorded (edit_so g c) (g.D.Disk.state c.args.disk.now) list
-          c.args.made.table hs
-          (g.D.Disk.state c.begin.new.disk) (c.begin.ensures.kept.files honest) c.begin.new.self
-          c.in_ok-begin.ensures.told.2 began_so c.flushes_keep.ensures.list
-          c.durable_file_is_left.ensures c.held_versions_are_left.ensures.left
-          c.held_versions_are_left.ensures.same c.edits_keep_versions.ensures
-          (g.D.Disk.past c.args.disk.now) (g.D.Disk.past c.begin.new.disk)
-          (g.D.Disk.past c.record.new.disk) (g.D.Disk.state c.record.new.disk)
-          (c.begin.ensures.any_moment honest) (c.record.ensures.any_moment
-          (known_version c.args.self.now) (c.begin.ensures.kept.honest.1 honest) manifest_so)
-
-  -- and of files that were meant to
-  module _ (list : List BatchContent) (honest : g.D.Disk.is_honest c.args.disk.now)
-      (ms : MeantAndSpilled (g.D.Disk.state c.args.disk.now) c.args.self.now list c.args.made)
-    where
-      began_meant : LogsHold (g.D.Disk.state c.begin.new.disk) c.begin.new.self
-          (suc (trimmed_count c.args.self.now)) (drop (trimmed_count c.args.self.now) list)
-      began_meant =
-          let s1 = g.D.Disk.state c.args.disk.now in
-          let trimmed = trimmed_count c.args.self.now in
-          c.in_ok-begin.ensures.begun (suc trimmed) (drop trimmed list) honest
-          (meant_ends (edit_so g c) s1 list c.args.made.table ms)
-          (meant_logs (edit_so g c) s1 list c.args.made.table ms)
-
-      manifest_meant : ManifestHolds (g.D.Disk.state c.begin.new.disk) c.args.self.now.manifest
-          (known_version c.args.self.now)
-      manifest_meant = manifest_was_begun (edit_so g c) (g.D.Disk.state c.args.disk.now) list
-          c.args.made.table ms
-          (g.D.Disk.state c.begin.new.disk) (c.begin.ensures.kept.files honest) c.begin.new.self
-          c.in_ok-begin.ensures.told.2 began_meant c.flushes_keep.ensures.list
-          c.held_versions_are_left.ensures.same
-
-      moments_meant : AlwaysLeaves g.D.Disk c.args.disk.now c.record.new.disk
-          (WereMeant (known_facts c.args.self.now) list)
-      moments_meant = edit_was_recorded (edit_so g c) (g.D.Disk.state c.args.disk.now) list
-          c.args.made.table ms
-          (g.D.Disk.state c.begin.new.disk) (c.begin.ensures.kept.files honest) c.begin.new.self
-          c.in_ok-begin.ensures.told.2 began_meant c.flushes_keep.ensures.list
-          c.durable_file_is_left.ensures c.held_versions_are_left.ensures.left
-          c.held_versions_are_left.ensures.same c.edits_keep_versions.ensures
-          (g.D.Disk.past c.args.disk.now) (g.D.Disk.past c.begin.new.disk)
-          (g.D.Disk.past c.record.new.disk) (g.D.Disk.state c.record.new.disk)
-          (c.begin.ensures.any_moment honest) (c.record.ensures.any_moment
-          (known_version c.args.self.now) (c.begin.ensures.kept.honest.1 honest)
-          manifest_meant)
-
 -- it was not recorded, or a crash may leave it recorded
 pub returns-in-Err : goal.returns-in-Err
 returns-in-Err g c =
+    let so : IsFlushOf c.args.self.now c.args.made.line (c.args.self.now.free_file + 1)
+    c.in_ok-edit.edit = record {
+      usable = c.requires.usable;
+      place = c.requires.place;
+      next = c.requires.next.next;
+      at = refl;
+      is = edit_is c.args.self.now c.args.made.line c.state.result.now
+          c.last_number-count.result c.in_ok-edit.edit c.state.ensures
+          c.last_number-count.ensures c.in_ok-edit.ensures.edit;
+    } in
     let files = c.args.self.now in
     let why = c.refusal_of_edit.ensures in
     let begun = c.in_ok-begin.ensures.told in
@@ -229,9 +155,16 @@ returns-in-Err g c =
       kept = kept_behind g.D.Disk (λ a b d before after. tt) c.begin.ensures.kept
           (answered c.begin.result c.in_ok-begin.was) (kept_but g.D.Disk
           (λ room. c.slots_reach_gates.ensures.full files.manifest c.in_ok-edit.edit fits fit.1
-          room) (kept_as g.D.Disk (edit_failed c.in-Err.e _ why) (λ a b same. tt)
+          room) (kept_as g.D.Disk (edit_failed c.in-Err.e _ why) (λ a b same. same)
           c.in-Err.ensures.kept));
-      touches = touches_so g c;
+      touches = (λ honest. beside_both c.args.self.now (g.D.Disk.state c.args.disk.now)
+          (g.D.Disk.state c.begin.new.disk) (g.D.Disk.state c.record.new.disk)
+          (log_alone c.args.self.now (g.D.Disk.state c.args.disk.now) (g.D.Disk.state
+          c.begin.new.disk) (c.args.self.now.free_file + 1) refl
+          (c.begin.ensures.kept.files honest)) (counting_alone c.args.self.now (g.D.Disk.state
+          c.begin.new.disk)
+          (g.D.Disk.state c.record.new.disk)
+          (c.record.ensures.kept.files (c.begin.ensures.kept.honest.1 honest))));
       numbers = (
         ap (λ (n : ℕ). n - 1) begun.1,
         facts_same files (record files { manifest = c.record.new.self; logs = c.begin.new.self })
@@ -243,20 +176,86 @@ returns-in-Err g c =
       tended = λ list honest hs. record {
         list = subst IsEngineExternal (sym why) (edit_is_external c.in-Err.e
             (c.in-Err.ensures.recorded (known_version files)
-            (c.begin.ensures.kept.honest.1 honest) (manifest_so g c list honest hs)));
-        any_moment = moments_so g c list honest hs;
+            (c.begin.ensures.kept.honest.1 honest) (manifest_begun so (g.D.Disk.state
+            c.args.disk.now) list c.args.made.table hs (g.D.Disk.state c.begin.new.disk)
+            (c.begin.ensures.kept.files honest) c.begin.new.self c.in_ok-begin.ensures.told.2
+            (c.in_ok-begin.ensures.begun (suc (trimmed_count c.args.self.now))
+            (drop (trimmed_count c.args.self.now) list) honest
+            (new_ends so (g.D.Disk.state c.args.disk.now) list c.args.made.table hs)
+            (spilled_named so (g.D.Disk.state c.args.disk.now) list c.args.made.table hs).held)
+            c.flushes_keep.ensures.list c.held_versions_are_left.ensures.same)));
+        any_moment = (edit_is_recorded so (g.D.Disk.state c.args.disk.now) list c.args.made.table
+            hs (g.D.Disk.state c.begin.new.disk)
+            (c.begin.ensures.kept.files honest) c.begin.new.self c.in_ok-begin.ensures.told.2
+            (c.in_ok-begin.ensures.begun (suc (trimmed_count c.args.self.now))
+            (drop (trimmed_count c.args.self.now) list) honest
+            (new_ends so (g.D.Disk.state c.args.disk.now) list c.args.made.table hs)
+            (spilled_named so (g.D.Disk.state c.args.disk.now) list c.args.made.table hs).held)
+            c.flushes_keep.ensures.list c.durable_file_is_left.ensures
+            c.held_versions_are_left.ensures.left
+            c.held_versions_are_left.ensures.same c.edits_keep_versions.ensures
+            (g.D.Disk.past c.args.disk.now) (g.D.Disk.past c.begin.new.disk)
+            (g.D.Disk.past c.record.new.disk) (g.D.Disk.state c.record.new.disk)
+            (c.begin.ensures.any_moment honest) (c.record.ensures.any_moment
+            (known_version c.args.self.now) (c.begin.ensures.kept.honest.1 honest)
+            (manifest_begun so (g.D.Disk.state c.args.disk.now) list c.args.made.table hs
+            (g.D.Disk.state c.begin.new.disk)
+            (c.begin.ensures.kept.files honest) c.begin.new.self c.in_ok-begin.ensures.told.2
+            (c.in_ok-begin.ensures.begun (suc (trimmed_count c.args.self.now))
+            (drop (trimmed_count c.args.self.now) list) honest
+            (new_ends so (g.D.Disk.state c.args.disk.now) list c.args.made.table hs)
+            (spilled_named so (g.D.Disk.state c.args.disk.now) list c.args.made.table hs).held)
+            c.flushes_keep.ensures.list c.held_versions_are_left.ensures.same)));
       };
       meant = λ list honest ms. record {
         list = subst IsEngineExternal (sym why) (edit_is_external c.in-Err.e
             (c.in-Err.ensures.recorded (known_version files)
-            (c.begin.ensures.kept.honest.1 honest) (manifest_meant g c list honest ms)));
-        any_moment = moments_meant g c list honest ms;
+            (c.begin.ensures.kept.honest.1 honest) (manifest_was_begun so (g.D.Disk.state
+            c.args.disk.now) list c.args.made.table ms (g.D.Disk.state c.begin.new.disk)
+            (c.begin.ensures.kept.files honest) c.begin.new.self c.in_ok-begin.ensures.told.2
+            (c.in_ok-begin.ensures.begun (suc (trimmed_count c.args.self.now))
+            (drop (trimmed_count c.args.self.now) list) honest
+            (meant_ends so (g.D.Disk.state c.args.disk.now) list c.args.made.table ms)
+            (meant_logs so (g.D.Disk.state c.args.disk.now) list c.args.made.table ms))
+            c.flushes_keep.ensures.list c.held_versions_are_left.ensures.same)));
+        any_moment = (edit_was_recorded so (g.D.Disk.state c.args.disk.now) list c.args.made.table
+            ms (g.D.Disk.state c.begin.new.disk)
+            (c.begin.ensures.kept.files honest) c.begin.new.self c.in_ok-begin.ensures.told.2
+            (c.in_ok-begin.ensures.begun (suc (trimmed_count c.args.self.now))
+            (drop (trimmed_count c.args.self.now) list) honest
+            (meant_ends so (g.D.Disk.state c.args.disk.now) list c.args.made.table ms)
+            (meant_logs so (g.D.Disk.state c.args.disk.now) list c.args.made.table ms))
+            c.flushes_keep.ensures.list c.durable_file_is_left.ensures
+            c.held_versions_are_left.ensures.left
+            c.held_versions_are_left.ensures.same c.edits_keep_versions.ensures
+            (g.D.Disk.past c.args.disk.now) (g.D.Disk.past c.begin.new.disk)
+            (g.D.Disk.past c.record.new.disk) (g.D.Disk.state c.record.new.disk)
+            (c.begin.ensures.any_moment honest) (c.record.ensures.any_moment
+            (known_version c.args.self.now) (c.begin.ensures.kept.honest.1 honest)
+            (manifest_was_begun so (g.D.Disk.state c.args.disk.now) list c.args.made.table ms
+            (g.D.Disk.state c.begin.new.disk)
+            (c.begin.ensures.kept.files honest) c.begin.new.self c.in_ok-begin.ensures.told.2
+            (c.in_ok-begin.ensures.begun (suc (trimmed_count c.args.self.now))
+            (drop (trimmed_count c.args.self.now) list) honest
+            (meant_ends so (g.D.Disk.state c.args.disk.now) list c.args.made.table ms)
+            (meant_logs so (g.D.Disk.state c.args.disk.now) list c.args.made.table ms))
+            c.flushes_keep.ensures.list c.held_versions_are_left.ensures.same)));
       };
     }
 
 -- the table was not added: memory is out
 pub returns-in_err-add : goal.returns-in_err-add
 returns-in_err-add g c =
+    let so : IsFlushOf c.args.self.now c.args.made.line (c.args.self.now.free_file + 1)
+    c.in_ok-edit.edit = record {
+      usable = c.requires.usable;
+      place = c.requires.place;
+      next = c.requires.next.next;
+      at = refl;
+      is = edit_is c.args.self.now c.args.made.line c.state.result.now
+          c.last_number-count.result c.in_ok-edit.edit c.state.ensures
+          c.last_number-count.ensures c.in_ok-edit.ensures.edit;
+    } in
     let files = c.args.self.now in
     let result = c.from_residual-in_err-add.result in
     let told = c.from_residual-in_err-add.ensures.1 in
@@ -275,21 +274,70 @@ returns-in_err-add g c =
           (answered c.begin.result c.in_ok-begin.was) (kept_but g.D.Disk
           (λ room. c.slots_reach_gates.ensures.full files.manifest c.in_ok-edit.edit fits fit.1
           room) (kept_as g.D.Disk (neither (λ f. absurd cc) (refused_device result told memory))
-          (λ a b same. tt) c.in_default.ensures.kept));
-      touches = touches_so g c;
+          (λ a b same. same) c.in_default.ensures.kept));
+      touches = (λ honest. beside_both c.args.self.now (g.D.Disk.state c.args.disk.now)
+          (g.D.Disk.state c.begin.new.disk) (g.D.Disk.state c.record.new.disk)
+          (log_alone c.args.self.now (g.D.Disk.state c.args.disk.now) (g.D.Disk.state
+          c.begin.new.disk) (c.args.self.now.free_file + 1) refl
+          (c.begin.ensures.kept.files honest)) (counting_alone c.args.self.now (g.D.Disk.state
+          c.begin.new.disk)
+          (g.D.Disk.state c.record.new.disk)
+          (c.record.ensures.kept.files (c.begin.ensures.kept.honest.1 honest))));
       numbers = (
-        count_kept (edit_so g c) new c.in_default.ensures.told.0 begun.2 begun.1,
-        facts_kept (edit_so g c) new c.in_default.ensures.told.0 begun.2,
+        count_kept so new c.in_default.ensures.told.0 begun.2 begun.1,
+        facts_kept so new c.in_default.ensures.told.0 begun.2,
       );
       usable = refusal_on_ok result _ _ told;
       did = refuses result _ IsEnd told (subst IsEnd (sym memory) tt);
       tended = λ list honest hs. record {
         list = refuses result _ IsEngineExternal told (inr memory);
-        any_moment = moments_so g c list honest hs;
+        any_moment = (edit_is_recorded so (g.D.Disk.state c.args.disk.now) list c.args.made.table
+            hs (g.D.Disk.state c.begin.new.disk)
+            (c.begin.ensures.kept.files honest) c.begin.new.self c.in_ok-begin.ensures.told.2
+            (c.in_ok-begin.ensures.begun (suc (trimmed_count c.args.self.now))
+            (drop (trimmed_count c.args.self.now) list) honest
+            (new_ends so (g.D.Disk.state c.args.disk.now) list c.args.made.table hs)
+            (spilled_named so (g.D.Disk.state c.args.disk.now) list c.args.made.table hs).held)
+            c.flushes_keep.ensures.list c.durable_file_is_left.ensures
+            c.held_versions_are_left.ensures.left
+            c.held_versions_are_left.ensures.same c.edits_keep_versions.ensures
+            (g.D.Disk.past c.args.disk.now) (g.D.Disk.past c.begin.new.disk)
+            (g.D.Disk.past c.record.new.disk) (g.D.Disk.state c.record.new.disk)
+            (c.begin.ensures.any_moment honest) (c.record.ensures.any_moment
+            (known_version c.args.self.now) (c.begin.ensures.kept.honest.1 honest)
+            (manifest_begun so (g.D.Disk.state c.args.disk.now) list c.args.made.table hs
+            (g.D.Disk.state c.begin.new.disk)
+            (c.begin.ensures.kept.files honest) c.begin.new.self c.in_ok-begin.ensures.told.2
+            (c.in_ok-begin.ensures.begun (suc (trimmed_count c.args.self.now))
+            (drop (trimmed_count c.args.self.now) list) honest
+            (new_ends so (g.D.Disk.state c.args.disk.now) list c.args.made.table hs)
+            (spilled_named so (g.D.Disk.state c.args.disk.now) list c.args.made.table hs).held)
+            c.flushes_keep.ensures.list c.held_versions_are_left.ensures.same)));
       };
       meant = λ list honest ms. record {
         list = refuses result _ IsEngineExternal told (inr memory);
-        any_moment = moments_meant g c list honest ms;
+        any_moment = (edit_was_recorded so (g.D.Disk.state c.args.disk.now) list c.args.made.table
+            ms (g.D.Disk.state c.begin.new.disk)
+            (c.begin.ensures.kept.files honest) c.begin.new.self c.in_ok-begin.ensures.told.2
+            (c.in_ok-begin.ensures.begun (suc (trimmed_count c.args.self.now))
+            (drop (trimmed_count c.args.self.now) list) honest
+            (meant_ends so (g.D.Disk.state c.args.disk.now) list c.args.made.table ms)
+            (meant_logs so (g.D.Disk.state c.args.disk.now) list c.args.made.table ms))
+            c.flushes_keep.ensures.list c.durable_file_is_left.ensures
+            c.held_versions_are_left.ensures.left
+            c.held_versions_are_left.ensures.same c.edits_keep_versions.ensures
+            (g.D.Disk.past c.args.disk.now) (g.D.Disk.past c.begin.new.disk)
+            (g.D.Disk.past c.record.new.disk) (g.D.Disk.state c.record.new.disk)
+            (c.begin.ensures.any_moment honest) (c.record.ensures.any_moment
+            (known_version c.args.self.now) (c.begin.ensures.kept.honest.1 honest)
+            (manifest_was_begun so (g.D.Disk.state c.args.disk.now) list c.args.made.table ms
+            (g.D.Disk.state c.begin.new.disk)
+            (c.begin.ensures.kept.files honest) c.begin.new.self c.in_ok-begin.ensures.told.2
+            (c.in_ok-begin.ensures.begun (suc (trimmed_count c.args.self.now))
+            (drop (trimmed_count c.args.self.now) list) honest
+            (meant_ends so (g.D.Disk.state c.args.disk.now) list c.args.made.table ms)
+            (meant_logs so (g.D.Disk.state c.args.disk.now) list c.args.made.table ms))
+            c.flushes_keep.ensures.list c.held_versions_are_left.ensures.same)));
       };
     }
 
@@ -297,6 +345,16 @@ returns-in_err-add g c =
 
 pub returns : goal.returns
 returns g c =
+    let so : IsFlushOf c.args.self.now c.args.made.line (c.args.self.now.free_file + 1)
+    c.in_ok-edit.edit = record {
+      usable = c.requires.usable;
+      place = c.requires.place;
+      next = c.requires.next.next;
+      at = refl;
+      is = edit_is c.args.self.now c.args.made.line c.state.result.now
+          c.last_number-count.result c.in_ok-edit.edit c.state.ensures
+          c.last_number-count.ensures c.in_ok-edit.ensures.edit;
+    } in
     let files = c.args.self.now in
     let begun = c.in_ok-begin.ensures.told in
     let fit = c.in_ok-edit.ensures.fit in
@@ -318,7 +376,7 @@ returns g c =
       memtable = c.replace.new.dest;
       free_file = files.free_file + 2;
     } in
-    let usable = installed_usable (edit_so g c) new c.in_default.ensures.told.0 begun.2 begun.1
+    let usable = installed_usable so new c.in_default.ensures.told.0 begun.2 begun.1
     edits
     c.in_default.ensures.told.1 begun.0
     (c.in_ok-add.ensures.lines ∙ ap (λ (l : TableLine).
@@ -330,27 +388,44 @@ returns g c =
           (answered c.begin.result c.in_ok-begin.was) (kept_but g.D.Disk
           (λ room. c.slots_reach_gates.ensures.full files.manifest c.in_ok-edit.edit fits fit.1
           room) (kept_as g.D.Disk (neither (λ f. absurd cc) (λ f. absurd cc))
-          (λ a b same. tt) c.in_default.ensures.kept));
-      touches = touches_so g c;
+          (λ a b same. same) c.in_default.ensures.kept));
+      touches = (λ honest. beside_both c.args.self.now (g.D.Disk.state c.args.disk.now)
+          (g.D.Disk.state c.begin.new.disk) (g.D.Disk.state c.record.new.disk)
+          (log_alone c.args.self.now (g.D.Disk.state c.args.disk.now) (g.D.Disk.state
+          c.begin.new.disk) (c.args.self.now.free_file + 1) refl
+          (c.begin.ensures.kept.files honest)) (counting_alone c.args.self.now (g.D.Disk.state
+          c.begin.new.disk)
+          (g.D.Disk.state c.record.new.disk)
+          (c.record.ensures.kept.files (c.begin.ensures.kept.honest.1 honest))));
       numbers = (
-        count_kept (edit_so g c) new c.in_default.ensures.told.0 begun.2 begun.1,
-        facts_kept (edit_so g c) new c.in_default.ensures.told.0 begun.2,
+        count_kept so new c.in_default.ensures.told.0 begun.2 begun.1,
+        facts_kept so new c.in_default.ensures.told.0 begun.2,
       );
       usable = usable;
       did = record {
-        version = known (edit_so g c) new c.in_default.ensures.told.0 begun.2;
+        version = known so new c.in_default.ensures.told.0 begun.2;
         slots = c.record.ensures.slots;
       };
       tended = λ list honest hs.
           let spares = c.begin.ensures.kept.files honest in
           let honest2 = c.begin.ensures.kept.honest.1 honest in
-          let began = began_so g c list honest hs in
-          let held = manifest_so g c list honest hs in
+          let began = (c.in_ok-begin.ensures.begun (suc (trimmed_count c.args.self.now))
+          (drop (trimmed_count c.args.self.now) list) honest
+          (new_ends so (g.D.Disk.state c.args.disk.now) list c.args.made.table hs)
+          (spilled_named so (g.D.Disk.state c.args.disk.now) list c.args.made.table hs).held) in
+          let held = (manifest_begun so (g.D.Disk.state c.args.disk.now) list c.args.made.table hs
+          (g.D.Disk.state c.begin.new.disk)
+          (c.begin.ensures.kept.files honest) c.begin.new.self c.in_ok-begin.ensures.told.2
+          (c.in_ok-begin.ensures.begun (suc (trimmed_count c.args.self.now))
+          (drop (trimmed_count c.args.self.now) list) honest
+          (new_ends so (g.D.Disk.state c.args.disk.now) list c.args.made.table hs)
+          (spilled_named so (g.D.Disk.state c.args.disk.now) list c.args.made.table hs).held)
+          c.flushes_keep.ensures.list c.held_versions_are_left.ensures.same) in
           let slot = (c.manifest_has_slots.ensures s2 files.manifest (known_version files) held).0
           in
           let same = c.record.ensures.kept.files honest2 in
           record {
-            list = installed_holds (edit_so g c) s1 list c.args.made.table hs s2 spares logs
+            list = installed_holds so s1 list c.args.made.table hs s2 spares logs
                 begun.2 began keeps s3 _ slot
                 same edits new refl c.in_default.ensures.told.0 begun.1 usable
                 (c.in_default.ensures.recorded (known_version files) honest2 held)
@@ -358,38 +433,90 @@ returns g c =
                 (with_flushed hs.held.known.tables hs.spilled.written.table)
                 (c.in_ok-add.ensures.added s3 s3 hs.held.known.tables hs.spilled.written.table
                 (zip_was s3 s3 files.tables.tables.items hs.held.known.tables
-                (old_served (edit_so g c) s1 list c.args.made.table hs s2 spares logs begun.2 began
+                (old_served so s1 list c.args.made.table hs s2 spares logs begun.2 began
                 keeps s3 _ slot same)
                 (own_blocks s3 files.tables.tables.items))
                 (record {
-                  serves = new_served (edit_so g c) s1 list c.args.made.table hs s2 spares logs
+                  serves = new_served so s1 list c.args.made.table hs s2 spares logs
                       begun.2 began keeps s3 _
                       slot same;
                   blocks = as_meant_itself (s3 (table_file c.args.made.table.table)) (index_lines
                       c.args.made.table.table);
                 }))) empty;
-            any_moment = moments_so g c list honest hs;
+            any_moment = (edit_is_recorded so (g.D.Disk.state c.args.disk.now) list
+                c.args.made.table hs (g.D.Disk.state c.begin.new.disk)
+                (c.begin.ensures.kept.files honest) c.begin.new.self c.in_ok-begin.ensures.told.2
+                (c.in_ok-begin.ensures.begun (suc (trimmed_count c.args.self.now))
+                (drop (trimmed_count c.args.self.now) list) honest
+                (new_ends so (g.D.Disk.state c.args.disk.now) list c.args.made.table hs)
+                (spilled_named so (g.D.Disk.state c.args.disk.now) list c.args.made.table hs).held)
+                c.flushes_keep.ensures.list c.durable_file_is_left.ensures
+                c.held_versions_are_left.ensures.left
+                c.held_versions_are_left.ensures.same c.edits_keep_versions.ensures
+                (g.D.Disk.past c.args.disk.now) (g.D.Disk.past c.begin.new.disk)
+                (g.D.Disk.past c.record.new.disk) (g.D.Disk.state c.record.new.disk)
+                (c.begin.ensures.any_moment honest) (c.record.ensures.any_moment
+                (known_version c.args.self.now) (c.begin.ensures.kept.honest.1 honest)
+                (manifest_begun so (g.D.Disk.state c.args.disk.now) list c.args.made.table hs
+                (g.D.Disk.state c.begin.new.disk)
+                (c.begin.ensures.kept.files honest) c.begin.new.self c.in_ok-begin.ensures.told.2
+                (c.in_ok-begin.ensures.begun (suc (trimmed_count c.args.self.now))
+                (drop (trimmed_count c.args.self.now) list) honest
+                (new_ends so (g.D.Disk.state c.args.disk.now) list c.args.made.table hs)
+                (spilled_named so (g.D.Disk.state c.args.disk.now) list c.args.made.table hs).held)
+                c.flushes_keep.ensures.list c.held_versions_are_left.ensures.same)));
           };
       meant = λ list honest ms.
           let spares = c.begin.ensures.kept.files honest in
           let honest2 = c.begin.ensures.kept.honest.1 honest in
-          let began = began_meant g c list honest ms in
-          let held = manifest_meant g c list honest ms in
+          let began = (c.in_ok-begin.ensures.begun (suc (trimmed_count c.args.self.now))
+          (drop (trimmed_count c.args.self.now) list) honest
+          (meant_ends so (g.D.Disk.state c.args.disk.now) list c.args.made.table ms)
+          (meant_logs so (g.D.Disk.state c.args.disk.now) list c.args.made.table ms)) in
+          let held = (manifest_was_begun so (g.D.Disk.state c.args.disk.now) list c.args.made.table
+          ms (g.D.Disk.state c.begin.new.disk)
+          (c.begin.ensures.kept.files honest) c.begin.new.self c.in_ok-begin.ensures.told.2
+          (c.in_ok-begin.ensures.begun (suc (trimmed_count c.args.self.now))
+          (drop (trimmed_count c.args.self.now) list) honest
+          (meant_ends so (g.D.Disk.state c.args.disk.now) list c.args.made.table ms)
+          (meant_logs so (g.D.Disk.state c.args.disk.now) list c.args.made.table ms))
+          c.flushes_keep.ensures.list c.held_versions_are_left.ensures.same) in
           let slot = (c.manifest_has_slots.ensures s2 files.manifest (known_version files) held).0
           in
           let same = c.record.ensures.kept.files honest2 in
-          let served = all_served (edit_so g c) s1 list c.args.made.table ms s2 spares logs begun.2
+          let served = all_served so s1 list c.args.made.table ms s2 spares logs begun.2
           began keeps s3 _ slot
           same in
-          let mended = m3 (edit_so g c) s1 list c.args.made.table ms s2 spares logs begun.2 began
+          let mended = m3 so s1 list c.args.made.table ms s2 spares logs begun.2 began
           keeps s3 _ slot same in
           record {
-            list = installed_as_meant (edit_so g c) s1 list c.args.made.table ms s2 spares logs
+            list = installed_as_meant so s1 list c.args.made.table ms s2 spares logs
                 begun.2 began keeps s3 _
                 slot same edits stays new refl c.in_default.ensures.told.0 begun.1 usable
                 (c.in_default.ensures.recorded (known_version files) honest2 held)
                 (c.in_ok-add.ensures.added s3 mended ms.meant.hold.known.tables
                 ms.spilled.written.table served.0 served.1) empty;
-            any_moment = moments_meant g c list honest ms;
+            any_moment = (edit_was_recorded so (g.D.Disk.state c.args.disk.now) list
+                c.args.made.table ms (g.D.Disk.state c.begin.new.disk)
+                (c.begin.ensures.kept.files honest) c.begin.new.self c.in_ok-begin.ensures.told.2
+                (c.in_ok-begin.ensures.begun (suc (trimmed_count c.args.self.now))
+                (drop (trimmed_count c.args.self.now) list) honest
+                (meant_ends so (g.D.Disk.state c.args.disk.now) list c.args.made.table ms)
+                (meant_logs so (g.D.Disk.state c.args.disk.now) list c.args.made.table ms))
+                c.flushes_keep.ensures.list c.durable_file_is_left.ensures
+                c.held_versions_are_left.ensures.left
+                c.held_versions_are_left.ensures.same c.edits_keep_versions.ensures
+                (g.D.Disk.past c.args.disk.now) (g.D.Disk.past c.begin.new.disk)
+                (g.D.Disk.past c.record.new.disk) (g.D.Disk.state c.record.new.disk)
+                (c.begin.ensures.any_moment honest) (c.record.ensures.any_moment
+                (known_version c.args.self.now) (c.begin.ensures.kept.honest.1 honest)
+                (manifest_was_begun so (g.D.Disk.state c.args.disk.now) list c.args.made.table ms
+                (g.D.Disk.state c.begin.new.disk)
+                (c.begin.ensures.kept.files honest) c.begin.new.self c.in_ok-begin.ensures.told.2
+                (c.in_ok-begin.ensures.begun (suc (trimmed_count c.args.self.now))
+                (drop (trimmed_count c.args.self.now) list) honest
+                (meant_ends so (g.D.Disk.state c.args.disk.now) list c.args.made.table ms)
+                (meant_logs so (g.D.Disk.state c.args.disk.now) list c.args.made.table ms))
+                c.flushes_keep.ensures.list c.held_versions_are_left.ensures.same)));
           };
     }
