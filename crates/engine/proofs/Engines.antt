@@ -72,16 +72,29 @@ module _ {T : Type 0} where
   no_refusal (Ok x) causes told = told
   no_refusal (Err e) causes told = told causes
 
-  -- a fact of each answer, and one of this answer
-  pub on_first : (result : Result T EngineError) (P : Type 0) (Q : T → Type 0) →
-      MatchResult result (λ x. P × Q x) IsEngineExternal → OnOk result P
-  on_first (Ok x) P Q both = both.0
-  on_first (Err e) P Q told = tt
+  -- what holds of an answer and what holds of a refusal
+  pub of_answer : (result : Result T EngineError) (P : T → Type 0) (Q : EngineError → Type 0) →
+      MatchResult result P Q → IfOk result P
+  of_answer (Ok x) P Q both = both
+  of_answer (Err e) P Q both = tt
 
-  pub on_second : (result : Result T EngineError) (P : Type 0) (Q : T → Type 0) →
-      MatchResult result (λ x. P × Q x) IsEngineExternal → MatchResult result Q IsEngineExternal
-  on_second (Ok x) P Q both = both.1
-  on_second (Err e) P Q told = told
+  pub on_answer : (result : Result T EngineError) (P : Type 0) (Q : EngineError → Type 0) →
+      MatchResult result (λ _. P) Q → OnOk result P
+  on_answer (Ok x) P Q both = both
+  on_answer (Err e) P Q both = tt
+
+  pub of_refusal : (result : Result T EngineError) (P : T → Type 0) (Q : EngineError → Type 0) →
+      MatchResult result P Q → IfErr result Q
+  of_refusal (Ok x) P Q both = tt
+  of_refusal (Err e) P Q both = both
+
+-- look-ups with equal facts and counts are equal
+pub told_alike : {facts is : Facts} {count number committed : ℕ} {limits : Limits} → facts ≡ is →
+    count ≡ number →
+    ◌≡◌ {A = LookUps}
+    (record { facts = facts; count = count; committed = committed; limits = limits })
+    (record { facts = is; count = number; committed = committed; limits = limits })
+told_alike facts count = rw (facts, count) refl
 
 -- an engine with these facts and so many batches, of which none is known to be committed
 pub told_of : {facts is : Facts} {count number : ℕ} {limits : Limits} → facts ≡ is →

@@ -28,7 +28,7 @@ use Rattle.store_files.specs.OpenFiles.{known_facts, known_store, known_version,
 use Rattle.store_files.specs.StoreFiles.{FilesRepresent, store_of_version}
 use Rattle.store_files.specs.Stores.{IsNumberedTo}
 use Rattle.store_files.specs.declared.error.EngineError.{EngineError}
-use Rattle.store_files.specs.Errors.{IsEngineExternal}
+use Rattle.store_files.specs.Errors.{IsEnd, IsEngineExternal}
 use Rattle.store_files.proofs.Entries.{Adds, next_numbered}
 use Rattle.store_files.proofs.FilesApart.{newest_given, newest_no_slot, newest_no_table}
 use Rattle.store_files.proofs.FilesApart.{newest_positive}
@@ -265,10 +265,10 @@ pub counts_told : (files : StoreFiles) → AreUsableFiles files → (logs : Batc
     → (HasFailedAdd memtable → ⊥) → Adds files.memtable memtable number batch
     → {T : Type 0} (result : Result T EngineError)
     → MatchResult result (λ _. AreUsable logs × (next_number logs ≡ next_number files.logs + 1))
-    (λ _. next_number logs ≡ next_number files.logs)
+    (λ e. (next_number logs ≡ next_number files.logs) × IsEnd e)
     → MatchResult result (λ _. AreUsableFiles (after_append files logs memtable)
     × (batch_count (after_append files logs memtable) ≡ batch_count files + 1))
-    (λ _. batch_count (after_append files logs memtable) ≡ batch_count files)
+    (λ e. (batch_count (after_append files logs memtable) ≡ batch_count files) × IsEnd e)
 counts_told files u logs memtable batch number is lines room works adds (Ok x) told =
     let some = newest_positive files u in
     let next = told.1 in
@@ -279,7 +279,7 @@ counts_told files u logs memtable batch number is lines room works adds (Ok x) t
       count,
     )
 counts_told files u logs memtable batch number is lines room works adds (Err e) told =
-    ap (λ (n : ℕ). n - 1) told
+    (ap (λ (n : ℕ). n - 1) told.0, told.1)
 
 pub appended_told : (disk : State) (files : StoreFiles) (list : List BatchContent)
     (h : FilesHold disk files list) (batch : BatchContent) (is : IsBatch batch) (new : State)
@@ -287,17 +287,17 @@ pub appended_told : (disk : State) (files : StoreFiles) (list : List BatchConten
     → IsSameBut (newest_file files.logs) disk new → AppendsKeep → HeldVersionStays
     → ((entry : Entry) → TableHolds memtable entry
     ↔ memory_entries (list ++ batch ∷ []) (known_store files h.known.tables) entry)
-    → {T : Type 0} (result : Result T EngineError)
+    → {T : Type 0} (Q : EngineError → Type 0) (result : Result T EngineError)
     → MatchResult result (λ _. AreUsableFiles (after_append files logs memtable)
-    × (batch_count (after_append files logs memtable) ≡ batch_count files + 1))
-    (λ _. batch_count (after_append files logs memtable) ≡ batch_count files)
+    × (batch_count (after_append files logs memtable) ≡ batch_count files + 1)) Q
     → MatchResult result (λ _. LogsHold new logs (suc (trimmed_count files))
     (drop (trimmed_count files) list ++ batch ∷ [])) IsEngineExternal
     → MatchResult result (λ _. FilesHold new (after_append files logs memtable)
     (list ++ batch ∷ [])) IsEngineExternal
-appended_told disk files list h batch is new logs memtable lines others keeps stays entries (Ok x)
+appended_told disk files list h batch is new logs memtable lines others keeps stays entries Q (Ok x)
     counts held =
     held_after disk files list h batch is new logs memtable lines others keeps stays counts.0
     counts.1 entries held
-appended_told disk files list h batch is new logs memtable lines others keeps stays entries (Err e)
+appended_told disk files list h batch is new logs memtable lines others keeps stays entries Q (Err
+    e)
     counts machine = machine

@@ -31,7 +31,7 @@ use Rattle.store_files.specs.OpenFiles.{known_store, known_version, trimmed_coun
 use Rattle.store_files.specs.Settling.{AreAlone}
 use Rattle.store_files.specs.StoreFiles.{store_of_version}
 use Rattle.store_files.proofs.Entries.{none_among, none_numbered}
-use Rattle.store_files.proofs.Parts.{IsAlone, alone_holds, alone_next, alone_usable}
+use Rattle.store_files.proofs.BegunLogs.{IsAlone, alone_holds, alone_next, alone_usable}
 
 -- a log of file 3 from the first batch on is a new store's only one
 pub first_line : (file first : ℕ) → file ≡ 3 → first ≡ 1 →

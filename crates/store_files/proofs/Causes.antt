@@ -2,13 +2,14 @@
 use Rattle.std.proofs.Common.{◌≡◌, ◌⊎◌, ℕ, ◌≤◌, List, length, Result, Ok, Err, inl, inr, ap, arith}
 use Rattle.std.proofs.Common.{subst, sym}
 use Rattle.std.specs.Prelude.{IfErr, IfOk, IsErrAnd, MatchResult, OnOk, IsErrOf}
+use Rattle.disk.specs.declared.DiskError.TheVariants as disk
 use Rattle.record_log.specs.declared.LogError.{LogError}
 use Rattle.record_log.specs.declared.LogError.TheVariants as log
 use Rattle.record_log.specs.declared.Log.{Log}
 use Rattle.record_log.specs as log_stands
 use Rattle.store_files.specs.declared.error.EngineError.{EngineError}
 use Rattle.store_files.specs.declared.error.EngineError.TheVariants as engine
-use Rattle.store_files.specs.Errors.{error_of_log, IsEngineExternal}
+use Rattle.store_files.specs.Errors.{IsEnd, IsEngineExternal, error_of_log}
 
 -- an external error of a log is one of the engine
 pub log_is_external : (e : LogError) → log_stands.IsExternal e → IsEngineExternal (error_of_log e)
@@ -27,6 +28,30 @@ pub undamaged : {T : Type 0} (result : Result T EngineError) →
 undamaged (Ok x) only whole = tt
 undamaged (Err e) (inl damaged) whole = absurd (whole (ap (λ d. Err d) damaged))
 undamaged (Err e) (inr memory) whole = inr memory
+
+-- damage and a lack of memory end the files
+pub bytes_end : {e : EngineError} → (e ≡ engine.Damaged) ⊎ (e ≡ engine.Memory) → IsEnd e
+bytes_end (inl damaged) = subst IsEnd (sym damaged) tt
+bytes_end (inr memory) = subst IsEnd (sym memory) tt
+
+-- each refusal of a log ends the files
+pub log_ends : (e : LogError) → IsEnd (error_of_log e)
+log_ends (log.Disk disk.Failed) = tt
+log_ends (log.Disk disk.NoFile) = tt
+log_ends (log.Disk disk.Short) = tt
+log_ends (log.Disk disk.Memory) = tt
+log_ends log.Memory = tt
+log_ends log.TooLong = tt
+log_ends log.Failed = tt
+
+-- and a log that refused has as many records as before
+pub none_counted : (limit : ℕ) (e : LogError) (old new : Log) (one : List ℕ) →
+    log_stands.AppendOutcome {T = Unit {0}} limit (Err e) old new one →
+    log_stands.count_of new ≡ log_stands.count_of old
+none_counted limit (log.Disk e) old new one tells = tells.3
+none_counted limit log.Memory old new one tells = tells.3
+none_counted limit log.TooLong old new one tells = ap log_stands.count_of tells.2
+none_counted limit log.Failed old new one tells = ap log_stands.count_of tells.1
 
 -- a log that works, with a record that fits, reports external errors alone
 pub met : (limit : ℕ) (e : LogError) (old new : Log) (one : List ℕ) →

@@ -10,8 +10,7 @@ use Rattle.std.proofs.lemmas.List.Elements.{Contains-append_cases, Contains-appe
 use Rattle.std.proofs.lemmas.List.Elements.{Contains-append_right, Contains-push}
 use Rattle.kv_types.specs.{BatchContent}
 use Rattle.disk.specs.{Contents, DurableFileIsLeft, IsDurable, IsFileOutcome, Slot, State, contents}
-use Rattle.disk.specs.{IsCrashOutcome, LeavesSince, OnlyLeaves, seen}
-use Rattle.disk.specs.MomentsLemmas.{weaker}
+use Rattle.disk.specs.{seen}
 use Rattle.store_model.specs.{LevelTable}
 use Rattle.store_model.specs.PlacesLemmas.{contains_cases, contains_head, contains_next}
 use Rattle.manifest.specs.declared.LogLine.{LogLine}
@@ -394,22 +393,3 @@ hold_in old new files list held_stays same h =
       unused = λ file above. subst (λ (s : Slot). IsNone (seen s)) (sym (same file))
           (h.unused file above);
     }
-
--- ---- the moments of an opening
-
--- calls that leave nothing new keep what every outcome has
-pub still_keeps : (P : Contents → Type 0) (old : State) (past : List State) (new : State)
-    (since : List State) → OnlyLeaves P old →
-    LeavesSince old past new since (IsCrashOutcome old) → LeavesSince old past new since P
-still_keeps P old past new since only run =
-    weaker (IsCrashOutcome old) P old past new since (λ left at. only left at) run
-
--- the files of another state, where those of the list stay and are alone
-pub settled_as : HeldVersionStays → (list : List BatchContent) (files : StoreFiles) (kept : List ℕ)
-    (mid new : State) → FilesAreRead mid files list →
-    kept ≡ kept_files (known_version files).version → SparesFiles kept mid new →
-    AreAlone kept new → FilesHold new files list
-settled_as held_stays list files kept mid new read is keeps alone =
-    settled_hold mid files list read held_stays new
-    (subst (λ (l : List ℕ). SparesFiles l mid new) is keeps)
-    (subst (λ (l : List ℕ). AreAlone l new) is alone)

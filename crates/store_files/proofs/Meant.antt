@@ -225,15 +225,14 @@ module _ (disk : State) (files : StoreFiles) (list : List BatchContent)
         → HeldVersionStays
         → ((entry : Entry) → TableHolds memtable entry
         ↔ memory_entries (list ++ batch ∷ []) (known_store files w.hold.known.tables) entry)
-        → {T : Type 0} (result : Result T EngineError)
+        → {T : Type 0} (Q : EngineError → Type 0) (result : Result T EngineError)
         → MatchResult result (λ _. AreUsableFiles (after_append files logs memtable)
-        × (batch_count (after_append files logs memtable) ≡ batch_count files + 1))
-        (λ _. batch_count (after_append files logs memtable) ≡ batch_count files)
+        × (batch_count (after_append files logs memtable) ≡ batch_count files + 1)) Q
         → MatchResult result (λ _. LogsHold new logs (suc (trimmed_count files))
         (drop (trimmed_count files) list ++ batch ∷ [])) IsEngineExternal
         → MatchResult result (λ _. WereMeantToHold new (after_append files logs memtable)
         (list ++ batch ∷ [])) IsEngineExternal
-    appended_as_meant batch is logs memtable lines keeps stays entries (Ok x) counts held =
+    appended_as_meant batch is logs memtable lines keeps stays entries Q (Ok x) counts held =
         let mine : LogsHold later logs (suc (trimmed_count files))
         (drop (trimmed_count files) list ++ batch ∷ []) =
         named_logs_in new later logs (suc (trimmed_count files))
@@ -242,5 +241,5 @@ module _ (disk : State) (files : StoreFiles) (list : List BatchContent)
         (subst (λ (l : List LogLine). Contains l line) lines has)))) held in
         now_meant (list ++ batch ∷ []) logs memtable
         (appended_told w.meant files list w.hold batch is later logs memtable lines
-        (with_others file new w.meant) keeps stays entries (Ok x) counts mine)
-    appended_as_meant batch is logs memtable lines keeps stays entries (Err e) counts held = held
+        (with_others file new w.meant) keeps stays entries Q (Ok x) counts mine)
+    appended_as_meant batch is logs memtable lines keeps stays entries Q (Err e) counts held = held

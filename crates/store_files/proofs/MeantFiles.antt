@@ -21,7 +21,7 @@ use Rattle.store_files.specs.LevelTables.{IsTableAsMeant}
 use Rattle.store_files.specs.OpenFiles.{IsAsMeant}
 use Rattle.store_files.specs.Openings.{kept_files}
 use Rattle.store_files.specs.StoreFiles.{WereMeant, durably}
-use Rattle.store_files.proofs.Installed.{NamedHold, facts_of, named_left}
+use Rattle.store_files.proofs.NamedHolds.{NamedHold, facts_of, named_left}
 use Rattle.store_files.proofs.KeptFiles.{kept_is_given, log_is_kept, slot_is_kept, table_is_kept}
 use Rattle.store_files.proofs.MeantOpenings.{mended, mended_at, mended_beside, mended_named}
 use Rattle.store_files.proofs.MeantOpenings.{named_or_beside, seen_durable, slot_beside}

@@ -1,8 +1,7 @@
 -- A flush that is installed on a disk with damaged blocks of tables.
-use Rattle.std.proofs.Common.{◌≡◌, ◌≢◌, ◌⊎◌, ◌≤◌, ◌<◌, ◌+◌, ◌∙◌, ℕ, List, [], ◌∷◌, ◌++◌, ap, arith}
+use Rattle.std.proofs.Common.{◌≡◌, ◌≢◌, ◌⊎◌, ◌≤◌, ◌<◌, ◌+◌, ◌∙◌, ℕ, List, [], ◌∷◌, ap, arith}
 use Rattle.std.proofs.Common.{drop, inl, inr, refl, subst, suc, sym}
 use Rattle.std.specs.Prelude.{All, Contains, ◌==◌}
-use Rattle.std.specs.List.{AllZip}
 use Rattle.std.proofs.lemmas.List.Elements.{All-contains, All-contains_itself, All-cons, All-head}
 use Rattle.std.proofs.lemmas.List.Elements.{All-nil, All-push, All-tail, All-weaker}
 use Rattle.kv_types.specs.{BatchContent, Entry}
@@ -12,7 +11,7 @@ use Rattle.disk.specs.{Slot, State, contents, seen}
 use Rattle.disk.specs.MomentsLemmas.{join, none_yet, weaker}
 use Rattle.memtable.specs.{TableHolds}
 use Rattle.record_log.specs.{EndsInRange}
-use Rattle.sorted_table.specs.{AreAsMeant, as_meant_itself, index_lines, table_file}
+use Rattle.sorted_table.specs.{AreAsMeant, as_meant_itself, index_lines}
 use Rattle.store_model.specs.Claims.{FlushesKeep}
 use Rattle.store_model.specs.{LevelTable}
 use Rattle.manifest.specs.declared.LogLine.{LogLine}
@@ -21,30 +20,33 @@ use Rattle.manifest.specs.{Change, EditsKeepVersions, HeldVersionIsLeft, HeldVer
 use Rattle.manifest.specs.{IsSlotFile, ManifestHolds, ManifestRepresents, NodeVersion}
 use Rattle.manifest.specs.{SlotsAreLeft, StoreVersion, changed, node_version_after}
 use Rattle.store_files.specs.declared.batch_logs.BatchLogs.{BatchLogs}
-use Rattle.store_files.specs.declared.levels.LevelTables.{LevelTables}
 use Rattle.store_files.specs.declared.levels.OpenTable.{OpenTable}
 use Rattle.store_files.specs.declared.store_files.StoreFiles.{StoreFiles}
 use Rattle.store_files.specs.BatchLogs.{LogsHold, lines_of, next_number, with_line}
-use Rattle.store_files.specs.LevelTables.{AreServed, HasMeantBlocks, IsServed, IsTableAsMeant}
+use Rattle.store_files.specs.LevelTables.{IsTableAsMeant}
 use Rattle.store_files.specs.LevelTables.{WasServed, WereServed, with_flushed, with_flushed_line}
-use Rattle.store_files.specs.OpenFiles.{AreUsableFiles, FilesHold, IsAsMeant, IsWrittenTable}
+use Rattle.store_files.specs.OpenFiles.{AreUsableFiles, IsAsMeant, IsWrittenTable}
 use Rattle.store_files.specs.OpenFiles.{WereMeantToHold, batch_count, known_facts, known_version}
 use Rattle.store_files.specs.OpenFiles.{trimmed_count}
 use Rattle.store_files.specs.StoreFiles.{WereMeant, flush_change}
-use Rattle.store_files.specs.Tending.{HasSpilled, HeldAndSpilled, IsNextTable, LacksPlace}
+use Rattle.store_files.specs.Tending.{HeldAndSpilled, IsNextTable, LacksPlace}
 use Rattle.store_files.specs.Tending.{MeantAndSpilled}
 use Rattle.store_files.proofs.FlushedTables.{all_flushed}
-use Rattle.store_files.proofs.Installed.{NamedHold, after_is, free_above, installed_holds, known}
-use Rattle.store_files.proofs.Installed.{log_no_slot, manifest_begun, named_new, named_old}
+use Rattle.store_files.proofs.Installed.{installed_holds}
+use Rattle.store_files.proofs.FlushVersions.{IsFlushOf, after_is, free_above, known}
+use Rattle.store_files.proofs.NamedHolds.{NamedHold}
+use Rattle.store_files.proofs.Installed.{manifest_begun, named_new, named_old}
+use Rattle.store_files.proofs.NamedHolds.{log_no_slot}
 use Rattle.store_files.proofs.Installed.{new_ends}
 use Rattle.store_files.proofs.Installed.{new_served}
-use Rattle.store_files.proofs.Installed.{old_served, spilled_manifest, spilled_named, table_no_slot}
-use Rattle.store_files.proofs.Installed.{tables_are}
+use Rattle.store_files.proofs.Installed.{old_served, spilled_manifest, spilled_named}
+use Rattle.store_files.proofs.NamedHolds.{table_no_slot}
+use Rattle.store_files.proofs.FlushVersions.{tables_are}
 use Rattle.store_files.proofs.KeptFiles.{kept_is_given, named_logs_in, one_served_in, slot_is_kept}
 use Rattle.store_files.proofs.KeptFiles.{table_is_kept}
 use Rattle.store_files.proofs.LevelLemmas.{either}
 use Rattle.store_files.proofs.Meant.{blocks_stay, zip_was}
-use Rattle.store_files.proofs.MeantFiles.{TablesAsMeant, follow_but, manifest_is_meant}
+use Rattle.store_files.proofs.MeantFiles.{TablesAsMeant, follow_but}
 use Rattle.store_files.proofs.MeantFiles.{named_were_left, still_as_meant, tables_of_meant}
 use Rattle.store_files.proofs.MeantFiles.{unnamed_beside, unnamed_is_left}
 use Rattle.store_files.proofs.MeantOpenings.{log_beside, mended, mended_at, mended_beside}
@@ -86,13 +88,19 @@ written_in old new files line w same = record {
   entries = w.entries;
 }
 
-module _ (files : StoreFiles) (u : AreUsableFiles files) (line : TableLine)
-    (place : LacksPlace (known_version files).version files.free_file → ⊥)
-    (next : IsNextTable files line) (file : ℕ) (at : file ≡ files.free_file + 1) (edit : Change)
-    (is : edit ≡ flush_change (known_version files).version files.free_file
-    (batch_count files) line)
+module _ {files : StoreFiles} {line : TableLine} {file : ℕ} {edit : Change}
+    (so : IsFlushOf files line file edit)
     (s1 : State) (list : List BatchContent) (one : OpenTable)
     (ms : MeantAndSpilled s1 files list (record { line = line; table = one })) where
+  abbrev u : AreUsableFiles files
+  u = so.usable
+
+  abbrev next : IsNextTable files line
+  next = so.next
+
+  abbrev at : file ≡ files.free_file + 1
+  at = so.at
+
   abbrev version : StoreVersion
   version = (known_version files).version
 
@@ -101,7 +109,7 @@ module _ (files : StoreFiles) (u : AreUsableFiles files) (line : TableLine)
 
   -- no file that was given is free
   above : version.next_file ≤ free
-  above = free_above files u line place next file at edit is
+  above = free_above so
 
   abbrev after : StoreVersion
   after = changed version (flush_change version free (batch_count files) line)
@@ -167,10 +175,10 @@ module _ (files : StoreFiles) (u : AreUsableFiles files) (line : TableLine)
   pub meant_ends : EndsInRange (seen (s1 file))
   meant_ends = subst (λ (s : Slot). EndsInRange (seen s))
       (mended_beside version.tables m0 s1 file (new_beside file (omega (arith, at))))
-      (new_ends files u line place next file at edit is m1 list one meant_spilled)
+      (new_ends so m1 list one meant_spilled)
 
   spilled_is : NamedHold m1 version files.logs trimmed tables list
-  spilled_is = spilled_named files u line place next file at edit is m1 list one meant_spilled
+  spilled_is = spilled_named so m1 list one meant_spilled
 
   pub meant_logs : LogsHold s1 files.logs (suc trimmed) (drop trimmed list)
   meant_logs = named_logs_in m1 s1 files.logs (suc trimmed) (drop trimmed list)
@@ -185,7 +193,7 @@ module _ (files : StoreFiles) (u : AreUsableFiles files) (line : TableLine)
     left_begun left leaves =
         unnamed_is_left s1 m1 version u.version files.logs trimmed tables list spilled_is t1
         files.manifest (known_version files).id
-        (spilled_manifest files u line place next file at edit is m1 list one meant_spilled stays)
+        (spilled_manifest so m1 list one meant_spilled stays)
         stays law held file (let first = above in omega (arith, first, at)) left leaves
 
     -- before the first call
@@ -236,17 +244,17 @@ module _ (files : StoreFiles) (u : AreUsableFiles files) (line : TableLine)
     pub manifest_was_begun : HeldVersionStays
         → ManifestHolds s2 files.manifest (known_version files)
     manifest_was_begun stays = stays m2 s2 files.manifest (known_version files)
-        (manifest_begun files u line place next file at edit is m1 list one meant_spilled m2
+        (manifest_begun so m1 list one meant_spilled m2
         spares_meant logs lines began_meant keeps stays)
         (λ slot one. sym (mended_beside version.tables m1 s2 slot
         (slot_beside version u.version slot one)))
 
     old_is : NamedHold m2 version files.logs trimmed tables list
-    old_is = named_old files u line place next file at edit is m1 list one meant_spilled m2
+    old_is = named_old so m1 list one meant_spilled m2
         spares_meant logs lines began_meant keeps
 
     new_is : NamedHold m2 after logs trimmed (with_flushed tables table) list
-    new_is = named_new files u line place next file at edit is m1 list one meant_spilled m2
+    new_is = named_new so m1 list one meant_spilled m2
         spares_meant logs lines began_meant keeps
 
     -- the tables of the new version are as they were meant too
@@ -254,7 +262,7 @@ module _ (files : StoreFiles) (u : AreUsableFiles files) (line : TableLine)
         → new line.file ≡ later line.file → IsDurable (new line.file)
         → TablesAsMeant new later after.tables
     with_new new later t same sure =
-        let back = sym (tables_are files u line place next file at edit is) in
+        let back = sym (tables_are so) in
         record {
           others = λ other beside. t.others other
               (all_before (λ (old : TableLine). old.file ≢ other) version.tables line
@@ -287,7 +295,7 @@ module _ (files : StoreFiles) (u : AreUsableFiles files) (line : TableLine)
         ⊎ ManifestRepresents (node_version_after (known_version files) edit) left))
         → LeavesSince s1 past s3 since Meant
     edit_was_recorded law held stays versions past so_far since s3 begins run =
-        let after_lawful = after_is files u line place next file at edit is versions in
+        let after_lawful = after_is so versions in
         join Meant s1 s2 s3 past so_far since
         (log_was_begun law held stays past so_far s2 begins)
         (weaker (SlotsAreLeft s2 (λ left. ManifestRepresents (known_version files) left
@@ -301,7 +309,7 @@ module _ (files : StoreFiles) (u : AreUsableFiles files) (line : TableLine)
               (with_flushed tables table) list new_is
               (with_new s2 m2 t2 line_same line_is_durable) law (known_version files).id left
               (subst (λ (e : Change). ManifestRepresents
-              (node_version_after (known_version files) e) left) is new)
+              (node_version_after (known_version files) e) left) so.is new)
               (λ log has. it.others log.file (log_no_slot after after_lawful log has))
               (λ log has. it.others log.file (table_no_slot after after_lawful log has))
         ]) run)
@@ -337,7 +345,7 @@ module _ (files : StoreFiles) (u : AreUsableFiles files) (line : TableLine)
         pub all_served : WereServed s3 m3 files.tables tables × WasServed s3 m3 one table
         all_served = (
           zip_was s3 m3 files.tables.tables.items tables
-              (old_served files u line place next file at edit is m1 list one meant_spilled m2
+              (old_served so m1 list one meant_spilled m2
               spares_meant logs lines began_meant keeps m3 slot is_slot same_meant)
               (blocks_stay s0 s3 m0 m3 version.tables files.tables.tables.items tables
               (λ old has. slot_spares old has
@@ -348,7 +356,7 @@ module _ (files : StoreFiles) (u : AreUsableFiles files) (line : TableLine)
               ∙ mended_at version.tables m1 s2 old has ∙ mended_at version.tables m0 s1 old has)
               ms.meant.hold.known.read ms.meant.hold.known.served ms.meant.disk_is.blocks),
           record {
-            serves = new_served files u line place next file at edit is m1 list one meant_spilled
+            serves = new_served so m1 list one meant_spilled
                 m2 spares_meant logs lines began_meant keeps m3 slot is_slot same_meant;
             blocks = subst (λ (f : ℕ). AreAsMeant (s3 f) (m3 f) (index_lines one.table))
                 (sym ms.spilled.written.is.file ∙ ms.spilled.served.file)
@@ -366,13 +374,13 @@ module _ (files : StoreFiles) (u : AreUsableFiles files) (line : TableLine)
             → WereServed s3 m3 new.tables (with_flushed tables table)
             → ((entry : Entry) → TableHolds new.memtable entry → ⊥) → WereMeantToHold s3 new list
         installed_as_meant versions stays new of told counts usable manifest served empty =
-            let now = known files u line place next file at edit is new told
+            let now = known so new told
             (ap lines_of of ∙ lines) in
             let all = with_new s3 m3 t3 line_now
             (subst IsDurable (sym line_last) line_is_durable) in
             record {
               meant = m3;
-              hold = installed_holds files u line place next file at edit is m1 list one
+              hold = installed_holds so m1 list one
                   meant_spilled m2 spares_meant logs lines began_meant keeps m3 slot is_slot
                   same_meant versions new of told counts usable
                   (stays s3 m3 new.manifest (node_version_after (known_version files) edit) manifest

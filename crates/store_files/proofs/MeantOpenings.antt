@@ -1,7 +1,6 @@
 -- An opening of files that were meant to represent a list, of which blocks of tables are damaged.
 use Rattle.std.proofs.Common.{◌≡◌, ◌≢◌, ◌⊎◌, ℕ, List, [], ◌∷◌, Option, Some, None, refl, sym, ◌∙◌}
-use Rattle.std.proofs.Common.{ap, subst, drop, length, suc, inl, inr, arith, ◌+◌, ◌-◌}
-use Rattle.std.proofs.lemmas.List.{length-drop}
+use Rattle.std.proofs.Common.{ap, subst, drop, suc, inl, inr, arith, ◌-◌}
 use Rattle.std.specs.Prelude.{All, Contains, IsNone, ◌==◌, if◌then◌else◌}
 use Rattle.std.specs.List.{AllZip}
 use Rattle.std.proofs.lemmas.Bool.Decides.{eqb_tells}
@@ -18,10 +17,8 @@ use Rattle.manifest.specs.declared.Manifest.{Manifest}
 use Rattle.manifest.specs.declared.TableLine.{TableLine}
 use Rattle.manifest.specs.Holds.{SparesOthers}
 use Rattle.manifest.specs.Lawful.{IsAllocated}
-use Rattle.disk.specs.Moments.{LooksAt}
 use Rattle.manifest.specs.{HeldVersionStays, IsSlotFile, IsVersion, ManifestHolds}
-use Rattle.manifest.specs.{ManifestRepresents, NodeVersion, StoreVersion, VersionIsOne}
-use Rattle.manifest.specs.{VersionsAreLawful}
+use Rattle.manifest.specs.{ManifestRepresents, NodeVersion, StoreVersion}
 use Rattle.store_files.specs.declared.levels.OpenTable.{OpenTable}
 use Rattle.store_files.specs.declared.opening.ReadParts.{ReadParts}
 use Rattle.store_files.specs.declared.store_files.StoreFiles.{StoreFiles}
@@ -34,14 +31,12 @@ use Rattle.store_files.specs.OpenFiles.{WereMeantToHold, WereMeantToRead, known_
 use Rattle.store_files.specs.OpenFiles.{known_version}
 use Rattle.store_files.specs.Openings.{PartsHold, PartsWereMeant, kept_files}
 use Rattle.store_files.specs.Settling.{AreAlone, SparesFiles}
-use Rattle.store_files.specs.StoreFiles.{AreOrderedNumbers, DamagedFilesOpen, IsStoreFile}
-use Rattle.store_files.specs.StoreFiles.{NamesStoreFile, WereMeant, WereOneOf, durably}
+use Rattle.store_files.specs.StoreFiles.{WereMeant, durably}
 use Rattle.store_files.proofs.FilesApart.{given_no_slot, log_no_table}
 use Rattle.store_files.proofs.KeptFiles.{named_logs_in, served_in, settled_hold, table_is_kept}
 use Rattle.store_files.proofs.Meant.{as_meant_stays, blocks_stay}
-use Rattle.store_files.proofs.NamedFiles.{files_are_named, logs_same, tables_same, version_same}
-use Rattle.store_files.proofs.ReadFiles.{batches_of, batches_then, files_of_parts, kept_few}
-use Rattle.store_files.proofs.ReadFiles.{ordered_of}
+use Rattle.store_files.proofs.NamedFiles.{logs_same, tables_same, version_same}
+use Rattle.store_files.proofs.ReadFiles.{batches_of, batches_then, files_of_parts}
 use Rattle.store_files.proofs.ReadFiles.{read_as, table_reads}
 
 -- ---- durable contents
@@ -142,7 +137,7 @@ module _ (facts : Facts) (list : List BatchContent) (left : Contents)
       (λ slot one. w.others slot (slot_beside asked_version is slot one)) asked_named
       w.represents.manifest
 
-  batches_were : AreBatchesOf left asked_version.logs (suc facts.kept) (drop facts.kept list)
+  pub batches_were : AreBatchesOf left asked_version.logs (suc facts.kept) (drop facts.kept list)
   batches_were =
       let b = batches_of facts list w.meant w.represents in
       record {
@@ -331,112 +326,4 @@ settled_as_meant stays list files kept mid new w is keeps alone =
       disk_is = as_meant_stays mid new w.meant later version files.tables w.read.tables
           w.read.read w.read.served table_stays table_is
           (λ file beside. sym (mended_beside version.tables w.meant new file beside)) w.disk_is;
-    }
-
--- ---- which files it looks at
-
-module _ (one : VersionIsOne) (lawful : VersionsAreLawful) (facts : Facts)
-    (list : List BatchContent) (left other : Contents)
-    (agree : (file : ℕ) → IsStoreFile left file → other file ≡ left file)
-    (w : WereMeant facts list left) where
-  abbrev its_version : StoreVersion
-  its_version = w.represents.version
-
-  abbrev its_named : NodeVersion
-  its_named = record { id = facts.id; version = its_version }
-
-  is_lawful : IsVersion its_version
-  is_lawful = lawful its_named w.meant w.represents.manifest
-
-  slots_there : ManifestRepresents its_named left
-  slots_there = slots_are_meant facts list left w is_lawful
-
-  abbrev its_meant : Contents
-  its_meant = contents (mended its_version.tables (durably w.meant) (durably other))
-
-  meant_beside : (file : ℕ) → All (λ line. line.file ≢ file) its_version.tables
-      → its_meant file ≡ other file
-  meant_beside file beside =
-      ap seen (mended_beside its_version.tables (durably w.meant) (durably other) file beside)
-      ∙ seen_durable (other file)
-
-  meant_at : (line : TableLine) → Contains its_version.tables line
-      → its_meant line.file ≡ w.meant line.file
-  meant_at line has =
-      ap seen (mended_at its_version.tables (durably w.meant) (durably other) line has)
-      ∙ seen_durable (w.meant line.file)
-
-  -- the named files are in what was meant as they were
-  meant_agrees : (file : ℕ) → IsStoreFile w.meant file → its_meant file ≡ w.meant file
-  meant_agrees file (inl slot) =
-      let beside = slot_beside its_version is_lawful file slot in
-      meant_beside file beside ∙ agree file (inl slot) ∙ w.others file beside
-  meant_agrees file (inr (n, represents, names)) =
-      let same = one n its_named w.meant represents w.represents.manifest in
-      elim (subst (λ (v : NodeVersion). NamesStoreFile v.version file) same names) [
-        | inl (line, has, at) ↦
-            let beside = log_beside its_version is_lawful line has in
-            subst (λ (f : ℕ). its_meant f ≡ w.meant f) at (meant_beside line.file beside
-            ∙ agree line.file (inr (its_named, slots_there, inl (line, has, refl)))
-            ∙ w.others line.file beside)
-        | inr (line, has, at) ↦
-            subst (λ (f : ℕ). its_meant f ≡ w.meant f) at (meant_at line has)
-      ]
-
-  -- so are files that were meant to represent a list where these are the same
-  pub still_were_meant : WereMeant facts list other
-  unfolding files_are_named
-  still_were_meant = record {
-    meant = its_meant;
-    represents = files_are_named facts list w.meant its_meant meant_agrees w.represents;
-    others = λ file beside. sym (meant_beside file beside);
-    tables = All-weaker (Contains its_version.tables)
-        (λ (line : TableLine). IsTableAsMeant (durably other line.file)
-        (durably its_meant line.file))
-        (λ line has.
-        subst (λ (o : Option (List ℕ)). IsTableAsMeant (durable o) (durably its_meant line.file))
-        (sym (agree line.file (inr (its_named, slots_there, inr (line, has, refl)))))
-        (subst (λ (o : Option (List ℕ)). IsTableAsMeant (durably left line.file) (durable o))
-        (sym (meant_at line has))
-        (All-contains (λ (it : TableLine). IsTableAsMeant (durably left it.file)
-        (durably w.meant it.file)) its_version.tables line w.tables has))) its_version.tables
-        (All-contains_itself its_version.tables);
-  }
-
--- .. of one of two stores
-pub were_one_is_named : VersionIsOne → VersionsAreLawful → (facts : Facts)
-    (list : List BatchContent) (facts' : Facts) (list' : List BatchContent)
-    → LooksAt IsStoreFile (WereOneOf facts list facts' list')
-were_one_is_named one lawful facts list facts' list' left other agree (inl w) =
-    inl (still_were_meant one lawful facts list left other agree w)
-were_one_is_named one lawful facts list facts' list' left other agree (inr w) =
-    inr (still_were_meant one lawful facts' list' left other agree w)
-
--- ---- files of which only blocks of tables are damaged
-
--- they open as the list
-pub damaged_open : VersionsAreLawful → DamagedFilesOpen
-damaged_open lawful facts list left w fits =
-    let h = w.represents in
-    let is = lawful (record { id = facts.id; version = h.version }) w.meant h.manifest in
-    let had = batches_were facts list left w is in
-    let behind = length-drop facts.kept list in
-    let less = kept_few facts list w.meant h in
-    let total : suc facts.kept - 1 + length (drop facts.kept list) ≡ length list =
-    omega (arith, behind, less) in
-    let back : suc facts.kept - 1 ≡ facts.kept = omega arith in
-    record {
-      version = h.version;
-      manifest = slots_are_meant facts list left w is;
-      epoch = h.epoch;
-      ids = h.ids;
-      floor = h.floor;
-      batches = drop facts.kept list;
-      logs = had.have;
-      each = had.each;
-      counted = omega (arith, behind, less);
-      numbers = subst (λ (k : ℕ). AreOrderedNumbers h.version k (length list)) back
-          (subst (AreOrderedNumbers h.version (suc facts.kept - 1)) total
-          (ordered_of facts list w.meant h));
-      tables = fits;
     }

@@ -17,8 +17,9 @@ use Rattle.store_files.specs.declared.store_files.StoreFiles.{StoreFiles}
 use Rattle.store_files.specs.OpenFiles.{FilesAreRead, IsAsMeant, WereMeantToHold, known_facts}
 use Rattle.store_files.specs.OpenFiles.{known_version, trimmed_count}
 use Rattle.store_files.specs.StoreFiles.{WereMeant}
-use Rattle.store_files.proofs.Installed.{NamedHold, log_no_slot, table_no_slot}
-use Rattle.store_files.proofs.KeptFiles.{still_keeps, with_manifest}
+use Rattle.store_files.proofs.NamedHolds.{NamedHold, log_no_slot, table_no_slot}
+use Rattle.store_files.proofs.KeptFiles.{with_manifest}
+use Rattle.store_files.proofs.StillFiles.{still_keeps}
 use Rattle.store_files.proofs.Meant.{as_meant_stays}
 use Rattle.store_files.proofs.MeantFiles.{TablesAsMeant, follow_but, manifest_is_meant}
 use Rattle.store_files.proofs.MeantFiles.{named_were_left, tables_of_meant, unnamed_beside}

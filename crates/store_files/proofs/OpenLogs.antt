@@ -26,7 +26,8 @@ use Rattle.store_files.specs.BatchLogs.{newest_file, next_number, oldest_first}
 use Rattle.store_files.specs.OpenFiles.{AreBatchesOf, AreOpenLogs, AreReplayed, HasReplayed}
 use Rattle.store_files.specs.Replaying.{AreInLine, AreOfDifferentFiles, AreReadLogs}
 use Rattle.store_files.specs.Stores.{IsNumberedTo}
-use Rattle.store_files.proofs.Parts.{AreInTurn, held_count, in_turn, joined_of, last_in_turn}
+use Rattle.store_files.proofs.Parts.{held_count}
+use Rattle.store_files.proofs.JoinedLogs.{AreInTurn, in_turn, joined_of, last_in_turn}
 use Rattle.store_files.proofs.ReadLogs.{beside_of, same_parts}
 
 -- ---- files that are named once

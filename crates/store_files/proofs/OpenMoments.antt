@@ -22,8 +22,9 @@ use Rattle.store_files.specs.OpenFiles.{known_version}
 use Rattle.store_files.specs.Openings.{kept_files}
 use Rattle.store_files.specs.Settling.{AreLeftOf}
 use Rattle.store_files.specs.StoreFiles.{IsOneOf, IsStoreFile, NamesStoreFile, WereOneOf}
-use Rattle.store_files.proofs.KeptFiles.{log_is_kept, slot_is_kept, still_keeps, table_is_kept}
-use Rattle.store_files.proofs.MeantOpenings.{were_one_is_named}
+use Rattle.store_files.proofs.KeptFiles.{log_is_kept, slot_is_kept, table_is_kept}
+use Rattle.store_files.proofs.StillFiles.{still_keeps}
+use Rattle.store_files.proofs.MeantNames.{were_one_is_named}
 use Rattle.store_files.proofs.NamedFiles.{files_are_named}
 
 -- ---- some files as a crash left them

@@ -1,5 +1,5 @@
 -- The files of a store as an opening has read them.
-use Rattle.std.proofs.Common.{◌≡◌, ◌≢◌, ◌⊎◌, ◌↔◌, ℕ, suc, ◌+◌, ◌-◌, ◌≤◌, List, [], All, Contains}
+use Rattle.std.proofs.Common.{◌≡◌, ◌⊎◌, ◌↔◌, ℕ, suc, ◌+◌, ◌-◌, ◌≤◌, List, [], All, Contains}
 use Rattle.std.proofs.Common.{Option, Some, ap, arith, drop, inl, inr, length, refl, subst, sym}
 use Rattle.std.proofs.Common.{◌∙◌}
 use Rattle.std.specs.Prelude.{IsSomeAnd}
@@ -18,14 +18,11 @@ use Rattle.manifest.specs.declared.TableLine.{TableLine}
 use Rattle.manifest.specs.Holds.{SparesOthers}
 use Rattle.manifest.specs.Lawful.{IsAllocated}
 use Rattle.manifest.specs.{HeldVersionStays, IsSlotFile, IsVersion, ManifestHolds, NodeVersion}
-use Rattle.manifest.specs.{IsNotCreated, ManifestHasFailed, ManifestRepresents, StoreVersion}
-use Rattle.manifest.specs.declared.ManifestError.{ManifestError}
+use Rattle.manifest.specs.{StoreVersion}
 use Rattle.manifest.specs.declared.ManifestError.TheVariants as manifest
-use Rattle.manifest.specs.Manifests.{ManifestRefusal}
 use Rattle.manifest.specs.{SlotsRead, other_slot, version_of}
-use Rattle.store_files.specs.declared.error.EngineError.{EngineError}
 use Rattle.store_files.specs.declared.error.EngineError.TheVariants as engine
-use Rattle.store_files.specs.Errors.{IsEnd, IsEngineExternal, error_of_manifest}
+use Rattle.store_files.specs.Errors.{IsEngineExternal}
 use Rattle.store_files.specs.declared.opening.ReadParts.{ReadParts}
 use Rattle.store_files.specs.declared.store_files.StoreFiles.{StoreFiles}
 use Rattle.store_files.specs.BatchLogs.{LogsHold, first_number}
@@ -33,11 +30,11 @@ use Rattle.store_files.specs.Files.{Facts}
 use Rattle.store_files.specs.LevelTables.{AreTablesOf, FileFits, FitsLine}
 use Rattle.store_files.specs.OpenFiles.{AreBatchesOf, AreUsableFiles}
 use Rattle.store_files.specs.StoreFiles.{AreOrderedNumbers}
-use Rattle.store_files.specs.OpenFiles.{FilesAreRead, FilesOpenAs, OpeningRefusal, known_facts}
+use Rattle.store_files.specs.OpenFiles.{FilesAreRead, known_facts}
 use Rattle.store_files.specs.OpenFiles.{known_version}
-use Rattle.store_files.specs.Openings.{AreParts, HasParts, PartsHold, WereParts}
+use Rattle.store_files.specs.Openings.{PartsHold}
 use Rattle.store_files.specs.Settling.{IsReadAlike, SlotSettles}
-use Rattle.store_files.specs.StoreFiles.{FilesRepresent, OpensAs, store_of_version}
+use Rattle.store_files.specs.StoreFiles.{FilesRepresent, store_of_version}
 use Rattle.store_files.proofs.FilesApart.{given_no_slot}
 use Rattle.store_files.proofs.NamedFiles.{logs_same, tables_same}
 use Rattle.store_files.proofs.Parts.{held_count}
@@ -166,7 +163,7 @@ module _ (version : StoreVersion) (is : IsVersion version) (old new : State)
       (All-contains_itself version.tables)
 
 -- damage is no external refusal
-damage_is_own : IsEngineExternal engine.Damaged → ⊥
+pub damage_is_own : IsEngineExternal engine.Damaged → ⊥
 damage_is_own (inl is) = cc
 damage_is_own (inr is) = cc
 
@@ -298,109 +295,3 @@ module _ (facts : Facts) (list : List BatchContent) (left : Contents)
           each = h.each;
         },
       )
-
--- ---- the answers of an opening
-
--- what reading the parts of a version asks for
-pub asked : (s0 s1 : State) → SparesOthers s0 s1 → (facts : Facts) (list : List BatchContent)
-    (h : FilesRepresent facts list (contents s0)) → IsVersion h.version → (n : NodeVersion)
-    → n ≡ record { id = facts.id; version = h.version }
-    → AreBatchesOf (contents s1) n.version.logs (suc facts.kept) (drop facts.kept list)
-    × AreTablesOf (contents s1) n.version.tables h.tables
-    × AreOrderedNumbers n.version (suc facts.kept - 1)
-    (suc facts.kept - 1 + length (drop facts.kept list))
-asked s0 s1 spares facts list h is n same = (
-  subst (λ (v : NodeVersion).
-      AreBatchesOf (contents s1) v.version.logs (suc facts.kept) (drop facts.kept list)) (sym same)
-      (batches_then h.version is s0 s1 spares (suc facts.kept) (drop facts.kept list)
-      (batches_of facts list (contents s0) h)),
-  subst (λ (v : NodeVersion). AreTablesOf (contents s1) v.version.tables h.tables) (sym same)
-      (tables_then h.version is s0 s1 spares h.tables h.read),
-  subst (λ (v : NodeVersion). AreOrderedNumbers v.version (suc facts.kept - 1)
-      (suc facts.kept - 1 + length (drop facts.kept list))) (sym same)
-      (ordered_of facts list (contents s0) h),
-)
-
-pub usable_of : (manifest : Manifest) (parts : ReadParts) → (ManifestHasFailed manifest → ⊥)
-    → AreParts (version_of manifest).version parts
-    → AreUsableFiles (files_of_parts manifest parts)
-usable_of manifest parts works p = record {
-  works = works;
-  version = p.lawful;
-  logs = p.logs.usable;
-  lines = p.logs.named;
-  tables = p.tables;
-  memtable = p.logs.numbered;
-  numbers = p.numbers;
-  free = refl;
-}
-
-pub opens_as : (s0 s1 s2 : State) → SparesOthers s0 s1 → (manifest : Manifest) (parts : ReadParts)
-    → IsVersion (version_of manifest).version
-    → ManifestRepresents (version_of manifest) (contents s0)
-    → WereParts s1 s2 (version_of manifest).version parts
-    → FilesOpenAs (contents s0) (files_of_parts manifest parts)
-opens_as s0 s1 s2 spares manifest parts is had w =
-    let positive = w.had.had.positive in
-    let count = w.had.count in
-    let first : first_number parts.logs ≡ suc (first_number parts.logs - 1) =
-    omega (arith, positive) in
-    record {
-      version = had;
-      batches = w.had.batches;
-      logs = subst (λ (n : ℕ). AreBatchesOf (contents s0) (version_of manifest).version.logs n
-          w.had.batches) first (batches_before (version_of manifest).version is s0 s1 spares
-          (first_number parts.logs) w.had.batches w.had.had);
-      count = omega (arith, positive, count);
-      tables = fit_before (version_of manifest).version is s0 s1 spares w.fits;
-    }
-
--- files that open as something have the parts, behind the opening of the manifest
-pub parts_then : (s0 s1 : State) → SparesOthers s0 s1 → (facts : Facts) (count : ℕ)
-    → (o : OpensAs (contents s0) facts count) → IsVersion o.version
-    → HasParts (contents s1) o.version
-parts_then s0 s1 spares facts count o is =
-    let kept = facts.kept in
-    let counted = o.counted in
-    let few = o.numbers.few in
-    let back : kept ≡ suc kept - 1 = omega arith in
-    record {
-      first = suc kept;
-      batches = o.batches;
-      had = batches_then o.version is s0 s1 spares (suc kept) o.batches (record {
-        positive = omega arith;
-        have = o.logs;
-        each = o.each;
-        few = omega (arith, counted, few);
-      });
-      fits = fit_then o.version is s0 s1 spares o.tables;
-      ordered = subst (λ (k : ℕ). AreOrderedNumbers o.version k (k + length o.batches)) back
-          (subst (AreOrderedNumbers o.version kept) counted o.numbers);
-    }
-
--- a refusal after the manifest was opened is of a store that was created, and of files that open as
--- nothing
-pub end_explained : (e : EngineError) (left : Contents) → IsEnd e → (IsNotCreated left → ⊥)
-    → ((facts : Facts) (count : ℕ) → OpensAs left facts count → IsEngineExternal e)
-    → OpeningRefusal e left
-end_explained engine.Disk left ends created opens = tt
-end_explained engine.Damaged left ends created opens =
-    (created, λ facts count it. damage_is_own (opens facts count it))
-end_explained engine.Memory left ends created opens = tt
-end_explained engine.NotCreated left ends created opens = absurd ends
-end_explained engine.Failed left ends created opens = absurd ends
-end_explained engine.TooOld left ends created opens = absurd ends
-end_explained engine.NotCommitted left ends created opens = absurd ends
-end_explained engine.Exhausted left ends created opens = absurd ends
-
--- so is one of the manifest
-pub slots_explained : (e : ManifestError) (left : Contents) → ManifestRefusal e left
-    → OpeningRefusal (error_of_manifest e) left
-slots_explained manifest.Disk left told = tt
-slots_explained manifest.Damaged left told = (
-  told.0,
-  λ facts count it. told.1 (record { id = facts.id; version = it.version }) it.manifest,
-)
-slots_explained manifest.NotCreated left told = told
-slots_explained manifest.Memory left told = tt
-slots_explained manifest.Failed left told = absurd told

@@ -34,7 +34,8 @@ use Rattle.store_files.specs.Stores.{IsNumberedTo}
 use Rattle.store_files.proofs.Entries.{none_numbered}
 use Rattle.store_files.proofs.Settles.{settles_twice}
 use Rattle.store_files.proofs.Records.{same_batches, stands_once}
-use Rattle.store_files.proofs.Parts.{all_before, all_behind, joined_push, kept_beside, part_ends}
+use Rattle.store_files.proofs.Parts.{kept_beside, part_ends}
+use Rattle.store_files.proofs.JoinedLogs.{all_before, all_behind, joined_push}
 use Rattle.store_files.proofs.Parts.{parted_in}
 use Rattle.store_files.proofs.Parts.{parted_push}
 use Rattle.store_files.proofs.Replays.{none_replayed, replayed_behind, replayed_either}

@@ -18,7 +18,8 @@ use Rattle.store_files.specs.OpenFiles.{FilesHold, IsWrittenTable, known_facts, 
 use Rattle.store_files.specs.Openings.{kept_files}
 use Rattle.store_files.specs.StoreFiles.{FilesRepresent}
 use Rattle.store_files.specs.Tending.{HasSpilled}
-use Rattle.store_files.proofs.KeptFiles.{kept_is_given, read_is_left, stay_held, still_keeps}
+use Rattle.store_files.proofs.KeptFiles.{kept_is_given, read_is_left, stay_held}
+use Rattle.store_files.proofs.StillFiles.{still_keeps}
 use Rattle.store_files.proofs.NamedFiles.{table_same}
 
 -- a file without bytes of which nothing was synced

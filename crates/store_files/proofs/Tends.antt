@@ -1,8 +1,8 @@
--- The files of a store while its manifest is rewritten, and what a tend tells.
+-- The files of a store while its manifest is rewritten.
 use Rattle.std.proofs.Common.{◌≤◌, ℕ, List, Contains, ap, arith, inl, inr, refl, subst, sym}
 use Rattle.std.proofs.lemmas.List.Elements.{All-contains}
-use Rattle.std.proofs.Common.{Result, Ok, Err}
-use Rattle.std.specs.Prelude.{IfOk, IsNone, MatchResult}
+use Rattle.std.proofs.Common.{◌≡◌, ◌↔◌, Err}
+use Rattle.std.specs.Prelude.{IsNone}
 use Rattle.kv_types.specs.{BatchContent}
 use Rattle.disk.specs.{DurableFileIsLeft, IsSameBut, LeavesSince, Slot, State, seen}
 use Rattle.disk.specs.MomentsLemmas.{none_yet, weaker}
@@ -12,20 +12,22 @@ use Rattle.manifest.specs.declared.ManifestError.{ManifestError}
 use Rattle.manifest.specs.declared.TableLine.{TableLine}
 use Rattle.manifest.specs.Lawful.{IsAllocated}
 use Rattle.manifest.specs.{HeldVersionIsLeft, IsManifestExternal, IsSlotFile, ManifestHolds}
-use Rattle.manifest.specs.{ManifestRepresents, SlotsAreLeft, StoreVersion}
+use Rattle.manifest.specs.declared.ManifestError.TheVariants as manifest
+use Rattle.manifest.specs.{IsVersion, ManifestFailsDevice, ManifestHasFailed}
+use Rattle.manifest.specs.{ManifestRepresents, NodeVersion, SlotsAreLeft, StoreVersion, version_of}
 use Rattle.store_files.specs.declared.store_files.StoreFiles.{StoreFiles}
 use Rattle.store_files.specs.declared.error.EngineError.{EngineError}
-use Rattle.store_files.specs.declared.tended.Tended.{Tended}
-use Rattle.store_files.specs.Errors.{IsEnd, IsEngineExternal, error_of_edit}
-use Rattle.store_files.specs.OpenFiles.{FilesHold, HasEntry, known_facts, known_version}
-use Rattle.store_files.specs.StoreFiles.{FilesRepresent}
-use Rattle.store_files.specs.Tending.{FlushIsDue, IsTend, RewriteIsDue, IsFlushAnswer}
-use Rattle.store_files.specs.Tending.{IsRewriteAnswer}
-use Rattle.store_files.specs.Tending.{IsWorkAnswer, IsTend as tend, IsWorkAnswer as work}
+use Rattle.store_files.specs.BatchLogs.{lines_of}
+use Rattle.store_files.specs.Errors.{FailsDevice, IsEnd, IsEngineExternal, error_of_edit}
+use Rattle.store_files.specs.LevelTables.{table_lines}
+use Rattle.store_files.specs.OpenFiles.{AreUsableFiles, FilesHold, batch_count, known_facts}
+use Rattle.store_files.specs.OpenFiles.{known_version, trimmed_count}
+use Rattle.store_files.specs.StoreFiles.{AreOrderedNumbers, FilesRepresent}
 use Rattle.store_files.proofs.Appended.{left_now}
 use Rattle.store_files.proofs.FilesApart.{given_no_slot}
 use Rattle.store_files.proofs.KeptFiles.{held_with, kept_is_given, lines_are_left, slot_is_kept}
 use Rattle.store_files.proofs.KeptFiles.{with_manifest}
+use Rattle.store_files.proofs.NamedHolds.{facts_of}
 
 -- ---- refusals
 
@@ -35,37 +37,45 @@ pub edit_is_external : (e : ManifestError) → IsManifestExternal e →
 edit_is_external e (inl failed) = inl (ap error_of_edit failed)
 edit_is_external e (inr memory) = inr (ap error_of_edit memory)
 
--- ---- what a tend tells
+-- it ends the files, and the device failed where it failed under the manifest
+pub edit_ends : (e : ManifestError) → IsEnd (error_of_edit e)
+edit_ends manifest.Disk = tt
+edit_ends manifest.Damaged = tt
+edit_ends manifest.NotCreated = tt
+edit_ends manifest.Memory = tt
+edit_ends manifest.Failed = tt
 
-module _ (limit : ℕ) (old new : StoreFiles) (held : Type 0) where
-  -- a rewrite that was due
-  pub tells_rewrite : (result : Result Tended EngineError) → RewriteIsDue old →
-      MatchResult result (λ _. held) IsEngineExternal →
-      MatchResult result (IsRewriteAnswer old new) IsEnd →
-      MatchResult result (λ answer. held × IsWorkAnswer limit old new answer) IsEngineExternal
-  tells_rewrite (Ok answer) due holds tells = (holds, work.Rewrites due tells)
-  tells_rewrite (Err e) due machine ends = machine
+pub edit_failed : {T U : Type 0} (e : ManifestError) (s : EngineError) → s ≡ error_of_edit e →
+    ManifestFailsDevice {T = T} (Err e) ↔ FailsDevice {T = U} (Err s)
+edit_failed manifest.Disk s is = (λ f. ap (λ d. Err d) is, λ f. refl)
+edit_failed manifest.Damaged s is = (λ f. absurd cc, λ f. absurd cc)
+edit_failed manifest.NotCreated s is = (λ f. absurd cc, λ f. absurd cc)
+edit_failed manifest.Memory s is = (λ f. absurd cc, λ f. absurd cc)
+edit_failed manifest.Failed s is = (λ f. absurd cc, λ f. absurd cc)
 
-  -- a flush that was due
-  pub tells_flush : (result : Result Tended EngineError) → (RewriteIsDue old → ⊥) →
-      FlushIsDue limit old →
-      MatchResult result (λ answer. held × IsFlushAnswer old new answer) IsEngineExternal →
-      MatchResult result (λ answer. held × IsWorkAnswer limit old new answer) IsEngineExternal
-  tells_flush (Ok answer) short due tells = (tells.0, work.Flushes short due tells.1)
-  tells_flush (Err e) short due machine = machine
+-- ---- another manifest of the same version
 
-module _ (old new : StoreFiles) where
-  -- whatever its disk did, a rewrite is a tend
-  pub rewrite_is_tend : (result : Result Tended EngineError) →
-      MatchResult result (IsRewriteAnswer old new) IsEnd → IfOk result (IsTend old new)
-  rewrite_is_tend (Ok answer) tells = tend.WasRewrite tells
-  rewrite_is_tend (Err e) ends = tt
+module _ (files : StoreFiles) (other : Manifest) (same : version_of other ≡ known_version files)
+  where
+    -- the files know the same facts
+    pub facts_with : known_facts (with_manifest files other) ≡ known_facts files
+    facts_with = ap (λ (n : NodeVersion). facts_of n.id n.version (trimmed_count files)) same
 
-  -- and so is a flush
-  pub flush_is_tend : (result : Result Tended EngineError) → HasEntry old.memtable →
-      MatchResult result (IsFlushAnswer old new) IsEnd → IfOk result (IsTend old new)
-  flush_is_tend (Ok answer) some tells = tend.WasFlush some tells
-  flush_is_tend (Err e) some ends = tt
+    -- and they stay usable, where it works
+    pub usable_with : (ManifestHasFailed other → ⊥) → AreUsableFiles files →
+        AreUsableFiles (with_manifest files other)
+    usable_with works u = record {
+      works = works;
+      version = subst (λ (n : NodeVersion). IsVersion n.version) (sym same) u.version;
+      logs = u.logs;
+      lines = subst (λ (n : NodeVersion). lines_of files.logs ≡ n.version.logs) (sym same) u.lines;
+      tables = subst (λ (n : NodeVersion). table_lines files.tables ≡ n.version.tables) (sym same)
+          u.tables;
+      memtable = u.memtable;
+      numbers = subst (λ (n : NodeVersion). AreOrderedNumbers n.version (trimmed_count files)
+          (batch_count files)) (sym same) u.numbers;
+      free = subst (λ (n : NodeVersion). files.free_file ≡ n.version.next_file) (sym same) u.free;
+    }
 
 -- ---- the files
 

@@ -1,5 +1,6 @@
 pub mod Errors
 pub mod Layout
+pub mod Lists
 pub mod Files
 pub mod BatchLogs
 pub mod LevelTables
@@ -13,5 +14,6 @@ pub mod Openings
 pub mod Replaying
 pub mod TableWriting
 pub mod Tending
+pub mod TendKeeps
 pub mod HeldFiles
 pub mod KeepingLemmas

@@ -54,6 +54,11 @@ IsSameBeside files old new = (file : ℕ) → (Contains files file → ⊥) → 
 abbrev pub IsNextTable : StoreFiles → TableLine → Type 0
 IsNextTable files = IsNewLine files.free_file
 
+-- a new table of level 0 in the first free file, open by its line
+pub record IsNewTable (files : StoreFiles) (it : Flushed) : Type 0 where
+  pub next : IsNextTable files it.line
+  pub opened : it.table.line ≡ it.line
+
 -- the version is the one after the edit of a flush with this table, recorded in the slot that
 -- counts
 pub record IsFlushedBy (line : TableLine) (old new : StoreFiles) : Type 0 where

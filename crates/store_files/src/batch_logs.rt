@@ -15,6 +15,7 @@ ghost use Rattle.store_files.specs.BatchLogs.{lines_of, newest_file, newest_leng
 ghost use Rattle.store_files.specs.BatchLogs.{end_of_log, with_line};
 ghost use Rattle.store_files.specs.Errors.{FailsDevice, IsEnd, IsEngineExternal};
 ghost use Rattle.store_files.specs.Layout.{records_from};
+ghost use Rattle.store_files.specs.Lists.{ListFollowsOn};
 
 use crate::EngineError;
 use crate::layout::{batch_of, batch_record};
@@ -139,23 +140,15 @@ impl BatchLogs {
         ensures kept { KeepsDisk D.Disk disk.old disk.new (FailsDevice result) (HasFullLog self.old)
             (IsSameBut (newest_file self.old)) }
         ensures appended { (first : ℕ) (batches : List BatchContent) → D.is_honest disk.old →
-            LogsHold (D.state disk.old) self.old first batches →
-            MatchResult result
-            (λ _. LogsHold (D.state disk.new) self.new first (batches ++ batch.now ∷ []))
-            IsEngineExternal }
-
-        // A crash at any moment since the call began, whatever it answers, leaves the old batches,
-        // with or without the new one.
-        ensures any_moment { (first : ℕ) (batches : List BatchContent) → D.is_honest disk.old →
-            LogsHold (D.state disk.old) self.old first batches →
-            AlwaysLeaves D.Disk disk.old disk.new
-            (AreLeftWith (D.state disk.old) self.old first batches batch.now) }
+            LogsHold (D.state disk.old) self.old first batches → ListFollowsOn D.Disk
+            (λ _ state. LogsHold state self.new first (batches ++ batch.now ∷ []))
+            (AreLeftWith (D.state disk.old) self.old first batches batch.now)
+            disk.old disk.new result }
         ensures lines { lines_of self.new ≡ lines_of self.old }
         ensures room { next_number self.old ≤ MAX_NUMBER }
         ensures counts { MatchResult result
             (λ _. AreUsable self.new × (next_number self.new ≡ next_number self.old + 1))
-            (λ _. next_number self.new ≡ next_number self.old) }
-        ensures causes { IfErr result IsEnd }
+            (λ e. (next_number self.new ≡ next_number self.old) × IsEnd e) }
     {
         // laws: a crash leaves what is durable, file by file
         durable_is_left();
@@ -205,9 +198,8 @@ impl BatchLogs {
         ensures told { MatchResult result
             (λ _. AreUsable self.new × (next_number self.new ≡ next_number self.old)
             × (lines_of self.new ≡ with_line self.old file))
-            (λ _. (next_number self.new ≡ next_number self.old)
-            × (lines_of self.new ≡ lines_of self.old)) }
-        ensures causes { IfErr result IsEnd }
+            (λ e. (next_number self.new ≡ next_number self.old)
+            × (lines_of self.new ≡ lines_of self.old) × IsEnd e) }
 
         // A crash at any moment since the call began leaves each other file as it was.
         ensures any_moment { D.is_honest disk.old → AlwaysLeaves D.Disk disk.old disk.new

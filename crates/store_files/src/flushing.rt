@@ -1,20 +1,19 @@
 // A flush: the entries in memory become a table of level 0, and a new log takes the next batches.
-ghost use Rattle.std.specs.Prelude.{◌≡◌, ◌≢◌, ◌↔◌, ◌≤◌, List, IfErr, IfOk, IsTrue, MatchOption};
-ghost use Rattle.std.specs.Prelude.{MatchResult, OnOk};
+ghost use Rattle.std.specs.Prelude.{◌≡◌, ◌↔◌, ◌≤◌, List, IfErr, IfOk, IsTrue, MatchOption};
+ghost use Rattle.std.specs.Prelude.{MatchResult};
 ghost use Rattle.kv_types.specs.{BatchContent};
-ghost use Rattle.disk.specs.{AlwaysLeaves, IsSameBut, KeepsDisk};
-ghost use Rattle.manifest.specs.{HasFullSlot, IsChange, IsFit, IsVersion};
+ghost use Rattle.disk.specs.{IsSameBut, KeepsDisk};
+ghost use Rattle.manifest.specs.{HasFullSlot, IsChange, IsFit};
 ghost use Rattle.memtable.specs.{HasFailedAdd};
-ghost use Rattle.store_files.specs.Errors.{FailsDevice, IsEnd, IsEngineExternal};
-ghost use Rattle.store_files.specs.Files.{IsOwned};
+ghost use Rattle.store_files.specs.Errors.{FailsDevice, IsEnd};
+ghost use Rattle.store_files.specs.Lists.{ListFollowsOn};
 ghost use Rattle.store_files.specs.OpenFiles.{AreUsableFiles, FilesHold, HasEntry, IsTooLarge};
-ghost use Rattle.store_files.specs.OpenFiles.{WereMeantToHold, batch_count, known_facts};
-ghost use Rattle.store_files.specs.OpenFiles.{known_version};
+ghost use Rattle.store_files.specs.OpenFiles.{WereMeantToHold, known_facts, known_version};
 ghost use Rattle.store_files.specs.StoreFiles.{FilesRepresent, WereMeant, flush_change};
-ghost use Rattle.store_files.specs.Tending.{HasSpilled, HeldAndSpilled, IsFlushedBy, IsNextTable};
 ghost use Rattle.store_files.specs.TableWriting.{IsNewLine};
-ghost use Rattle.store_files.specs.Tending.{IsSameBeside, LacksPlace, MeantAndSpilled, TendMayFail};
-ghost use Rattle.store_files.specs.Tending.{tended_files};
+ghost use Rattle.store_files.specs.TendKeeps.{TendKeeps};
+ghost use Rattle.store_files.specs.Tending.{HasSpilled, HeldAndSpilled, IsFlushedBy, IsNewTable};
+ghost use Rattle.store_files.specs.Tending.{LacksPlace, MeantAndSpilled, TendMayFail};
 
 use crate::EngineError;
 use crate::error::refusal_of_edit;
@@ -107,29 +106,19 @@ impl StoreFiles {
         requires some { HasEntry self.now.memtable }
         requires place { LacksPlace (known_version self.now).version self.now.free_file → ⊥ }
         ensures kept { KeepsDisk D.Disk disk.old disk.new (FailsDevice result)
-            (TendMayFail D.Disk disk.old self.now)
-            (IsSameBut self.now.free_file) }
+            (TendMayFail D.Disk disk.old self.now) (IsSameBut self.now.free_file) }
         ensures spilled { (list : List BatchContent) → D.is_honest disk.old →
-            FilesHold (D.state disk.old) self.now list → MatchResult result
-            (λ made. MatchOption made
-            (IsTooLarge self.now.memtable × FilesHold (D.state disk.new) self.now list)
-            (HasSpilled (D.state disk.old) (D.state disk.new) self.now)) IsEngineExternal }
+            FilesHold (D.state disk.old) self.now list → ListFollowsOn D.Disk
+            (λ made state. MatchOption made (FilesHold state self.now list)
+            (HasSpilled (D.state disk.old) state self.now))
+            (FilesRepresent (known_facts self.now) list) disk.old disk.new result }
         ensures meant { (list : List BatchContent) → D.is_honest disk.old →
-            WereMeantToHold (D.state disk.old) self.now list → MatchResult result
-            (λ made. MatchOption made
-            (IsTooLarge self.now.memtable × WereMeantToHold (D.state disk.new) self.now list)
-            (HasSpilled (D.state disk.old) (D.state disk.new) self.now)) IsEngineExternal
-            × AlwaysLeaves D.Disk disk.old disk.new (WereMeant (known_facts self.now) list) }
-        ensures line { IfOk result (λ made. MatchOption made (IsTooLarge self.now.memtable)
-            (λ it. IsNextTable self.now it.line)) }
-        ensures opened { IfOk result (λ made. MatchOption made (Unit {0})
-            (λ it. it.table.line ≡ it.line)) }
-        ensures causes { IfErr result IsEnd }
-
-        // A crash at any moment since the call began leaves files of the same store.
-        ensures any_moment { (list : List BatchContent) → D.is_honest disk.old →
-            FilesHold (D.state disk.old) self.now list → AlwaysLeaves D.Disk disk.old disk.new
-            (FilesRepresent (known_facts self.now) list) }
+            WereMeantToHold (D.state disk.old) self.now list → ListFollowsOn D.Disk
+            (λ made state. MatchOption made (WereMeantToHold state self.now list)
+            (HasSpilled (D.state disk.old) state self.now))
+            (WereMeant (known_facts self.now) list) disk.old disk.new result }
+        ensures made { MatchResult result
+            (λ made. MatchOption made (IsTooLarge self.now.memtable) (IsNewTable self.now)) IsEnd }
     {
         // laws: what a crash leaves of the files that are named
         held_versions_are_left();
@@ -151,31 +140,11 @@ impl StoreFiles {
     ) -> Result<(), EngineError>
         requires usable { AreUsableFiles self.old }
         requires place { LacksPlace (known_version self.old).version self.old.free_file → ⊥ }
-        requires next { IsNextTable self.old made.line }
-        requires opened { made.table.line ≡ made.line }
-        ensures kept { KeepsDisk D.Disk disk.old disk.new (FailsDevice result)
-            (HasFullSlot self.old.manifest) IsOwned }
-        ensures touches { D.is_honest disk.old → IsSameBeside (tended_files self.old)
-            (D.state disk.old) (D.state disk.new) }
-        ensures installed { (list : List BatchContent) → D.is_honest disk.old →
-            HeldAndSpilled (D.state disk.old) self.old list made → MatchResult result
-            (λ _. FilesHold (D.state disk.new) self.new list) IsEngineExternal }
-        ensures meant { (list : List BatchContent) → D.is_honest disk.old →
-            MeantAndSpilled (D.state disk.old) self.old list made → MatchResult result
-            (λ _. WereMeantToHold (D.state disk.new) self.new list) IsEngineExternal
-            × AlwaysLeaves D.Disk disk.old disk.new (WereMeant (known_facts self.old) list) }
-        ensures told { MatchResult result
-            (λ _. AreUsableFiles self.new × ((batch_count self.new ≡ batch_count self.old)
-            × IsFlushedBy made.line self.old self.new))
-            (λ _. batch_count self.new ≡ batch_count self.old) }
-        ensures facts { known_facts self.new ≡ known_facts self.old }
-        ensures causes { IfErr result IsEnd }
-
-        // A crash at any moment since the call began leaves files of the same store.
-        ensures any_moment { (list : List BatchContent) → D.is_honest disk.old →
-            HeldAndSpilled (D.state disk.old) self.old list made →
-            AlwaysLeaves D.Disk disk.old disk.new
-            (FilesRepresent (known_facts self.old) list) }
+        requires next { IsNewTable self.old made }
+        ensures { TendKeeps D.Disk (λ state list. HeldAndSpilled state self.old list made)
+            (λ state list. MeantAndSpilled state self.old list made) (HasFullSlot self.old.manifest)
+            (λ _. IsFlushedBy made.line self.old self.new) disk.old disk.new self.old self.new
+            result }
     {
         // laws: what a crash leaves of the files that are named; that a manifest has the slots,
         // and an edit gives a version; and that a flush keeps the list

@@ -99,8 +99,7 @@ fn open_log<D: Disk>(
         All IsBatch batches → before + length batches ≤ MAX_NUMBER → IfErr result IsEngineExternal }
     ensures read { D.is_honest disk.old → IfOk result (λ one. IsReadLog (D.state disk.old)
         (D.state disk.new) file before flushed one memtable.old memtable.new) }
-    ensures told { IfOk result (λ one. IsOpenedBehind file before one memtable.new) }
-    ensures causes { IfErr result IsEnd }
+    ensures told { MatchResult result (λ one. IsOpenedBehind file before one memtable.new) IsEnd }
     ensures still { IsStill D.Disk disk.old disk.new }
 {
     let opened = Log::open(alloc, disk, file, 0)?;
@@ -126,13 +125,11 @@ fn read_logs<D: Disk>(
     ensures opened { (batches : List BatchContent) → D.is_honest disk.old →
         HaveBatches (contents (D.state disk.old)) (suc before) lines.now batches →
         All IsBatch batches → before + length batches ≤ MAX_NUMBER → IfErr result IsEngineExternal }
-    ensures read { D.is_honest disk.old → IfOk result (λ it. (count : ℕ) × AreReadLogs
+    ensures read { D.is_honest disk.old → IfOk result (λ it.
+        SparesAllBut lines.now (D.state disk.old) (D.state disk.new) × (count : ℕ) × AreReadLogs
         (D.state disk.old) (D.state disk.new) lines.now before flushed count it.0.items it.1) }
-    ensures told { IfOk result (λ it. (count : ℕ)
-        × AreInLine lines.now before count it.0.items it.1) }
-    ensures others { D.is_honest disk.old →
-        OnOk result (SparesAllBut lines.now (D.state disk.old) (D.state disk.new)) }
-    ensures causes { IfErr result IsEnd }
+    ensures told { MatchResult result (λ it. (count : ℕ)
+        × AreInLine lines.now before count it.0.items it.1) IsEnd }
     ensures still { IsStill D.Disk disk.old disk.new }
 {
     // laws: bytes are those of one list of batches at most

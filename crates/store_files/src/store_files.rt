@@ -1,10 +1,10 @@
 //! The open files of a store: manifest, logs and tables, and the entries that no table has yet.
-ghost use Rattle.std.specs.Prelude.{◌≡◌, ◌⊎◌, ℕ, ◌+◌, ◌<◌, ◌≤◌, List, [], ◌∷◌, ◌++◌, take, Some};
+ghost use Rattle.std.specs.Prelude.{◌≡◌, ℕ, ◌+◌, ◌<◌, ◌≤◌, List, [], ◌∷◌, ◌++◌, take, Some};
 ghost use Rattle.std.specs.Prelude.{length, IfErr, IfOk, IsSomeAnd, MatchResult};
 ghost use Rattle.std.specs.Option.{option_flatten};
 ghost use Rattle.kv_types.specs.declared.bounds.TheConstants.{MAX_VALUE};
 ghost use Rattle.kv_types.specs.{BatchContent, map_of};
-ghost use Rattle.disk.specs.{AlwaysLeaves, IsSame, IsSameBut, IsStill, KeepsDisk};
+ghost use Rattle.disk.specs.{IsSame, IsSameBut, IsStill, KeepsDisk};
 ghost use Rattle.chain_model.specs.{place};
 ghost use Rattle.store_files.specs.BatchLogs.{HasFullLog, newest_file};
 ghost use Rattle.store_files.specs.Errors.{FailsDevice, IsEnd, IsEngineExternal};
@@ -12,7 +12,8 @@ ghost use Rattle.store_files.specs.OpenFiles.{AreUsableFiles, FilesHold, batch_c
 ghost use Rattle.store_files.specs.OpenFiles.{WereMeantToHold, trimmed_count};
 ghost use Rattle.memtable.specs.{HasFailedAdd, TableHolds};
 ghost use Rattle.store_files.specs.LevelTables.{EntriesHave, found_value};
-ghost use Rattle.store_files.specs.StoreFiles.{FilesRepresent, WereOneOf};
+ghost use Rattle.store_files.specs.Lists.{ListFollowsOn};
+ghost use Rattle.store_files.specs.StoreFiles.{IsOneOf, WereOneOf};
 
 use crate::EngineError;
 use crate::batch_logs::BatchLogs;
@@ -97,26 +98,19 @@ impl StoreFiles {
         ensures kept { KeepsDisk D.Disk disk.old disk.new (FailsDevice result)
             (HasFullLog self.old.logs) (IsSameBut (newest_file self.old.logs)) }
         ensures appended { (list : List BatchContent) → D.is_honest disk.old →
-            FilesHold (D.state disk.old) self.old list → MatchResult result
-            (λ _. FilesHold (D.state disk.new) self.new (list ++ batch.now ∷ [])) IsEngineExternal }
+            FilesHold (D.state disk.old) self.old list → ListFollowsOn D.Disk
+            (λ _ state. FilesHold state self.new (list ++ batch.now ∷ []))
+            (IsOneOf (known_facts self.old) list (known_facts self.old) (list ++ batch.now ∷ []))
+            disk.old disk.new result }
         ensures meant { (list : List BatchContent) → D.is_honest disk.old →
-            WereMeantToHold (D.state disk.old) self.old list → MatchResult result
-            (λ _. WereMeantToHold (D.state disk.new) self.new (list ++ batch.now ∷ []))
-            IsEngineExternal × AlwaysLeaves D.Disk disk.old disk.new (WereOneOf
-            (known_facts self.old) list (known_facts self.old) (list ++ batch.now ∷ [])) }
-
-        // A crash at any moment since the call began, whatever it answers, leaves the old batches,
-        // with or without the new one.
-        ensures any_moment { (list : List BatchContent) → D.is_honest disk.old →
-            FilesHold (D.state disk.old) self.old list →
-            AlwaysLeaves D.Disk disk.old disk.new (λ left.
-            FilesRepresent (known_facts self.old) list left
-            ⊎ FilesRepresent (known_facts self.old) (list ++ batch.now ∷ []) left) }
+            WereMeantToHold (D.state disk.old) self.old list → ListFollowsOn D.Disk
+            (λ _ state. WereMeantToHold state self.new (list ++ batch.now ∷ []))
+            (WereOneOf (known_facts self.old) list (known_facts self.old) (list ++ batch.now ∷ []))
+            disk.old disk.new result }
         ensures counts { MatchResult result
             (λ _. AreUsableFiles self.new × (batch_count self.new ≡ batch_count self.old + 1))
-            (λ _. batch_count self.new ≡ batch_count self.old) }
+            (λ e. (batch_count self.new ≡ batch_count self.old) × IsEnd e) }
         ensures facts { known_facts self.new ≡ known_facts self.old }
-        ensures causes { IfErr result IsEnd }
     {
         // laws: a crash leaves what is durable, and the version of an open manifest
         durable_is_left();

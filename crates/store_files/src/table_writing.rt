@@ -212,9 +212,8 @@ pub(crate) fn write_table<D: Disk>(
         MatchResult result (λ line. MatchOption line
         (IsTooLarge memtable.now × IsNone (seen (D.state disk.new file)))
         (IsWrittenTable (D.state disk.new) memtable.now file)) IsEngineExternal }
-    ensures line { IfOk result (λ line. MatchOption line (IsTooLarge memtable.now)
-        (IsNewLine file)) }
-    ensures causes { IfErr result IsEnd }
+    ensures line { MatchResult result
+        (λ line. MatchOption line (IsTooLarge memtable.now) (IsNewLine file)) IsEnd }
 
     // A crash at any moment since the call began leaves each other file as it was.
     ensures any_moment { D.is_honest disk.old → AlwaysLeaves D.Disk disk.old disk.new

@@ -1,6 +1,6 @@
 use Rattle.std.proofs.Common.{◌<◌, ◌≤◌, ◌∷◌, [], length, length-append, ap, arith}
 use Rattle.store_files.specs.BatchLogs.{oldest_first, end_of_log}
-use Rattle.store_files.proofs.Parts.{still_among, walk_back}
+use Rattle.store_files.proofs.JoinedLogs.{still_among, walk_back}
 use Rattle.store_files.proofs.batch_logs.+log_with.Goals as goal
 
 -- the number is that of a batch before the newest log, so the one before it has it, or an older one

@@ -3,7 +3,7 @@ use Rattle.std.specs.Prelude.{slice_get}
 use Rattle.std.proofs.lemmas.Result.{err_from_is_err_and}
 use Rattle.store_files.specs.Layout.{records_from}
 use Rattle.store_files.proofs.Causes.{working_log}
-use Rattle.store_files.proofs.Parts.{batch_of_part}
+use Rattle.store_files.proofs.JoinedLogs.{batch_of_part}
 use Rattle.store_files.proofs.batch_logs.batch_in.Goals as goal
 
 -- the log works, so it reports environment errors alone

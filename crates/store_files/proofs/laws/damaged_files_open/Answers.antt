@@ -1,4 +1,4 @@
-use Rattle.store_files.proofs.MeantOpenings.{damaged_open}
+use Rattle.store_files.proofs.MeantNames.{damaged_open}
 use Rattle.store_files.proofs.laws.damaged_files_open.Goals as goal
 
 pub returns : goal.returns

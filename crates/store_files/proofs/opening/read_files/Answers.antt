@@ -10,9 +10,11 @@ use Rattle.store_files.specs.StoreFiles.{durably}
 use Rattle.store_files.proofs.BegunFiles.{manifest_is_external}
 use Rattle.store_files.proofs.Causes.{answers_nothing, refuses}
 use Rattle.store_files.proofs.MeantOpenings.{asked_as_meant, read_as_meant, slots_are_meant}
-use Rattle.store_files.proofs.ReadFiles.{asked, end_explained, files_with, opens_as, parts_then}
-use Rattle.store_files.proofs.ReadFiles.{read_alike, read_as, slots_explained, slots_stay}
-use Rattle.store_files.proofs.ReadFiles.{usable_of}
+use Rattle.store_files.proofs.ReadFiles.{files_with}
+use Rattle.store_files.proofs.ReadAnswers.{asked, end_explained, opens_as, parts_then}
+use Rattle.store_files.proofs.ReadFiles.{read_alike, read_as, slots_stay}
+use Rattle.store_files.proofs.ReadAnswers.{slots_explained}
+use Rattle.store_files.proofs.ReadAnswers.{usable_of}
 use Rattle.store_files.proofs.opening.read_files.Goals as goal
 
 -- slots that represent a version are opened

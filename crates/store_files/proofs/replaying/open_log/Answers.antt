@@ -1,11 +1,11 @@
 use Rattle.std.proofs.Common.{List, ℕ, suc, arith, inr, subst}
 use Rattle.disk.specs.{seen}
 use Rattle.record_log.specs.{LogHolds}
-use Rattle.store_files.specs.Errors.{IsEngineExternal}
+use Rattle.store_files.specs.Errors.{IsEnd, IsEngineExternal}
 use Rattle.store_files.specs.Files.{IsLog}
 use Rattle.store_files.specs.KeepingLemmas.{answered, kept_as, neither}
 use Rattle.store_files.specs.Layout.{records_from}
-use Rattle.store_files.proofs.Causes.{log_is_external, refuses}
+use Rattle.store_files.proofs.Causes.{bytes_end, log_ends, log_is_external, refuses}
 use Rattle.store_files.proofs.Keeping.{bytes_only, done, log_failed, passed_on}
 use Rattle.store_files.proofs.replaying.open_log.Goals as goal
 
@@ -75,3 +75,15 @@ returns-clause-told g c = record {
   numbered = c.in_ok-replay.ensures.numbered.0;
   few = c.in_ok-replay.ensures.numbered.1;
 }
+
+-- where it was not opened, the files have to be opened again
+pub returns-in_err-opened-clause-told : goal.returns-in_err-opened-clause-told
+returns-in_err-opened-clause-told g c =
+    refuses c.from_residual.result _ IsEnd c.from_residual.ensures.1
+    (log_ends c.in_err-opened.field-0.0)
+
+pub returns-in_err-replay-clause-told : goal.returns-in_err-replay-clause-told
+returns-in_err-replay-clause-told g c =
+    refuses c.from_residual-in_err-replay.result _ IsEnd
+    c.from_residual-in_err-replay.ensures.1
+    (bytes_end c.in_err-replay.ensures.only)

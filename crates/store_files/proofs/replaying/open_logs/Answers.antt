@@ -62,7 +62,7 @@ line_so g c =
 read_so : (g : _) (c : goal.After-of g) (honest : g.D.Disk.is_honest c.args.disk.now) →
     AreReadLogs (g.D.Disk.state c.args.disk.now) (g.D.Disk.state c.read_logs.new.disk)
     c.args.version.now.version.logs (c.index.result.now.first - 1)
-    c.args.version.now.version.flushed (c.in_ok-older.ensures.read honest).0
+    c.args.version.now.version.flushed (c.in_ok-older.ensures.read honest).1
     c.in_ok-older.older.items c.in_ok-older.memtable
 read_so g c honest =
     let s0 = g.D.Disk.state c.args.disk.now in
@@ -73,10 +73,9 @@ read_so g c honest =
     let read = c.in_ok-older.ensures.read honest in
     let is_flushed = ap (λ (v : NodeVersion). v.version.flushed) c.version.view_is in
     subst (λ (l : List LogLine). AreReadLogs s0 s1 l before c.args.version.now.version.flushed
-    read.0
-    older memtable) (lines_so g c)
-    (subst (λ (n : ℕ). AreReadLogs s0 s1 c.deref.result.now before n read.0 older memtable)
-    is_flushed read.1)
+    read.1 older memtable) (lines_so g c)
+    (subst (λ (n : ℕ). AreReadLogs s0 s1 c.deref.result.now before n read.1 older memtable)
+    is_flushed read.2)
 
 -- the batches are those that were read
 pub returns-clause-opened : goal.returns-clause-opened
@@ -92,7 +91,7 @@ returns-clause-opened g c = λ first batches honest had.
     were_read c.args.version.now.version.logs before c.in_ok-older.ensures.told.0
     c.in_ok-older.older.items c.in_ok-older.memtable (line_so g c) c.of.result (split_so g c) s0
     (g.D.Disk.state c.read_logs.new.disk) c.args.version.now.version.flushed
-    (c.in_ok-older.ensures.read honest).0 (read_so g c honest) c.records_are_unique.ensures
+    (c.in_ok-older.ensures.read honest).1 (read_so g c honest) c.records_are_unique.ensures
     c.spellings_differ.ensures first batches had next
 
 pub returns-clause-told : goal.returns-clause-told
@@ -101,7 +100,7 @@ returns-clause-told g c = λ honest.
     c.in_ok-older.ensures.told.0 c.in_ok-older.older.items c.in_ok-older.memtable (line_so g c)
     c.of.result (split_so g c) (g.D.Disk.state c.args.disk.now)
     (g.D.Disk.state c.read_logs.new.disk) c.args.version.now.version.flushed
-    (c.in_ok-older.ensures.read honest).0 (read_so g c honest)
+    (c.in_ok-older.ensures.read honest).1 (read_so g c honest)
 
 -- the logs are in order, and work
 pub returns-clause-usable : goal.returns-clause-usable
@@ -117,6 +116,6 @@ returns-clause-usable g c =
 pub returns-clause-settled : goal.returns-clause-settled
 returns-clause-settled g c = λ honest. record {
   others = subst (λ (l : List LogLine). SparesAllBut l (g.D.Disk.state c.args.disk.now)
-      (g.D.Disk.state c.read_logs.new.disk)) (lines_so g c) (c.in_ok-older.ensures.others honest);
+      (g.D.Disk.state c.read_logs.new.disk)) (lines_so g c) (c.in_ok-older.ensures.read honest).0;
   each = (read_so g c honest).settles;
 }

@@ -3,7 +3,7 @@ use Rattle.std.proofs.lemmas.List.{take_all}
 use Rattle.disk.specs.{contents}
 use Rattle.manifest.specs.declared.LogLine.{LogLine}
 use Rattle.store_files.specs.BatchLogs.{HaveBatches}
-use Rattle.store_files.specs.Errors.{IsEngineExternal}
+use Rattle.store_files.specs.Errors.{IsEnd, IsEngineExternal}
 use Rattle.store_files.specs.KeepingLemmas.{answered, kept_as, neither}
 use Rattle.store_files.specs.Replaying.{AreInLine, AreReadLogs}
 use Rattle.store_files.specs.Settling.{SparesAllBut}
@@ -174,14 +174,17 @@ pub returns-clause-still : goal.returns-clause-still
 returns-clause-still g c = c.loop-line.invariant.synced.still
 
 pub returns-clause-read : goal.returns-clause-read
-returns-clause-read g c = λ honest. (
-  c.loop-line.count,
-  subst (λ (l : List LogLine). AreReadLogs (g.D.Disk.state c.args.disk.now)
-      (g.D.Disk.state c.loop-line.disk) l c.args.before c.args.flushed c.loop-line.count
-      c.loop-line.logs.items c.loop-line.memtable)
-      (take_all c.loop-line.line-index c.args.lines.now c.loop-line-test.false)
-      (c.loop-line.invariant.read honest),
-)
+returns-clause-read g c = λ honest.
+    let all = take_all c.loop-line.line-index c.args.lines.now c.loop-line-test.false in
+    let s0 = g.D.Disk.state c.args.disk.now in
+    let s1 = g.D.Disk.state c.loop-line.disk in (
+      subst (λ (l : List LogLine). SparesAllBut l s0 s1) all
+          (c.loop-line.invariant.synced.kept.files honest).others,
+      c.loop-line.count,
+      subst (λ (l : List LogLine). AreReadLogs s0 s1 l c.args.before c.args.flushed
+          c.loop-line.count c.loop-line.logs.items c.loop-line.memtable) all
+          (c.loop-line.invariant.read honest),
+    )
 
 pub returns-clause-told : goal.returns-clause-told
 returns-clause-told g c = (
@@ -192,10 +195,12 @@ returns-clause-told g c = (
       c.loop-line.invariant.line,
 )
 
--- the files of other numbers are as they were
-pub returns-clause-others : goal.returns-clause-others
-returns-clause-others g c = λ honest.
-    subst (λ (l : List LogLine). SparesAllBut l (g.D.Disk.state c.args.disk.now)
-    (g.D.Disk.state c.loop-line.disk))
-    (take_all c.loop-line.line-index c.args.lines.now c.loop-line-test.false)
-    (c.loop-line.invariant.synced.kept.files honest).others
+-- where a log was not opened, the files have to be opened again
+pub returns-in_err-one-clause-told : goal.returns-in_err-one-clause-told
+returns-in_err-one-clause-told g c =
+    refuses c.from_residual.result _ IsEnd c.from_residual.ensures.1
+    c.in_err-one.ensures.told
+
+pub returns-in_err-push-clause-told : goal.returns-in_err-push-clause-told
+returns-in_err-push-clause-told g c =
+    refuses c.from_residual-in_err-push.result _ IsEnd c.from_residual-in_err-push.ensures.1 tt

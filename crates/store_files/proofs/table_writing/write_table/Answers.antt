@@ -1,7 +1,9 @@
 use Rattle.std.proofs.Common.{None, refl, subst}
 use Rattle.disk.specs.{Absent}
 use Rattle.memtable.specs.{TableHolds}
+use Rattle.store_files.specs.Errors.{IsEnd}
 use Rattle.store_files.specs.TableWriting.{IsRoomAnswer}
+use Rattle.store_files.proofs.Causes.{refuses}
 use Rattle.store_files.proofs.TableCalls.{moments_join}
 use Rattle.store_files.proofs.table_writing.write_table.Goals as goal
 
@@ -37,3 +39,19 @@ returns-clause-line g c =
     let empty = (c.new-builder.ensures.began (Absent None) refl).holds in
     subst (λ b. IsRoomAnswer (TableHolds c.args.memtable.now) b) c.if-branch.false
     (c.in_ok-add_memtable.ensures.room empty)
+
+-- a refusal of a part is one of the whole
+pub returns-in_err-add_memtable-clause-line : goal.returns-in_err-add_memtable-clause-line
+returns-in_err-add_memtable-clause-line g c =
+    refuses c.from_residual.result _ IsEnd c.from_residual.ensures.1
+    c.in_err-add_memtable.ensures.causes
+
+pub returns-in_err-finish_table-clause-line : goal.returns-in_err-finish_table-clause-line
+returns-in_err-finish_table-clause-line g c =
+    refuses c.from_residual-in_err-finish_table.result _ IsEnd
+    c.from_residual-in_err-finish_table.ensures.1 c.in_err-finish_table.ensures.causes
+
+pub returns-in_err-remove_file-clause-line : goal.returns-in_err-remove_file-clause-line
+returns-in_err-remove_file-clause-line g c =
+    refuses c.from_residual-in_err-remove_file.result _ IsEnd
+    c.from_residual-in_err-remove_file.ensures.1 c.in_err-remove_file.ensures.causes

@@ -22,26 +22,27 @@ pub returns-in_err-append-clause-met : goal.returns-in_err-append-clause-met
 returns-in_err-append-clause-met g c = λ list r.
     refuses c.from_residual-in_err-append.result _ _ c.from_residual-in_err-append.ensures.1
     (inl (c.in_err-append.ensures.appended list r.honest
-    (held_of g.D.Disk c.args.self.now list r)))
+    (held_of g.D.Disk c.args.self.now list r)).list)
 
 -- what the files were left as
 pub returns-in_err-append-clause-any_moment : goal.returns-in_err-append-clause-any_moment
 returns-in_err-append-clause-any_moment g c = λ list h.
-    c.append.ensures.any_moment list h.reads.honest
-    (held_of g.D.Disk c.args.self.now list h.reads)
+    (c.append.ensures.appended list h.reads.honest
+    (held_of g.D.Disk c.args.self.now list h.reads)).any_moment
 
 pub returns-clause-any_moment : goal.returns-clause-any_moment
 returns-clause-any_moment g c = λ list h.
-    c.append.ensures.any_moment list h.reads.honest
-    (held_of g.D.Disk c.args.self.now list h.reads)
+    (c.append.ensures.appended list h.reads.honest
+    (held_of g.D.Disk c.args.self.now list h.reads)).any_moment
 
 -- one batch more
 pub returns-clause-appended : goal.returns-clause-appended
 returns-clause-appended g c = λ list.
     let laws = c.held_files_are_left.ensures in
     goes_to g.D.Disk laws c.args.self.now _ list (list ++ c.args.batch.now ∷ []) _
-    c.append.ensures.kept.honest.1 not_true (c.in_ok-append.ensures.appended list)
-    (λ honest w. (c.in_ok-append.ensures.meant list honest w).0)
+    c.append.ensures.kept.honest.1 not_true
+    (λ honest held. (c.in_ok-append.ensures.appended list honest held).list)
+    (λ honest w. (c.in_ok-append.ensures.meant list honest w).list)
 
 -- .. also where blocks of tables are damaged
 pub returns-in_err-number-clause-meant : goal.returns-in_err-number-clause-meant
@@ -59,13 +60,13 @@ returns-in_err-append-clause-meant g c = λ list m.
     let both = c.in_err-append.ensures.meant list m.honest
     (were_meant g.D.Disk c.args.self.now list m) in (
       refuses c.from_residual-in_err-append.result _ _ c.from_residual-in_err-append.ensures.1
-          (inl both.0),
-      both.1,
+          (inl both.list),
+      both.any_moment,
     )
 
 pub returns-clause-meant : goal.returns-clause-meant
 returns-clause-meant g c = λ list m. (
   tt,
   (c.in_ok-append.ensures.meant list m.honest
-      (were_meant g.D.Disk c.args.self.now list m)).1,
+      (were_meant g.D.Disk c.args.self.now list m)).any_moment,
 )

@@ -1,6 +1,6 @@
 use Rattle.std.proofs.Common.{◌≡◌, ◌⊎◌, subst, arith}
 use Rattle.std.specs.Prelude.{Contains}
-use Rattle.store_files.proofs.Parts.{batch_among, each_here, part_of}
+use Rattle.store_files.proofs.JoinedLogs.{batch_among, each_here, part_of}
 use Rattle.store_files.proofs.batch_logs.BatchLogs.batch.Goals as goal
 
 -- the log's part has the batch

@@ -1,10 +1,12 @@
-use Rattle.std.proofs.Common.{◌+◌, ◌∷◌, [], ◌++◌, ap, sym, subst, ◌∙◌}
+use Rattle.std.proofs.Common.{◌+◌, ◌∷◌, [], ◌++◌, List, ap, map, refl, sym, subst, ◌∙◌}
 use Rattle.disk.specs.BesideLemmas.{at_start}
 use Rattle.record_log.specs.{LogHolds}
 use Rattle.store_files.specs.declared.batch_logs.BatchLog.{BatchLog}
 use Rattle.store_files.specs.declared.batch_logs.BatchLogs.{BatchLogs}
-use Rattle.store_files.proofs.Parts.{AreBegun, begun, begun_holds, begun_lines, begun_number}
-use Rattle.store_files.proofs.Parts.{begun_usable}
+use Rattle.store_files.specs.BatchLogs.{line_of}
+use Rattle.store_files.proofs.Causes.{log_ends, refuses}
+use Rattle.store_files.proofs.BegunLogs.{AreBegun, begun, begun_holds, begun_lines, begun_number}
+use Rattle.store_files.proofs.BegunLogs.{begun_usable}
 use Rattle.store_files.proofs.batch_logs.BatchLogs.begin.Goals as goal
 
 -- the newest log is behind the older ones, and the new one is the newest
@@ -46,6 +48,22 @@ returns-clause-begun g c = λ first batches honest ends h.
     batches h (c.create.ensures.kept.files honest) c.requires.new.0 c.requires.new.1
     (subst (λ (one : BatchLog). LogHolds new one.log []) (sym c.replace-last.ensures.after)
     (c.in_ok-log.ensures.created honest ends))
+
+-- where it is refused, the logs are as they were
+pub returns-in_err-reserve-clause-told : goal.returns-in_err-reserve-clause-told
+returns-in_err-reserve-clause-told g c =
+    let newest = line_of c.args.self.now.newest in
+    refuses c.from_residual.result _ _ c.from_residual.ensures.1
+    (refl, ap (λ (l : List BatchLog). map line_of l ++ newest ∷ []) c.reserve.ensures.items, tt)
+
+pub returns-in_err-log-clause-told : goal.returns-in_err-log-clause-told
+returns-in_err-log-clause-told g c =
+    let newest = line_of c.args.self.now.newest in
+    refuses c.from_residual-in_err-log.result _ _ c.from_residual-in_err-log.ensures.1 (
+      refl,
+      ap (λ (l : List BatchLog). map line_of l ++ newest ∷ []) c.in_ok-reserve.ensures.items,
+      log_ends c.in_err-log.field-0.0,
+    )
 
 -- no call of the disk
 pub returns-in_err-reserve-clause-any_moment : goal.returns-in_err-reserve-clause-any_moment

@@ -11,11 +11,13 @@ use Rattle.store_files.proofs.Records.{not_true}
 use Rattle.store_files.proofs.store_files.StoreFiles.append.Goals as goal
 
 -- nothing was written
-pub returns-in_err-add-clause-any_moment : goal.returns-in_err-add-clause-any_moment
-returns-in_err-add-clause-any_moment g c = λ list honest h.
-    none_appended (g.D.Disk.state c.args.disk.now) c.args.self.now list h c.args.batch.now
-    c.edits-edits.ensures.batch c.durable_file_is_left.ensures
-    c.held_versions_are_left.ensures.left (g.D.Disk.past c.args.disk.now)
+pub returns-in_err-add-clause-appended : goal.returns-in_err-add-clause-appended
+returns-in_err-add-clause-appended g c = λ list honest h. record {
+  list = search rules;
+  any_moment = none_appended (g.D.Disk.state c.args.disk.now) c.args.self.now list h
+      c.args.batch.now c.edits-edits.ensures.batch c.durable_file_is_left.ensures
+      c.held_versions_are_left.ensures.left (g.D.Disk.past c.args.disk.now);
+}
 
 -- the next number is that of the logs
 pub append-requires-clause-next : goal.append-requires-clause-next
@@ -23,21 +25,6 @@ append-requires-clause-next g c =
     let some = newest_positive c.args.self.now c.requires.usable in
     let next = c.requires.next in
     omega (arith, some, next)
-
--- whether it was appended or not, a crash leaves what the logs may be left as
-pub returns-clause-any_moment : goal.returns-clause-any_moment
-returns-clause-any_moment g c = λ list honest h.
-    let files = c.args.self.now in
-    let disk = g.D.Disk.state c.args.disk.now in
-    let some = newest_positive files c.requires.usable in
-    let count = h.known.count in
-    let room : length list < MAX_NUMBER = omega (arith, c.append.ensures.room, some, count) in
-    let trimmed = trimmed_count files in
-    some_appended disk files list h c.args.batch.now c.edits-edits.ensures.batch
-    c.durable_file_is_left.ensures c.held_versions_are_left.ensures.left c.appends_keep.ensures
-    room (g.D.Disk.past c.args.disk.now) (g.D.Disk.past c.append.new.disk)
-    (g.D.Disk.state c.append.new.disk)
-    (c.append.ensures.any_moment (suc trimmed) (drop trimmed list) honest h.known.logs)
 
 -- one number more is counted where it was appended
 pub returns-clause-counts : goal.returns-clause-counts
@@ -47,7 +34,8 @@ returns-clause-counts g c =
     (λ failed. not_true (c.in_ok-add.ensures.fails.0 failed)) c.in_ok-add.ensures.adds
     c.append.result c.append.ensures.counts
 
--- the batch is in the logs, and its entries are in the memtable
+-- The batch is in the logs, and its entries are in the memtable. Whether it was appended or not, a
+-- crash leaves what the logs may be left as.
 pub returns-clause-appended : goal.returns-clause-appended
 returns-clause-appended g c = λ list honest h.
     let files = c.args.self.now in
@@ -56,18 +44,26 @@ returns-clause-appended g c = λ list honest h.
     let store = known_store files h.known.tables in
     let next = c.requires.next in
     let count = h.known.count in
+    let some = newest_positive files c.requires.usable in
+    let room : length list < MAX_NUMBER = omega (arith, c.append.ensures.room, some, count) in
     let entries = one_more_above files.memtable c.add.new.self list c.args.batch.now c.args.number
     store h.known.entries (omega (arith, next, count)) (trimmed_few disk files list h)
     h.known.store.flushed_count c.in_ok-add.ensures.adds in
-    appended_told disk files list h c.args.batch.now c.edits-edits.ensures.batch
-    (g.D.Disk.state c.append.new.disk) c.append.new.self c.add.new.self c.append.ensures.lines
-    (c.append.ensures.kept.files honest) c.appends_keep.ensures
-    c.held_versions_are_left.ensures.same entries c.append.result
-    (counts_told files c.requires.usable c.append.new.self c.add.new.self c.args.batch.now
-    c.args.number c.requires.next c.append.ensures.lines c.append.ensures.room
-    (λ failed. not_true (c.in_ok-add.ensures.fails.0 failed)) c.in_ok-add.ensures.adds
-    c.append.result c.append.ensures.counts)
-    (c.append.ensures.appended (suc trimmed) (drop trimmed list) honest h.known.logs)
+    let logs = c.append.ensures.appended (suc trimmed) (drop trimmed list) honest h.known.logs in
+    record {
+      list = appended_told disk files list h c.args.batch.now c.edits-edits.ensures.batch
+          (g.D.Disk.state c.append.new.disk) c.append.new.self c.add.new.self
+          c.append.ensures.lines (c.append.ensures.kept.files honest) c.appends_keep.ensures
+          c.held_versions_are_left.ensures.same entries _ c.append.result
+          (counts_told files c.requires.usable c.append.new.self c.add.new.self
+          c.args.batch.now c.args.number c.requires.next c.append.ensures.lines
+          c.append.ensures.room (λ failed. not_true (c.in_ok-add.ensures.fails.0 failed))
+          c.in_ok-add.ensures.adds c.append.result c.append.ensures.counts) logs.list;
+      any_moment = some_appended disk files list h c.args.batch.now c.edits-edits.ensures.batch
+          c.durable_file_is_left.ensures c.held_versions_are_left.ensures.left
+          c.appends_keep.ensures room (g.D.Disk.past c.args.disk.now)
+          (g.D.Disk.past c.append.new.disk) (g.D.Disk.state c.append.new.disk) logs.any_moment;
+    }
 
 -- and so where blocks of tables are damaged
 pub returns-clause-meant : goal.returns-clause-meant
@@ -88,23 +84,23 @@ returns-clause-meant g c = λ list honest w.
       durable = c.durable_file_is_left.ensures;
       version = c.held_versions_are_left.ensures.left;
       reads = c.reads_are_outcomes.ensures;
-    } in (
-      appended_as_meant disk files list w (g.D.Disk.state c.append.new.disk)
+    } in
+    let logs = c.append.ensures.appended (suc trimmed) (drop trimmed list) honest
+    (logs_are_held disk files list w) in
+    record {
+      list = appended_as_meant disk files list w (g.D.Disk.state c.append.new.disk)
           (c.append.ensures.kept.files honest) c.args.batch.now c.edits-edits.ensures.batch
           c.append.new.self c.add.new.self c.append.ensures.lines c.appends_keep.ensures
-          c.held_versions_are_left.ensures.same entries c.append.result
-          (counts_told files c.requires.usable c.append.new.self c.add.new.self c.args.batch.now
-          c.args.number c.requires.next c.append.ensures.lines c.append.ensures.room
-          (λ failed. not_true (c.in_ok-add.ensures.fails.0 failed)) c.in_ok-add.ensures.adds
-          c.append.result c.append.ensures.counts)
-          (c.append.ensures.appended (suc trimmed) (drop trimmed list) honest
-          (logs_are_held disk files list w)),
-      some_meant laws disk files list w c.args.batch.now c.edits-edits.ensures.batch
-          c.appends_keep.ensures room (g.D.Disk.past c.args.disk.now)
-          (g.D.Disk.past c.append.new.disk) (g.D.Disk.state c.append.new.disk)
-          (c.append.ensures.any_moment (suc trimmed) (drop trimmed list) honest
-          (logs_are_held disk files list w)),
-    )
+          c.held_versions_are_left.ensures.same entries _ c.append.result
+          (counts_told files c.requires.usable c.append.new.self c.add.new.self
+          c.args.batch.now c.args.number c.requires.next c.append.ensures.lines
+          c.append.ensures.room (λ failed. not_true (c.in_ok-add.ensures.fails.0 failed))
+          c.in_ok-add.ensures.adds c.append.result c.append.ensures.counts) logs.list;
+      any_moment = some_meant laws disk files list w c.args.batch.now
+          c.edits-edits.ensures.batch c.appends_keep.ensures room
+          (g.D.Disk.past c.args.disk.now) (g.D.Disk.past c.append.new.disk)
+          (g.D.Disk.state c.append.new.disk) logs.any_moment;
+    }
 
 -- nothing was written
 pub returns-in_err-add-clause-meant : goal.returns-in_err-add-clause-meant
@@ -113,8 +109,9 @@ returns-in_err-add-clause-meant g c = λ list honest w.
       durable = c.durable_file_is_left.ensures;
       version = c.held_versions_are_left.ensures.left;
       reads = c.reads_are_outcomes.ensures;
-    } in (
-      search rules,
-      none_meant laws (g.D.Disk.state c.args.disk.now) c.args.self.now list w c.args.batch.now
-          c.edits-edits.ensures.batch (g.D.Disk.past c.args.disk.now),
-    )
+    } in
+    record {
+      list = search rules;
+      any_moment = none_meant laws (g.D.Disk.state c.args.disk.now) c.args.self.now list w
+          c.args.batch.now c.edits-edits.ensures.batch (g.D.Disk.past c.args.disk.now);
+    }

@@ -6,7 +6,7 @@ use Rattle.disk.specs.{seen}
 use Rattle.store_files.specs.Settling.{AreSwept, IsReadAlike}
 use Rattle.store_files.specs.StoreFiles.{IsOneOf, WereOneOf}
 use Rattle.store_files.proofs.Causes.{answers_nothing, if_refuses, refuses}
-use Rattle.store_files.proofs.KeptFiles.{settled_as, still_keeps}
+use Rattle.store_files.proofs.StillFiles.{settled_as, still_keeps}
 use Rattle.store_files.proofs.MeantOpenings.{settled_as_meant}
 use Rattle.store_files.proofs.OpenMoments.{settling_keeps_each}
 use Rattle.store_files.proofs.store_files.StoreFiles.open.Goals as goal
