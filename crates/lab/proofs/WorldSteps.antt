@@ -68,7 +68,8 @@ module _ (old mid new : World) (event : Event) (lines : List Line)
     given = ap (λ (w : World). w.limits) so ∙ has.given;
     nodes = subst (λ (w : World). HaveLimits w.nodes.items limits) (sym so)
         (subst (λ (own : Limits). HaveLimits mid.nodes.items own) has.given
-        (stay (subst (λ (own : Limits). HaveLimits old.nodes.items own) (sym has.given) has.nodes)));
+        (stay
+        (subst (λ (own : Limits). HaveLimits old.nodes.items own) (sym has.given) has.nodes)));
   }
 
   -- and has run one event more, where its nodes and frames refine that

@@ -1,6 +1,6 @@
 -- The version that a flush makes, and the open files that know it.
 use Rattle.std.proofs.Common.{◌≡◌, ◌≢◌, ℕ, suc, ◌+◌, ◌-◌, ◌<◌, ◌≤◌, ◌∙◌, List, [], ◌∷◌, ◌++◌}
-use Rattle.std.proofs.Common.{map, arith, subst, sym, ap}
+use Rattle.std.proofs.Common.{map, arith, refl, subst, sym, ap}
 use Rattle.std.specs.Prelude.{All, Contains}
 use Rattle.std.proofs.lemmas.List.Elements.{All-contains_itself, All-map}
 use Rattle.std.proofs.lemmas.List.Elements.{All-push, All-weaker, Contains-append_left}
@@ -58,6 +58,19 @@ pub record IsFlushOf (files : StoreFiles) (line : TableLine) (file : ℕ) (edit 
     pub at : file ≡ files.free_file + 1
     pub is : edit ≡ flush_change (known_version files).version files.free_file
         (batch_count files) line
+
+-- so can files that are usable and have a place be, by the edit that names this table
+pub flush_of : (files : StoreFiles) (line : TableLine) (edit : Change) → AreUsableFiles files
+    → (LacksPlace (known_version files).version files.free_file → ⊥) → IsNextTable files line
+    → edit ≡ flush_change (known_version files).version files.free_file (batch_count files) line
+    → IsFlushOf files line (files.free_file + 1) edit
+flush_of files line edit usable place next is = record {
+  usable = usable;
+  place = place;
+  next = next;
+  at = refl;
+  is = is;
+}
 
 module _ {files : StoreFiles} {line : TableLine} {file : ℕ} {edit : Change}
     (so : IsFlushOf files line file edit)

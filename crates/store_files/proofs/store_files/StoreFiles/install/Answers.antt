@@ -16,7 +16,7 @@ use Rattle.store_files.specs.StoreFiles.{FilesRepresent, WereMeant, flush_change
 use Rattle.store_files.specs.Tending.{HeldAndSpilled, IsSameBeside, MeantAndSpilled, tended_files}
 use Rattle.store_files.proofs.Appended.{first_same}
 use Rattle.store_files.proofs.Causes.{refuses}
-use Rattle.store_files.proofs.FlushVersions.{IsFlushOf, beside_new, count_kept, edit_is}
+use Rattle.store_files.proofs.FlushVersions.{beside_new, count_kept, edit_is, flush_of}
 use Rattle.store_files.proofs.FlushVersions.{facts_kept, installed_usable, known}
 use Rattle.store_files.proofs.Installed.{edit_is_recorded, installed_holds, log_begins}
 use Rattle.store_files.proofs.Installed.{manifest_begun, new_ends, new_served, none_begun}
@@ -38,14 +38,10 @@ pub begin-requires-clause-new : goal.begin-requires-clause-new
 begin-requires-clause-new g c =
     let files = c.args.self.now in
     let line = c.args.made.line in
-    let so : IsFlushOf files line (files.free_file + 1) c.in_ok-edit.edit = record {
-      usable = c.requires.usable;
-      place = c.requires.place;
-      next = c.requires.next.next;
-      at = refl;
-      is = edit_is files line c.state.result.now c.last_number-count.result c.in_ok-edit.edit
-          c.state.ensures c.last_number-count.ensures c.in_ok-edit.ensures.edit;
-    } in
+    let so = flush_of files line c.in_ok-edit.edit c.requires.usable c.requires.place
+    c.requires.next.next
+    (edit_is files line c.state.result.now c.last_number-count.result c.in_ok-edit.edit
+    c.state.ensures c.last_number-count.ensures c.in_ok-edit.ensures.edit) in
     beside_new so
 
 -- nothing was called yet
@@ -55,13 +51,8 @@ returns-in_err-edit g c =
     let line = c.args.made.line in
     let edit = flush_change (known_version files).version files.free_file (batch_count files) line
     in
-    let so : IsFlushOf files line (files.free_file + 1) edit = record {
-      usable = c.requires.usable;
-      place = c.requires.place;
-      next = c.requires.next.next;
-      at = refl;
-      is = refl;
-    } in
+    let so = flush_of files line edit c.requires.usable c.requires.place c.requires.next.next
+    refl in
     let law = c.durable_file_is_left.ensures in
     let held = c.held_versions_are_left.ensures in
     let s1 = g.D.Disk.state c.args.disk.now in
@@ -75,17 +66,12 @@ returns-in_err-edit g c =
 -- it was not begun
 pub returns-in_err-begin : goal.returns-in_err-begin
 returns-in_err-begin g c =
-    let so : IsFlushOf c.args.self.now c.args.made.line (c.args.self.now.free_file + 1)
-    c.in_ok-edit.edit = record {
-      usable = c.requires.usable;
-      place = c.requires.place;
-      next = c.requires.next.next;
-      at = refl;
-      is = edit_is c.args.self.now c.args.made.line c.state.result.now
-          c.last_number-count.result c.in_ok-edit.edit c.state.ensures
-          c.last_number-count.ensures c.in_ok-edit.ensures.edit;
-    } in
     let files = c.args.self.now in
+    let line = c.args.made.line in
+    let so = flush_of files line c.in_ok-edit.edit c.requires.usable c.requires.place
+    c.requires.next.next
+    (edit_is files line c.state.result.now c.last_number-count.result c.in_ok-edit.edit
+    c.state.ensures c.last_number-count.ensures c.in_ok-edit.ensures.edit) in
     let result = c.from_residual-in_err-begin.result in
     let told = c.from_residual-in_err-begin.ensures.1 in
     let law = c.durable_file_is_left.ensures in
@@ -116,8 +102,7 @@ returns-in_err-begin g c =
             (new_ends so s1 list c.args.made.table hs)
             (spilled_named so s1 list c.args.made.table hs).held);
         any_moment = log_begins so s1 list c.args.made.table hs law held.left held.same
-            p1 p2 s2
-            (c.begin.ensures.any_moment honest);
+            p1 p2 s2 (c.begin.ensures.any_moment honest);
       };
       meant = λ list honest ms. record {
         list = refuses result _ IsEngineExternal told
@@ -135,36 +120,40 @@ returns-in_err-begin g c =
 -- it was not recorded, or a crash may leave it recorded
 pub returns-in-Err : goal.returns-in-Err
 returns-in-Err g c =
-    let so : IsFlushOf c.args.self.now c.args.made.line (c.args.self.now.free_file + 1)
-    c.in_ok-edit.edit = record {
-      usable = c.requires.usable;
-      place = c.requires.place;
-      next = c.requires.next.next;
-      at = refl;
-      is = edit_is c.args.self.now c.args.made.line c.state.result.now
-          c.last_number-count.result c.in_ok-edit.edit c.state.ensures
-          c.last_number-count.ensures c.in_ok-edit.ensures.edit;
-    } in
     let files = c.args.self.now in
+    let line = c.args.made.line in
+    let so = flush_of files line c.in_ok-edit.edit c.requires.usable c.requires.place
+    c.requires.next.next
+    (edit_is files line c.state.result.now c.last_number-count.result c.in_ok-edit.edit
+    c.state.ensures c.last_number-count.ensures c.in_ok-edit.ensures.edit) in
     let why = c.refusal_of_edit.ensures in
     let begun = c.in_ok-begin.ensures.told in
     let fit = c.in_ok-edit.ensures.fit in
     let fits = subst (λ (n : NodeVersion). IsFit n.version c.in_ok-edit.edit) c.state.ensures
     fit.0 in
+    let law = c.durable_file_is_left.ensures in
+    let left = c.held_versions_are_left.ensures.left in
+    let stays = c.held_versions_are_left.ensures.same in
+    let keeps = c.flushes_keep.ensures.list in
+    let edits = c.edits_keep_versions.ensures in
+    let s1 = g.D.Disk.state c.args.disk.now in
+    let s2 = g.D.Disk.state c.begin.new.disk in
+    let s3 = g.D.Disk.state c.record.new.disk in
+    let p1 = g.D.Disk.past c.args.disk.now in
+    let p2 = g.D.Disk.past c.begin.new.disk in
+    let p3 = g.D.Disk.past c.record.new.disk in
+    let logs = c.begin.new.self in
+    let table = c.args.made.table in
     record {
       kept = kept_behind g.D.Disk (λ a b d before after. tt) c.begin.ensures.kept
           (answered c.begin.result c.in_ok-begin.was) (kept_but g.D.Disk
           (λ room. c.slots_reach_gates.ensures.full files.manifest c.in_ok-edit.edit fits fit.1
           room) (kept_as g.D.Disk (edit_failed c.in-Err.e _ why) (λ a b same. same)
           c.in-Err.ensures.kept));
-      touches = (λ honest. beside_both c.args.self.now (g.D.Disk.state c.args.disk.now)
-          (g.D.Disk.state c.begin.new.disk) (g.D.Disk.state c.record.new.disk)
-          (log_alone c.args.self.now (g.D.Disk.state c.args.disk.now) (g.D.Disk.state
-          c.begin.new.disk) (c.args.self.now.free_file + 1) refl
-          (c.begin.ensures.kept.files honest)) (counting_alone c.args.self.now (g.D.Disk.state
-          c.begin.new.disk)
-          (g.D.Disk.state c.record.new.disk)
-          (c.record.ensures.kept.files (c.begin.ensures.kept.honest.1 honest))));
+      touches = λ honest. beside_both files s1 s2 s3
+          (log_alone files s1 s2 (files.free_file + 1) refl (c.begin.ensures.kept.files honest))
+          (counting_alone files s2 s3
+          (c.record.ensures.kept.files (c.begin.ensures.kept.honest.1 honest)));
       numbers = (
         ap (λ (n : ℕ). n - 1) begun.1,
         facts_same files (record files { manifest = c.record.new.self; logs = c.begin.new.self })
@@ -173,90 +162,47 @@ returns-in-Err g c =
       );
       usable = tt;
       did = subst IsEnd (sym why) (edit_ends c.in-Err.e);
-      tended = λ list honest hs. record {
-        list = subst IsEngineExternal (sym why) (edit_is_external c.in-Err.e
-            (c.in-Err.ensures.recorded (known_version files)
-            (c.begin.ensures.kept.honest.1 honest) (manifest_begun so (g.D.Disk.state
-            c.args.disk.now) list c.args.made.table hs (g.D.Disk.state c.begin.new.disk)
-            (c.begin.ensures.kept.files honest) c.begin.new.self c.in_ok-begin.ensures.told.2
-            (c.in_ok-begin.ensures.begun (suc (trimmed_count c.args.self.now))
-            (drop (trimmed_count c.args.self.now) list) honest
-            (new_ends so (g.D.Disk.state c.args.disk.now) list c.args.made.table hs)
-            (spilled_named so (g.D.Disk.state c.args.disk.now) list c.args.made.table hs).held)
-            c.flushes_keep.ensures.list c.held_versions_are_left.ensures.same)));
-        any_moment = (edit_is_recorded so (g.D.Disk.state c.args.disk.now) list c.args.made.table
-            hs (g.D.Disk.state c.begin.new.disk)
-            (c.begin.ensures.kept.files honest) c.begin.new.self c.in_ok-begin.ensures.told.2
-            (c.in_ok-begin.ensures.begun (suc (trimmed_count c.args.self.now))
-            (drop (trimmed_count c.args.self.now) list) honest
-            (new_ends so (g.D.Disk.state c.args.disk.now) list c.args.made.table hs)
-            (spilled_named so (g.D.Disk.state c.args.disk.now) list c.args.made.table hs).held)
-            c.flushes_keep.ensures.list c.durable_file_is_left.ensures
-            c.held_versions_are_left.ensures.left
-            c.held_versions_are_left.ensures.same c.edits_keep_versions.ensures
-            (g.D.Disk.past c.args.disk.now) (g.D.Disk.past c.begin.new.disk)
-            (g.D.Disk.past c.record.new.disk) (g.D.Disk.state c.record.new.disk)
-            (c.begin.ensures.any_moment honest) (c.record.ensures.any_moment
-            (known_version c.args.self.now) (c.begin.ensures.kept.honest.1 honest)
-            (manifest_begun so (g.D.Disk.state c.args.disk.now) list c.args.made.table hs
-            (g.D.Disk.state c.begin.new.disk)
-            (c.begin.ensures.kept.files honest) c.begin.new.self c.in_ok-begin.ensures.told.2
-            (c.in_ok-begin.ensures.begun (suc (trimmed_count c.args.self.now))
-            (drop (trimmed_count c.args.self.now) list) honest
-            (new_ends so (g.D.Disk.state c.args.disk.now) list c.args.made.table hs)
-            (spilled_named so (g.D.Disk.state c.args.disk.now) list c.args.made.table hs).held)
-            c.flushes_keep.ensures.list c.held_versions_are_left.ensures.same)));
-      };
-      meant = λ list honest ms. record {
-        list = subst IsEngineExternal (sym why) (edit_is_external c.in-Err.e
-            (c.in-Err.ensures.recorded (known_version files)
-            (c.begin.ensures.kept.honest.1 honest) (manifest_was_begun so (g.D.Disk.state
-            c.args.disk.now) list c.args.made.table ms (g.D.Disk.state c.begin.new.disk)
-            (c.begin.ensures.kept.files honest) c.begin.new.self c.in_ok-begin.ensures.told.2
-            (c.in_ok-begin.ensures.begun (suc (trimmed_count c.args.self.now))
-            (drop (trimmed_count c.args.self.now) list) honest
-            (meant_ends so (g.D.Disk.state c.args.disk.now) list c.args.made.table ms)
-            (meant_logs so (g.D.Disk.state c.args.disk.now) list c.args.made.table ms))
-            c.flushes_keep.ensures.list c.held_versions_are_left.ensures.same)));
-        any_moment = (edit_was_recorded so (g.D.Disk.state c.args.disk.now) list c.args.made.table
-            ms (g.D.Disk.state c.begin.new.disk)
-            (c.begin.ensures.kept.files honest) c.begin.new.self c.in_ok-begin.ensures.told.2
-            (c.in_ok-begin.ensures.begun (suc (trimmed_count c.args.self.now))
-            (drop (trimmed_count c.args.self.now) list) honest
-            (meant_ends so (g.D.Disk.state c.args.disk.now) list c.args.made.table ms)
-            (meant_logs so (g.D.Disk.state c.args.disk.now) list c.args.made.table ms))
-            c.flushes_keep.ensures.list c.durable_file_is_left.ensures
-            c.held_versions_are_left.ensures.left
-            c.held_versions_are_left.ensures.same c.edits_keep_versions.ensures
-            (g.D.Disk.past c.args.disk.now) (g.D.Disk.past c.begin.new.disk)
-            (g.D.Disk.past c.record.new.disk) (g.D.Disk.state c.record.new.disk)
-            (c.begin.ensures.any_moment honest) (c.record.ensures.any_moment
-            (known_version c.args.self.now) (c.begin.ensures.kept.honest.1 honest)
-            (manifest_was_begun so (g.D.Disk.state c.args.disk.now) list c.args.made.table ms
-            (g.D.Disk.state c.begin.new.disk)
-            (c.begin.ensures.kept.files honest) c.begin.new.self c.in_ok-begin.ensures.told.2
-            (c.in_ok-begin.ensures.begun (suc (trimmed_count c.args.self.now))
-            (drop (trimmed_count c.args.self.now) list) honest
-            (meant_ends so (g.D.Disk.state c.args.disk.now) list c.args.made.table ms)
-            (meant_logs so (g.D.Disk.state c.args.disk.now) list c.args.made.table ms))
-            c.flushes_keep.ensures.list c.held_versions_are_left.ensures.same)));
-      };
+      tended = λ list honest hs.
+          let spares = c.begin.ensures.kept.files honest in
+          let honest2 = c.begin.ensures.kept.honest.1 honest in
+          let began = c.in_ok-begin.ensures.begun (suc (trimmed_count files))
+          (drop (trimmed_count files) list) honest
+          (new_ends so s1 list table hs) (spilled_named so s1 list table hs).held in
+          let held =
+          manifest_begun so s1 list table hs s2 spares logs begun.2 began keeps stays in
+          record {
+            list = subst IsEngineExternal (sym why) (edit_is_external c.in-Err.e
+                (c.in-Err.ensures.recorded (known_version files) honest2 held));
+            any_moment = edit_is_recorded so s1 list table hs s2 spares logs begun.2 began
+                keeps law left stays edits p1 p2 p3 s3 (c.begin.ensures.any_moment honest)
+                (c.record.ensures.any_moment (known_version files) honest2 held);
+          };
+      meant = λ list honest ms.
+          let spares = c.begin.ensures.kept.files honest in
+          let honest2 = c.begin.ensures.kept.honest.1 honest in
+          let began = c.in_ok-begin.ensures.begun (suc (trimmed_count files))
+          (drop (trimmed_count files) list) honest
+          (meant_ends so s1 list table ms) (meant_logs so s1 list table ms) in
+          let held =
+          manifest_was_begun so s1 list table ms s2 spares logs begun.2 began keeps stays in
+          record {
+            list = subst IsEngineExternal (sym why) (edit_is_external c.in-Err.e
+                (c.in-Err.ensures.recorded (known_version files) honest2 held));
+            any_moment = edit_was_recorded so s1 list table ms s2 spares logs begun.2 began
+                keeps law left stays edits p1 p2 p3 s3 (c.begin.ensures.any_moment honest)
+                (c.record.ensures.any_moment (known_version files) honest2 held);
+          };
     }
 
 -- the table was not added: memory is out
 pub returns-in_err-add : goal.returns-in_err-add
 returns-in_err-add g c =
-    let so : IsFlushOf c.args.self.now c.args.made.line (c.args.self.now.free_file + 1)
-    c.in_ok-edit.edit = record {
-      usable = c.requires.usable;
-      place = c.requires.place;
-      next = c.requires.next.next;
-      at = refl;
-      is = edit_is c.args.self.now c.args.made.line c.state.result.now
-          c.last_number-count.result c.in_ok-edit.edit c.state.ensures
-          c.last_number-count.ensures c.in_ok-edit.ensures.edit;
-    } in
     let files = c.args.self.now in
+    let line = c.args.made.line in
+    let so = flush_of files line c.in_ok-edit.edit c.requires.usable c.requires.place
+    c.requires.next.next
+    (edit_is files line c.state.result.now c.last_number-count.result c.in_ok-edit.edit
+    c.state.ensures c.last_number-count.ensures c.in_ok-edit.ensures.edit) in
     let result = c.from_residual-in_err-add.result in
     let told = c.from_residual-in_err-add.ensures.1 in
     let memory = c.in_err-add.ensures.memory in
@@ -264,6 +210,19 @@ returns-in_err-add g c =
     let fit = c.in_ok-edit.ensures.fit in
     let fits = subst (λ (n : NodeVersion). IsFit n.version c.in_ok-edit.edit) c.state.ensures
     fit.0 in
+    let law = c.durable_file_is_left.ensures in
+    let left = c.held_versions_are_left.ensures.left in
+    let stays = c.held_versions_are_left.ensures.same in
+    let keeps = c.flushes_keep.ensures.list in
+    let edits = c.edits_keep_versions.ensures in
+    let s1 = g.D.Disk.state c.args.disk.now in
+    let s2 = g.D.Disk.state c.begin.new.disk in
+    let s3 = g.D.Disk.state c.record.new.disk in
+    let p1 = g.D.Disk.past c.args.disk.now in
+    let p2 = g.D.Disk.past c.begin.new.disk in
+    let p3 = g.D.Disk.past c.record.new.disk in
+    let logs = c.begin.new.self in
+    let table = c.args.made.table in
     let new : StoreFiles = record files {
       manifest = c.record.new.self;
       logs = c.begin.new.self;
@@ -275,98 +234,73 @@ returns-in_err-add g c =
           (λ room. c.slots_reach_gates.ensures.full files.manifest c.in_ok-edit.edit fits fit.1
           room) (kept_as g.D.Disk (neither (λ f. absurd cc) (refused_device result told memory))
           (λ a b same. same) c.in_default.ensures.kept));
-      touches = (λ honest. beside_both c.args.self.now (g.D.Disk.state c.args.disk.now)
-          (g.D.Disk.state c.begin.new.disk) (g.D.Disk.state c.record.new.disk)
-          (log_alone c.args.self.now (g.D.Disk.state c.args.disk.now) (g.D.Disk.state
-          c.begin.new.disk) (c.args.self.now.free_file + 1) refl
-          (c.begin.ensures.kept.files honest)) (counting_alone c.args.self.now (g.D.Disk.state
-          c.begin.new.disk)
-          (g.D.Disk.state c.record.new.disk)
-          (c.record.ensures.kept.files (c.begin.ensures.kept.honest.1 honest))));
+      touches = λ honest. beside_both files s1 s2 s3
+          (log_alone files s1 s2 (files.free_file + 1) refl (c.begin.ensures.kept.files honest))
+          (counting_alone files s2 s3
+          (c.record.ensures.kept.files (c.begin.ensures.kept.honest.1 honest)));
       numbers = (
         count_kept so new c.in_default.ensures.told.0 begun.2 begun.1,
         facts_kept so new c.in_default.ensures.told.0 begun.2,
       );
       usable = refusal_on_ok result _ _ told;
       did = refuses result _ IsEnd told (subst IsEnd (sym memory) tt);
-      tended = λ list honest hs. record {
-        list = refuses result _ IsEngineExternal told (inr memory);
-        any_moment = (edit_is_recorded so (g.D.Disk.state c.args.disk.now) list c.args.made.table
-            hs (g.D.Disk.state c.begin.new.disk)
-            (c.begin.ensures.kept.files honest) c.begin.new.self c.in_ok-begin.ensures.told.2
-            (c.in_ok-begin.ensures.begun (suc (trimmed_count c.args.self.now))
-            (drop (trimmed_count c.args.self.now) list) honest
-            (new_ends so (g.D.Disk.state c.args.disk.now) list c.args.made.table hs)
-            (spilled_named so (g.D.Disk.state c.args.disk.now) list c.args.made.table hs).held)
-            c.flushes_keep.ensures.list c.durable_file_is_left.ensures
-            c.held_versions_are_left.ensures.left
-            c.held_versions_are_left.ensures.same c.edits_keep_versions.ensures
-            (g.D.Disk.past c.args.disk.now) (g.D.Disk.past c.begin.new.disk)
-            (g.D.Disk.past c.record.new.disk) (g.D.Disk.state c.record.new.disk)
-            (c.begin.ensures.any_moment honest) (c.record.ensures.any_moment
-            (known_version c.args.self.now) (c.begin.ensures.kept.honest.1 honest)
-            (manifest_begun so (g.D.Disk.state c.args.disk.now) list c.args.made.table hs
-            (g.D.Disk.state c.begin.new.disk)
-            (c.begin.ensures.kept.files honest) c.begin.new.self c.in_ok-begin.ensures.told.2
-            (c.in_ok-begin.ensures.begun (suc (trimmed_count c.args.self.now))
-            (drop (trimmed_count c.args.self.now) list) honest
-            (new_ends so (g.D.Disk.state c.args.disk.now) list c.args.made.table hs)
-            (spilled_named so (g.D.Disk.state c.args.disk.now) list c.args.made.table hs).held)
-            c.flushes_keep.ensures.list c.held_versions_are_left.ensures.same)));
-      };
-      meant = λ list honest ms. record {
-        list = refuses result _ IsEngineExternal told (inr memory);
-        any_moment = (edit_was_recorded so (g.D.Disk.state c.args.disk.now) list c.args.made.table
-            ms (g.D.Disk.state c.begin.new.disk)
-            (c.begin.ensures.kept.files honest) c.begin.new.self c.in_ok-begin.ensures.told.2
-            (c.in_ok-begin.ensures.begun (suc (trimmed_count c.args.self.now))
-            (drop (trimmed_count c.args.self.now) list) honest
-            (meant_ends so (g.D.Disk.state c.args.disk.now) list c.args.made.table ms)
-            (meant_logs so (g.D.Disk.state c.args.disk.now) list c.args.made.table ms))
-            c.flushes_keep.ensures.list c.durable_file_is_left.ensures
-            c.held_versions_are_left.ensures.left
-            c.held_versions_are_left.ensures.same c.edits_keep_versions.ensures
-            (g.D.Disk.past c.args.disk.now) (g.D.Disk.past c.begin.new.disk)
-            (g.D.Disk.past c.record.new.disk) (g.D.Disk.state c.record.new.disk)
-            (c.begin.ensures.any_moment honest) (c.record.ensures.any_moment
-            (known_version c.args.self.now) (c.begin.ensures.kept.honest.1 honest)
-            (manifest_was_begun so (g.D.Disk.state c.args.disk.now) list c.args.made.table ms
-            (g.D.Disk.state c.begin.new.disk)
-            (c.begin.ensures.kept.files honest) c.begin.new.self c.in_ok-begin.ensures.told.2
-            (c.in_ok-begin.ensures.begun (suc (trimmed_count c.args.self.now))
-            (drop (trimmed_count c.args.self.now) list) honest
-            (meant_ends so (g.D.Disk.state c.args.disk.now) list c.args.made.table ms)
-            (meant_logs so (g.D.Disk.state c.args.disk.now) list c.args.made.table ms))
-            c.flushes_keep.ensures.list c.held_versions_are_left.ensures.same)));
-      };
+      tended = λ list honest hs.
+          let spares = c.begin.ensures.kept.files honest in
+          let honest2 = c.begin.ensures.kept.honest.1 honest in
+          let began = c.in_ok-begin.ensures.begun (suc (trimmed_count files))
+          (drop (trimmed_count files) list) honest
+          (new_ends so s1 list table hs) (spilled_named so s1 list table hs).held in
+          let held =
+          manifest_begun so s1 list table hs s2 spares logs begun.2 began keeps stays in
+          record {
+            list = refuses result _ IsEngineExternal told (inr memory);
+            any_moment = edit_is_recorded so s1 list table hs s2 spares logs begun.2 began
+                keeps law left stays edits p1 p2 p3 s3 (c.begin.ensures.any_moment honest)
+                (c.record.ensures.any_moment (known_version files) honest2 held);
+          };
+      meant = λ list honest ms.
+          let spares = c.begin.ensures.kept.files honest in
+          let honest2 = c.begin.ensures.kept.honest.1 honest in
+          let began = c.in_ok-begin.ensures.begun (suc (trimmed_count files))
+          (drop (trimmed_count files) list) honest
+          (meant_ends so s1 list table ms) (meant_logs so s1 list table ms) in
+          let held =
+          manifest_was_begun so s1 list table ms s2 spares logs begun.2 began keeps stays in
+          record {
+            list = refuses result _ IsEngineExternal told (inr memory);
+            any_moment = edit_was_recorded so s1 list table ms s2 spares logs begun.2 began
+                keeps law left stays edits p1 p2 p3 s3 (c.begin.ensures.any_moment honest)
+                (c.record.ensures.any_moment (known_version files) honest2 held);
+          };
     }
 
 -- ---- the new version names the log and the table
 
 pub returns : goal.returns
 returns g c =
-    let so : IsFlushOf c.args.self.now c.args.made.line (c.args.self.now.free_file + 1)
-    c.in_ok-edit.edit = record {
-      usable = c.requires.usable;
-      place = c.requires.place;
-      next = c.requires.next.next;
-      at = refl;
-      is = edit_is c.args.self.now c.args.made.line c.state.result.now
-          c.last_number-count.result c.in_ok-edit.edit c.state.ensures
-          c.last_number-count.ensures c.in_ok-edit.ensures.edit;
-    } in
     let files = c.args.self.now in
+    let line = c.args.made.line in
+    let so = flush_of files line c.in_ok-edit.edit c.requires.usable c.requires.place
+    c.requires.next.next
+    (edit_is files line c.state.result.now c.last_number-count.result c.in_ok-edit.edit
+    c.state.ensures c.last_number-count.ensures c.in_ok-edit.ensures.edit) in
     let begun = c.in_ok-begin.ensures.told in
     let fit = c.in_ok-edit.ensures.fit in
     let fits = subst (λ (n : NodeVersion). IsFit n.version c.in_ok-edit.edit) c.state.ensures
     fit.0 in
+    let law = c.durable_file_is_left.ensures in
+    let left = c.held_versions_are_left.ensures.left in
     let stays = c.held_versions_are_left.ensures.same in
     let keeps = c.flushes_keep.ensures.list in
     let edits = c.edits_keep_versions.ensures in
     let s1 = g.D.Disk.state c.args.disk.now in
     let s2 = g.D.Disk.state c.begin.new.disk in
     let s3 = g.D.Disk.state c.record.new.disk in
+    let p1 = g.D.Disk.past c.args.disk.now in
+    let p2 = g.D.Disk.past c.begin.new.disk in
+    let p3 = g.D.Disk.past c.record.new.disk in
     let logs = c.begin.new.self in
+    let table = c.args.made.table in
     let empty = subst (λ (m : Memtable). (entry : Entry) → TableHolds m entry → ⊥)
     (sym c.replace.ensures.after) c.new.ensures.empty in
     let new : StoreFiles = record {
@@ -389,14 +323,10 @@ returns g c =
           (λ room. c.slots_reach_gates.ensures.full files.manifest c.in_ok-edit.edit fits fit.1
           room) (kept_as g.D.Disk (neither (λ f. absurd cc) (λ f. absurd cc))
           (λ a b same. same) c.in_default.ensures.kept));
-      touches = (λ honest. beside_both c.args.self.now (g.D.Disk.state c.args.disk.now)
-          (g.D.Disk.state c.begin.new.disk) (g.D.Disk.state c.record.new.disk)
-          (log_alone c.args.self.now (g.D.Disk.state c.args.disk.now) (g.D.Disk.state
-          c.begin.new.disk) (c.args.self.now.free_file + 1) refl
-          (c.begin.ensures.kept.files honest)) (counting_alone c.args.self.now (g.D.Disk.state
-          c.begin.new.disk)
-          (g.D.Disk.state c.record.new.disk)
-          (c.record.ensures.kept.files (c.begin.ensures.kept.honest.1 honest))));
+      touches = λ honest. beside_both files s1 s2 s3
+          (log_alone files s1 s2 (files.free_file + 1) refl (c.begin.ensures.kept.files honest))
+          (counting_alone files s2 s3
+          (c.record.ensures.kept.files (c.begin.ensures.kept.honest.1 honest)));
       numbers = (
         count_kept so new c.in_default.ensures.told.0 begun.2 begun.1,
         facts_kept so new c.in_default.ensures.told.0 begun.2,
@@ -409,18 +339,11 @@ returns g c =
       tended = λ list honest hs.
           let spares = c.begin.ensures.kept.files honest in
           let honest2 = c.begin.ensures.kept.honest.1 honest in
-          let began = (c.in_ok-begin.ensures.begun (suc (trimmed_count c.args.self.now))
-          (drop (trimmed_count c.args.self.now) list) honest
-          (new_ends so (g.D.Disk.state c.args.disk.now) list c.args.made.table hs)
-          (spilled_named so (g.D.Disk.state c.args.disk.now) list c.args.made.table hs).held) in
-          let held = (manifest_begun so (g.D.Disk.state c.args.disk.now) list c.args.made.table hs
-          (g.D.Disk.state c.begin.new.disk)
-          (c.begin.ensures.kept.files honest) c.begin.new.self c.in_ok-begin.ensures.told.2
-          (c.in_ok-begin.ensures.begun (suc (trimmed_count c.args.self.now))
-          (drop (trimmed_count c.args.self.now) list) honest
-          (new_ends so (g.D.Disk.state c.args.disk.now) list c.args.made.table hs)
-          (spilled_named so (g.D.Disk.state c.args.disk.now) list c.args.made.table hs).held)
-          c.flushes_keep.ensures.list c.held_versions_are_left.ensures.same) in
+          let began = c.in_ok-begin.ensures.begun (suc (trimmed_count files))
+          (drop (trimmed_count files) list) honest
+          (new_ends so s1 list table hs) (spilled_named so s1 list table hs).held in
+          let held =
+          manifest_begun so s1 list table hs s2 spares logs begun.2 began keeps stays in
           let slot = (c.manifest_has_slots.ensures s2 files.manifest (known_version files) held).0
           in
           let same = c.record.ensures.kept.files honest2 in
@@ -443,44 +366,18 @@ returns g c =
                   blocks = as_meant_itself (s3 (table_file c.args.made.table.table)) (index_lines
                       c.args.made.table.table);
                 }))) empty;
-            any_moment = (edit_is_recorded so (g.D.Disk.state c.args.disk.now) list
-                c.args.made.table hs (g.D.Disk.state c.begin.new.disk)
-                (c.begin.ensures.kept.files honest) c.begin.new.self c.in_ok-begin.ensures.told.2
-                (c.in_ok-begin.ensures.begun (suc (trimmed_count c.args.self.now))
-                (drop (trimmed_count c.args.self.now) list) honest
-                (new_ends so (g.D.Disk.state c.args.disk.now) list c.args.made.table hs)
-                (spilled_named so (g.D.Disk.state c.args.disk.now) list c.args.made.table hs).held)
-                c.flushes_keep.ensures.list c.durable_file_is_left.ensures
-                c.held_versions_are_left.ensures.left
-                c.held_versions_are_left.ensures.same c.edits_keep_versions.ensures
-                (g.D.Disk.past c.args.disk.now) (g.D.Disk.past c.begin.new.disk)
-                (g.D.Disk.past c.record.new.disk) (g.D.Disk.state c.record.new.disk)
-                (c.begin.ensures.any_moment honest) (c.record.ensures.any_moment
-                (known_version c.args.self.now) (c.begin.ensures.kept.honest.1 honest)
-                (manifest_begun so (g.D.Disk.state c.args.disk.now) list c.args.made.table hs
-                (g.D.Disk.state c.begin.new.disk)
-                (c.begin.ensures.kept.files honest) c.begin.new.self c.in_ok-begin.ensures.told.2
-                (c.in_ok-begin.ensures.begun (suc (trimmed_count c.args.self.now))
-                (drop (trimmed_count c.args.self.now) list) honest
-                (new_ends so (g.D.Disk.state c.args.disk.now) list c.args.made.table hs)
-                (spilled_named so (g.D.Disk.state c.args.disk.now) list c.args.made.table hs).held)
-                c.flushes_keep.ensures.list c.held_versions_are_left.ensures.same)));
+            any_moment = edit_is_recorded so s1 list table hs s2 spares logs begun.2 began
+                keeps law left stays edits p1 p2 p3 s3 (c.begin.ensures.any_moment honest)
+                (c.record.ensures.any_moment (known_version files) honest2 held);
           };
       meant = λ list honest ms.
           let spares = c.begin.ensures.kept.files honest in
           let honest2 = c.begin.ensures.kept.honest.1 honest in
-          let began = (c.in_ok-begin.ensures.begun (suc (trimmed_count c.args.self.now))
-          (drop (trimmed_count c.args.self.now) list) honest
-          (meant_ends so (g.D.Disk.state c.args.disk.now) list c.args.made.table ms)
-          (meant_logs so (g.D.Disk.state c.args.disk.now) list c.args.made.table ms)) in
-          let held = (manifest_was_begun so (g.D.Disk.state c.args.disk.now) list c.args.made.table
-          ms (g.D.Disk.state c.begin.new.disk)
-          (c.begin.ensures.kept.files honest) c.begin.new.self c.in_ok-begin.ensures.told.2
-          (c.in_ok-begin.ensures.begun (suc (trimmed_count c.args.self.now))
-          (drop (trimmed_count c.args.self.now) list) honest
-          (meant_ends so (g.D.Disk.state c.args.disk.now) list c.args.made.table ms)
-          (meant_logs so (g.D.Disk.state c.args.disk.now) list c.args.made.table ms))
-          c.flushes_keep.ensures.list c.held_versions_are_left.ensures.same) in
+          let began = c.in_ok-begin.ensures.begun (suc (trimmed_count files))
+          (drop (trimmed_count files) list) honest
+          (meant_ends so s1 list table ms) (meant_logs so s1 list table ms) in
+          let held =
+          manifest_was_begun so s1 list table ms s2 spares logs begun.2 began keeps stays in
           let slot = (c.manifest_has_slots.ensures s2 files.manifest (known_version files) held).0
           in
           let same = c.record.ensures.kept.files honest2 in
@@ -496,27 +393,8 @@ returns g c =
                 (c.in_default.ensures.recorded (known_version files) honest2 held)
                 (c.in_ok-add.ensures.added s3 mended ms.meant.hold.known.tables
                 ms.spilled.written.table served.0 served.1) empty;
-            any_moment = (edit_was_recorded so (g.D.Disk.state c.args.disk.now) list
-                c.args.made.table ms (g.D.Disk.state c.begin.new.disk)
-                (c.begin.ensures.kept.files honest) c.begin.new.self c.in_ok-begin.ensures.told.2
-                (c.in_ok-begin.ensures.begun (suc (trimmed_count c.args.self.now))
-                (drop (trimmed_count c.args.self.now) list) honest
-                (meant_ends so (g.D.Disk.state c.args.disk.now) list c.args.made.table ms)
-                (meant_logs so (g.D.Disk.state c.args.disk.now) list c.args.made.table ms))
-                c.flushes_keep.ensures.list c.durable_file_is_left.ensures
-                c.held_versions_are_left.ensures.left
-                c.held_versions_are_left.ensures.same c.edits_keep_versions.ensures
-                (g.D.Disk.past c.args.disk.now) (g.D.Disk.past c.begin.new.disk)
-                (g.D.Disk.past c.record.new.disk) (g.D.Disk.state c.record.new.disk)
-                (c.begin.ensures.any_moment honest) (c.record.ensures.any_moment
-                (known_version c.args.self.now) (c.begin.ensures.kept.honest.1 honest)
-                (manifest_was_begun so (g.D.Disk.state c.args.disk.now) list c.args.made.table ms
-                (g.D.Disk.state c.begin.new.disk)
-                (c.begin.ensures.kept.files honest) c.begin.new.self c.in_ok-begin.ensures.told.2
-                (c.in_ok-begin.ensures.begun (suc (trimmed_count c.args.self.now))
-                (drop (trimmed_count c.args.self.now) list) honest
-                (meant_ends so (g.D.Disk.state c.args.disk.now) list c.args.made.table ms)
-                (meant_logs so (g.D.Disk.state c.args.disk.now) list c.args.made.table ms))
-                c.flushes_keep.ensures.list c.held_versions_are_left.ensures.same)));
+            any_moment = edit_was_recorded so s1 list table ms s2 spares logs begun.2 began
+                keeps law left stays edits p1 p2 p3 s3 (c.begin.ensures.any_moment honest)
+                (c.record.ensures.any_moment (known_version files) honest2 held);
           };
     }
