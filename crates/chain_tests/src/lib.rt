@@ -11,6 +11,8 @@ mod example;
 #[cfg(test)]
 mod faults;
 #[cfg(test)]
+mod histories;
+#[cfg(test)]
 mod items;
 #[cfg(test)]
 mod large_store;

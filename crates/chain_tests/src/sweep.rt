@@ -2,13 +2,11 @@
 // afterwards agrees with one list of batches.
 use crate::answers::is_so;
 use crate::courses::{Step, junk_of, take, world_of};
-use crate::items::{Change, ONE, THREE, TWO, key_of};
-use disk::{Fault, Junk, MemDisk};
-use kv_types::{Batch, Edit, Key, Value, value_at};
-use lab::{Line, Lines, NodeReport, World};
-use manifest::Manifest;
-use node::{Reply, Stop};
-use record_log::Log;
+use crate::histories::{History, is_taken, one_list};
+use crate::items::{ONE, THREE, TWO, key_of};
+use disk::{Fault, Junk};
+use lab::{Line, World};
+use node::Stop;
 use std::alloc::Global;
 use std::process::Abort;
 
@@ -200,160 +198,6 @@ impl Course {
             }
         }
         struck
-    }
-}
-
-// Adds the records of the log in this file.
-fn add_records(
-    rt: &impl Abort,
-    alloc: Global,
-    disk: &mut MemDisk,
-    file: u64,
-    records: &mut Vec<Vec<u8>>,
-) {
-    let opened = Log::open(alloc, disk, file, 0).expect(rt, "a log");
-    for index in 0..opened.log.len() {
-        let record = opened.record(index).to_vec(alloc).expect(rt, "memory");
-        records.push(record).expect(rt, "memory");
-    }
-}
-
-// The records of the logs on a disk, of which none is given up.
-fn records_on(rt: &impl Abort, alloc: Global, disk: &mut MemDisk) -> Vec<Vec<u8>> {
-    let manifest = Manifest::open(alloc, disk).expect(rt, "a manifest");
-    let mut records = Vec::new(alloc);
-    for line in &manifest.state().logs {
-        add_records(rt, alloc, disk, line.file, &mut records);
-    }
-    records
-}
-
-// How many first records two lists have in common.
-fn common_len(list: &[Vec<u8>], other: &[Vec<u8>]) -> usize {
-    for (index, (a, b)) in list.iter().zip(other).enumerate() {
-        if a.as_slice() != b.as_slice() {
-            return index;
-        }
-    }
-    list.len().min(other.len())
-}
-
-// What the disks of all nodes have in common.
-fn common_records(rt: &impl Abort, alloc: Global, nodes: &mut [NodeReport]) -> Vec<Vec<u8>> {
-    let (first, others) = nodes.split_first_mut().expect(rt, "a node");
-    let mut list = records_on(rt, alloc, &mut first.disk);
-    for node in others {
-        let records = records_on(rt, alloc, &mut node.disk);
-        list.truncate(common_len(&list, &records));
-    }
-    list
-}
-
-// The one list.
-fn one_list(rt: &impl Abort, alloc: Global, nodes: &mut [NodeReport]) -> Vec<Batch> {
-    let mut list = Vec::new(alloc);
-    for record in &common_records(rt, alloc, nodes) {
-        let spelled = record.get(8..).unwrap_or(&[]);
-        let batch = Batch::from_bytes(alloc, spelled).expect(rt, "a batch");
-        list.push(batch).expect(rt, "memory");
-    }
-    list
-}
-
-fn is_value(found: Option<&Value>, want: Option<&[u8]>) -> bool {
-    match (found, want) {
-        (Some(value), Some(bytes)) => value.as_bytes() == bytes,
-        (None, None) => true,
-        _ => false,
-    }
-}
-
-fn is_edit(edit: &Edit, change: &Change) -> bool {
-    let want = match change.1 {
-        Some(text) => Some(text.as_bytes()),
-        None => None,
-    };
-    edit.key().as_bytes() == change.0.as_bytes() && is_value(edit.value(), want)
-}
-
-// Whether the batch has these edits.
-fn is_batch(batch: &Batch, changes: &[Change]) -> bool {
-    for (edit, change) in batch.edits().iter().zip(changes) {
-        if !is_edit(edit, change) {
-            return false;
-        }
-    }
-    batch.edits().len() == changes.len()
-}
-
-// What stands at a number, the first being 1.
-fn at<T>(list: &[T], number: u64) -> Option<&T> {
-    list.get((number as usize).checked_sub(1)?)
-}
-
-// Whether the batch at a number is that of the step.
-fn is_at(list: &[Batch], number: u64, step: &Step) -> bool {
-    match (at(list, number), step) {
-        (Some(batch), Step::Submit(_, changes)) => is_batch(batch, *changes),
-        _ => false,
-    }
-}
-
-// Whether the list has batches that were submitted, each once and in their order.
-fn is_taken(list: &[Batch], taken: &[Step]) -> bool {
-    let mut passed: u64 = 0;
-    for step in taken {
-        if is_at(list, passed.saturating_add(1), step) {
-            passed = passed.saturating_add(1);
-        }
-    }
-    passed == list.len() as u64
-}
-
-// What replies may speak of.
-#[derive(Drop)]
-struct History<'a> {
-    list: &'a [Batch],
-    taken: &'a [Step],
-    key: Key,
-}
-
-impl History<'_> {
-    // Whether the reply is of the list.
-    fn has_reply(&self, reply: &Reply) -> bool {
-        match reply {
-            Reply::Refused { .. } => true,
-            Reply::Committed { request, number } => match at(self.taken, request.get()) {
-                Some(step) => is_at(self.list, number.get(), step),
-                None => false,
-            },
-            Reply::Value { number, value, .. } => self.has_value(number.get(), value),
-        }
-    }
-
-    // Whether the key has this value at this number.
-    fn has_value(&self, number: u64, value: &Option<Value>) -> bool {
-        let Some(first) = self.list.get(..number as usize) else {
-            return false;
-        };
-        let want = match value {
-            Some(value) => Some(value.as_bytes()),
-            None => None,
-        };
-        is_value(value_at(first, &self.key), want)
-    }
-
-    // Whether the replies are of the list.
-    fn has_replies(&self, steps: &[Lines]) -> bool {
-        for lines in steps {
-            for line in lines.as_slice() {
-                match line {
-                    Line::Replied(reply) if !self.has_reply(reply) => return false,
-                    _ => {}
-                }
-            }
-        }
-        true
     }
 }
 
