@@ -60,11 +60,11 @@ pub record IsFlushOf (files : StoreFiles) (line : TableLine) (file : ℕ) (edit 
         (batch_count files) line
 
 -- so can files that are usable and have a place be, by the edit that names this table
-pub flush_of : (files : StoreFiles) (line : TableLine) (edit : Change) → AreUsableFiles files
+pub flush_by : (files : StoreFiles) (line : TableLine) (edit : Change) → AreUsableFiles files
     → (LacksPlace (known_version files).version files.free_file → ⊥) → IsNextTable files line
     → edit ≡ flush_change (known_version files).version files.free_file (batch_count files) line
     → IsFlushOf files line (files.free_file + 1) edit
-flush_of files line edit usable place next is = record {
+flush_by files line edit usable place next is = record {
   usable = usable;
   place = place;
   next = next;

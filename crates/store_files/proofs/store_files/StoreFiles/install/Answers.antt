@@ -16,7 +16,7 @@ use Rattle.store_files.specs.StoreFiles.{FilesRepresent, WereMeant, flush_change
 use Rattle.store_files.specs.Tending.{HeldAndSpilled, IsSameBeside, MeantAndSpilled, tended_files}
 use Rattle.store_files.proofs.Appended.{first_same}
 use Rattle.store_files.proofs.Causes.{refuses}
-use Rattle.store_files.proofs.FlushVersions.{beside_new, count_kept, edit_is, flush_of}
+use Rattle.store_files.proofs.FlushVersions.{beside_new, count_kept, edit_is, flush_by}
 use Rattle.store_files.proofs.FlushVersions.{facts_kept, installed_usable, known}
 use Rattle.store_files.proofs.Installed.{edit_is_recorded, installed_holds, log_begins}
 use Rattle.store_files.proofs.Installed.{manifest_begun, new_ends, new_served, none_begun}
@@ -38,7 +38,7 @@ pub begin-requires-clause-new : goal.begin-requires-clause-new
 begin-requires-clause-new g c =
     let files = c.args.self.now in
     let line = c.args.made.line in
-    let so = flush_of files line c.in_ok-edit.edit c.requires.usable c.requires.place
+    let so = flush_by files line c.in_ok-edit.edit c.requires.usable c.requires.place
     c.requires.next.next
     (edit_is files line c.state.result.now c.last_number-count.result c.in_ok-edit.edit
     c.state.ensures c.last_number-count.ensures c.in_ok-edit.ensures.edit) in
@@ -51,7 +51,7 @@ returns-in_err-edit g c =
     let line = c.args.made.line in
     let edit = flush_change (known_version files).version files.free_file (batch_count files) line
     in
-    let so = flush_of files line edit c.requires.usable c.requires.place c.requires.next.next
+    let so = flush_by files line edit c.requires.usable c.requires.place c.requires.next.next
     refl in
     let law = c.durable_file_is_left.ensures in
     let held = c.held_versions_are_left.ensures in
@@ -68,7 +68,7 @@ pub returns-in_err-begin : goal.returns-in_err-begin
 returns-in_err-begin g c =
     let files = c.args.self.now in
     let line = c.args.made.line in
-    let so = flush_of files line c.in_ok-edit.edit c.requires.usable c.requires.place
+    let so = flush_by files line c.in_ok-edit.edit c.requires.usable c.requires.place
     c.requires.next.next
     (edit_is files line c.state.result.now c.last_number-count.result c.in_ok-edit.edit
     c.state.ensures c.last_number-count.ensures c.in_ok-edit.ensures.edit) in
@@ -122,7 +122,7 @@ pub returns-in-Err : goal.returns-in-Err
 returns-in-Err g c =
     let files = c.args.self.now in
     let line = c.args.made.line in
-    let so = flush_of files line c.in_ok-edit.edit c.requires.usable c.requires.place
+    let so = flush_by files line c.in_ok-edit.edit c.requires.usable c.requires.place
     c.requires.next.next
     (edit_is files line c.state.result.now c.last_number-count.result c.in_ok-edit.edit
     c.state.ensures c.last_number-count.ensures c.in_ok-edit.ensures.edit) in
@@ -199,7 +199,7 @@ pub returns-in_err-add : goal.returns-in_err-add
 returns-in_err-add g c =
     let files = c.args.self.now in
     let line = c.args.made.line in
-    let so = flush_of files line c.in_ok-edit.edit c.requires.usable c.requires.place
+    let so = flush_by files line c.in_ok-edit.edit c.requires.usable c.requires.place
     c.requires.next.next
     (edit_is files line c.state.result.now c.last_number-count.result c.in_ok-edit.edit
     c.state.ensures c.last_number-count.ensures c.in_ok-edit.ensures.edit) in
@@ -280,7 +280,7 @@ pub returns : goal.returns
 returns g c =
     let files = c.args.self.now in
     let line = c.args.made.line in
-    let so = flush_of files line c.in_ok-edit.edit c.requires.usable c.requires.place
+    let so = flush_by files line c.in_ok-edit.edit c.requires.usable c.requires.place
     c.requires.next.next
     (edit_is files line c.state.result.now c.last_number-count.result c.in_ok-edit.edit
     c.state.ensures c.last_number-count.ensures c.in_ok-edit.ensures.edit) in
