@@ -1,0 +1,3 @@
+mod Arms
+mod MemoryArm
+mod TableArm
