@@ -12,7 +12,7 @@ use Rattle.sorted_table.specs.TableCursorLaws.{AreIntactFiles, FileSuits, Serves
 use Rattle.sorted_table.specs.TableCursors.{FileHolds, table_position}
 use Rattle.sorted_table.specs.declared.TableCursor.{TableCursor}
 use Rattle.table_files.specs.{KeepsFiles, keeps_files_itself}
-use Rattle.store_cursors.proofs.MemoryArm.{Rests}
+use Rattle.store_cursors.proofs.MemoryArm.{ServesMemory}
 
 -- those of a cursor over a memtable
 abbrev pub over_memory : Ghosts MemCursor (Unit {0})
@@ -52,14 +52,13 @@ over_table g = record {
   seeks_allocate = Unit {0};
 }
 
--- what a move over a memtable rests on
-pub rests : {D S : Type 0} (g : DiskGhosts S) (source : S)
-    → Rests {D = D} over_memory (over_table g) source
-rests g source = record {
+-- the files serve a cursor over a memtable
+pub served : {D S : Type 0} (g : DiskGhosts S) (source : S)
+    → ServesMemory {D = D} over_memory (over_table g) source
+served g source = record {
   keeps = keeps_files_itself g source;
   makes = moves_itself g source;
   intact = tt;
   unfailed = refl;
-  steps = λ never. absurd never;
-  seeks = λ _. tt;
+  allocates = λ never. absurd never;
 }

@@ -23,12 +23,12 @@ pub fn rows_at<'a, D: Disk + Drop>(
 ) -> StoreRows<'a, D>
     ensures off { ⟦<StoreRows<'a, D> as Cursor>⟧.position result ≡ Off }
     ensures sound { (meant : State) (files : _) →
-        AreSound ⟦<StoreCursor<'a, D> as Cursor>⟧ meant cursors.items files →
-        AreDisjoint ⟦<StoreCursor<'a, D> as Cursor>⟧ meant cursors.items files →
+        AreSound ⟦<StoreCursor<'a, D> as Cursor>⟧ meant cursors.entry.items files →
+        AreDisjoint ⟦<StoreCursor<'a, D> as Cursor>⟧ meant cursors.entry.items files →
         ⟦<StoreRows<'a, D> as Cursor>⟧.is_sound meant result files }
     ensures entries { (meant : State) (files : _) →
         IsAlike (⟦<StoreRows<'a, D> as Cursor>⟧.holds meant result files)
-        (IsShown at (union_of ⟦<StoreCursor<'a, D> as Cursor>⟧ meant cursors.items files)) }
+        (IsShown at (union_of ⟦<StoreCursor<'a, D> as Cursor>⟧ meant cursors.entry.items files)) }
 {
     AtNumber::new(alloc, Merged::new(cursors), at.get())
 }

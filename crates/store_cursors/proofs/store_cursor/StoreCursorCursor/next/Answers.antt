@@ -1,11 +1,11 @@
-use Rattle.store_cursors.proofs.Arms.{over_memory, over_table, rests}
+use Rattle.store_cursors.proofs.Arms.{over_memory, over_table, served}
 use Rattle.store_cursors.proofs.MemoryArm.{memory_steps}
 use Rattle.store_cursors.proofs.TableArm.{table_steps}
 use Rattle.store_cursors.proofs.store_cursor.StoreCursorCursor.next.Goals as goal
 
 pub returns-in-Memory : goal.returns-in-Memory
 returns-in-Memory g c = memory_steps over_memory (over_table _) _ c.args.self.now
-    c.in-Memory.cursor c.next.new.self c.args.files.now c.next.result (rests _ _) c.in-Memory.is
+    c.in-Memory.cursor c.next.new.self c.args.files.now c.next.result (served _ _) c.in-Memory.is
     c.next.ensures
 
 pub returns-in-Table : goal.returns-in-Table
