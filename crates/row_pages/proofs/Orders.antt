@@ -12,21 +12,21 @@ use Rattle.merge_iter.specs.declared.Direction.TheVariants.{Forward, Backward}
 use Rattle.merge_iter.specs.EntryOrder.{never, not_both}
 use Rattle.merge_iter.specs.EntryParts.{numbers_fall}
 use Rattle.merge_iter.specs.{EntryPrecedes, spot}
-use Rattle.row_pages.specs.Walking.{KeyPrecedes}
+use Rattle.row_pages.specs.Walking.{KeyIsBefore}
 
 below_before : (a b : Entry) → IsBelow a.key b.key → EntryPrecedes Forward a b
 below_before a b lower =
     ap (λ o. ordering_then o (nat_cmp b.number a.number)) (Less-below a.key b.key lower)
 
 -- an entry of a key that is met before another's is met before that one
-pub entry_before : (way : Direction) (a b : Entry) → KeyPrecedes way a.key b.key
+pub entry_before : (way : Direction) (a b : Entry) → KeyIsBefore way a.key b.key
     → EntryPrecedes way a b
 entry_before Forward a b lower = below_before a b lower
 entry_before Backward a b lower = below_before b a lower
 
 -- of two keys one is met before the other
 pub key_cases : (way : Direction) (a b : List ℕ)
-    → KeyPrecedes way a b ⊎ ((a ≡ b) ⊎ KeyPrecedes way b a)
+    → KeyIsBefore way a b ⊎ ((a ≡ b) ⊎ KeyIsBefore way b a)
 key_cases Forward a b = below_is_strict.total a b
 key_cases Backward a b = elim (below_is_strict.total a b) [
   | inl h ↦ inr (inr h)
@@ -34,20 +34,20 @@ key_cases Backward a b = elim (below_is_strict.total a b) [
 ]
 
 -- no key is met before itself
-pub key_never : (way : Direction) (a : List ℕ) → KeyPrecedes way a a → ⊥
+pub key_never : (way : Direction) (a : List ℕ) → KeyIsBefore way a a → ⊥
 key_never Forward a h = below_is_strict.never a h
 key_never Backward a h = below_is_strict.never a h
 
 -- what is met before one that is met before another is met before that
-pub key_chain : (way : Direction) (a b c : List ℕ) → KeyPrecedes way a b → KeyPrecedes way b c
-    → KeyPrecedes way a c
+pub key_chain : (way : Direction) (a b c : List ℕ) → KeyIsBefore way a b → KeyIsBefore way b c
+    → KeyIsBefore way a c
 key_chain Forward a b c h g = below_is_strict.through a b c h g
 key_chain Backward a b c h g = below_is_strict.through c b a g h
 
 -- of two entries of a set with one entry a key, the order is that of their keys
 pub key_before : (way : Direction) (entries : Entry → Type 0)
     → ((a b : Entry) → entries a → entries b → a.key ≡ b.key → a ≡ b)
-    → (a b : Entry) → entries a → entries b → EntryPrecedes way a b → KeyPrecedes way a.key b.key
+    → (a b : Entry) → entries a → entries b → EntryPrecedes way a b → KeyIsBefore way a.key b.key
 key_before way entries single a b has_a has_b before = elim (key_cases way a.key b.key) [
   | inl h ↦ h
   | inr other ↦ elim other [

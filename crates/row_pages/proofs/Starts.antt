@@ -105,8 +105,8 @@ on_ok (Ok y) x is p = p
 on_ok (Err e) x is p = absurd cc
 
 -- the move found the entry at which a walk over the range begins
-abbrev pub WalkBeginsAt : {R : Type 0} → (Entry → Type 0) → Span → Bool → Result R CursorError → Position
-    → Type 0
+abbrev pub WalkBeginsAt : {R : Type 0} → (Entry → Type 0) → Span → Bool → Result R CursorError
+    → Position → Type 0
 WalkBeginsAt entries range backward result at =
     OnOk result (IsFirst (way_of backward)
     (λ e. entries e × HasBegun (way_of backward) range e.key) at)

@@ -18,15 +18,15 @@ use Rattle.merge_iter.specs.Unions.{same_first}
 use Rattle.merge_iter.specs.{After, Broken, EntryPrecedes, IfOn, IsAlike, IsFirst, MoveFinds}
 use Rattle.merge_iter.specs.{IsBroken, Off, On, Position}
 use Rattle.row_pages.specs.Rows.{HasRowsOf, row_entry}
-use Rattle.row_pages.specs.Additions.{AddsEntry, AddsRow}
-use Rattle.row_pages.specs.Walking.{HasBegun, KeyPrecedes, ReadsUpTo, StandsAt, StandsWithin}
+use Rattle.row_pages.specs.Additions.{AddsRowOf, AddsRow}
+use Rattle.row_pages.specs.Walking.{HasBegun, KeyIsBefore, ReadsUpTo, StandsAt, StandsWithin}
 use Rattle.row_pages.specs.Walking.{way_of}
 use Rattle.row_pages.proofs.Orders.{entry_before, key_before, key_cases, key_chain, key_never}
 
 -- ---- rows of a walk
 
 key_of_row : (backward : Bool) (a b : Row) → PrecedesRow backward a b
-    → KeyPrecedes (way_of backward) a.key b.key
+    → KeyIsBefore (way_of backward) a.key b.key
 key_of_row false a b h = h
 key_of_row true a b h = h
 
@@ -58,7 +58,7 @@ rises_between R (z ∷ rows) left r x y (inr a) b = rises_between R rows left r.
 -- ---- the range is convex
 
 within_from : (way : Direction) (range : Span) (low key high : List ℕ) → HasBegun way range key
-    → IsWithin range high → (key ≡ high) ⊎ KeyPrecedes way key high → IsWithin range key
+    → IsWithin range high → (key ≡ high) ⊎ KeyIsBefore way key high → IsWithin range key
 within_from way range low key high begun within (inl same) = subst (IsWithin range) (sym same)
     within
 within_from Forward range low key high begun within (inr lower) =
@@ -84,7 +84,7 @@ begun_of Backward range key within = within.1
 
 -- nor is one that is met after a key of the range
 begun_after : (way : Direction) (range : Span) (low key : List ℕ) → IsWithin range low
-    → KeyPrecedes way low key → HasBegun way range key
+    → KeyIsBefore way low key → HasBegun way range key
 begun_after Forward range low key within more = elim within.0 [
   | inl same ↦ inr (subst (λ k. IsBelow k key) (sym same) more)
   | inr lower ↦ inr (below_is_strict.through range.from low key lower more)
@@ -121,7 +121,7 @@ module _ (map : Map) (range : Span) (entries : Entry → Type 0) (has : HasRowsO
         (are_ahead : (row : Row) → Among row left → ahead row.key)
         (all_left : (row : Row) → IsRowOf map range row → ahead row.key → Among row left)
         (convex : (key : List ℕ) (row : Row) → Among row left → ahead key
-        → (key ≡ row.key) ⊎ KeyPrecedes way key row.key → IsWithin range key)
+        → (key ≡ row.key) ⊎ KeyIsBefore way key row.key → IsWithin range key)
         (each : (row : Row) → Among row left → IsRowOf map range row)
         (rises : Rises (PrecedesRow range.backward) left) where
       -- the entry of a row that is left
@@ -142,11 +142,11 @@ module _ (map : Map) (range : Span) (entries : Entry → Type 0) (has : HasRowsO
       first_left (On e) row more is first =
           let a : Among row left = subst (Among row) (sym is) (inl refl) in
           let own = entry_of_row row a in
-          let not_after : KeyPrecedes way row.key e.key → ⊥ = λ h.
+          let not_after : KeyIsBefore way row.key e.key → ⊥ = λ h.
           first.1 (row_entry row own.0) (own.1, are_ahead row a)
           (entry_before way (row_entry row own.0) e h)
           in
-          let reached : (e.key ≡ row.key) ⊎ KeyPrecedes way e.key row.key =
+          let reached : (e.key ≡ row.key) ⊎ KeyIsBefore way e.key row.key =
           elim (key_cases way e.key row.key) [
             | inl h ↦ inr h
             | inr other ↦ elim other [ inl same ↦ inl same | inr h ↦ absurd (not_after h) ]
@@ -161,7 +161,7 @@ module _ (map : Map) (range : Span) (entries : Entry → Type 0) (has : HasRowsO
             first.0.0,
             elim found [
               | inl same ↦ r.1 ∙ ap (λ x. row_entry x e.number) (sym same)
-              | inr b ↦ absurd (not_after (subst (KeyPrecedes way row.key) (sym key)
+              | inr b ↦ absurd (not_after (subst (KeyIsBefore way row.key) (sym key)
                   (key_of_row range.backward row r.0 (up.0 r.0 b))))
             ],
           )
@@ -208,7 +208,7 @@ module _ (map : Map) (range : Span) (entries : Entry → Type 0) (has : HasRowsO
 
       -- behind the entry of a row stands that of the next
       next_row : (rows : List Row) (row : Row) (left : List Row) → walk ≡ rows ++ row ∷ left
-          → (at : Position) → IsFirst way (λ e. entries e × KeyPrecedes way row.key e.key) at
+          → (at : Position) → IsFirst way (λ e. entries e × KeyIsBefore way row.key e.key) at
           → StandsAt range entries left at
       next_row rows row left parts at first =
           let all : Rises (PrecedesRow range.backward) (rows ++ row ∷ left) =
@@ -217,22 +217,25 @@ module _ (map : Map) (range : Span) (entries : Entry → Type 0) (has : HasRowsO
           rises_left (PrecedesRow range.backward) rows (row ∷ left) all in
           let each : (r : Row) → Among r (row ∷ left) → IsRowOf map range r = λ r a.
           rows_of_walk r (subst (Among r) (sym parts) (among_left r rows (row ∷ left) a)) in
-          let later : (r : Row) → Among r left → KeyPrecedes way row.key r.key = λ r a.
+          let later : (r : Row) → Among r left → KeyIsBefore way row.key r.key = λ r a.
           key_of_row range.backward row r (up.0 r a) in
-          stands (KeyPrecedes way row.key) left later
-          (λ r h after. elim (among_parts r rows (row ∷ left) (subst (Among r) parts (in_walk r h))) [
+          stands (KeyIsBefore way row.key) left later
+          (λ r h after. elim
+          (among_parts r rows (row ∷ left) (subst (Among r) parts (in_walk r h))) [
             | inl a ↦ absurd (key_never way r.key (key_chain way r.key row.key r.key
                 (key_of_row range.backward r row
-                (rises_between (PrecedesRow range.backward) rows (row ∷ left) all r row a (inl refl)))
+                (rises_between (PrecedesRow range.backward) rows (row ∷ left) all r row a
+                (inl refl)))
                 after))
             | inr b ↦ elim b [
               | inl same ↦ absurd (key_never way r.key
-                  (subst (λ (x : Row). KeyPrecedes way x.key r.key) same after))
+                  (subst (λ (x : Row). KeyIsBefore way x.key r.key) same after))
               | inr a ↦ a
             ]
           ])
           (λ key r a after reached. within_from way range row.key key r.key
-          (begun_after way range row.key key (each row (inl refl)).1 after) (each r (inr a)).1 reached)
+          (begun_after way range row.key key (each row (inl refl)).1 after)
+          (each r (inr a)).1 reached)
           (λ r a. each r (inr a)) up.1 at left refl first
 
       -- the entry on which the cursor stands within the range is that of the next row
@@ -261,15 +264,15 @@ module _ (map : Map) (range : Span) (entries : Entry → Type 0) (has : HasRowsO
           }
 
       added_row : (rows new : List Row) (added : Bool) (e : Entry) (row : Row)
-          → e ≡ row_entry row e.number → AddsEntry range.limit rows e new added
+          → e ≡ row_entry row e.number → AddsRowOf range.limit rows e new added
           → AddsRow range.limit rows row new added
       added_row rows new added e row same adds =
-          subst (λ (x : Entry). AddsEntry range.limit rows x new added) same adds
+          subst (λ (x : Entry). AddsRowOf range.limit rows x new added) same adds
 
       -- it is added, and the cursor moves on
       pub steps_on : {R : Type 0} (now : Entry → Type 0) → IsAlike now entries
           → (rows new : List Row) (was at : Position) (result : Result R CursorError) (x : R)
-          → StandsWithin range was → IfOn was (λ e. AddsEntry range.limit rows e new true)
+          → StandsWithin range was → IfOn was (λ e. AddsRowOf range.limit rows e new true)
           → result ≡ Ok x → IfOn was (λ e. MoveFinds way (After e) now result at)
           → ReadsUpTo range entries walk rows was → ReadsUpTo range entries walk new at
       steps_on now alike rows new (On e) at (Err y) x within adds ok finds r = absurd cc
@@ -278,19 +281,19 @@ module _ (map : Map) (range : Span) (entries : Entry → Type 0) (has : HasRowsO
           let row = n.row in
           let added = added_row rows new true e row n.of_row adds in
           let key : e.key ≡ row.key = ap (λ (z : Entry). z.key) n.of_row in
-          let first : IsFirst way (λ p. entries p × KeyPrecedes way row.key p.key) at =
+          let first : IsFirst way (λ p. entries p × KeyIsBefore way row.key p.key) at =
           same_first way (λ p. now p × EntryPrecedes way e p)
-          (λ p. entries p × KeyPrecedes way row.key p.key) at
+          (λ p. entries p × KeyIsBefore way row.key p.key) at
           (λ p. (
             (λ h. let there = (alike p).0 h.0 in (
               there,
-              subst (λ k. KeyPrecedes way k p.key) key
+              subst (λ k. KeyIsBefore way k p.key) key
                   (key_before way entries has.single e p n.here there h.1),
             )),
             (λ h. (
               (alike p).1 h.0,
               entry_before way e p
-                  (subst (λ k. KeyPrecedes way k p.key) (sym key) h.1),
+                  (subst (λ k. KeyIsBefore way k p.key) (sym key) h.1),
             )),
           )) finds in
           record {
@@ -307,7 +310,7 @@ module _ (map : Map) (range : Span) (entries : Entry → Type 0) (has : HasRowsO
 
       -- it would exceed the limits
       pub full_page : (rows new : List Row) (was : Position) → StandsWithin range was
-          → IfOn was (λ e. AddsEntry range.limit rows e new false)
+          → IfOn was (λ e. AddsRowOf range.limit rows e new false)
           → ReadsUpTo range entries walk rows was
           → IsPage map range (record { rows = new; more = true })
       full_page rows new (On e) within adds r =

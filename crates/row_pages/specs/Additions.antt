@@ -18,7 +18,7 @@ AddsRow limit old row new false =
     (new ≡ old) × (KeepsLimits limit MAX_PAGE (old ++ row ∷ []) → ⊥)
 
 -- so was the row of the entry, if it is no deletion
-abbrev pub AddsEntry : ℕ → List Row → Entry → List Row → Bool → Type 0
-AddsEntry limit old entry new added =
+abbrev pub AddsRowOf : ℕ → List Row → Entry → List Row → Bool → Type 0
+AddsRowOf limit old entry new added =
     IfSome entry.value
     (λ value. AddsRow limit old (record { key = entry.key; value = value }) new added)

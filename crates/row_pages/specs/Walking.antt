@@ -16,9 +16,9 @@ way_of false = Forward
 way_of true = Backward
 
 -- a walk in this direction meets the first key before the second
-abbrev pub KeyPrecedes : Direction → List ℕ → List ℕ → Type 0
-KeyPrecedes Forward a b = IsBelow a b
-KeyPrecedes Backward a b = IsBelow b a
+abbrev pub KeyIsBefore : Direction → List ℕ → List ℕ → Type 0
+KeyIsBefore Forward a b = IsBelow a b
+KeyIsBefore Backward a b = IsBelow b a
 
 -- the key is not before the bound of the range at which a walk in this direction begins
 abbrev pub HasBegun : Direction → Span → List ℕ → Type 0
@@ -35,7 +35,7 @@ StandsWithin range (On entry) = IsWithin range entry.key
 StandsWithin range Off = ⊥
 StandsWithin range Broken = ⊥
 
--- the position is the entry of the first of these rows, or lies beyond the range where there is none
+-- the position is the entry of the first of these rows; where there is none it is beyond the range
 abbrev pub StandsAt : Span → (Entry → Type 0) → List Row → Position → Type 0
 StandsAt range entries [] (On entry) = IsWithin range entry.key → ⊥
 StandsAt range entries [] Off = Unit {0}

@@ -3,7 +3,7 @@ ghost use Rattle.std.specs.Prelude.{IfOk};
 ghost use Rattle.kv_types.specs.Pages.{IsPage, Map};
 ghost use Rattle.merge_iter.specs.LentCursors.{ShiftsCursor};
 ghost use Rattle.merge_iter.specs.{IfOn, IsOn};
-ghost use Rattle.row_pages.specs.Additions.{AddsEntry};
+ghost use Rattle.row_pages.specs.Additions.{AddsRowOf};
 ghost use Rattle.row_pages.specs.Rows.{HasRowsOf, HasWalk};
 
 use crate::page_rows::PageRows;
@@ -22,7 +22,7 @@ fn add_entry<C: Cursor>(
 ) -> Result<bool, AllocError>
     requires { IsOn (C.position cursor.now) }
     ensures { IfOk result (λ added. IfOn (C.position cursor.now)
-        (λ entry. AddsEntry limit page.old entry page.new added)) }
+        (λ entry. AddsRowOf limit page.old entry page.new added)) }
 {
     match cursor.value() {
         Some(value) => page.add(alloc, limit, cursor.key(), value),

@@ -43,8 +43,8 @@ fn seek_below<C: Cursor>(
         result }
     ensures begins { (meant : C.Meant) → C.is_sound meant cursor.old source.old →
         AreNumbered (C.holds meant cursor.old source.old) → OnOk result (IsFirst Backward
-        (λ entry. C.holds meant cursor.old source.old entry × IsBelow entry.key (lent_key key.entry))
-        (C.position cursor.new)) }
+        (λ entry. C.holds meant cursor.old source.old entry
+        × IsBelow entry.key (lent_key key.entry)) (C.position cursor.new)) }
 {
     cursor.seek(source, key, MAX_NUMBER)?;
     if cursor.valid() {

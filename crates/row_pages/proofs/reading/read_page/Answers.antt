@@ -3,7 +3,7 @@ use Rattle.kv_types.specs.declared.Row.{Row}
 use Rattle.kv_types.specs.Pages.{IsPage}
 use Rattle.kv_types.specs.{Rows}
 use Rattle.merge_iter.specs.{IfOn}
-use Rattle.row_pages.specs.Additions.{AddsEntry}
+use Rattle.row_pages.specs.Additions.{AddsRowOf}
 use Rattle.row_pages.specs.Walking.{ReadsUpTo}
 use Rattle.row_pages.proofs.Calls.{has_moved, shifts_as, shifts_behind, step_shifts}
 use Rattle.row_pages.proofs.Steps.{begun, full_page, last_page, steps_on, unbroken}
@@ -29,9 +29,9 @@ loop-alloc-preserved g c =
     let rows = c.loop-alloc.page in
     let new = c.add_entry.new.page in
     let within = c.stands_within.ensures.0 c.loop-alloc-test.true in
-    let adds = subst (λ (b : Bool). IfOn was (λ e. AddsEntry range.limit rows e new b))
+    let adds = subst (λ (b : Bool). IfOn was (λ e. AddsRowOf range.limit rows e new b))
     c.if-not-branch.false
-    (subst (λ (n : ℕ). IfOn was (λ e. AddsEntry n rows e new c.in_ok-add_entry.field-0))
+    (subst (λ (n : ℕ). IfOn was (λ e. AddsRowOf n rows e new c.in_ok-add_entry.field-0))
     c.limit.ensures.limit c.in_ok-add_entry.ensures) in
     record {
       moved = has_moved g.C.Cursor g.met.C.Cursor.laws c.in_ok-step.was
@@ -43,7 +43,8 @@ loop-alloc-preserved g c =
           steps_on map range entries has walk is
           (g.C.Cursor.holds meant c.loop-alloc.cursor c.loop-alloc.source) stays.1 rows new was
           (g.C.Cursor.position c.step.new.cursor) c.step.result c.in_ok-step.field-0 within adds
-          c.in_ok-step.was (c.step.ensures.finds meant stays.0) (i.reads meant map walk sound has is);
+          c.in_ok-step.was (c.step.ensures.finds meant stays.0)
+          (i.reads meant map walk sound has is);
     }
 
 pub returns-in_err-step-clause-moved : goal.returns-in_err-step-clause-moved
@@ -66,9 +67,9 @@ returns-then-not-branch-clause-page g c = λ meant map sound has walk.
     let rows = c.loop-alloc.page in
     let new = c.add_entry.new.page in
     let within = c.stands_within.ensures.0 c.loop-alloc-test.true in
-    let adds = subst (λ (b : Bool). IfOn was (λ e. AddsEntry range.limit rows e new b))
+    let adds = subst (λ (b : Bool). IfOn was (λ e. AddsRowOf range.limit rows e new b))
     c.if-not-branch.true
-    (subst (λ (n : ℕ). IfOn was (λ e. AddsEntry n rows e new c.in_ok-add_entry.field-0))
+    (subst (λ (n : ℕ). IfOn was (λ e. AddsRowOf n rows e new c.in_ok-add_entry.field-0))
     c.limit.ensures.limit c.in_ok-add_entry.ensures) in
     subst (λ (p : Rows). IsPage map range p) (sym c.into_page.ensures)
     (full_page map range entries has walk.0 walk.1 rows new was within adds
