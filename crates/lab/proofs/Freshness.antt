@@ -10,7 +10,7 @@ use Rattle.chain_model.specs.{Configurations, Lawful, Request, Response, Committ
 use Rattle.chain_model.specs.{Closed, Refused, SystemEvent as ModelEvent, SystemState, Outcome}
 use Rattle.chain_model.specs.{StepResult, Answered, StoppedBefore, StoppedAfter, Answer, answers}
 use Rattle.chain_model.specs.{as_completed, ask, first_state, outcome, reached, refused, run}
-use Rattle.chain_model.specs.{state_after, stops}
+use Rattle.chain_model.specs.{state_after}
 use Rattle.chain_core.specs.{Machine}
 use Rattle.chain_model.specs.declared.Refusal.TheVariants.{NotRunning}
 use Rattle.chain_model.specs.Freshness.{IsAtMost, ReadsFresh}

@@ -1,7 +1,7 @@
 -- From the model's one list of batches to what the lines of a report say.
 use Rattle.std.proofs.Common.{◌≡◌, ℕ, suc, List, [], ◌∷◌, length}
 use Rattle.std.proofs.Common.{refl, ap, arith}
-use Rattle.std.specs.List.{AllZip, AllByRecursion, flat_map}
+use Rattle.std.specs.List.{All, AllZip, AllByRecursion, flat_map}
 use Rattle.std.proofs.lemmas.List.Elements.{All-from_recursion}
 use Rattle.kv_types.specs.{BatchContent, map_of}
 use Rattle.chain_model.specs.{Configurations, ResponseAgrees, numbered}
@@ -16,7 +16,8 @@ use Rattle.lab.specs.declared.report.Line.{Line}
 use Rattle.lab.specs.Events.{modelled, lines_of_event, reply_line, reply_lines}
 use Rattle.lab.specs.SimNodes.{Choice}
 use Rattle.lab.specs.Traces.{modelled_from, lines_from}
-use Rattle.lab.specs.History.{Placed, LineSpeaksOf, StepSpeaksOf, submitted_from}
+use Rattle.lab.specs.History.{LineAgrees, Placed}
+use Rattle.lab.proofs.Submits.{submitted_from}
 use Rattle.lab.proofs.TraceLines.{IsQuiet, back, both, front, lines_have}
 
 -- ---- events
@@ -70,12 +71,12 @@ submitted_same i (event ∷ events) (ch ∷ chs) same = one event.kind
 
 -- ---- lines
 
--- each of these lines speaks of B
+-- each of these lines agrees with B
 abbrev Each : List Placed → EventKind → List Line → Type 0
-Each B kind lines = AllByRecursion (LineSpeaksOf B kind) lines
+Each B kind lines = AllByRecursion (LineAgrees B kind) lines
 
 -- a line that is no reply says nothing of it
-quiet : (B : List Placed) (kind : EventKind) → IsQuiet (LineSpeaksOf B kind)
+quiet : (B : List Placed) (kind : EventKind) → IsQuiet (LineAgrees B kind)
 quiet B kind = record {
   nothing = tt;
   dropped = λ why. tt;
@@ -86,7 +87,7 @@ quiet B kind = record {
   tended = λ did. tt;
 }
 
--- a read's reply speaks of B where the model's does
+-- a read's reply agrees with B where the model's does
 shown : (B : List Placed) (kind : EventKind) (i s : ℕ) (l : List BatchContent) →
     ResponseAgrees B (Shows i s l) → Each B kind (reply_line kind (Shows i s l))
 shown B (Submit x batch) i s l agrees = tt
@@ -98,39 +99,40 @@ shown B (Tend x) i s l agrees = tt
 shown B (Start x) i s l agrees = tt
 shown B (Stop x junk) i s l agrees = tt
 
--- a reply speaks of B where the model's does
-speaks : (B : List Placed) (kind : EventKind) (r : Response BatchContent) → ResponseAgrees B r →
+-- a reply agrees with B where the model's does
+agrees_by : (B : List Placed) (kind : EventKind) (r : Response BatchContent) → ResponseAgrees B r →
     Each B kind (reply_line kind r)
-speaks B kind (Committed i n) agrees = (agrees, tt)
-speaks B kind (Shows i s l) agrees = shown B kind i s l agrees
-speaks B kind (Opened i s) agrees = tt
-speaks B kind (Closed i s) agrees = tt
-speaks B kind (Refused i why) agrees = (tt, tt)
+agrees_by B kind (Committed i n) agrees = (agrees, tt)
+agrees_by B kind (Shows i s l) agrees = shown B kind i s l agrees
+agrees_by B kind (Opened i s) agrees = tt
+agrees_by B kind (Closed i s) agrees = tt
+agrees_by B kind (Refused i why) agrees = (tt, tt)
 
 replied : (B : List Placed) (kind : EventKind) (replies : List (Response BatchContent)) →
     AllByRecursion (ResponseAgrees B) replies → Each B kind (reply_lines kind replies)
 replied B kind [] agree = tt
 replied B kind (r ∷ replies) agree =
-    both (LineSpeaksOf B kind) (reply_line kind r) (reply_lines kind replies)
-    (speaks B kind r agree.0) (replied B kind replies agree.1)
+    both (LineAgrees B kind) (reply_line kind r) (reply_lines kind replies)
+    (agrees_by B kind r agree.0) (replied B kind replies agree.1)
 
--- the lines of all events speak of B where the replies of their outcomes do
-pub all_speak : (B : List Placed) (cs : Configurations) (i : ℕ) (events : List Event)
+-- the lines of all events agree with B where the replies of their outcomes do
+pub all_agree : (B : List Placed) (cs : Configurations) (i : ℕ) (events : List Event)
     (chs : List Choice) (w : SystemState BatchContent) → length chs ≡ length events
     → AllByRecursion (ResponseAgrees B) (flat_map (λ (o : Outcome BatchContent). o.replies)
     (outcomes cs (modelled_from i events chs) w))
-    → AllZip (StepSpeaksOf B) events (lines_from cs i events chs w)
-all_speak B cs i [] chs w same agree = tt
-all_speak B cs i (event ∷ events) [] w same agree = absurd (omega arith)
-all_speak B cs i (event ∷ events) (ch ∷ chs) w same agree =
+    → AllZip (λ event lines. All (LineAgrees B event.kind) lines) events
+    (lines_from cs i events chs w)
+all_agree B cs i [] chs w same agree = tt
+all_agree B cs i (event ∷ events) [] w same agree = absurd (omega arith)
+all_agree B cs i (event ∷ events) (ch ∷ chs) w same agree =
     let e = modelled i event.kind ch in
     let o = outcome w cs e in
     let n = length w.frames in
     let later = flat_map (λ (p : Outcome BatchContent). p.replies)
     (outcomes cs (modelled_from (suc i) events chs) (state_after cs w e)) in (
-      All-from_recursion (LineSpeaksOf B event.kind) (lines_of_event n event ch o)
-          (lines_have (LineSpeaksOf B event.kind) (quiet B event.kind) o.acted_on n event ch o
+      All-from_recursion (LineAgrees B event.kind) (lines_of_event n event ch o)
+          (lines_have (LineAgrees B event.kind) (quiet B event.kind) o.acted_on n event ch o
           (replied B event.kind o.replies (front (ResponseAgrees B) o.replies later agree))),
-      all_speak B cs (suc i) events chs (state_after cs w e) (omega arith)
+      all_agree B cs (suc i) events chs (state_after cs w e) (omega arith)
           (back (ResponseAgrees B) o.replies later agree),
     )

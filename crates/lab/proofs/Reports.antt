@@ -24,7 +24,7 @@ use Rattle.lab.specs.declared.report.Report.{Report}
 use Rattle.lab.specs.declared.sim_node.SimNode.{SimNode}
 use Rattle.lab.specs.Disks.{HaveDisks, IsDiskOf}
 use Rattle.lab.specs.Freshness.{NodesKeepEnough, ReadsAreFresh}
-use Rattle.lab.specs.History.{Placed, IsHistory, StepSpeaksOf, HasAll}
+use Rattle.lab.specs.History.{HasAll, IsHistory, LineAgrees, Placed}
 use Rattle.lab.specs.SimNodes.{Choice, IsUnarmed, StateRefines, disk_in, is_honest, state}
 use Rattle.lab.specs.SimNodes.{failures, marks}
 use Rattle.lab.specs.Runs.{IsRun, RunningRefines}
@@ -32,7 +32,8 @@ use Rattle.lab.specs.Traces.{modelled_from, IsTrace}
 use Rattle.lab.specs.declared.world.World.{World}
 use Rattle.lab.specs.Worlds.{AreLeft, AreNodesAfter, AreReportsAfter, HasRun, IsLeft, IsReportOf}
 use Rattle.lab.specs.Worlds.{RunRefines, SimNodeRefines, WorldHasLimits, WorldRun}
-use Rattle.lab.proofs.Histories.{numbered_same, submitted_same, all_speak}
+use Rattle.lab.proofs.Histories.{numbered_same, submitted_same, all_agree}
+use Rattle.lab.proofs.Submits.{all_ordered, all_submitted}
 use Rattle.lab.proofs.Nodes.{reported_ids}
 
 -- the model's one list is that of the lines and of the disks
@@ -57,14 +58,19 @@ one_of state failures past marks id disk cs events choices steps nodes trace dis
     in
     let begins = subst (λ (l : List (ModelEvent BatchContent)). (x : ℕ) → has (last_of cs) x ≡ true
     → IsPrefix (batches one.B) (node_of cs l x).list) same one.stands in
+    let part = subst (λ (l : List Placed). Part one.B l)
+    (submitted_same 1 events choices trace.one_each) one.taken in
     record {
       B = one.B;
-      taken = subst (λ (l : List Placed). Part one.B l)
-          (submitted_same 1 events choices trace.one_each) one.taken;
-      speaks = subst (λ (l : List (List Line)). AllZip (StepSpeaksOf one.B) events l)
-          (sym trace.traced)
-          (all_speak one.B cs 1 events choices (first_state cs) trace.one_each replies);
-      stands = All-weaker
+      clients = record {
+        submitted = all_submitted one.B events part;
+        ordered = all_ordered one.B events part;
+        agrees = subst (λ (l : List (List Line)).
+            AllZip (λ event lines. All (LineAgrees one.B event.kind) lines) events l)
+            (sym trace.traced)
+            (all_agree one.B cs 1 events choices (first_state cs) trace.one_each replies);
+      };
+      disks = All-weaker
           (λ node. IsDiskOf state (id node) (node_of cs es (id node)) (disk node)
           (disks.disks (id node)))
           (λ node. has (last_of cs) (id node) ≡ true → HasAll one.B (id node) (state (disk node)))
