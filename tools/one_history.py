@@ -16,11 +16,14 @@ import re
 import sys
 
 sys.dont_write_bytecode = True
-from lab_texts import ANSWERED, CAUSES, SENT, kind_of, read_script
+from lab_texts import ANSWERED, CAUSES, SENT, bytes_of, kind_of, number_in, read_script
 
 STARTED = re.compile(r"started epoch (\d+) count (\d+) committed (\d+)")
 SHOWN = re.compile(r"epoch 0 count (\d+) committed (\d+) floor 0 kept 0 tables (\d+)( 0){6}")
 READ = re.compile(r"(?:value (\S+)|none) at (\d+)")
+ROWS = re.compile(r"rows (\d+) at (\d+)( more)?")
+# The limits of a page, and of the snapshots that a node has open.
+PAGE_BYTES, ROW_BYTES, SNAPSHOTS = 98_304, 4, 64
 
 
 class Broken(Exception):
@@ -44,12 +47,43 @@ def value_at(batches, key):
     return value
 
 
+def map_of(batches):
+    """The last put of each key that has a value after these batches of edits, by its bytes."""
+    rows = {}
+    for edit in (edit for batch in batches for edit in batch):
+        if edit[:1] == "-":
+            rows.pop(bytes_of(edit[1:]), None)
+        else:
+            rows[bytes_of(edit.partition("=")[0])] = edit
+    return rows
+
+
+def page_of(batches, words):
+    """The rows that a `rows` or `back` shows of these batches, and whether more are left."""
+    start, end = bytes_of(words[2]), None if words[3] == "*" else bytes_of(words[3])
+    rows = map_of(batches)
+    keys = sorted(key for key in rows if start <= key and (end is None or key < end))
+    walk = [rows[key] for key in keys]
+    if words[0] == "back":
+        walk.reverse()
+    page, size = [], 0
+    for row in walk:
+        key, _, value = row.partition("=")
+        size += len(bytes_of(key)) + len(bytes_of(value)) + ROW_BYTES
+        if len(page) == int(words[4]) or size > PAGE_BYTES:
+            break
+        page.append(row)
+    return page, len(page) < len(walk)
+
+
 def outcome_of(kind, text):
     """An output without what differs from run to run."""
     if kind == "node":
         return text.split(" ", 2)[2].split(" epoch")[0]
     if kind == "sent":
         return "sent " + text.split(" ")[2]
+    if kind == "rows":
+        return "rows with more" if text.endswith(" more") else "rows"
     return text if kind in ("dropped", "refused", "invalid") else kind
 
 
@@ -70,6 +104,9 @@ class History:
         # Of each node how many batches were reported to it as committed, and its last own number.
         self.reported, self.shown = dict.fromkeys(self.chain, 0), dict.fromkeys(self.chain, 0)
         self.up, self.stopped = set(self.chain), set()
+        # Of each statement the rows that it printed, and of each node its open snapshots.
+        self.rows_of = collections.defaultdict(list)
+        self.snapshots = {node: collections.Counter() for node in self.chain}
         # Of each node how many tables were shown last.
         self.tables = dict.fromkeys(self.chain, 0)
         self.answered, self.forwarded, self.waiting = set(), set(), {}
@@ -94,7 +131,8 @@ class History:
         kind = kind_of(text)
         expect(kind in CAUSES, "a line of no form")
         expect(words[0] in CAUSES[kind], f"'{kind}' for a statement that can't have it")
-        if words[0] in ANSWERED and kind != "sent":
+        expect(kind != "row" or line not in self.answered, "a row behind its page")
+        if words[0] in ANSWERED and kind not in ("sent", "row"):
             expect(line not in self.answered, "a second answer")
             expect(kind == "committed" or line not in self.forwarded, "a second answer")
             self.answered.add(line)
@@ -166,24 +204,57 @@ class History:
         form, node = READ.fullmatch(text), words[1]
         expect(form, "a line of no form")
         value, at = form[1], int(form[2])
-        expect(node in self.up, "an answer of a node that does not run")
-        expect(at <= self.committed_at(node), "a read of what is not committed")
-        if len(words) > 3:
-            expect(at == int(words[3]), "a read at another number than the one asked")
-        else:
-            expect(node != self.tail or at >= self.known, "an old read at the tail")
-            expect(at >= self.shown[node], "a node's reads go back")
-            self.shown[node] = at
+        self.read(node, words, at)
         expect(value_at(self.batches[:at], words[2]) == value, "not the value at this number")
-        self.note_read(node, at, value)
+        self.note_read(node, at, "none" if value is None else "value")
         self.known = max(self.known, at)
         self.reads.append((line, words[2], at, value))
 
     none = value
 
-    def note_read(self, node, at, value):
+    def read(self, node, words, at):
+        """A node reads, or opens a snapshot, at the number asked, or else at no old one."""
+        expect(node in self.up, "an answer of a node that does not run")
+        expect(at <= self.committed_at(node), "a read of what is not committed")
+        if number_in(words) is not None:
+            expect(at == number_in(words), "a read at another number than the one asked")
+        else:
+            expect(node != self.tail or at >= self.known, "an old read at the tail")
+            expect(at >= self.shown[node], "a node's reads go back")
+            self.shown[node] = at
+
+    def row(self, line, words, text):
+        """A row of a page, which is checked at its last line."""
+        self.rows_of[line].append(text.partition(" ")[2])
+
+    def rows(self, line, words, text):
+        """A page shows the rows of a range in the map of so many first batches."""
+        form = ROWS.fullmatch(text)
+        expect(form, "a line of no form")
+        at, rows = int(form[2]), self.rows_of[line]
+        self.read(words[1], words, at)
+        expect(int(form[1]) == len(rows), "not the number of its rows")
+        page = page_of(self.batches[:at], words)
+        expect((rows, bool(form[3])) == page, "not the page at this number")
+        self.note_read(words[1], at, "page")
+        self.known = max(self.known, at)
+
+    def opened(self, line, words, text):
+        """A snapshot is opened at a number that can be read."""
+        at, opened = int(text.split(" ")[1]), self.snapshots[words[1]]
+        self.read(words[1], words, at)
+        expect(opened.total() < SNAPSHOTS, "too many snapshots are open")
+        opened[at] += 1
+
+    def closed(self, line, words, text):
+        """A snapshot that is open is closed."""
+        number, opened = int(text.split(" ")[1]), self.snapshots[words[1]]
+        expect(words[1] in self.up, "an answer of a node that does not run")
+        expect(number == number_in(words) and opened[number], "closed what is not open")
+        opened[number] -= 1
+
+    def note_read(self, node, at, kind):
         """Counts reads at numbers below one that was acknowledged or read."""
-        kind = "none" if value is None else "value"
         if at < self.known:
             self.seen[f"read of a {kind} at an old number"] += 1
             self.seen[f"read of a {kind} at an old number after a stop"] += node in self.stopped
@@ -195,15 +266,25 @@ class History:
             expect(why == "1 NotRunning", "a node that does not run answers")
         elif words[0] == "submit":
             expect(why == "2 NotHead" and words[1] != self.head, "refused without cause")
+        elif words[0] == "close":
+            opened = self.snapshots[words[1]][number_in(words)]
+            expect(why == "5 NoSuchSnapshot" and not opened, "refused without cause")
+        elif why == "6 TooManySnapshots":
+            opened = self.snapshots[words[1]].total()
+            expect(words[0] == "open" and opened == SNAPSHOTS, "refused without cause")
         else:
-            expect(why == "4 NotCommitted" and len(words) > 3, "refused without cause")
-            expect(words[1] != self.tail or int(words[3]) > self.known, "refused without cause")
+            number = number_in(words)
+            expect(why == "4 NotCommitted" and number is not None, "refused without cause")
+            expect(words[1] != self.tail or number > self.known, "refused without cause")
 
     def invalid(self, line, words, text):
-        """A submit has no edits, or something is long."""
+        """A submit has no edits, a limit is out of bounds, or something is long."""
         is_empty = words[0] == "submit" and len(words) == 2
+        is_range = words[0] in ("rows", "back")
+        is_wide = is_range and not 1 <= int(words[4]) <= 1024
         expect((text == "invalid 3 NoEdits") == is_empty, "invalid without cause")
-        expect(is_empty or len(" ".join(words)) > 1024, "invalid without cause")
+        expect(text != "invalid 8 BadLimit" or is_wide, "invalid without cause")
+        expect(is_empty or is_wide or len(" ".join(words)) > 1024, "invalid without cause")
 
     def dropped(self, line, words, text):
         """A drop has its cause, as far as the statement says which node it was for."""
@@ -248,6 +329,7 @@ class History:
         expect(node in self.up or words[0] == "start", "a stop of a node that does not run")
         self.up.discard(node)
         self.stopped.add(node)
+        self.snapshots[node].clear()
         if node == self.head:
             self.waiting = {}
             self.unsure = line if words[0] == "submit" else self.unsure
