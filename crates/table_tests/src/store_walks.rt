@@ -18,9 +18,9 @@ use std::alloc::Global;
 use std::process::Abort;
 use store_cursors::{StoreCursor, StoreRows, rows_at};
 
-const NUMBERS: u8 = 240;
+const NUMBERS: u8 = 120;
 
-/// The entries of 240 batches with 12 changes each, and a memtable of every third batch.
+/// The entries of 120 batches with 12 changes each, and a memtable of every third batch.
 fn entries_and_memtable(rt: &impl Abort, alloc: Global) -> (Vec<PlainEntry>, Numbered) {
     let (mut sequence, mut entries) = (Sequence::new(5), Vec::new(alloc));
     let mut memtable = Numbered::new(alloc);
@@ -97,44 +97,55 @@ fn a_memtable_beside_two_tables(rt: HostRuntime) {
     is_count(&rt, agreeing_in_a_union(&rt, rt.alloc()), 2_000);
 }
 
-/// How many of the moves over the rows at a number led where they lead in the plain list; before
-/// them a walk each way meets every row.
-fn agreeing_at(
+/// Fails the test where a walk each way over the rows at a number does not meet each in its place.
+fn meet_rows(
     rt: &impl Abort,
     alloc: Global,
     memtable: &Numbered,
     files: &mut Files<MemDisk>,
     shown: &[PlainEntry],
     at: u64,
-) -> usize {
+) {
     let mut rows = rows_of(rt, alloc, memtable, files, at);
     let owned = all_owned(rt, alloc, shown);
     meet_all(rt, &mut rows, files, &owned, shown.len());
-    agreeing(rt, &mut rows, files, shown, NUMBERS)
 }
 
+#[test]
+fn rows_at_several_numbers(rt: HostRuntime) {
+    let alloc = rt.alloc();
+    let (entries, memtable) = entries_and_memtable(&rt, alloc);
+    let mut files = files_of(&rt, alloc, &entries);
+    for at in [0, 1, 2, 3, 40, 119, 120] {
+        let shown = shown_at(&rt, alloc, &entries, at);
+        meet_rows(&rt, alloc, &memtable, &mut files, &shown, at);
+    }
+}
+
+/// How many of the moves over the rows at 61 led where they lead in the plain list.
 fn agreeing_rows(rt: &impl Abort, alloc: Global) -> usize {
     let (entries, memtable) = entries_and_memtable(rt, alloc);
     let mut files = files_of(rt, alloc, &entries);
-    let mut count = 0usize;
-    for at in [0, 1, 2, 3, 40, 121, 239, 240] {
-        let shown = shown_at(rt, alloc, &entries, at);
-        count = count.wrapping_add(agreeing_at(rt, alloc, &memtable, &mut files, &shown, at));
-    }
-    count
+    let mut rows = rows_of(rt, alloc, &memtable, &mut files, 61);
+    let shown = shown_at(rt, alloc, &entries, 61);
+    agreeing(rt, &mut rows, &mut files, &shown, NUMBERS)
 }
 
 #[test]
 fn the_rows_of_a_memtable_and_two_tables(rt: HostRuntime) {
-    is_count(&rt, agreeing_rows(&rt, rt.alloc()), 16_000);
+    is_count(&rt, agreeing_rows(&rt, rt.alloc()), 2_000);
 }
 
 /// The batch that deletes 4, and puts 6.
 fn newer_batch(rt: &impl Abort, alloc: Global) -> Batch {
     let value = Value::new(copy_of(rt, alloc, b"new")).expect(rt, "a value");
     let mut edits = Vec::new(alloc);
-    edits.push(Edit::Delete(key_of(rt, alloc, b"4"))).expect(rt, "memory");
-    edits.push(Edit::Put(key_of(rt, alloc, b"6"), value)).expect(rt, "memory");
+    edits
+        .push(Edit::Delete(key_of(rt, alloc, b"4")))
+        .expect(rt, "memory");
+    edits
+        .push(Edit::Put(key_of(rt, alloc, b"6"), value))
+        .expect(rt, "memory");
     Batch::new(edits).expect(rt, "a batch")
 }
 
