@@ -206,7 +206,10 @@ fn has_rows(page: &Page, want: &[(u16, u16)], more: bool) -> bool {
     let rows = page.rows();
     rows.len() == want.len()
         && page.has_more() == more
-        && rows.iter().zip(want).all(|(row, it)| is_row(row, it.0, it.1))
+        && rows
+            .iter()
+            .zip(want)
+            .all(|(row, it)| is_row(row, it.0, it.1))
 }
 
 /// The page of keys in two bytes.
@@ -303,13 +306,7 @@ fn rows_behind(page: &Page, met: u16, count: u16, backward: bool) -> u16 {
 }
 
 /// How many rows a walk meets page by page, and in how many pages.
-fn walk(
-    rt: &impl Abort,
-    alloc: Global,
-    count: u16,
-    limit: u32,
-    backward: bool,
-) -> (u16, usize) {
+fn walk(rt: &impl Abort, alloc: Global, count: u16, limit: u32, backward: bool) -> (u16, usize) {
     let mut view = numbered_rows(rt, alloc, count);
     let mut met = 0u16;
     for pages in 1..2_000usize {
@@ -343,7 +340,11 @@ fn walks_page_by_page(rt: HostRuntime) {
 /// The length of the sixth value behind five rows of the greatest size, 87,060 bytes together; how
 /// many rows a page has, and whether more are left. The sixth row counts 5 bytes besides its value,
 /// so at 11,239 the page has exactly 98,304.
-static SIZES: [(usize, usize, bool); 3] = [(11_238, 6, false), (11_239, 6, false), (11_240, 5, true)];
+static SIZES: [(usize, usize, bool); 3] = [
+    (11_238, 6, false),
+    (11_239, 6, false),
+    (11_240, 5, true),
+];
 
 fn large_rows(rt: &impl Abort, alloc: Global, last: usize) -> AtNumber<ListCursor> {
     let value = vec![in alloc; 7u8; 16_384].expect(rt, "memory");
@@ -381,7 +382,10 @@ fn has_lengths(page: &Page, want: &[usize]) -> bool {
     let rows = page.rows();
     rows.len() == want.len()
         && !page.has_more()
-        && rows.iter().zip(want).all(|(row, len)| row.key.as_bytes().len() == *len)
+        && rows
+            .iter()
+            .zip(want)
+            .all(|(row, len)| row.key.as_bytes().len() == *len)
 }
 
 /// Of pages about the greatest key, how many are as they are to be.
@@ -389,7 +393,11 @@ fn pages_at_the_greatest_key(rt: &impl Abort, alloc: Global) -> usize {
     let greatest = [255u8; 1_024];
     let mut entries = Vec::new(alloc);
     push(rt, &mut entries, entry_of(rt, alloc, &[255], 1, Some(&[])));
-    push(rt, &mut entries, entry_of(rt, alloc, &greatest, 1, Some(&[])));
+    push(
+        rt,
+        &mut entries,
+        entry_of(rt, alloc, &greatest, 1, Some(&[])),
+    );
     let mut view = AtNumber::new(alloc, ListCursor::new(entries), 1);
     let mut found = 0usize;
     for backward in [false, true] {
