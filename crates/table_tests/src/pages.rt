@@ -35,9 +35,7 @@ struct Case {
     more: bool,
 }
 
-const NONE: &[(u16, u16)] = &[];
-
-static CASES: [Case; 14] = [
+static CASES: [Case; 8] = [
     Case {
         from: 0,
         to: None,
@@ -87,46 +85,6 @@ static CASES: [Case; 14] = [
         more: false,
     },
     Case {
-        from: 30,
-        to: Some(30),
-        limit: 9,
-        forward: NONE,
-        backward: NONE,
-        more: false,
-    },
-    Case {
-        from: 50,
-        to: Some(20),
-        limit: 9,
-        forward: NONE,
-        backward: NONE,
-        more: false,
-    },
-    Case {
-        from: 0,
-        to: Some(20),
-        limit: 9,
-        forward: NONE,
-        backward: NONE,
-        more: false,
-    },
-    Case {
-        from: 31,
-        to: Some(50),
-        limit: 9,
-        forward: NONE,
-        backward: NONE,
-        more: false,
-    },
-    Case {
-        from: 51,
-        to: Some(65_535),
-        limit: 9,
-        forward: NONE,
-        backward: NONE,
-        more: false,
-    },
-    Case {
         from: 50,
         to: None,
         limit: 1,
@@ -142,14 +100,16 @@ static CASES: [Case; 14] = [
         backward: &[(65_535, 7)],
         more: false,
     },
-    Case {
-        from: 0,
-        to: Some(0),
-        limit: 1,
-        forward: NONE,
-        backward: NONE,
-        more: false,
-    },
+];
+
+/// Ranges that have no rows: equal bounds, reversed ones, and those around deleted keys.
+static EMPTY: [(u16, Option<u16>); 6] = [
+    (30, Some(30)),
+    (50, Some(20)),
+    (0, Some(20)),
+    (31, Some(50)),
+    (51, Some(65_535)),
+    (0, Some(0)),
 ];
 
 fn push(rt: &impl Abort, entries: &mut Vec<OwnedEntry>, entry: OwnedEntry) {
@@ -252,7 +212,27 @@ fn pages_that_hold(rt: &impl Abort, alloc: Global) -> usize {
 
 #[test]
 fn pages_of_seven_keys(rt: HostRuntime) {
-    is_count(&rt, pages_that_hold(&rt, rt.alloc()), 14);
+    is_count(&rt, pages_that_hold(&rt, rt.alloc()), 8);
+}
+
+/// How many pages of the ranges that have no rows are empty, both ways.
+fn empty_pages(rt: &impl Abort, alloc: Global) -> usize {
+    let mut view = view_of(rt, alloc, &VERSIONS, 5);
+    let mut count = 0usize;
+    for &bounds in &EMPTY {
+        for backward in [false, true] {
+            let page = short_page(rt, alloc, &mut view, bounds, backward, 9);
+            if has_rows(&page, &[], false) {
+                count = count.wrapping_add(1);
+            }
+        }
+    }
+    count
+}
+
+#[test]
+fn pages_of_ranges_without_rows(rt: HostRuntime) {
+    is_count(&rt, empty_pages(&rt, rt.alloc()), 12);
 }
 
 /// So many rows, whose keys and values are their places; the limit of a page, and how many pages a
