@@ -2,7 +2,7 @@
 ghost use Rattle.std.specs.Prelude.{◌≡◌};
 ghost use Rattle.bloom.specs.declared.error.BloomError.TheVariants.{Memory};
 
-use std::alloc::{AllocError, AllocFailed};
+use std::alloc::AllocError;
 use thiserror::Error;
 
 /// Why no filter was built.
@@ -16,14 +16,6 @@ impl From<AllocError> for BloomError {
     ghost from_gives = { λ _ e. e ≡ Memory };
 
     fn from(_e: AllocError) -> BloomError {
-        BloomError::Memory
-    }
-}
-
-impl<T: Drop> From<AllocFailed<T>> for BloomError {
-    ghost from_gives = { λ _ e. e ≡ Memory };
-
-    fn from(_e: AllocFailed<T>) -> BloomError {
         BloomError::Memory
     }
 }

@@ -2,7 +2,7 @@
 ghost use Rattle.std.specs.Prelude.{◌≡◌};
 ghost use Rattle.configurations.specs.declared.error.ConfigError.TheVariants.{Memory};
 
-use std::alloc::{AllocError, AllocFailed};
+use std::alloc::AllocFailed;
 use thiserror::Error;
 
 /// Why ids are no configuration, or configurations no lawful list: the first reason that applies.
@@ -22,14 +22,6 @@ pub enum ConfigError {
     BadId,
     #[error("out of memory")]
     Memory,
-}
-
-impl From<AllocError> for ConfigError {
-    ghost from_gives = { λ _ e. e ≡ Memory };
-
-    fn from(_e: AllocError) -> ConfigError {
-        ConfigError::Memory
-    }
 }
 
 impl<T: Drop> From<AllocFailed<T>> for ConfigError {

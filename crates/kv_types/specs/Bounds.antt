@@ -2,9 +2,10 @@
 use Rattle.std.specs.Prelude.{◌≡◌, ◌-◌, ◌^◌}
 use Rattle.kv_types.specs.declared.bounds.TheConstants.{MAX_KEY, MAX_VALUE, MAX_EDITS, MAX_BATCH}
 use Rattle.kv_types.specs.declared.bounds.TheConstants.{MAX_ROWS, MAX_PAGE, ROW_OVERHEAD}
-use Rattle.kv_types.specs.declared.bounds.TheConstants.{MAX_NUMBER}
+use Rattle.kv_types.specs.declared.bounds.TheConstants.{MAX_CACHE, MAX_NUMBER}
 
--- lengths in bytes, but the edits of a batch and the rows of a page are counted
+-- lengths in bytes, but the edits of a batch, the rows of a page and the blocks of a cache
+-- are counted
 pub record BoundsAre : Type 0 where
   pub key : MAX_KEY ≡ 1024
   pub value : MAX_VALUE ≡ 16384
@@ -13,4 +14,5 @@ pub record BoundsAre : Type 0 where
   pub rows : MAX_ROWS ≡ 1024
   pub page : MAX_PAGE ≡ 98304
   pub overhead : ROW_OVERHEAD ≡ 4
+  pub cache : MAX_CACHE ≡ 65536
   pub number : MAX_NUMBER ≡ 2 ^ 63 - 1

@@ -21,5 +21,8 @@ pub const MAX_PAGE: usize = 98304;
 /// The bytes that a row counts in a page besides its key and value.
 pub const ROW_OVERHEAD: usize = 4;
 
+/// The greatest number of blocks of tables that a store keeps in memory.
+pub const MAX_CACHE: u64 = 65536;
+
 /// The greatest number of a batch, a request or a file: 2^63 - 1.
 pub const MAX_NUMBER: u64 = 9223372036854775807;

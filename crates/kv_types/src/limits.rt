@@ -3,6 +3,7 @@ ghost use Rattle.std.specs.Prelude.{◌≡◌, ◌↔◌, IfOk, IsOkUnless, IsOk
 ghost use Rattle.kv_types.specs.Limits.{IsInRange};
 
 use crate::KvError;
+use crate::bounds::MAX_CACHE;
 
 /// Limits of a store: when it flushes and merges, and how many blocks it keeps in memory.
 #[derive(Clone, Copy, Debug)]
@@ -32,7 +33,7 @@ impl Limits {
         if !(16..=1 << 30).contains(&log) || l0 > 64 || !(64..=1 << 30).contains(&table) {
             return Err(KvError::BadLimit);
         }
-        if !(64..=1 << 40).contains(&level) || !(1..=65536).contains(&cache) {
+        if !(64..=1 << 40).contains(&level) || !(1..=MAX_CACHE).contains(&cache) {
             return Err(KvError::BadLimit);
         }
         Ok(Limits {

@@ -5,7 +5,7 @@ ghost use Rattle.manifest.specs.Errors.{error_by_disk, error_by_edit, error_by_l
 
 use disk::DiskError;
 use record_log::LogError;
-use std::alloc::{AllocError, AllocFailed};
+use std::alloc::AllocError;
 use thiserror::Error;
 use version_edits::EditError;
 
@@ -64,14 +64,6 @@ impl From<AllocError> for ManifestError {
     ghost from_gives = { λ _ e. e ≡ Memory };
 
     fn from(_e: AllocError) -> ManifestError {
-        ManifestError::Memory
-    }
-}
-
-impl<T: Drop> From<AllocFailed<T>> for ManifestError {
-    ghost from_gives = { λ _ e. e ≡ Memory };
-
-    fn from(_e: AllocFailed<T>) -> ManifestError {
         ManifestError::Memory
     }
 }

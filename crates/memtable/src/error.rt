@@ -3,7 +3,7 @@
 ghost use Rattle.std.specs.Prelude.{◌≡◌};
 ghost use Rattle.memtable.specs.declared.error.MemtableError.TheVariants.{Memory};
 
-use std::alloc::{AllocError, AllocFailed};
+use std::alloc::AllocError;
 use thiserror::Error;
 
 /// Why a memtable refused. After `Memory` in `add` it answers `Failed`.
@@ -19,14 +19,6 @@ impl From<AllocError> for MemtableError {
     ghost from_gives = { λ _ e. e ≡ Memory };
 
     fn from(_e: AllocError) -> MemtableError {
-        MemtableError::Memory
-    }
-}
-
-impl<T: Drop> From<AllocFailed<T>> for MemtableError {
-    ghost from_gives = { λ _ e. e ≡ Memory };
-
-    fn from(_e: AllocFailed<T>) -> MemtableError {
         MemtableError::Memory
     }
 }

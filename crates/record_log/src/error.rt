@@ -4,7 +4,7 @@ ghost use Rattle.record_log.specs.declared.error.LogError.TheVariants.{Memory};
 ghost use Rattle.record_log.specs.Error.{log_error};
 
 use disk::DiskError;
-use std::alloc::{AllocError, AllocFailed};
+use std::alloc::AllocError;
 use thiserror::Error;
 
 /// Why a log refused. After `Disk` or `Memory` in `append` every call answers `Failed` until the
@@ -39,14 +39,6 @@ impl From<AllocError> for LogError {
     ghost from_gives = { λ _ e. e ≡ Memory };
 
     fn from(_e: AllocError) -> LogError {
-        LogError::Memory
-    }
-}
-
-impl<T: Drop> From<AllocFailed<T>> for LogError {
-    ghost from_gives = { λ _ e. e ≡ Memory };
-
-    fn from(_e: AllocFailed<T>) -> LogError {
         LogError::Memory
     }
 }

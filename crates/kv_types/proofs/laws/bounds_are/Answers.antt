@@ -10,5 +10,6 @@ returns c = record {
   rows = refl;
   page = refl;
   overhead = refl;
+  cache = refl;
   number = refl;
 }
