@@ -10,15 +10,15 @@ use Rattle.disk.specs.{AlwaysLeaves, Contents, IsSame}
 use Rattle.disk.specs.{LeavesSince, OnlyLeaves, State}
 use Rattle.disk.specs.MomentsLemmas.{none_yet, weaker}
 use Rattle.engine.specs.declared.engine.Engine.{Engine}
-use Rattle.store_files.specs.declared.error.EngineError.{EngineError}
+use Rattle.store_tables.specs.declared.error.EngineError.{EngineError}
 use Rattle.store_files.specs.declared.store_files.StoreFiles.{StoreFiles}
-use Rattle.store_files.specs.declared.error.EngineError.TheVariants as engine
+use Rattle.store_tables.specs.declared.error.EngineError.TheVariants as engine
 use Rattle.engine.specs.Calls.{ExplainsRefusal, ListFollows, IsAdrift, IsNoDamage}
 use Rattle.engine.specs.Calls.{IsOldOrNewSince, disk_after}
 use Rattle.engine.specs.Engines.{EngineHolds, EngineReads, EngineWasMeant, HasEnded, IsInMemory}
 use Rattle.engine.specs.Engines.{IsNearlyFull, LookUps, WasMeantInMemory, engine_disk, facts_of}
 use Rattle.engine.specs.Engines.{raised_facts}
-use Rattle.store_files.specs.Errors.{EndsEngine, IsEnd, IsEngineExternal}
+use Rattle.store_tables.specs.Errors.{EndsEngine, IsEnd, IsEngineExternal}
 use Rattle.store_files.specs.Files.{Facts}
 use Rattle.store_files.specs.HeldFiles.{HeldFilesAreLeft}
 use Rattle.store_files.specs.OpenFiles.{FilesHold, OpeningRefusal, WereMeantToHold}

@@ -7,15 +7,15 @@ use Rattle.kv_types.specs.{BatchContent}
 use Rattle.disk.specs.declared.Disk.{Ghosts}
 use Rattle.disk.specs.{AlwaysLeaves, Contents, KeepsDisk, State}
 use Rattle.engine.specs.declared.engine.Engine.{Engine}
-use Rattle.store_files.specs.declared.error.EngineError.{EngineError}
-use Rattle.store_files.specs.declared.error.EngineError.TheVariants as engine
+use Rattle.store_tables.specs.declared.error.EngineError.{EngineError}
+use Rattle.store_tables.specs.declared.error.EngineError.TheVariants as engine
 use Rattle.engine.specs.Engines.{EngineHolds, EngineReads, EngineWasMeant, HasEnded, HasOnlyFiles}
 use Rattle.engine.specs.Snapshots.{IsReadable}
 use Rattle.engine.specs.Engines.{LookUps, engine_disk, engine_files, facts_of}
 use Rattle.engine.specs.Engines.{look_ups}
 use Rattle.engine.specs.declared.snapshots.TheConstants.{MAX_SNAPSHOTS}
 use Rattle.store_files.specs.declared.tended.Tended.{Tended}
-use Rattle.store_files.specs.Errors.{EndsEngine, FailsDevice, IsEnd, IsEngineExternal}
+use Rattle.store_tables.specs.Errors.{EndsEngine, FailsDevice, IsEnd, IsEngineExternal}
 use Rattle.store_files.specs.Tending.{IsTend, IsWorkAnswer}
 use Rattle.manifest.specs.{IsNotCreated}
 use Rattle.store_files.specs.Files.{Facts, first_facts}

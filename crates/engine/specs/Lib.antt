@@ -16,10 +16,10 @@ pub use Rattle.engine.specs.Engines.{files_of_tend, look_ups, newest_log_file, r
 pub use Rattle.engine.specs.Engines.{table_count, with_one_more, with_committed}
 pub use Rattle.engine.specs.Engines.{with_closed, with_opened}
 -- What they name of the files of a store.
-pub use Rattle.store_files.specs.declared.error.EngineError
+pub use Rattle.store_tables.specs.declared.error.EngineError
 pub use Rattle.store_files.specs.declared.tended.Tended
-pub use Rattle.store_files.specs.KeepingLemmas
-pub use Rattle.store_files.specs.Errors.{EndsEngine, FailsDevice, IsEnd, IsEngineExternal}
+pub use Rattle.store_tables.specs.KeepingLemmas
+pub use Rattle.store_tables.specs.Errors.{EndsEngine, FailsDevice, IsEnd, IsEngineExternal}
 pub use Rattle.store_files.specs.Files.{Facts, IsOwned, first_facts}
 pub use Rattle.store_files.specs.StoreFiles.{FilesRepresent, IsDamaged, IsOneOf, OpensAs}
 pub use Rattle.store_files.specs.StoreFiles.{StillLeavesOneOf, WereMeant, WereOneOf}

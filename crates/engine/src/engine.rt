@@ -64,7 +64,7 @@ impl<D: Disk + Drop> Engine<D> {
     ghost use Rattle.engine.specs.Engines.{engine_disk, engine_files, facts_of, files_of_tend};
     ghost use Rattle.engine.specs.Engines.{look_ups, newest_log_file, raised_facts};
     ghost use Rattle.engine.specs.Engines.{table_count, with_one_more, with_committed};
-    ghost use Rattle.store_files.specs.Errors.{IsEngineExternal};
+    ghost use Rattle.store_tables.specs.Errors.{IsEngineExternal};
     ghost use Rattle.store_files.specs.Files.{Facts, IsOwned};
     ghost use Rattle.store_files.specs.Settling.{AreReadAlike};
     ghost use Rattle.store_files.specs.StoreFiles.{StillLeavesOneOf, WereOneOf};

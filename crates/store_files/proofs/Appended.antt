@@ -27,8 +27,8 @@ use Rattle.store_files.specs.StoreFiles.{AreOrderedNumbers}
 use Rattle.store_files.specs.OpenFiles.{known_facts, known_store, known_version, trimmed_count}
 use Rattle.store_files.specs.StoreFiles.{FilesRepresent, store_of_version}
 use Rattle.store_files.specs.Stores.{IsNumberedTo}
-use Rattle.store_files.specs.declared.error.EngineError.{EngineError}
-use Rattle.store_files.specs.Errors.{IsEnd, IsEngineExternal}
+use Rattle.store_tables.specs.declared.error.EngineError.{EngineError}
+use Rattle.store_tables.specs.Errors.{IsEnd, IsEngineExternal}
 use Rattle.store_files.proofs.Entries.{Adds, next_numbered}
 use Rattle.store_files.proofs.FilesApart.{newest_given, newest_no_slot, newest_no_table}
 use Rattle.store_files.proofs.FilesApart.{newest_positive}

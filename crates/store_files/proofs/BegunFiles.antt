@@ -19,12 +19,12 @@ use Rattle.manifest.specs.{ManifestHasFailed, ManifestHolds, NodeVersion, first_
 use Rattle.manifest.specs.Holds.{SparesOthers}
 use Rattle.store_files.specs.declared.batch_logs.BatchLog.{BatchLog}
 use Rattle.store_files.specs.declared.batch_logs.BatchLogs.{BatchLogs}
-use Rattle.store_files.specs.declared.error.EngineError.{EngineError}
+use Rattle.store_tables.specs.declared.error.EngineError.{EngineError}
 use Rattle.store_files.specs.declared.store_files.StoreFiles.{StoreFiles}
 use Rattle.store_files.specs.BatchLogs.{HoldsPart, IsWorking, LogsHold, end_of_log, first_number}
 use Rattle.store_files.specs.BatchLogs.{lines_of, next_number, oldest_first}
-use Rattle.store_files.specs.Errors.{FailsDevice, IsEngineExternal, error_of_manifest}
-use Rattle.store_files.specs.LevelTables.{AreServed, AreTablesOf, table_lines}
+use Rattle.store_tables.specs.Errors.{FailsDevice, IsEngineExternal, error_of_manifest}
+use Rattle.store_tables.specs.LevelTables.{AreServed, AreTablesOf, table_lines}
 use Rattle.store_files.specs.OpenFiles.{AreUsableFiles, FilesHold, batch_count}
 use Rattle.store_files.specs.StoreFiles.{AreOrderedNumbers}
 use Rattle.store_files.specs.OpenFiles.{known_store, known_version, trimmed_count}

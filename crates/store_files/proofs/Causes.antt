@@ -7,9 +7,9 @@ use Rattle.record_log.specs.declared.LogError.{LogError}
 use Rattle.record_log.specs.declared.LogError.TheVariants as log
 use Rattle.record_log.specs.declared.Log.{Log}
 use Rattle.record_log.specs as log_stands
-use Rattle.store_files.specs.declared.error.EngineError.{EngineError}
-use Rattle.store_files.specs.declared.error.EngineError.TheVariants as engine
-use Rattle.store_files.specs.Errors.{IsEnd, IsEngineExternal, error_of_log}
+use Rattle.store_tables.specs.declared.error.EngineError.{EngineError}
+use Rattle.store_tables.specs.declared.error.EngineError.TheVariants as engine
+use Rattle.store_tables.specs.Errors.{IsEnd, IsEngineExternal, error_of_log}
 
 -- an external error of a log is one of the engine
 pub log_is_external : (e : LogError) → log_stands.IsExternal e → IsEngineExternal (error_of_log e)
@@ -66,25 +66,3 @@ met limit log.TooLong old new one tells fits works (inr own) =
     let long = tells.1 in
     absurd (omega (arith, long, fits))
 met limit log.Failed old new one tells fits works (inr own) = absurd (works tells.0)
-
--- a property of every result holds of an answer
-pub on_ok : {T E P : Type 0} (result : Result T E) → P → OnOk result P
-on_ok (Ok x) p = p
-on_ok (Err e) p = tt
-
--- what holds of the cause holds of the refusal that tells it
-pub refuses : {T E : Type 0} (result : Result T E) {e : E} (P : T → Type 0) (Q : E → Type 0) →
-    IsErrAnd result (λ s. s ≡ e) → Q e → MatchResult result P Q
-refuses (Ok x) P Q told q = absurd told
-refuses (Err s) P Q told q = subst Q (sym told) q
-
-pub if_refuses : {T E : Type 0} (result : Result T E) {e : E} (Q : E → Type 0) →
-    IsErrAnd result (λ s. s ≡ e) → Q e → IfErr result Q
-if_refuses (Ok x) Q told q = tt
-if_refuses (Err s) Q told q = subst Q (sym told) q
-
--- a refusal has no answer
-pub answers_nothing : {T E : Type 0} (result : Result T E) (P : E → Type 0) (Q : T → Type 0) →
-    IsErrAnd result P → IfOk result Q
-answers_nothing (Ok x) P Q told = absurd told
-answers_nothing (Err s) P Q told = tt

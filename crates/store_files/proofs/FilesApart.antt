@@ -15,7 +15,7 @@ use Rattle.store_files.specs.declared.store_files.StoreFiles.{StoreFiles}
 use Rattle.store_files.specs.BatchLogs.{line_of, newest_file}
 use Rattle.store_files.specs.OpenFiles.{AreUsableFiles, known_version}
 use Rattle.store_files.proofs.KeptFiles.{contains_map}
-use Rattle.store_files.proofs.LevelLemmas.{either}
+use Rattle.store_files.proofs.Records.{either}
 use Rattle.store_files.proofs.Records.{not_true}
 
 -- a number of the list passes the test

@@ -23,10 +23,10 @@ use Rattle.manifest.specs.Versions.{with_table}
 use Rattle.manifest.specs.VersionsLemmas.{all_logs_left, all_tables_left}
 use Rattle.manifest.specs.{IsChange, IsFit, IsLogLine, IsTableLine, StoreVersion, changed}
 use Rattle.store_files.specs.StoreFiles.{begun_log, flush_change}
-use Rattle.store_files.specs.TableWriting.{IsNewLine}
+use Rattle.store_tables.specs.TableWriting.{IsNewLine}
 use Rattle.store_files.specs.Tending.{LacksPlace}
 use Rattle.store_files.proofs.KeptFiles.{some_is_given}
-use Rattle.store_files.proofs.LevelLemmas.{either}
+use Rattle.store_files.proofs.Records.{either}
 
 -- ---- where one more stands
 

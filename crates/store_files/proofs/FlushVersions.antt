@@ -20,8 +20,8 @@ use Rattle.store_files.specs.declared.store_files.StoreFiles.{StoreFiles}
 use Rattle.store_files.specs.BatchLogs.{AreBeside, AreUsable}
 use Rattle.store_files.specs.BatchLogs.{first_number, line_of, lines_of, newest_file, next_number}
 use Rattle.store_files.specs.BatchLogs.{with_line}
-use Rattle.store_files.specs.LevelTables.{table_lines}
-use Rattle.store_files.specs.LevelTables.{with_flushed_line}
+use Rattle.store_tables.specs.LevelTables.{table_lines}
+use Rattle.store_tables.specs.LevelTables.{with_flushed_line}
 use Rattle.store_files.specs.OpenFiles.{AreUsableFiles, batch_count}
 use Rattle.store_files.specs.StoreFiles.{AreOrderedNumbers}
 use Rattle.store_files.specs.OpenFiles.{known_facts, known_version, trimmed_count}

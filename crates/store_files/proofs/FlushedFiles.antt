@@ -17,11 +17,11 @@ use Rattle.manifest.specs.VersionsLemmas.{all_logs_left, all_tables_left, log_be
 use Rattle.manifest.specs.{StoreVersion, changed}
 use Rattle.store_files.specs.Files.{IsLog}
 use Rattle.store_files.specs.BatchLogs.{HaveBatches}
-use Rattle.store_files.specs.LevelTables.{AreTablesOf, IsTableOf}
+use Rattle.store_tables.specs.LevelTables.{AreTablesOf, IsTableOf}
 use Rattle.store_files.specs.StoreFiles.{FlushesRepresent, LongerLogsRepresent}
 use Rattle.store_files.specs.StoreFiles.{before_newest, begun_log, flush_change, store_of_version}
 use Rattle.store_model.specs.PlacesLemmas.{contains_cases, contains_head, contains_next}
-use Rattle.store_files.proofs.LevelLemmas.{either}
+use Rattle.store_files.proofs.Records.{either}
 use Rattle.store_files.proofs.NamedFiles.{logs_same, tables_same, version_same}
 
 -- ---- logs

@@ -11,25 +11,12 @@ use Rattle.store_model.specs.PlacesLemmas.{contains_cases, contains_head, contai
 use Rattle.store_model.specs.PlacesLemmas.{contains_none}
 use Rattle.manifest.specs.declared.TableLine.{TableLine}
 use Rattle.manifest.specs.Versions.{table_is_before, with_table}
-use Rattle.store_files.specs.declared.levels.OpenTable.{OpenTable}
-use Rattle.store_files.specs.LevelTables.{AreTablesOf, IsTableOf, is_flushed, with_flushed}
-use Rattle.store_files.specs.LevelTables.{with_flushed_line}
-use Rattle.store_files.proofs.LevelLemmas.{either}
+use Rattle.store_tables.specs.declared.levels.OpenTable.{OpenTable}
+use Rattle.store_tables.specs.LevelTables.{AreTablesOf, IsTableOf, is_flushed, with_flushed}
+use Rattle.store_tables.specs.LevelTables.{with_flushed_line}
+use Rattle.store_files.proofs.Records.{either}
 
 -- ---- lines
-
--- the line of an open table more
-pub lines_with : (items : List OpenTable) (one : OpenTable)
-    → map (λ (it : OpenTable). it.line) (insert items (prefix_len is_flushed items) one)
-    ≡ with_flushed_line (map (λ (it : OpenTable). it.line) items) one.line
-lines_with [] one = refl
-lines_with (it ∷ items) one = elim (either (it.line.level == 0)) [
-  | inl zeroth ↦
-      let next : 1 + prefix_len is_flushed items ≡ suc (prefix_len is_flushed items) =
-      omega arith in
-      rw (zeroth, next) (ap (λ (l : List TableLine). it.line ∷ l) (lines_with items one))
-  | inr deeper ↦ rw deeper refl
-]
 
 -- a line of level 0 whose file is the greatest stands there in the manifest too
 module _ (line : TableLine) (level : line.level ≡ 0) where

@@ -13,12 +13,12 @@ use Rattle.disk.specs.{State}
 use Rattle.record_log.specs.{LogHolds}
 use Rattle.store_files.specs.declared.batch_logs.BatchLog.{BatchLog}
 use Rattle.store_files.specs.declared.batch_logs.BatchLogs.{BatchLogs}
-use Rattle.store_files.specs.declared.error.EngineError.{EngineError}
-use Rattle.store_files.specs.declared.error.EngineError.TheVariants as engine
+use Rattle.store_tables.specs.declared.error.EngineError.{EngineError}
+use Rattle.store_tables.specs.declared.error.EngineError.TheVariants as engine
 use Rattle.store_files.specs.BatchLogs.{AreJoined, AreParted}
 use Rattle.store_files.specs.BatchLogs.{HoldsPart, LogsHold, oldest_first}
 use Rattle.store_files.specs.BatchLogs.{end_of_log}
-use Rattle.store_files.specs.Errors.{IsEngineExternal}
+use Rattle.store_tables.specs.Errors.{IsEngineExternal}
 use Rattle.store_files.specs.Layout.{batch_record, records_from}
 use Rattle.store_files.proofs.Causes.{undamaged}
 use Rattle.store_files.proofs.Records.{numbered_at}

@@ -23,12 +23,12 @@ use Rattle.manifest.specs.Versions.{files_of}
 use Rattle.sorted_table.specs.{TableServes, table_file}
 use Rattle.store_files.specs.declared.batch_logs.BatchLog.{BatchLog}
 use Rattle.store_files.specs.declared.batch_logs.BatchLogs.{BatchLogs}
-use Rattle.store_files.specs.declared.levels.OpenTable.{OpenTable}
+use Rattle.store_tables.specs.declared.levels.OpenTable.{OpenTable}
 use Rattle.store_files.specs.declared.store_files.StoreFiles.{StoreFiles}
 use Rattle.store_files.specs.BatchLogs.{AreParted, HasPart, HaveBatches, HoldsPart, LogsHold}
 use Rattle.store_files.specs.BatchLogs.{line_of}
 use Rattle.store_files.specs.BatchLogs.{lines_of}
-use Rattle.store_files.specs.LevelTables.{AreTablesOf, IsServed, IsTableOf}
+use Rattle.store_tables.specs.LevelTables.{AreTablesOf, IsServed, IsTableOf}
 use Rattle.store_files.specs.OpenFiles.{FilesAreRead, FilesHold, known_facts, known_version}
 use Rattle.store_files.specs.OpenFiles.{trimmed_count}
 use Rattle.store_files.specs.Openings.{kept_files}

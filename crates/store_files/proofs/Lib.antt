@@ -5,9 +5,6 @@ pub mod Keeping
 pub mod Parts
 pub mod JoinedLogs
 pub mod BegunLogs
-pub mod LevelLemmas
-pub mod OpenTables
-pub mod SideBySide
 pub mod NamedFiles
 pub mod FlushedFiles
 pub mod FlushEdits
@@ -23,9 +20,6 @@ pub mod Removals
 pub mod Replays
 pub mod ReadLogs
 pub mod OpenLogs
-pub mod TableWalks
-pub mod TableCalls
-pub mod FinishedTables
 pub mod BegunFiles
 pub mod KeptFiles
 pub mod StillFiles

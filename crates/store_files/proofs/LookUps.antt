@@ -18,11 +18,11 @@ use Rattle.chain_model.specs.{place}
 use Rattle.store_model.specs.Claims.{LookUpsAreMaps}
 use Rattle.store_model.specs.{LevelTable, NewestHas, StoreRepresents, StoreState, memory_entries}
 use Rattle.manifest.specs.declared.TableLine.{TableLine}
-use Rattle.store_files.specs.declared.error.EngineError.{EngineError}
-use Rattle.store_files.specs.declared.error.EngineError.TheVariants as engine
-use Rattle.store_files.specs.Errors.{IsEngineExternal}
-use Rattle.store_files.specs.LevelTables.{AreTablesOf, IsTableOf, TableLookUpsAreMaps, TablesFind}
-use Rattle.store_files.specs.LevelTables.{found_value}
+use Rattle.store_tables.specs.declared.error.EngineError.{EngineError}
+use Rattle.store_tables.specs.declared.error.EngineError.TheVariants as engine
+use Rattle.store_tables.specs.Errors.{IsEngineExternal}
+use Rattle.store_tables.specs.LevelTables.{AreTablesOf, IsTableOf, TableLookUpsAreMaps, TablesFind}
+use Rattle.store_tables.specs.LevelTables.{found_value}
 use Rattle.store_files.proofs.Entries.{newest_in, unseen_in}
 
 -- the memtable has the entries that belong in memory

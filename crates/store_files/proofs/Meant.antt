@@ -18,14 +18,14 @@ use Rattle.manifest.specs.declared.LogLine.{LogLine}
 use Rattle.manifest.specs.declared.TableLine.{TableLine}
 use Rattle.manifest.specs.{HeldVersionStays, StoreVersion}
 use Rattle.store_files.specs.declared.batch_logs.BatchLogs.{BatchLogs}
-use Rattle.store_files.specs.declared.error.EngineError.{EngineError}
-use Rattle.store_files.specs.declared.levels.OpenTable.{OpenTable}
+use Rattle.store_tables.specs.declared.error.EngineError.{EngineError}
+use Rattle.store_tables.specs.declared.levels.OpenTable.{OpenTable}
 use Rattle.store_files.specs.declared.store_files.StoreFiles.{StoreFiles}
 use Rattle.store_files.specs.BatchLogs.{LogsHold, lines_of, newest_file}
-use Rattle.store_files.specs.Errors.{IsEngineExternal}
-use Rattle.store_files.specs.LevelTables.{AreTablesOf, HasMeantBlocks, IsServed, IsTableAsMeant}
-use Rattle.store_files.specs.LevelTables.{IsTableOf, WasServed}
-use Rattle.store_files.specs.declared.levels.LevelTables.{LevelTables}
+use Rattle.store_tables.specs.Errors.{IsEngineExternal}
+use Rattle.store_tables.specs.LevelTables.{AreTablesOf, HasMeantBlocks, IsServed, IsTableAsMeant}
+use Rattle.store_tables.specs.LevelTables.{IsTableOf, WasServed}
+use Rattle.store_tables.specs.declared.levels.LevelTables.{LevelTables}
 use Rattle.store_files.specs.OpenFiles.{AreUsableFiles, FilesHold, IsAsMeant, WereMeantToHold}
 use Rattle.store_files.specs.OpenFiles.{batch_count, known_store, known_version, trimmed_count}
 use Rattle.store_files.proofs.Appended.{after_append, appended_told}

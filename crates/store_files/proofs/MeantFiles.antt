@@ -16,8 +16,8 @@ use Rattle.manifest.specs.declared.TableLine.{TableLine}
 use Rattle.manifest.specs.{HeldVersionIsLeft, HeldVersionStays, IsVersion, ManifestHolds}
 use Rattle.manifest.specs.{ManifestRepresents, NodeVersion, StoreVersion}
 use Rattle.store_files.specs.declared.batch_logs.BatchLogs.{BatchLogs}
-use Rattle.store_files.specs.declared.levels.LevelTables.{LevelTables}
-use Rattle.store_files.specs.LevelTables.{IsTableAsMeant}
+use Rattle.store_tables.specs.declared.levels.LevelTables.{LevelTables}
+use Rattle.store_tables.specs.LevelTables.{IsTableAsMeant}
 use Rattle.store_files.specs.OpenFiles.{IsAsMeant}
 use Rattle.store_files.specs.Openings.{kept_files}
 use Rattle.store_files.specs.StoreFiles.{WereMeant, durably}

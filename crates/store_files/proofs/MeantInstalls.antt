@@ -20,12 +20,13 @@ use Rattle.manifest.specs.{Change, EditsKeepVersions, HeldVersionIsLeft, HeldVer
 use Rattle.manifest.specs.{IsSlotFile, ManifestHolds, ManifestRepresents, NodeVersion}
 use Rattle.manifest.specs.{SlotsAreLeft, StoreVersion, changed, node_version_after}
 use Rattle.store_files.specs.declared.batch_logs.BatchLogs.{BatchLogs}
-use Rattle.store_files.specs.declared.levels.OpenTable.{OpenTable}
+use Rattle.store_tables.specs.declared.levels.OpenTable.{OpenTable}
 use Rattle.store_files.specs.declared.store_files.StoreFiles.{StoreFiles}
 use Rattle.store_files.specs.BatchLogs.{LogsHold, lines_of, next_number, with_line}
-use Rattle.store_files.specs.LevelTables.{IsTableAsMeant}
-use Rattle.store_files.specs.LevelTables.{WasServed, WereServed, with_flushed, with_flushed_line}
-use Rattle.store_files.specs.OpenFiles.{AreUsableFiles, IsAsMeant, IsWrittenTable}
+use Rattle.store_tables.specs.LevelTables.{IsTableAsMeant}
+use Rattle.store_tables.specs.LevelTables.{WasServed, WereServed, with_flushed, with_flushed_line}
+use Rattle.store_files.specs.OpenFiles.{AreUsableFiles, IsAsMeant}
+use Rattle.store_tables.specs.TableWriting.{IsWrittenTable}
 use Rattle.store_files.specs.OpenFiles.{WereMeantToHold, batch_count, known_facts, known_version}
 use Rattle.store_files.specs.OpenFiles.{trimmed_count}
 use Rattle.store_files.specs.StoreFiles.{WereMeant, flush_change}
@@ -44,7 +45,7 @@ use Rattle.store_files.proofs.NamedHolds.{table_no_slot}
 use Rattle.store_files.proofs.FlushVersions.{tables_are}
 use Rattle.store_files.proofs.KeptFiles.{kept_is_given, named_logs_in, one_served_in, slot_is_kept}
 use Rattle.store_files.proofs.KeptFiles.{table_is_kept}
-use Rattle.store_files.proofs.LevelLemmas.{either}
+use Rattle.store_files.proofs.Records.{either}
 use Rattle.store_files.proofs.Meant.{blocks_stay, zip_was}
 use Rattle.store_files.proofs.MeantFiles.{TablesAsMeant, follow_but}
 use Rattle.store_files.proofs.MeantFiles.{named_were_left, still_as_meant, tables_of_meant}

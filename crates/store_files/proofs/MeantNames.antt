@@ -14,7 +14,7 @@ use Rattle.manifest.specs.{IsVersion}
 use Rattle.manifest.specs.{ManifestRepresents, NodeVersion, StoreVersion, VersionIsOne}
 use Rattle.manifest.specs.{VersionsAreLawful}
 use Rattle.store_files.specs.Files.{Facts}
-use Rattle.store_files.specs.LevelTables.{IsTableAsMeant}
+use Rattle.store_tables.specs.LevelTables.{IsTableAsMeant}
 use Rattle.store_files.specs.StoreFiles.{AreOrderedNumbers, DamagedFilesOpen, IsStoreFile}
 use Rattle.store_files.specs.StoreFiles.{NamesStoreFile, WereMeant, WereOneOf, durably}
 use Rattle.store_files.proofs.NamedFiles.{files_are_named}

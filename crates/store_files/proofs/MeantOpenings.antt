@@ -19,13 +19,13 @@ use Rattle.manifest.specs.Holds.{SparesOthers}
 use Rattle.manifest.specs.Lawful.{IsAllocated}
 use Rattle.manifest.specs.{HeldVersionStays, IsSlotFile, IsVersion, ManifestHolds}
 use Rattle.manifest.specs.{ManifestRepresents, NodeVersion, StoreVersion}
-use Rattle.store_files.specs.declared.levels.OpenTable.{OpenTable}
+use Rattle.store_tables.specs.declared.levels.OpenTable.{OpenTable}
 use Rattle.store_files.specs.declared.opening.ReadParts.{ReadParts}
 use Rattle.store_files.specs.declared.store_files.StoreFiles.{StoreFiles}
 use Rattle.store_files.specs.BatchLogs.{lines_of}
 use Rattle.store_files.specs.Files.{Facts}
-use Rattle.store_files.specs.LevelTables.{AreTablesOf, HasMeantBlocks, IsServed, IsTableAsMeant}
-use Rattle.store_files.specs.LevelTables.{WasServed}
+use Rattle.store_tables.specs.LevelTables.{AreTablesOf, HasMeantBlocks, IsServed, IsTableAsMeant}
+use Rattle.store_tables.specs.LevelTables.{WasServed}
 use Rattle.store_files.specs.OpenFiles.{AreBatchesOf, AreUsableFiles, IsAsMeant}
 use Rattle.store_files.specs.OpenFiles.{WereMeantToHold, WereMeantToRead, known_facts}
 use Rattle.store_files.specs.OpenFiles.{known_version}

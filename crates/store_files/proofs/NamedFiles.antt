@@ -14,7 +14,7 @@ use Rattle.manifest.specs.{SlotsRepresent, other_slot}
 use Rattle.store_files.specs.Files.{IsLog}
 use Rattle.store_files.specs.Layout.{records_from}
 use Rattle.store_files.specs.BatchLogs.{HaveBatches}
-use Rattle.store_files.specs.LevelTables.{AreTablesOf, IsTableOf}
+use Rattle.store_tables.specs.LevelTables.{AreTablesOf, IsTableOf}
 use Rattle.store_files.specs.StoreFiles.{StoreFilesAreNamed}
 
 -- the other slot is a slot

@@ -21,7 +21,7 @@ use Rattle.store_files.specs.BatchLogs.{HaveBatches, LogsHold, end_of_log}
 use Rattle.store_files.specs.BatchLogs.{first_number, line_of, lines_of, next_number}
 use Rattle.store_files.specs.BatchLogs.{with_line}
 use Rattle.store_files.specs.Files.{Facts}
-use Rattle.store_files.specs.LevelTables.{AreTablesOf}
+use Rattle.store_tables.specs.LevelTables.{AreTablesOf}
 use Rattle.store_files.specs.OpenFiles.{known_facts, known_version, trimmed_count}
 use Rattle.store_files.specs.StoreFiles.{FilesRepresent}
 use Rattle.store_files.specs.StoreFiles.{store_of_version}

@@ -11,13 +11,13 @@ use Rattle.manifest.specs.declared.ManifestError.{ManifestError}
 use Rattle.manifest.specs.declared.ManifestError.TheVariants as manifest
 use Rattle.manifest.specs.Manifests.{ManifestRefusal}
 use Rattle.manifest.specs.{version_of}
-use Rattle.store_files.specs.declared.error.EngineError.{EngineError}
-use Rattle.store_files.specs.declared.error.EngineError.TheVariants as engine
-use Rattle.store_files.specs.Errors.{IsEnd, IsEngineExternal, error_of_manifest}
+use Rattle.store_tables.specs.declared.error.EngineError.{EngineError}
+use Rattle.store_tables.specs.declared.error.EngineError.TheVariants as engine
+use Rattle.store_tables.specs.Errors.{IsEnd, IsEngineExternal, error_of_manifest}
 use Rattle.store_files.specs.declared.opening.ReadParts.{ReadParts}
 use Rattle.store_files.specs.BatchLogs.{first_number}
 use Rattle.store_files.specs.Files.{Facts}
-use Rattle.store_files.specs.LevelTables.{AreTablesOf}
+use Rattle.store_tables.specs.LevelTables.{AreTablesOf}
 use Rattle.store_files.specs.OpenFiles.{AreBatchesOf, AreUsableFiles}
 use Rattle.store_files.specs.StoreFiles.{AreOrderedNumbers}
 use Rattle.store_files.specs.OpenFiles.{FilesOpenAs, OpeningRefusal}

@@ -21,13 +21,13 @@ use Rattle.manifest.specs.{HeldVersionStays, IsSlotFile, IsVersion, ManifestHold
 use Rattle.manifest.specs.{StoreVersion}
 use Rattle.manifest.specs.declared.ManifestError.TheVariants as manifest
 use Rattle.manifest.specs.{SlotsRead, other_slot, version_of}
-use Rattle.store_files.specs.declared.error.EngineError.TheVariants as engine
-use Rattle.store_files.specs.Errors.{IsEngineExternal}
+use Rattle.store_tables.specs.declared.error.EngineError.TheVariants as engine
+use Rattle.store_tables.specs.Errors.{IsEngineExternal}
 use Rattle.store_files.specs.declared.opening.ReadParts.{ReadParts}
 use Rattle.store_files.specs.declared.store_files.StoreFiles.{StoreFiles}
 use Rattle.store_files.specs.BatchLogs.{LogsHold, first_number}
 use Rattle.store_files.specs.Files.{Facts}
-use Rattle.store_files.specs.LevelTables.{AreTablesOf, FileFits, FitsLine}
+use Rattle.store_tables.specs.LevelTables.{AreTablesOf, FileFits, FitsLine}
 use Rattle.store_files.specs.OpenFiles.{AreBatchesOf, AreUsableFiles}
 use Rattle.store_files.specs.StoreFiles.{AreOrderedNumbers}
 use Rattle.store_files.specs.OpenFiles.{FilesAreRead, known_facts}

@@ -25,7 +25,7 @@ use Rattle.store_files.specs.BatchLogs.{AreBeside, AreJoined, AreParted, HasPart
 use Rattle.store_files.specs.BatchLogs.{HoldsPart}
 use Rattle.store_files.specs.BatchLogs.{IsWorking, end_of_log, line_of}
 use Rattle.store_files.specs.Files.{IsLog}
-use Rattle.store_files.specs.KeepingLemmas.{kept_as, kept_behind, neither, unchanged}
+use Rattle.store_tables.specs.KeepingLemmas.{kept_as, kept_behind, neither, unchanged}
 use Rattle.store_files.specs.Layout.{records_from}
 use Rattle.store_files.specs.Replaying.{AreInLine, AreReadLogs, IsOpenedBehind, IsReadLog}
 use Rattle.store_files.specs.Replaying.{AddsBatches}

@@ -18,7 +18,7 @@ use Rattle.manifest.specs.{IsVersion, StoreVersion}
 use Rattle.store_files.specs.declared.batch_logs.BatchLog.{BatchLog}
 use Rattle.store_files.specs.declared.batch_logs.BatchLogs.{BatchLogs}
 use Rattle.store_files.specs.BatchLogs.{AreParted, HoldsPart, LogsHold, first_number, oldest_first}
-use Rattle.store_files.specs.LevelTables.{AreTablesOf, FileFits, FitsLine}
+use Rattle.store_tables.specs.LevelTables.{AreTablesOf, FileFits, FitsLine}
 use Rattle.store_files.specs.OpenFiles.{AreBatchesOf, AreReplayed}
 use Rattle.store_files.specs.Settling.{AreSynced, AreThere, SlotSettles, SparesAllBut}
 use Rattle.store_files.specs.StoreFiles.{durably}

@@ -1,7 +1,7 @@
 -- The records of batches that are numbered without a gap.
 use Rattle.std.proofs.Common.{◌≡◌, ℕ, zero, suc, ◌+◌, ◌≤◌, List, [], ◌∷◌, ◌++◌, length, take}
 use Rattle.std.proofs.Common.{None, Some, false, true, refl, sym, ap, ◌∙◌, drop, length-append}
-use Rattle.std.proofs.Common.{arith}
+use Rattle.std.proofs.Common.{◌⊎◌, Bool, arith, inl, inr}
 use Rattle.std.specs.Prelude.{All, Option, SomeIff, slice_get}
 use Rattle.std.proofs.lemmas.List.{append-nil}
 use Rattle.std.proofs.lemmas.List.Elements.{All-head, All-tail}
@@ -14,6 +14,11 @@ use Rattle.store_files.specs.Layout.{batch_record, records_from}
 -- a refusal is none
 pub not_true : false ≡ true → ⊥
 not_true e = cc
+
+-- a test holds or does not
+pub either : (b : Bool) → (b ≡ true) ⊎ (b ≡ false)
+either true = inl refl
+either false = inr refl
 
 -- one batch more is one record more
 pub records_from-push : (number : ℕ) (list : List BatchContent) (batch : BatchContent) →

@@ -16,9 +16,9 @@ use Rattle.disk.specs.States.{ChangesSlot}
 use Rattle.disk.specs.StillLemmas.{still, still_sync}
 use Rattle.manifest.specs.declared.TableLine.{TableLine}
 use Rattle.record_log.specs.{IsDurableAs}
-use Rattle.store_files.specs.declared.error.EngineError.{EngineError}
-use Rattle.store_files.specs.Errors.{FailsDevice, IsEngineExternal, error_of_disk}
-use Rattle.store_files.specs.KeepingLemmas.{kept_as, kept_behind, neither, unchanged}
+use Rattle.store_tables.specs.declared.error.EngineError.{EngineError}
+use Rattle.store_tables.specs.Errors.{FailsDevice, IsEngineExternal, error_of_disk}
+use Rattle.store_tables.specs.KeepingLemmas.{kept_as, kept_behind, neither, unchanged}
 use Rattle.store_files.specs.Settling.{AddsNothing, AreSynced, SlotSettles}
 
 -- what a call did with the files, told in other words

@@ -11,10 +11,11 @@ use Rattle.std.proofs.lemmas.Bool.{cases_eq}
 use Rattle.table_builder.specs.{IsFresh}
 use Rattle.manifest.specs.declared.TableLine.{TableLine}
 use Rattle.manifest.specs.{HeldVersionIsLeft, HeldVersionStays, StoreVersion}
-use Rattle.store_files.specs.declared.levels.OpenTable.{OpenTable}
+use Rattle.store_tables.specs.declared.levels.OpenTable.{OpenTable}
 use Rattle.store_files.specs.declared.store_files.StoreFiles.{StoreFiles}
-use Rattle.store_files.specs.LevelTables.{IsServed}
-use Rattle.store_files.specs.OpenFiles.{FilesHold, IsWrittenTable, known_facts, known_version}
+use Rattle.store_tables.specs.LevelTables.{IsServed}
+use Rattle.store_files.specs.OpenFiles.{FilesHold, known_facts, known_version}
+use Rattle.store_tables.specs.TableWriting.{IsWrittenTable}
 use Rattle.store_files.specs.Openings.{kept_files}
 use Rattle.store_files.specs.StoreFiles.{FilesRepresent}
 use Rattle.store_files.specs.Tending.{HasSpilled}

@@ -6,20 +6,20 @@ use Rattle.disk.specs.declared.Disk.{Ghosts}
 use Rattle.disk.specs.{DurableFileIsLeft, IsSameBut, KeepsDisk, LeavesSince, State}
 use Rattle.disk.specs.MomentsLemmas.{join}
 use Rattle.manifest.specs.{HasFullSlot, HeldVersionIsLeft}
-use Rattle.store_files.specs.declared.error.EngineError.{EngineError}
-use Rattle.store_files.specs.declared.error.EngineError.TheVariants as engine
+use Rattle.store_tables.specs.declared.error.EngineError.{EngineError}
+use Rattle.store_tables.specs.declared.error.EngineError.TheVariants as engine
 use Rattle.store_files.specs.declared.flushing.Flushed.{Flushed}
 use Rattle.store_files.specs.declared.store_files.StoreFiles.{StoreFiles}
-use Rattle.store_files.specs.Errors.{FailsDevice, IsEnd, IsEngineExternal}
+use Rattle.store_tables.specs.Errors.{FailsDevice, IsEnd, IsEngineExternal}
 use Rattle.store_files.specs.Files.{IsOwned}
-use Rattle.store_files.specs.KeepingLemmas.{kept_as, kept_behind, kept_but, neither, unchanged}
+use Rattle.store_tables.specs.KeepingLemmas.{kept_as, kept_behind, kept_but, neither, unchanged}
 use Rattle.store_files.specs.OpenFiles.{AreUsableFiles, FilesHold, WereMeantToHold, known_facts}
 use Rattle.store_files.specs.StoreFiles.{FilesRepresent, WereMeant}
 use Rattle.store_files.specs.Lists.{ListFollowsOn}
 use Rattle.store_files.specs.TendKeeps.{FilesAreTended, TendKeeps}
 use Rattle.store_files.specs.Tending.{HasSpilled, HeldAndSpilled, MeantAndSpilled, TendMayFail}
 use Rattle.store_files.specs.Tending.{tended_files}
-use Rattle.store_files.proofs.Causes.{on_ok, refuses}
+use Rattle.store_tables.specs.RefusalLemmas.{on_ok, refuses}
 use Rattle.store_files.proofs.MeantTends.{not_called}
 use Rattle.store_files.proofs.TendedFiles.{beside_both, table_alone}
 use Rattle.store_files.proofs.Tends.{nothing_called}

@@ -16,10 +16,10 @@ use Rattle.manifest.specs.declared.ManifestError.TheVariants as manifest
 use Rattle.manifest.specs.{IsVersion, ManifestFailsDevice, ManifestHasFailed}
 use Rattle.manifest.specs.{ManifestRepresents, NodeVersion, SlotsAreLeft, StoreVersion, version_of}
 use Rattle.store_files.specs.declared.store_files.StoreFiles.{StoreFiles}
-use Rattle.store_files.specs.declared.error.EngineError.{EngineError}
+use Rattle.store_tables.specs.declared.error.EngineError.{EngineError}
 use Rattle.store_files.specs.BatchLogs.{lines_of}
-use Rattle.store_files.specs.Errors.{FailsDevice, IsEnd, IsEngineExternal, error_of_edit}
-use Rattle.store_files.specs.LevelTables.{table_lines}
+use Rattle.store_tables.specs.Errors.{FailsDevice, IsEnd, IsEngineExternal, error_of_edit}
+use Rattle.store_tables.specs.LevelTables.{table_lines}
 use Rattle.store_files.specs.OpenFiles.{AreUsableFiles, FilesHold, batch_count, known_facts}
 use Rattle.store_files.specs.OpenFiles.{known_version, trimmed_count}
 use Rattle.store_files.specs.StoreFiles.{AreOrderedNumbers, FilesRepresent}

@@ -1,9 +1,7 @@
-pub mod Errors
 pub mod Layout
 pub mod Lists
 pub mod Files
 pub mod BatchLogs
-pub mod LevelTables
 pub mod StoreFiles
 pub mod LogExamples
 pub mod Stores
@@ -12,8 +10,6 @@ pub mod OpenFiles
 pub mod UsableProps
 pub mod Openings
 pub mod Replaying
-pub mod TableWriting
 pub mod Tending
 pub mod TendKeeps
 pub mod HeldFiles
-pub mod KeepingLemmas

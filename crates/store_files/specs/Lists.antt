@@ -2,8 +2,8 @@
 use Rattle.std.specs.Prelude.{MatchResult, Result}
 use Rattle.disk.specs.declared.Disk.{Ghosts}
 use Rattle.disk.specs.{AlwaysLeaves, Contents, State}
-use Rattle.store_files.specs.declared.error.EngineError.{EngineError}
-use Rattle.store_files.specs.Errors.{IsEngineExternal}
+use Rattle.store_tables.specs.declared.error.EngineError.{EngineError}
+use Rattle.store_tables.specs.Errors.{IsEngineExternal}
 
 -- An answer leaves a disk that holds what it is to, and a refusal is external. A crash at any
 -- moment since the call began, whatever it answers, leaves files that represent what they are to.

@@ -13,20 +13,19 @@ use Rattle.manifest.specs.declared.TableLine.{TableLine}
 use Rattle.manifest.specs.{IsNotCreated, IsTableLine, IsVersion, ManifestHasFailed, ManifestHolds}
 use Rattle.manifest.specs.{ManifestRepresents, NodeVersion, StoreVersion, version_of}
 use Rattle.store_files.specs.declared.batch_logs.BatchLogs.{BatchLogs}
-use Rattle.store_files.specs.declared.error.EngineError.{EngineError}
-use Rattle.store_files.specs.declared.error.EngineError.TheVariants as engine
+use Rattle.store_tables.specs.declared.error.EngineError.{EngineError}
+use Rattle.store_tables.specs.declared.error.EngineError.TheVariants as engine
 use Rattle.store_files.specs.declared.store_files.StoreFiles.{StoreFiles}
 use Rattle.store_files.specs.Files.{Facts}
 use Rattle.store_files.specs.BatchLogs.{AreUsable, HaveBatches, LogsHold, first_number, lines_of}
 use Rattle.store_files.specs.BatchLogs.{next_number}
-use Rattle.store_files.specs.LevelTables.{AreServed, AreTablesOf, FileFits, HasMeantBlocks}
-use Rattle.store_files.specs.LevelTables.{IsTableAsMeant, IsTableOf, table_lines}
-use Rattle.store_files.specs.declared.levels.LevelTables.{LevelTables}
+use Rattle.store_tables.specs.LevelTables.{AreServed, AreTablesOf, FileFits, HasMeantBlocks}
+use Rattle.store_tables.specs.LevelTables.{IsTableAsMeant, IsTableOf, table_lines}
+use Rattle.store_tables.specs.declared.levels.LevelTables.{LevelTables}
 use Rattle.store_files.specs.Stores.{IsNumberedTo}
-use Rattle.store_files.specs.Errors.{IsEngineExternal}
+use Rattle.store_tables.specs.Errors.{IsEngineExternal}
 use Rattle.store_files.specs.StoreFiles.{AreOrderedNumbers, FilesRepresent, OpensAs, WereMeant}
 use Rattle.store_files.specs.StoreFiles.{store_of_version}
-use Rattle.store_files.specs.TableWriting.{PassesLimit}
 
 -- ---- logs that were read
 
@@ -60,28 +59,6 @@ pub record AreOpenLogs (lines : List LogLine) (logs : BatchLogs) (memtable : Mem
     pub usable : AreUsable logs
     pub numbered : IsNumberedTo memtable (next_number logs - 1)
     pub few : next_number logs ≤ suc MAX_NUMBER
-
--- ---- a table that was written
-
--- the memtable has an entry
-abbrev pub HasEntry : Memtable → Type 0
-HasEntry memtable = (entry : Entry) × TableHolds memtable entry
-
--- The table of the memtable's entries is durably in the file, which the line names in level 0.
-pub record IsWrittenTable (disk : State) (memtable : Memtable) (file : ℕ) (line : TableLine)
-    : Type 0 where
-  pub table : LevelTable
-  pub is : IsTableOf (contents disk) line table
-  pub at : line.file ≡ file
-  pub level : line.level ≡ 0
-  pub proper : IsTableLine line
-  pub durable : IsDurable (disk file)
-  pub range : FitsRange table
-  pub entries : (entry : Entry) → Contains table.entries entry ↔ TableHolds memtable entry
-
--- some of the memtable's entries, in order, already pass the limit of a table's data
-abbrev pub IsTooLarge : Memtable → Type 0
-IsTooLarge memtable = PassesLimit (TableHolds memtable)
 
 -- ---- what the open files know
 

@@ -8,9 +8,9 @@ use Rattle.manifest.specs.{IsVersion, StoreVersion}
 use Rattle.manifest.specs.Versions.{files_of}
 use Rattle.store_files.specs.declared.opening.ReadParts.{ReadParts}
 use Rattle.store_files.specs.BatchLogs.{LogsHold, first_number, next_number}
-use Rattle.store_files.specs.LevelTables.{AreServed, AreTablesOf, FileFits, IsTableAsMeant}
-use Rattle.store_files.specs.LevelTables.{WereServed}
-use Rattle.store_files.specs.LevelTables.{table_lines}
+use Rattle.store_tables.specs.LevelTables.{AreServed, AreTablesOf, FileFits, IsTableAsMeant}
+use Rattle.store_tables.specs.LevelTables.{WereServed}
+use Rattle.store_tables.specs.LevelTables.{table_lines}
 use Rattle.store_files.specs.Settling.{SlotSettles}
 use Rattle.store_files.specs.OpenFiles.{AreBatchesOf, AreOpenLogs, AreReplayed, HasReplayed}
 use Rattle.store_files.specs.StoreFiles.{AreOrderedNumbers}

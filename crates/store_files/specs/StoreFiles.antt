@@ -21,7 +21,7 @@ use Rattle.manifest.specs.{StoreVersion}
 use Rattle.manifest.specs.{Change, changed, first_version}
 use Rattle.store_files.specs.Files.{Facts, IsLog}
 use Rattle.store_files.specs.BatchLogs.{HaveBatches}
-use Rattle.store_files.specs.LevelTables.{AreTablesOf, FileFits, IsTableAsMeant, IsTableOf}
+use Rattle.store_tables.specs.LevelTables.{AreTablesOf, FileFits, IsTableAsMeant, IsTableOf}
 use Rattle.store_files.specs.Settling.{AreAlone}
 
 -- how many batches come before the newest log

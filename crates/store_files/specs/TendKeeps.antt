@@ -3,9 +3,9 @@ use Rattle.std.specs.Prelude.{◌≡◌, List, MatchResult, OnOk, Result}
 use Rattle.kv_types.specs.{BatchContent}
 use Rattle.disk.specs.declared.Disk.{Ghosts}
 use Rattle.disk.specs.{KeepsDisk, State}
-use Rattle.store_files.specs.declared.error.EngineError.{EngineError}
+use Rattle.store_tables.specs.declared.error.EngineError.{EngineError}
 use Rattle.store_files.specs.declared.store_files.StoreFiles.{StoreFiles}
-use Rattle.store_files.specs.Errors.{FailsDevice, IsEnd}
+use Rattle.store_tables.specs.Errors.{FailsDevice, IsEnd}
 use Rattle.store_files.specs.Files.{IsOwned}
 use Rattle.store_files.specs.Lists.{ListFollowsOn}
 use Rattle.store_files.specs.OpenFiles.{AreUsableFiles, FilesHold, WereMeantToHold, batch_count}

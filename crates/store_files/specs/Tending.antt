@@ -13,12 +13,13 @@ use Rattle.store_files.specs.declared.flushing.Flushed.{Flushed}
 use Rattle.store_files.specs.declared.store_files.StoreFiles.{StoreFiles}
 use Rattle.store_files.specs.declared.tended.Tended.{Tended}
 use Rattle.store_files.specs.declared.tended.Tended.TheVariants as tended
-use Rattle.store_files.specs.LevelTables.{IsServed}
-use Rattle.store_files.specs.OpenFiles.{FilesHold, HasEntry, IsTooLarge, IsWrittenTable}
+use Rattle.store_tables.specs.LevelTables.{IsServed}
+use Rattle.store_files.specs.OpenFiles.{FilesHold}
+use Rattle.store_tables.specs.TableWriting.{HasEntry, IsTooLarge, IsWrittenTable}
 use Rattle.store_files.specs.OpenFiles.{batch_count}
 use Rattle.store_files.specs.OpenFiles.{WereMeantToHold, known_version}
 use Rattle.store_files.specs.StoreFiles.{flush_change}
-use Rattle.store_files.specs.TableWriting.{IsNewLine}
+use Rattle.store_tables.specs.TableWriting.{IsNewLine}
 
 -- ---- what is due
 

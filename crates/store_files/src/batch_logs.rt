@@ -13,7 +13,7 @@ ghost use Rattle.store_files.specs.BatchLogs.{IsWorking, LogsHold, first_number,
 ghost use Rattle.store_files.specs.BatchLogs.{line_of};
 ghost use Rattle.store_files.specs.BatchLogs.{lines_of, newest_file, newest_length, next_number};
 ghost use Rattle.store_files.specs.BatchLogs.{end_of_log, with_line};
-ghost use Rattle.store_files.specs.Errors.{FailsDevice, IsEnd, IsEngineExternal};
+ghost use Rattle.store_tables.specs.Errors.{FailsDevice, IsEnd, IsEngineExternal};
 ghost use Rattle.store_files.specs.Layout.{records_from};
 ghost use Rattle.store_files.specs.Lists.{ListFollowsOn};
 

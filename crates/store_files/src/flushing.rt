@@ -5,21 +5,19 @@ ghost use Rattle.kv_types.specs.{BatchContent};
 ghost use Rattle.disk.specs.{IsSameBut, KeepsDisk};
 ghost use Rattle.manifest.specs.{HasFullSlot, IsChange, IsFit};
 ghost use Rattle.memtable.specs.{HasFailedAdd};
-ghost use Rattle.store_files.specs.Errors.{FailsDevice, IsEnd};
+ghost use Rattle.store_tables.specs.Errors.{FailsDevice, IsEnd};
 ghost use Rattle.store_files.specs.Lists.{ListFollowsOn};
-ghost use Rattle.store_files.specs.OpenFiles.{AreUsableFiles, FilesHold, HasEntry, IsTooLarge};
+ghost use Rattle.store_files.specs.OpenFiles.{AreUsableFiles, FilesHold};
+ghost use Rattle.store_tables.specs.TableWriting.{HasEntry, IsTooLarge};
 ghost use Rattle.store_files.specs.OpenFiles.{WereMeantToHold, known_facts, known_version};
 ghost use Rattle.store_files.specs.StoreFiles.{FilesRepresent, WereMeant, flush_change};
-ghost use Rattle.store_files.specs.TableWriting.{IsNewLine};
+ghost use Rattle.store_tables.specs.TableWriting.{IsNewLine};
 ghost use Rattle.store_files.specs.TendKeeps.{TendKeeps};
 ghost use Rattle.store_files.specs.Tending.{HasSpilled, HeldAndSpilled, IsFlushedBy, IsNewTable};
 ghost use Rattle.store_files.specs.Tending.{LacksPlace, MeantAndSpilled, TendMayFail};
 
 use crate::EngineError;
-use crate::error::refusal_of_edit;
-use crate::levels::OpenTable;
 use crate::store_files::StoreFiles;
-use crate::table_writing::write_table;
 use disk::Disk;
 use disk::laws::{durable_file_is_left, durable_is_left};
 use kv_types::Number;
@@ -32,6 +30,7 @@ use merge_iter::Cursor;
 use std::alloc::{AllocError, Global};
 use std::mem;
 use store_model::flushes_keep;
+use store_tables::{OpenTable, refusal_of_edit, write_table};
 
 /// A new table of level 0: its line, and the open table.
 #[derive(Drop)]

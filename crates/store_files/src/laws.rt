@@ -1,8 +1,6 @@
 //! Laws of the definitions that contracts use. The functions do nothing: their clauses are the
 //! laws.
 ghost use Rattle.store_files.specs.HeldFiles.{HeldFilesAreLeft};
-ghost use Rattle.store_files.specs.LevelTables.{FlushedTablesRise, LinesInOrderRise};
-ghost use Rattle.store_files.specs.LevelTables.{TableLookUpsAreMaps, TablesFindForStores};
 ghost use Rattle.store_files.specs.StoreFiles.{DamagedFilesOpen, FirstFilesRepresent};
 ghost use Rattle.store_files.specs.StoreFiles.{FlushesRepresent};
 ghost use Rattle.store_files.specs.StoreFiles.{LongerLogsRepresent, StoreFilesAreNamed};
@@ -15,24 +13,6 @@ use kv_types::laws::spellings_differ;
 use manifest::laws::{held_versions_are_left, version_is_one};
 use record_log::records_are_unique;
 use store_model::{appends_keep, empty_represents, flushes_keep, look_ups_are_maps};
-
-/// Tables stand in order of level where their lines in a manifest stand in order, and with a table
-/// of level 0 more.
-// law: of `LevelsRise`
-pub fn levels_rise()
-    ensures lines { LinesInOrderRise }
-    ensures flushed { FlushedTablesRise }
-{}
-
-/// Where memory has no entry of a key, what a lookup in the tables finds is what one in the store
-/// finds, and so it is what the map has.
-// law: of `TablesFind`
-pub fn table_look_ups_are_maps()
-    ensures store { TablesFindForStores }
-    ensures maps { TableLookUpsAreMaps }
-{
-    store_model::look_ups_are_maps(); // law: what a store finds first is what the map has
-}
 
 /// What slots, logs and tables represent together depends on the files that they name alone.
 // law: of `FilesRepresent`

@@ -3,7 +3,7 @@ ghost use Rattle.std.specs.Prelude.{◌≡◌, ◌↔◌, ◌+◌, ◌-◌, [], 
 ghost use Rattle.std.specs.Prelude.{IfErr, MatchResult};
 ghost use Rattle.kv_types.specs.{BatchContent};
 ghost use Rattle.disk.specs.{IsStill, KeepsDisk, State, contents};
-ghost use Rattle.store_files.specs.Errors.{FailsDevice, IsEnd, IsEngineExternal};
+ghost use Rattle.store_tables.specs.Errors.{FailsDevice, IsEnd, IsEngineExternal};
 ghost use Rattle.store_files.specs.Files.{Facts, IsOwned, first_facts};
 ghost use Rattle.store_files.specs.StoreFiles.{StillLeavesOneOf, before_newest};
 ghost use Rattle.store_files.specs.OpenFiles.{AreBatchesOf, AreUsableFiles};
@@ -13,7 +13,7 @@ ghost use Rattle.store_files.specs.OpenFiles.{batch_count, known_facts, known_ve
 ghost use Rattle.store_files.specs.Openings.{AreParts, HasParts, PartsHold, PartsWereMeant};
 ghost use Rattle.store_files.specs.Openings.{WereParts};
 ghost use Rattle.store_files.specs.Openings.{kept_files};
-ghost use Rattle.store_files.specs.LevelTables.{AreTablesOf, IsTableAsMeant};
+ghost use Rattle.store_tables.specs.LevelTables.{AreTablesOf, IsTableAsMeant};
 ghost use Rattle.store_files.specs.OpenFiles.{OpensFor, WereMeantToHold, WereMeantToRead};
 ghost use Rattle.std.specs.Prelude.{All};
 ghost use Rattle.store_files.specs.StoreFiles.{durably};
@@ -23,7 +23,6 @@ ghost use Rattle.store_model.specs.{LevelTable};
 
 use crate::EngineError;
 use crate::batch_logs::{BatchLog, BatchLogs};
-use crate::levels::LevelTables;
 use crate::replaying::open_logs;
 use crate::settling::{remove_others, sync_tables};
 use crate::store_files::StoreFiles;
@@ -36,6 +35,7 @@ use memtable::Memtable;
 use record_log::Log;
 use std::alloc::{AllocError, Global};
 use store_model::{empty_represents, replays_agree};
+use store_tables::LevelTables;
 
 // The slots, and the files that a version names.
 fn named_files(alloc: Global, version: &StoreVersion) -> Result<Vec<u64>, AllocError>

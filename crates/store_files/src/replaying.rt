@@ -6,7 +6,7 @@ ghost use Rattle.kv_types.specs.{BatchContent, IsBatch};
 ghost use Rattle.disk.specs.{AddsNoOutcome, IsStill, KeepsDisk, contents, seen};
 ghost use Rattle.record_log.specs.{HasRead, count_of};
 ghost use Rattle.store_files.specs.BatchLogs.{HaveBatches, LogsHold};
-ghost use Rattle.store_files.specs.Errors.{FailsDevice, IsEnd, IsEngineExternal};
+ghost use Rattle.store_tables.specs.Errors.{FailsDevice, IsEnd, IsEngineExternal};
 ghost use Rattle.store_files.specs.Files.{IsLog};
 ghost use Rattle.store_files.specs.Layout.{batch_record, records_from};
 ghost use Rattle.store_files.specs.OpenFiles.{AreBatchesOf, AreOpenLogs, AreReplayed, HasReplayed};

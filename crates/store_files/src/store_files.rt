@@ -7,18 +7,16 @@ ghost use Rattle.kv_types.specs.{BatchContent, map_of};
 ghost use Rattle.disk.specs.{IsSame, IsSameBut, IsStill, KeepsDisk};
 ghost use Rattle.chain_model.specs.{place};
 ghost use Rattle.store_files.specs.BatchLogs.{HasFullLog, newest_file};
-ghost use Rattle.store_files.specs.Errors.{FailsDevice, IsEnd, IsEngineExternal};
+ghost use Rattle.store_tables.specs.Errors.{FailsDevice, IsEnd, IsEngineExternal};
 ghost use Rattle.store_files.specs.OpenFiles.{AreUsableFiles, FilesHold, batch_count, known_facts};
 ghost use Rattle.store_files.specs.OpenFiles.{WereMeantToHold, trimmed_count};
 ghost use Rattle.memtable.specs.{HasFailedAdd, TableHolds};
-ghost use Rattle.store_files.specs.LevelTables.{EntriesHave, found_value};
+ghost use Rattle.store_tables.specs.LevelTables.{EntriesHave, found_value};
 ghost use Rattle.store_files.specs.Lists.{ListFollowsOn};
 ghost use Rattle.store_files.specs.StoreFiles.{IsOneOf, WereOneOf};
 
 use crate::EngineError;
 use crate::batch_logs::BatchLogs;
-use crate::laws::{levels_rise, table_look_ups_are_maps};
-use crate::levels::LevelTables;
 use disk::Disk;
 use disk::laws::{durable_file_is_left, durable_is_left, reads_are_outcomes};
 use kv_types::{Batch, Key, Number, Value};
@@ -28,6 +26,8 @@ use memtable::{Found, Memtable};
 use sorted_table::FoundVersion;
 use std::alloc::Global;
 use store_model::{appends_keep, look_ups_are_maps};
+use store_tables::LevelTables;
+use store_tables::laws::{levels_rise, table_look_ups_are_maps};
 use table_files::Files;
 
 /// The open files of a store. Each call that reaches them is lent the disk.

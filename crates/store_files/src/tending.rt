@@ -1,13 +1,13 @@
 // A tend of a store's files: a rewrite of the manifest, or a flush.
 ghost use Rattle.std.specs.Prelude.{IfOk, List};
 ghost use Rattle.kv_types.specs.{BatchContent};
-ghost use Rattle.store_files.specs.OpenFiles.{AreUsableFiles, HasEntry, WereMeantToHold};
+ghost use Rattle.store_files.specs.OpenFiles.{AreUsableFiles, WereMeantToHold};
+ghost use Rattle.store_tables.specs.TableWriting.{HasEntry};
 ghost use Rattle.store_files.specs.TendKeeps.{FilesAreTended};
 ghost use Rattle.store_files.specs.Tending.{IsFlushAnswer, IsRewriteAnswer, IsTend, IsWorkAnswer};
 ghost use Rattle.store_files.specs.Tending.{TendMayFail};
 
 use crate::EngineError;
-use crate::error::refusal_of_edit;
 use crate::flushing::{has_entries, lacks_place};
 use crate::store_files::StoreFiles;
 use crate::tended::Tended;
@@ -16,6 +16,7 @@ use disk::laws::durable_file_is_left;
 use kv_types::bounds::MAX_NUMBER;
 use manifest::laws::{held_versions_are_left, manifest_has_slots};
 use std::alloc::Global;
+use store_tables::refusal_of_edit;
 
 impl StoreFiles {
     // Rewrites the manifest, which is due.

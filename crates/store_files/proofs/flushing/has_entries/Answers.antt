@@ -4,7 +4,7 @@ use Rattle.memtable.specs.declared.Memtable.{Memtable}
 use Rattle.memtable.specs.{TableHolds}
 use Rattle.merge_iter.specs.declared.Direction.TheVariants.{Forward}
 use Rattle.merge_iter.specs.{AtEnd, Broken, IsAlike, IsFirst, IsOn, Off, On, Position, WalkMeets}
-use Rattle.store_files.specs.OpenFiles.{HasEntry}
+use Rattle.store_tables.specs.TableWriting.{HasEntry}
 use Rattle.store_files.proofs.flushing.has_entries.Goals as goal
 
 -- the first entry of a walk is found where there is one

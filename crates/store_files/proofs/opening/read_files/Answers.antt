@@ -2,13 +2,13 @@ use Rattle.std.proofs.Common.{◌∙◌, ℕ, suc, drop, subst, sym, Ok}
 use Rattle.disk.specs.{contents}
 use Rattle.disk.specs.StillLemmas.{still_more}
 use Rattle.manifest.specs.{NodeVersion, version_of}
-use Rattle.store_files.specs.Errors.{IsEngineExternal}
+use Rattle.store_tables.specs.Errors.{IsEngineExternal}
 use Rattle.store_files.specs.OpenFiles.{AreUsableFiles, FilesAreRead, FilesOpenAs, OpeningRefusal}
 use Rattle.store_files.specs.OpenFiles.{OpensFor, WereMeantToRead}
 use Rattle.store_files.specs.Openings.{AreParts, HasParts, PartsHold, PartsWereMeant, WereParts}
 use Rattle.store_files.specs.StoreFiles.{durably}
 use Rattle.store_files.proofs.BegunFiles.{manifest_is_external}
-use Rattle.store_files.proofs.Causes.{answers_nothing, refuses}
+use Rattle.store_tables.specs.RefusalLemmas.{answers_nothing, refuses}
 use Rattle.store_files.proofs.MeantOpenings.{asked_as_meant, read_as_meant, slots_are_meant}
 use Rattle.store_files.proofs.ReadFiles.{files_with}
 use Rattle.store_files.proofs.ReadAnswers.{asked, end_explained, opens_as, parts_then}

@@ -3,13 +3,13 @@ use Rattle.disk.specs.{Slot, contents}
 use Rattle.disk.specs.StillLemmas.{still_more}
 use Rattle.manifest.specs.declared.TableLine.{TableLine}
 use Rattle.manifest.specs.{IsVersion, NodeVersion}
-use Rattle.store_files.specs.Errors.{IsEngineExternal}
-use Rattle.store_files.specs.LevelTables.{AreTablesOf, FileFits, IsTableAsMeant}
+use Rattle.store_tables.specs.Errors.{IsEngineExternal}
+use Rattle.store_tables.specs.LevelTables.{AreTablesOf, FileFits, IsTableAsMeant}
 use Rattle.store_files.specs.StoreFiles.{AreOrderedNumbers, durably}
 use Rattle.store_files.specs.Settling.{AreSynced, AreThere}
 use Rattle.std.specs.Prelude.{All, Contains}
 use Rattle.std.proofs.lemmas.List.Elements.{All-contains, All-contains_itself, All-weaker}
-use Rattle.store_files.proofs.Causes.{refuses}
+use Rattle.store_tables.specs.RefusalLemmas.{refuses}
 use Rattle.store_files.proofs.Parts.{held_count, logs_in}
 use Rattle.store_files.proofs.ReadParts.{batches_same, begins_at, fitting_are_there, parts_settle}
 use Rattle.store_files.proofs.ReadParts.{replayed_same, tables_are_there, tables_durable}

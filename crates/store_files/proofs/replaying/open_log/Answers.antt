@@ -1,12 +1,14 @@
 use Rattle.std.proofs.Common.{List, ℕ, suc, arith, inr, subst}
 use Rattle.disk.specs.{seen}
 use Rattle.record_log.specs.{LogHolds}
-use Rattle.store_files.specs.Errors.{IsEnd, IsEngineExternal}
+use Rattle.store_tables.specs.Errors.{IsEnd, IsEngineExternal}
 use Rattle.store_files.specs.Files.{IsLog}
-use Rattle.store_files.specs.KeepingLemmas.{answered, kept_as, neither}
+use Rattle.store_tables.specs.KeepingLemmas.{answered, kept_as, neither}
 use Rattle.store_files.specs.Layout.{records_from}
-use Rattle.store_files.proofs.Causes.{bytes_end, log_ends, log_is_external, refuses}
-use Rattle.store_files.proofs.Keeping.{bytes_only, done, log_failed, passed_on}
+use Rattle.store_files.proofs.Causes.{bytes_end, log_ends, log_is_external}
+use Rattle.store_tables.specs.RefusalLemmas.{refuses}
+use Rattle.store_files.proofs.Keeping.{bytes_only, log_failed}
+use Rattle.store_tables.specs.RefusalLemmas.{done, passed_on}
 use Rattle.store_files.proofs.replaying.open_log.Goals as goal
 
 -- the log's file was synced

@@ -4,10 +4,10 @@ use Rattle.manifest.specs.declared.LogLine.{LogLine}
 use Rattle.manifest.specs.{NodeVersion}
 use Rattle.store_files.specs.declared.batch_logs.BatchLog.{BatchLog}
 use Rattle.store_files.specs.BatchLogs.{HaveBatches}
-use Rattle.store_files.specs.Errors.{IsEngineExternal}
+use Rattle.store_tables.specs.Errors.{IsEngineExternal}
 use Rattle.store_files.specs.Replaying.{AreInLine, AreOfDifferentFiles, AreReadLogs}
 use Rattle.store_files.specs.Settling.{SparesAllBut}
-use Rattle.store_files.proofs.Causes.{refuses}
+use Rattle.store_tables.specs.RefusalLemmas.{refuses}
 use Rattle.store_files.proofs.OpenLogs.{are_replayed, begins, different_files, open_logs_are}
 use Rattle.store_files.proofs.OpenLogs.{were_read}
 use Rattle.store_files.proofs.replaying.open_logs.Goals as goal

@@ -3,12 +3,12 @@ use Rattle.std.proofs.lemmas.List.{take_all}
 use Rattle.disk.specs.{contents}
 use Rattle.manifest.specs.declared.LogLine.{LogLine}
 use Rattle.store_files.specs.BatchLogs.{HaveBatches}
-use Rattle.store_files.specs.Errors.{IsEnd, IsEngineExternal}
-use Rattle.store_files.specs.KeepingLemmas.{answered, kept_as, neither}
+use Rattle.store_tables.specs.Errors.{IsEnd, IsEngineExternal}
+use Rattle.store_tables.specs.KeepingLemmas.{answered, kept_as, neither}
 use Rattle.store_files.specs.Replaying.{AreInLine, AreReadLogs}
 use Rattle.store_files.specs.Settling.{SparesAllBut}
-use Rattle.store_files.proofs.Causes.{refuses}
-use Rattle.store_files.proofs.Keeping.{done, memory_told, passed_on, refused}
+use Rattle.store_tables.specs.RefusalLemmas.{refuses}
+use Rattle.store_tables.specs.RefusalLemmas.{done, lacks_memory, passed_on, refused_otherwise}
 use Rattle.store_files.proofs.ReadLogs.{HasSynced, has_here, in_line_more, line_at, lines_at}
 use Rattle.store_files.proofs.ReadLogs.{lines_more, none_in_line, none_read, none_synced, read_more}
 use Rattle.store_files.proofs.ReadLogs.{still_then}
@@ -42,7 +42,7 @@ open_log-requires-clause-few g c = c.loop-line.invariant.line.few
 pub returns-then-line-count-clause-kept : goal.returns-then-line-count-clause-kept
 returns-then-line-count-clause-kept g c =
     synced_all g.D.Disk (take c.loop-line.line-index c.args.lines.now) c.args.disk.now
-    c.loop-line.disk c.loop-line.invariant.synced (refused (λ e. cc))
+    c.loop-line.disk c.loop-line.invariant.synced (refused_otherwise (λ e. cc))
 
 pub returns-then-line-count-clause-still : goal.returns-then-line-count-clause-still
 returns-then-line-count-clause-still g c = c.loop-line.invariant.synced.still
@@ -113,7 +113,7 @@ returns-in_err-push-clause-kept g c =
     synced_then g.D.Disk (take i lines) c.args.disk.now c.loop-line.disk
     c.loop-line.invariant.synced line.file
     (kept_as g.D.Disk (neither (answered c.open_log.result c.in_ok-one.was)
-    (memory_told c.from_residual-in_err-push.result c.from_residual-in_err-push.ensures.1))
+    (lacks_memory c.from_residual-in_err-push.result c.from_residual-in_err-push.ensures.1))
     (λ a b added. added) c.open_log.ensures.kept)
 
 pub returns-in_err-push-clause-still : goal.returns-in_err-push-clause-still

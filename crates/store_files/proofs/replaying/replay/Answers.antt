@@ -1,9 +1,9 @@
 use Rattle.std.proofs.Common.{◌≡◌, ◌+◌, ℕ, suc, ap, arith, subst, ◌∙◌, length}
 use Rattle.record_log.specs.{count_of}
-use Rattle.store_files.specs.Errors.{IsEngineExternal}
+use Rattle.store_tables.specs.Errors.{IsEngineExternal}
 use Rattle.store_files.specs.Layout.{batch_record, records_from}
 use Rattle.store_files.specs.Stores.{IsNumberedTo}
-use Rattle.store_files.proofs.Causes.{refuses}
+use Rattle.store_tables.specs.RefusalLemmas.{refuses}
 use Rattle.store_files.proofs.Records.{length-ends, length-records, made_of, numbered_at}
 use Rattle.store_files.proofs.Replays.{all_taken, none_taken, taken_next}
 use Rattle.store_files.proofs.replaying.replay.Goals as goal

@@ -1,10 +1,10 @@
 use Rattle.std.proofs.Common.{ℕ, List, subst, sym}
 use Rattle.disk.specs.Calls.{ListsFiles}
 use Rattle.store_model.specs.PlacesLemmas.{contains_head}
-use Rattle.store_files.specs.Errors.{IsEngineExternal}
-use Rattle.store_files.specs.KeepingLemmas.{kept_as, neither}
-use Rattle.store_files.proofs.Causes.{refuses}
-use Rattle.store_files.proofs.Keeping.{done}
+use Rattle.store_tables.specs.Errors.{IsEngineExternal}
+use Rattle.store_tables.specs.KeepingLemmas.{kept_as, neither}
+use Rattle.store_tables.specs.RefusalLemmas.{refuses}
+use Rattle.store_tables.specs.RefusalLemmas.{done}
 use Rattle.store_files.proofs.Removals.{AreLeft, alone_left, is_kept, listed, listing_moments}
 use Rattle.store_files.proofs.Removals.{no_items, not_kept, passed_left}
 use Rattle.store_files.proofs.Removals.{removal_moments, removal_then, removals_end, removed_left}

@@ -4,11 +4,11 @@ use Rattle.std.proofs.lemmas.List.{take_all}
 use Rattle.std.proofs.lemmas.List.Elements.{All-get_or}
 use Rattle.disk.specs.{seen}
 use Rattle.manifest.specs.declared.TableLine.{TableLine}
-use Rattle.store_files.specs.Errors.{IsEngineExternal}
-use Rattle.store_files.specs.KeepingLemmas.{kept_as, neither}
+use Rattle.store_tables.specs.Errors.{IsEngineExternal}
+use Rattle.store_tables.specs.KeepingLemmas.{kept_as, neither}
 use Rattle.store_files.specs.Settling.{AreSynced}
-use Rattle.store_files.proofs.Causes.{refuses}
-use Rattle.store_files.proofs.Keeping.{done}
+use Rattle.store_tables.specs.RefusalLemmas.{refuses}
+use Rattle.store_tables.specs.RefusalLemmas.{done}
 use Rattle.store_files.proofs.Settles.{disk_failed, disk_works, none_yet, settled_there}
 use Rattle.store_files.proofs.Settles.{still_after, sync_all, sync_then, synced_more, there_machine}
 use Rattle.store_files.proofs.settling.sync_tables.Goals as goal

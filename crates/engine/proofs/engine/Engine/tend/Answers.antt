@@ -1,4 +1,4 @@
-use Rattle.store_files.specs.Errors.{IsEnd}
+use Rattle.store_tables.specs.Errors.{IsEnd}
 use Rattle.engine.specs.Engines.{engine_disk}
 use Rattle.engine.proofs.Engines.{closed_by, ends_by, goes_to, held_of, match_of, may_fail}
 use Rattle.engine.proofs.Engines.{no_refusal, not_raised, of_answer, of_refusal, on_answer}

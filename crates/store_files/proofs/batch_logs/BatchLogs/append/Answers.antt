@@ -1,8 +1,9 @@
 use Rattle.std.proofs.Common.{◌≡◌, ◌+◌, length, ap, inr, refl, ◌∙◌}
 use Rattle.store_files.specs.BatchLogs.{next_number}
-use Rattle.store_files.specs.Errors.{IsEngineExternal}
+use Rattle.store_tables.specs.Errors.{IsEngineExternal}
 use Rattle.store_files.specs.Layout.{batch_record, records_from}
-use Rattle.store_files.proofs.Causes.{log_ends, met, none_counted, refuses}
+use Rattle.store_files.proofs.Causes.{log_ends, met, none_counted}
+use Rattle.store_tables.specs.RefusalLemmas.{refuses}
 use Rattle.store_files.proofs.Parts.{crashed_more, held_more, none_more}
 use Rattle.store_files.proofs.Records.{spelled_fits}
 use Rattle.store_files.proofs.batch_logs.BatchLogs.append.Goals as goal

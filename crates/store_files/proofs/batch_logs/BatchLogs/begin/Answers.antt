@@ -4,7 +4,8 @@ use Rattle.record_log.specs.{LogHolds}
 use Rattle.store_files.specs.declared.batch_logs.BatchLog.{BatchLog}
 use Rattle.store_files.specs.declared.batch_logs.BatchLogs.{BatchLogs}
 use Rattle.store_files.specs.BatchLogs.{line_of}
-use Rattle.store_files.proofs.Causes.{log_ends, refuses}
+use Rattle.store_files.proofs.Causes.{log_ends}
+use Rattle.store_tables.specs.RefusalLemmas.{refuses}
 use Rattle.store_files.proofs.BegunLogs.{AreBegun, begun, begun_holds, begun_lines, begun_number}
 use Rattle.store_files.proofs.BegunLogs.{begun_usable}
 use Rattle.store_files.proofs.batch_logs.BatchLogs.begin.Goals as goal

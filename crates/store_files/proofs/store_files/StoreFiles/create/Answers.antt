@@ -3,12 +3,12 @@ use Rattle.disk.specs.{contents}
 use Rattle.record_log.specs.{LogHolds}
 use Rattle.manifest.specs.declared.TableLine.{TableLine}
 use Rattle.manifest.specs.{IsVersion, NodeVersion}
-use Rattle.store_files.specs.Errors.{IsEngineExternal}
-use Rattle.store_files.specs.LevelTables.{AreTablesOf}
+use Rattle.store_tables.specs.Errors.{IsEngineExternal}
+use Rattle.store_tables.specs.LevelTables.{AreTablesOf}
 use Rattle.store_files.proofs.BegunFiles.{counts_none, first_hold, first_line, log_is_spared}
 use Rattle.store_files.proofs.BegunFiles.{no_file_ends, no_slot_yet}
 use Rattle.store_files.proofs.BegunFiles.{first_log, only_first, rest_is_unused}
-use Rattle.store_files.proofs.Causes.{refuses}
+use Rattle.store_tables.specs.RefusalLemmas.{refuses}
 use Rattle.store_files.proofs.Parts.{holds_in}
 use Rattle.store_files.proofs.store_files.StoreFiles.create.Goals as goal
 

@@ -2,12 +2,13 @@ use Rattle.std.proofs.Common.{◌≡◌, Ok, Option, inl, inr, refl, subst}
 use Rattle.std.specs.Prelude.{MatchOption}
 use Rattle.manifest.specs.{NodeVersion}
 use Rattle.store_files.specs.declared.flushing.Flushed.{Flushed}
-use Rattle.store_files.specs.KeepingLemmas.{answered, kept_as, neither}
-use Rattle.store_files.specs.OpenFiles.{FilesHold, IsTooLarge, WereMeantToHold}
+use Rattle.store_tables.specs.KeepingLemmas.{answered, kept_as, neither}
+use Rattle.store_files.specs.OpenFiles.{FilesHold, WereMeantToHold}
+use Rattle.store_tables.specs.TableWriting.{IsTooLarge}
 use Rattle.store_files.specs.declared.tended.Tended.TheVariants as tended
 use Rattle.store_files.specs.Tending.{HasSpilled, IsFlushAnswer, IsNewTable, LacksPlace}
-use Rattle.store_files.proofs.Causes.{refuses}
-use Rattle.store_files.proofs.Keeping.{passed_on}
+use Rattle.store_tables.specs.RefusalLemmas.{refuses}
+use Rattle.store_tables.specs.RefusalLemmas.{passed_on}
 use Rattle.store_files.proofs.TendKeeps.{answer_passed, no_answer, nothing_done, refusal_on_ok}
 use Rattle.store_files.proofs.TendKeeps.{refusal_passed, spilled_for, then_installed}
 use Rattle.store_files.proofs.TendedFiles.{table_alone}

@@ -2,10 +2,10 @@ use Rattle.std.proofs.Common.{◌≤◌, ℕ, List, Option, subst}
 use Rattle.disk.specs.{contents}
 use Rattle.disk.specs.StillLemmas.{still}
 use Rattle.memtable.specs.{TableHolds}
-use Rattle.store_files.specs.LevelTables.{EntriesHave}
+use Rattle.store_tables.specs.LevelTables.{EntriesHave}
 use Rattle.store_files.specs.OpenFiles.{known_store}
-use Rattle.store_files.specs.Errors.{IsEngineExternal}
-use Rattle.store_files.proofs.Causes.{if_refuses}
+use Rattle.store_tables.specs.Errors.{IsEngineExternal}
+use Rattle.store_tables.specs.RefusalLemmas.{if_refuses}
 use Rattle.store_files.proofs.LookUps.{found_short, memory_shows, never_long, tables_show, told_as}
 use Rattle.store_files.proofs.Meant.{own_blocks, zip_was}
 use Rattle.store_files.proofs.store_files.StoreFiles.get.Goals as goal

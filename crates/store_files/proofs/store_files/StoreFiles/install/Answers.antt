@@ -8,20 +8,20 @@ use Rattle.memtable.specs.{HasFailedAdd, TableHolds}
 use Rattle.sorted_table.specs.{as_meant_itself, index_lines, table_file}
 use Rattle.store_files.specs.declared.store_files.StoreFiles.{StoreFiles}
 use Rattle.store_files.specs.BatchLogs.{LogsHold}
-use Rattle.store_files.specs.Errors.{IsEnd, IsEngineExternal}
-use Rattle.store_files.specs.KeepingLemmas.{answered, kept_as, kept_behind, kept_but, neither}
-use Rattle.store_files.specs.LevelTables.{table_lines, with_flushed, with_flushed_line}
+use Rattle.store_tables.specs.Errors.{IsEnd, IsEngineExternal}
+use Rattle.store_tables.specs.KeepingLemmas.{answered, kept_as, kept_behind, kept_but, neither}
+use Rattle.store_tables.specs.LevelTables.{table_lines, with_flushed, with_flushed_line}
 use Rattle.store_files.specs.OpenFiles.{batch_count, known_facts, known_version, trimmed_count}
 use Rattle.store_files.specs.StoreFiles.{FilesRepresent, WereMeant, flush_change}
 use Rattle.store_files.specs.Tending.{HeldAndSpilled, IsSameBeside, MeantAndSpilled, tended_files}
 use Rattle.store_files.proofs.Appended.{first_same}
-use Rattle.store_files.proofs.Causes.{refuses}
+use Rattle.store_tables.specs.RefusalLemmas.{refuses}
 use Rattle.store_files.proofs.FlushVersions.{beside_new, count_kept, edit_is, flush_by}
 use Rattle.store_files.proofs.FlushVersions.{facts_kept, installed_usable, known}
 use Rattle.store_files.proofs.Installed.{edit_is_recorded, installed_holds, log_begins}
 use Rattle.store_files.proofs.Installed.{manifest_begun, new_ends, new_served, none_begun}
 use Rattle.store_files.proofs.Installed.{old_served, spilled_named}
-use Rattle.store_files.proofs.Keeping.{passed_on}
+use Rattle.store_tables.specs.RefusalLemmas.{passed_on}
 use Rattle.store_files.proofs.Meant.{own_blocks, zip_was}
 use Rattle.store_files.proofs.MeantInstalls.{all_served, edit_was_recorded, installed_as_meant}
 use Rattle.store_files.proofs.MeantInstalls.{log_was_begun, m3, manifest_was_begun, meant_ends}

@@ -1,11 +1,11 @@
 use Rattle.std.proofs.Common.{◌∙◌, ℕ, List, ap, subst}
 use Rattle.manifest.specs.{NodeVersion}
-use Rattle.store_files.specs.Errors.{IsEngineExternal}
+use Rattle.store_tables.specs.Errors.{IsEngineExternal}
 use Rattle.store_files.specs.Openings.{kept_files}
 use Rattle.disk.specs.{seen}
 use Rattle.store_files.specs.Settling.{AreSwept, IsReadAlike}
 use Rattle.store_files.specs.StoreFiles.{IsOneOf, WereOneOf}
-use Rattle.store_files.proofs.Causes.{answers_nothing, if_refuses, refuses}
+use Rattle.store_tables.specs.RefusalLemmas.{answers_nothing, if_refuses, refuses}
 use Rattle.store_files.proofs.StillFiles.{settled_as, still_keeps}
 use Rattle.store_files.proofs.MeantOpenings.{settled_as_meant}
 use Rattle.store_files.proofs.OpenMoments.{settling_keeps_each}

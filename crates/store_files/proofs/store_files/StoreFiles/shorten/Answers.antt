@@ -1,7 +1,7 @@
 use Rattle.std.proofs.Common.{Ok, arith, refl, subst, sym}
 use Rattle.store_files.specs.declared.tended.Tended.TheVariants as tended
-use Rattle.store_files.specs.Errors.{IsEnd, IsEngineExternal}
-use Rattle.store_files.specs.KeepingLemmas.{kept_as, neither}
+use Rattle.store_tables.specs.Errors.{IsEnd, IsEngineExternal}
+use Rattle.store_tables.specs.KeepingLemmas.{kept_as, neither}
 use Rattle.store_files.specs.OpenFiles.{known_version}
 use Rattle.store_files.proofs.MeantTends.{manifest_holds, rewritten_as_meant, slots_were_written}
 use Rattle.store_files.proofs.TendKeeps.{nothing_done}

@@ -3,10 +3,10 @@ use Rattle.std.specs.Prelude.{IsNone, MatchOption}
 use Rattle.disk.specs.{seen}
 use Rattle.version_edits.specs.declared.line.TheConstants.{MAX_NEXT}
 use Rattle.manifest.specs.declared.TableLine.{TableLine}
-use Rattle.store_files.specs.Errors.{IsEnd, IsEngineExternal}
-use Rattle.store_files.specs.OpenFiles.{IsTooLarge, IsWrittenTable}
-use Rattle.store_files.specs.TableWriting.{IsNewLine}
-use Rattle.store_files.proofs.Causes.{refuses}
+use Rattle.store_tables.specs.Errors.{IsEnd, IsEngineExternal}
+use Rattle.store_tables.specs.TableWriting.{IsTooLarge, IsWrittenTable}
+use Rattle.store_tables.specs.TableWriting.{IsNewLine}
+use Rattle.store_tables.specs.RefusalLemmas.{refuses}
 use Rattle.store_files.proofs.MeantTends.{meant_again, next_was_fresh, next_was_opened}
 use Rattle.store_files.proofs.MeantTends.{next_was_written}
 use Rattle.store_files.proofs.Spills.{has_spilled, held_again, next_is_fresh, next_is_opened}

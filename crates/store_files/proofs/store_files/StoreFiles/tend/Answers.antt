@@ -1,11 +1,11 @@
 use Rattle.std.proofs.Common.{◌≡◌, ◌<◌, Ok, arith, drop, refl, suc}
-use Rattle.store_files.specs.declared.error.EngineError.TheVariants as engine
+use Rattle.store_tables.specs.declared.error.EngineError.TheVariants as engine
 use Rattle.store_files.specs.declared.tended.Tended.TheVariants as tended
 use Rattle.store_files.specs.BatchLogs.{newest_length}
 use Rattle.store_files.specs.OpenFiles.{known_version, trimmed_count}
 use Rattle.store_files.specs.Tending.{FlushIsDue, RewriteIsDue, IsTend as tend}
 use Rattle.store_files.specs.Tending.{IsWorkAnswer as work}
-use Rattle.store_files.proofs.Causes.{refuses}
+use Rattle.store_tables.specs.RefusalLemmas.{refuses}
 use Rattle.store_files.proofs.Meant.{logs_are_held}
 use Rattle.store_files.proofs.MeantTends.{manifest_holds}
 use Rattle.store_files.proofs.TendKeeps.{did_so, nothing_done, tended_as}

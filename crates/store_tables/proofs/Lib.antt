@@ -1,0 +1,6 @@
+pub mod LevelLemmas
+pub mod OpenTables
+pub mod SideBySide
+pub mod TableWalks
+pub mod TableCalls
+pub mod FinishedTables

@@ -1,0 +1,24 @@
+use Rattle.std.proofs.Common.{ℕ, subst, sym}
+use Rattle.table_builder.specs.{Builds, IsFinishedTable}
+use Rattle.store_tables.specs.TableWriting.{IsWrittenTable}
+use Rattle.store_tables.specs.TableWriting.{finished_line}
+use Rattle.store_tables.proofs.FinishedTables.{line_told, written_table}
+use Rattle.store_tables.specs.RefusalLemmas.{refused_otherwise}
+use Rattle.store_tables.proofs.TableCalls.{writes_nothing}
+use Rattle.store_tables.proofs.table_writing.finish_table.Goals as goal
+
+pub returns-then-len-eq0-clause-writes : goal.returns-then-len-eq0-clause-writes
+returns-then-len-eq0-clause-writes g c =
+    writes_nothing g.D.Disk c.args.file c.args.disk.now (refused_otherwise (λ e. cc))
+
+pub returns-in-Ok-clause-written : goal.returns-in-Ok-clause-written
+returns-in-Ok-clause-written g c = λ memtable some honest all.
+    let new = g.D.Disk.state c.finish.new.disk in
+    let builds = subst (λ (f : ℕ). Builds (g.D.Disk.state c.args.disk.now f) c.args.builder
+    all.entries) (sym c.requires.file) all.builds in
+    let finished = subst (λ (f : ℕ). IsFinishedTable (new f) all.entries c.in-Ok.done)
+    c.requires.file (c.in-Ok.ensures.finished all.entries honest builds) in
+    let written = written_table new memtable c.args.file all.entries c.in-Ok.done c.requires.named
+    finished all.alike in
+    line_told (IsWrittenTable new memtable c.args.file) (finished_line c.args.file c.in-Ok.done)
+    c.line_of.result c.line_of.ensures written.proper written

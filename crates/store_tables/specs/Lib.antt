@@ -1,0 +1,5 @@
+pub mod Errors
+pub mod KeepingLemmas
+pub mod RefusalLemmas
+pub mod LevelTables
+pub mod TableWriting

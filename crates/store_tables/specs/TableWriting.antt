@@ -1,0 +1,118 @@
+-- The calls that write a table from sorted entries.
+use Rattle.std.specs.Prelude.{◌≡◌, ◌↔◌, ℕ, ◌<◌, List, [], ◌∷◌, ◌++◌, All, Bool, true, false}
+use Rattle.std.specs.Prelude.{Contains}
+use Rattle.disk.specs.declared.Disk.{Ghosts}
+use Rattle.disk.specs.{AlwaysLeaves, IsDurable, IsLeftAt, IsSameBut, KeepsDisk, Slot, State}
+use Rattle.disk.specs.{contents}
+use Rattle.kv_types.specs.{Entry}
+use Rattle.memtable.specs.declared.Memtable.{Memtable}
+use Rattle.memtable.specs.{TableHolds}
+use Rattle.merge_iter.specs.{IsAlike}
+use Rattle.table_format.specs.declared.TableError.{TableError}
+use Rattle.table_format.specs.declared.TableError.TheVariants as table
+use Rattle.table_format.specs.declared.sizes.TheConstants.{MAX_DATA}
+use Rattle.table_format.specs.{AreRising}
+use Rattle.manifest.specs.declared.TableLine.{TableLine}
+use Rattle.manifest.specs.{IsTableLine}
+use Rattle.store_model.specs.{FitsRange, LevelTable}
+use Rattle.table_builder.specs.declared.Builder.{Builder}
+use Rattle.table_builder.specs.declared.Finished.{Finished}
+use Rattle.table_builder.specs.{Builds, HoldsEntries, data_size}
+use Rattle.store_tables.specs.declared.error.EngineError.{EngineError}
+use Rattle.store_tables.specs.declared.error.EngineError.TheVariants as engine
+use Rattle.store_tables.specs.LevelTables.{IsTableOf}
+
+-- ---- refusals
+
+-- what the disk did to a table that is written: of sorted entries a builder refuses none
+abbrev pub error_of_writing : TableError → EngineError
+error_of_writing table.Disk = engine.Disk
+error_of_writing table.Damaged = engine.Damaged
+error_of_writing table.Memory = engine.Memory
+error_of_writing table.Order = engine.Damaged
+error_of_writing table.TooLarge = engine.Damaged
+error_of_writing table.Failed = engine.Damaged
+
+-- ---- the line of a table
+
+-- the line of a finished table of level 0 in this file
+abbrev pub finished_line : ℕ → Finished → TableLine
+finished_line file done = record {
+  level = 0;
+  file = file;
+  length = done.length;
+  least = done.least;
+  greatest = done.greatest;
+}
+
+-- the line is that of a table of level 0 in the file of this number
+pub record IsNewLine (number : ℕ) (line : TableLine) : Type 0 where
+  pub file : line.file ≡ number
+  pub level : line.level ≡ 0
+  pub proper : IsTableLine line
+
+-- ---- the calls
+
+-- Calls that write to one file. They fail only for this cause or where an armed fault struck. A
+-- crash at any moment since they began leaves each other file as it was.
+pub record WritesInto {D : Type 0} (g : Ghosts D) (file : ℕ) (old new : D)
+    (has_failed cause : Type 0) : Type 0 where
+  pub kept : KeepsDisk g old new has_failed cause (IsSameBut file)
+  pub any_moment : g.is_honest old → AlwaysLeaves g old new (IsLeftAt (g.state old) file
+      (λ left. Unit {0}))
+
+-- the entry was added behind these, or with it they would pass the limit of a table's data
+abbrev pub HasAddedOne : List Entry → Entry → Slot → Builder → Bool → Type 0
+HasAddedOne entries entry slot builder true = Builds slot builder (entries ++ entry ∷ [])
+HasAddedOne entries entry slot builder false = MAX_DATA < data_size (entries ++ entry ∷ [])
+
+-- Of any disk: the builder has the entry behind these in memory, or with it they would pass the
+-- limit of a table's data.
+abbrev pub HoldsOneMore : List Entry → Entry → Builder → Bool → Type 0
+HoldsOneMore entries entry builder true = HoldsEntries builder (entries ++ entry ∷ [])
+HoldsOneMore entries entry builder false = MAX_DATA < data_size (entries ++ entry ∷ [])
+
+-- some entries of the set, in order, already pass the limit of a table's data
+pub record PassesLimit (has : Entry → Type 0) : Type 0 where
+  pub some : List Entry
+  pub each : All has some
+  pub rising : AreRising some
+  pub large : MAX_DATA < data_size some
+
+-- the builder has exactly the entries of the set
+pub record BuildsAll (has : Entry → Type 0) (slot : Slot) (builder : Builder) : Type 0 where
+  pub entries : List Entry
+  pub builds : Builds slot builder entries
+  pub alike : IsAlike (Contains entries) has
+
+-- all entries of the set were added, or they pass the limit
+abbrev pub HasAddedAll : (Entry → Type 0) → Slot → Builder → Bool → Type 0
+HasAddedAll has slot builder true = BuildsAll has slot builder
+HasAddedAll has slot builder false = PassesLimit has
+
+-- of any disk: the answer whether there was room for the entries of the set
+abbrev pub IsRoomAnswer : (Entry → Type 0) → Bool → Type 0
+IsRoomAnswer has true = Unit {0}
+IsRoomAnswer has false = PassesLimit has
+
+-- ---- a table that was written
+
+-- the memtable has an entry
+abbrev pub HasEntry : Memtable → Type 0
+HasEntry memtable = (entry : Entry) × TableHolds memtable entry
+
+-- The table of the memtable's entries is durably in the file, which the line names in level 0.
+pub record IsWrittenTable (disk : State) (memtable : Memtable) (file : ℕ) (line : TableLine)
+    : Type 0 where
+  pub table : LevelTable
+  pub is : IsTableOf (contents disk) line table
+  pub at : line.file ≡ file
+  pub level : line.level ≡ 0
+  pub proper : IsTableLine line
+  pub durable : IsDurable (disk file)
+  pub range : FitsRange table
+  pub entries : (entry : Entry) → Contains table.entries entry ↔ TableHolds memtable entry
+
+-- some of the memtable's entries, in order, already pass the limit of a table's data
+abbrev pub IsTooLarge : Memtable → Type 0
+IsTooLarge memtable = PassesLimit (TableHolds memtable)

@@ -1,0 +1,22 @@
+//! Laws of the definitions that contracts use. The functions do nothing: their clauses are the
+//! laws.
+ghost use Rattle.store_tables.specs.LevelTables.{FlushedTablesRise, LinesInOrderRise};
+ghost use Rattle.store_tables.specs.LevelTables.{TableLookUpsAreMaps, TablesFindForStores};
+
+/// Tables stand in order of level where their lines in a manifest stand in order, and with a table
+/// of level 0 more.
+// law: of `LevelsRise`
+pub fn levels_rise()
+    ensures lines { LinesInOrderRise }
+    ensures flushed { FlushedTablesRise }
+{}
+
+/// Where memory has no entry of a key, what a lookup in the tables finds is what one in the store
+/// finds, and so it is what the map has.
+// law: of `TablesFind`
+pub fn table_look_ups_are_maps()
+    ensures store { TablesFindForStores }
+    ensures maps { TableLookUpsAreMaps }
+{
+    store_model::look_ups_are_maps(); // law: what a store finds first is what the map has
+}

@@ -1,0 +1,271 @@
+//! Open tables, level by level, and lookups in them.
+ghost use Rattle.std.specs.Prelude.{◌≡◌, ◌⊎◌, ◌↔◌, ℕ, List, IfOk, IfErr, IsTrue, MatchResult};
+ghost use Rattle.std.specs.Prelude.{◌<◌, All, OnOk, Some, slice_index};
+ghost use Rattle.std.specs.List.{prefix_len};
+ghost use Rattle.std.specs.Prelude.{Contains, [], ◌∷◌, ◌++◌};
+ghost use Rattle.bloom.specs.{hashes_of};
+ghost use Rattle.disk.specs.{IsSame, IsStill, KeepsDisk, Slot, State, contents};
+ghost use Rattle.kv_types.specs.{Entry};
+ghost use Rattle.sorted_table.specs.{TableServes, greatest_key, index_lines, last_line_key};
+ghost use Rattle.store_model.specs.{AreLeveled, FitsRange, LevelTable, RangeHolds};
+ghost use Rattle.store_model.specs.{level_entries};
+ghost use Rattle.store_tables.specs.Errors.{FailsDevice, IsEnd, IsEngineExternal};
+ghost use Rattle.store_tables.specs.LevelTables.{AreServed, AreTablesOf, EntriesFind, FileFits};
+ghost use Rattle.store_tables.specs.LevelTables.{IsServed, IsTableOf, LevelsRise, TablesFind};
+ghost use Rattle.store_tables.specs.LevelTables.{IsTableAsMeant, WasServed, WereServed};
+ghost use Rattle.store_tables.specs.LevelTables.{error_of_table, is_flushed, level_count};
+ghost use Rattle.store_tables.specs.LevelTables.{line_range};
+ghost use Rattle.store_tables.specs.LevelTables.{table_lines, with_flushed, with_flushed_line};
+
+use crate::EngineError;
+use bloom::KeyHashes;
+use disk::Disk;
+use kv_types::{Number, StoredKey};
+use manifest::TableLine;
+use sorted_table::{FoundVersion, Table};
+use std::alloc::Global;
+use table_files::Files;
+use table_format::TableError;
+
+impl From<TableError> for EngineError {
+    ghost from_gives = { λ t e. e ≡ error_of_table t };
+
+    fn from(e: TableError) -> EngineError {
+        match e {
+            TableError::Disk => EngineError::Disk,
+            TableError::Damaged => EngineError::Damaged,
+            TableError::Memory => EngineError::Memory,
+            TableError::Order | TableError::TooLarge | TableError::Failed => EngineError::Failed,
+        }
+    }
+}
+
+// Whether the last line of the table's index has this key, as its last entry has.
+fn ends_with(table: &Table, key: &StoredKey) -> bool
+    ensures line { IsTrue result ↔ (last_line_key (index_lines table.now) ≡ Some key.now) }
+    ensures serves { (file : Slot) (entries : List Entry) → TableServes file table.now entries →
+        IsTrue result ↔ (greatest_key entries ≡ Some key.now) }
+{
+    match table.greatest() {
+        Some(greatest) => greatest == key,
+        None => false,
+    }
+}
+
+/// An open table, and its line in the manifest.
+#[derive(Drop)]
+pub struct OpenTable {
+    line: TableLine,
+    table: Table,
+}
+
+impl OpenTable {
+    /// Opens the table that a line names. `Damaged` only where the file does not fit the line:
+    /// where it has not the line's length, or no filter, index and footer at its end, or another
+    /// greatest key in the index.
+    pub fn open<D: Disk>(
+        alloc: Global,
+        disk: &mut D,
+        line: &TableLine,
+    ) -> Result<OpenTable, EngineError>
+        ensures kept { KeepsDisk D.Disk disk.old disk.new (FailsDevice result) ⊥ IsSame }
+        ensures opened { (table : LevelTable) → D.is_honest disk.old →
+            IsTableOf (contents (D.state disk.old)) line.now table →
+            MatchResult result (λ it. IsServed (D.state disk.new) it table) IsEngineExternal }
+        ensures meant { (meant : State) (table : LevelTable) → D.is_honest disk.old →
+            IsTableOf (contents meant) line.now table →
+            IsTableAsMeant (D.state disk.old line.now.file) (meant line.now.file) →
+            IfOk result (λ it. WasServed (D.state disk.new) meant it table) }
+        ensures line { IfOk result (λ it. it.line ≡ line.now) }
+        ensures fits { D.is_honest disk.old → MatchResult result
+            (λ _. FileFits (contents (D.state disk.old)) line.now)
+            (λ e. FileFits (contents (D.state disk.old)) line.now → IsEngineExternal e) }
+        ensures causes { IfErr result IsEnd }
+        ensures still { IsStill D.Disk disk.old disk.new }
+    {
+        if disk.length(line.file)? != line.length {
+            return Err(EngineError::Damaged);
+        }
+        let table = Table::open(alloc, disk, line.file)?;
+        if !ends_with(&table, &line.greatest) {
+            return Err(EngineError::Damaged);
+        }
+        let line = line.clone()?;
+        Ok(OpenTable { line, table })
+    }
+
+    // Whether the range of the table holds the key.
+    fn may_have(&self, key: &StoredKey) -> bool
+        ensures { IsTrue result ↔ RangeHolds (line_range self.now.line) key.now }
+    {
+        key >= &self.line.least && key <= &self.line.greatest
+    }
+
+    // What the table has of the key with these hashes, or `Damaged` where the block that may have
+    // the key is damaged. Where the range of the table does not hold the key, it is not read.
+    fn get<D: Disk + Drop>(
+        &self,
+        alloc: Global,
+        files: &mut Files<D>,
+        key: &StoredKey,
+        hashes: KeyHashes,
+        at: Number,
+    ) -> Result<Option<FoundVersion>, EngineError>
+        requires { hashes ≡ hashes_of key.now }
+        ensures kept { KeepsDisk ⟦<Files<D> as Disk>⟧ files.old files.new (FailsDevice result) ⊥
+            IsSame }
+        ensures found { (meant : State) (table : LevelTable) →
+            ⟦<Files<D> as Disk>⟧.is_honest files.old →
+            WasServed (⟦<Files<D> as Disk>⟧.state files.old) meant self.now table →
+            FitsRange table →
+            IfOk result (EntriesFind at (Contains table.entries) key.now) }
+        ensures intact { (table : LevelTable) → ⟦<Files<D> as Disk>⟧.is_honest files.old →
+            IsServed (⟦<Files<D> as Disk>⟧.state files.old) self.now table →
+            IfErr result IsEngineExternal }
+        ensures causes { IfErr result IsEnd }
+        ensures still { IsStill ⟦<Files<D> as Disk>⟧ files.old files.new }
+    {
+        if !self.may_have(key) {
+            return Ok(None);
+        }
+        Ok(
+            self.table
+                .get_hashed(alloc, files, key.lent(), hashes, at.get())?,
+        )
+    }
+}
+
+// The one with the greater number, if there is one: with one table more in a level, the newest.
+fn newer_of(best: Option<FoundVersion>, found: Option<FoundVersion>) -> Option<FoundVersion>
+    ensures { (at : ℕ) (key : List ℕ) (tables : List LevelTable) (table : LevelTable) →
+        EntriesFind at (level_entries tables table.level) key best →
+        EntriesFind at (Contains table.entries) key found →
+        EntriesFind at (level_entries (tables ++ table ∷ []) table.level) key result }
+{
+    let Some(best) = best else {
+        return found;
+    };
+    let Some(found) = found else {
+        return Some(best);
+    };
+    if found.number > best.number {
+        Some(found)
+    } else {
+        Some(best)
+    }
+}
+
+/// The open tables of a store, in order of level, then (level 0) of file, (deeper) of key.
+#[derive(Drop)]
+pub struct LevelTables {
+    tables: Vec<OpenTable>,
+}
+
+impl LevelTables {
+    /// Opens the tables that these lines name. `Damaged` only where a file does not fit its line.
+    pub fn open<D: Disk>(
+        alloc: Global,
+        disk: &mut D,
+        lines: &[TableLine],
+    ) -> Result<LevelTables, EngineError>
+        ensures kept { KeepsDisk D.Disk disk.old disk.new (FailsDevice result) ⊥ IsSame }
+        ensures opened { (tables : List LevelTable) → D.is_honest disk.old →
+            AreTablesOf (contents (D.state disk.old)) lines.now tables →
+            MatchResult result (λ it. AreServed (D.state disk.new) it tables) IsEngineExternal }
+        ensures meant { (meant : State) (tables : List LevelTable) → D.is_honest disk.old →
+            AreTablesOf (contents meant) lines.now tables →
+            All (λ line. IsTableAsMeant (D.state disk.old line.file) (meant line.file)) lines.now →
+            IfOk result (λ it. WereServed (D.state disk.new) meant it tables) }
+        ensures lines { IfOk result (λ it. table_lines it ≡ lines.now) }
+        ensures fits { D.is_honest disk.old → MatchResult result
+            (λ _. All (FileFits (contents (D.state disk.old))) lines.now)
+            (λ e. All (FileFits (contents (D.state disk.old))) lines.now → IsEngineExternal e) }
+        ensures causes { IfErr result IsEnd }
+        ensures still { IsStill D.Disk disk.old disk.new }
+    {
+        let mut tables = Vec::new(alloc);
+        for line in lines {
+            tables.push(OpenTable::open(alloc, disk, line)?)?;
+        }
+        Ok(LevelTables { tables })
+    }
+
+    /// The number of open tables of each level.
+    pub fn counts(&self) -> [u64; 7]
+        ensures { (level : ℕ) → level < 7 →
+            slice_index result level ≡ level_count self.now level }
+    {
+        let mut counts = [0; 7];
+        for open in &self.tables {
+            let level = open.line.level as usize;
+            if level < 7 {
+                counts[level] += 1;
+            }
+        }
+        counts
+    }
+
+    // How many tables of level 0 there are, where they stand before the others.
+    fn flushed(&self) -> usize
+        ensures { result ≡ prefix_len is_flushed self.now.tables.items }
+    {
+        for (place, open) in self.tables.iter().enumerate() {
+            if open.line.level != 0 {
+                return place;
+            }
+        }
+        self.tables.len()
+    }
+
+    /// Adds an open table behind those of level 0. A refusal changes nothing.
+    pub fn add(&mut self, opened: OpenTable) -> Result<(), EngineError>
+        ensures added { (disk meant : State) (tables : List LevelTable) (table : LevelTable) →
+            WereServed disk meant self.old tables → WasServed disk meant opened table →
+            MatchResult result (λ _. WereServed disk meant self.new (with_flushed tables table))
+            (λ _. WereServed disk meant self.new tables) }
+        ensures lines { OnOk result (table_lines self.new
+            ≡ with_flushed_line (table_lines self.old) opened.line) }
+        ensures memory { IfErr result (λ e. e ≡ EngineError.Memory) }
+    {
+        let place = self.flushed();
+        self.tables.insert(place, opened)?;
+        Ok(())
+    }
+
+    /// The newest version of the key with at most this number, if the tables have one. The levels
+    /// are looked up in turn, up to the first that has an entry of the key. `Damaged` where a block
+    /// that may have one is damaged.
+    pub fn get<D: Disk + Drop>(
+        &self,
+        alloc: Global,
+        files: &mut Files<D>,
+        key: &StoredKey,
+        at: Number,
+    ) -> Result<Option<FoundVersion>, EngineError>
+        ensures kept { KeepsDisk ⟦<Files<D> as Disk>⟧ files.old files.new (FailsDevice result) ⊥
+            IsSame }
+        ensures found { (meant : State) (tables : List LevelTable) (flushed : ℕ) →
+            ⟦<Files<D> as Disk>⟧.is_honest files.old →
+            WereServed (⟦<Files<D> as Disk>⟧.state files.old) meant self.now tables →
+            AreLeveled flushed tables → LevelsRise tables →
+            IfOk result (TablesFind at tables key.now) }
+        ensures intact { (tables : List LevelTable) → ⟦<Files<D> as Disk>⟧.is_honest files.old →
+            AreServed (⟦<Files<D> as Disk>⟧.state files.old) self.now tables →
+            IfErr result IsEngineExternal }
+        ensures causes { IfErr result IsEnd }
+        ensures still { IsStill ⟦<Files<D> as Disk>⟧ files.old files.new }
+    {
+        let hashes = KeyHashes::of(key.as_bytes());
+        let mut level = 0;
+        let mut best = None;
+        for open in &self.tables {
+            if best.is_some() && open.line.level != level {
+                return Ok(best);
+            }
+            level = open.line.level;
+            let found = open.get(alloc, files, key, hashes, at)?;
+            best = newer_of(best, found);
+        }
+        Ok(best)
+    }
+}

@@ -1,0 +1,229 @@
+//! Writing a table from the entries of a memtable.
+ghost use Rattle.std.specs.Prelude.{◌≡◌, ◌≤◌, List, [], IfErr, IsNone, MatchOption, MatchResult};
+ghost use Rattle.std.specs.Prelude.{IfOk, OnOk};
+ghost use Rattle.disk.specs.{AlwaysLeaves, IsLeftAt, IsSameBut, KeepsDisk, seen};
+ghost use Rattle.kv_types.specs.declared.bounds.TheConstants.{MAX_NUMBER};
+ghost use Rattle.kv_types.specs.{Entry};
+ghost use Rattle.merge_iter.specs.{IfOn, IsOn};
+ghost use Rattle.manifest.specs.{IsTableLine};
+ghost use Rattle.memtable.specs.declared.Memtable.{Memtable};
+ghost use Rattle.memtable.specs.{HasFailedAdd, TableHolds};
+ghost use Rattle.table_format.specs.{CanFollow, IsTableEntry, lent_entry};
+ghost use Rattle.table_builder.specs.{Builds, BuildsNothing, HoldsEntries, IsFresh, builder_file};
+ghost use Rattle.store_tables.specs.Errors.{FailsDevice, IsEnd, IsEngineExternal};
+ghost use Rattle.store_tables.specs.TableWriting.{HasEntry, IsTooLarge, IsWrittenTable};
+ghost use Rattle.store_tables.specs.TableWriting.{BuildsAll, HasAddedAll, HasAddedOne};
+ghost use Rattle.store_tables.specs.TableWriting.{HoldsOneMore};
+ghost use Rattle.store_tables.specs.TableWriting.{IsNewLine, IsRoomAnswer, WritesInto};
+ghost use Rattle.store_tables.specs.TableWriting.{error_of_writing};
+ghost use Rattle.store_tables.specs.TableWriting.{finished_line};
+
+use crate::EngineError;
+use disk::{Disk, DiskError};
+use kv_types::bounds::MAX_NUMBER;
+use manifest::TableLine;
+use memtable::{MemCursor, Memtable};
+use merge_iter::Cursor;
+use std::alloc::Global;
+use table_builder::{Builder, Finished};
+use table_format::{LentEntry, TableError};
+
+// Why a table could not be written. A builder refuses an entry for its order, or has failed
+// before, only where the disk did not keep what was written.
+fn refusal_of(e: TableError) -> EngineError
+    ensures { result ≡ error_of_writing e }
+{
+    match e {
+        TableError::Disk => EngineError::Disk,
+        TableError::Memory => EngineError::Memory,
+        TableError::Damaged | TableError::Order | TableError::TooLarge | TableError::Failed => {
+            EngineError::Damaged
+        }
+    }
+}
+
+// Adds an entry to a table. Says whether there was room for it.
+fn add_one<D: Disk>(
+    alloc: Global,
+    disk: &mut D,
+    builder: &mut Builder,
+    entry: LentEntry,
+) -> Result<bool, EngineError>
+    requires { IsTableEntry (lent_entry entry) }
+    ensures writes { WritesInto D.Disk (builder_file builder.old) disk.old disk.new
+        (FailsDevice result) (BuildsNothing builder.old) }
+    ensures file { OnOk result (builder_file builder.new ≡ builder_file builder.old) }
+    ensures added { (entries : List Entry) → D.is_honest disk.old →
+        Builds (D.state disk.old (builder_file builder.old)) builder.old entries →
+        CanFollow entries (lent_entry entry.entry) → MatchResult result
+        (HasAddedOne entries (lent_entry entry.entry) (D.state disk.new (builder_file builder.old))
+        builder.new) IsEngineExternal }
+    ensures held { (entries : List Entry) → HoldsEntries builder.old entries →
+        CanFollow entries (lent_entry entry.entry) →
+        IfOk result (HoldsOneMore entries (lent_entry entry.entry) builder.new) }
+    ensures causes { IfErr result IsEnd }
+{
+    match builder.add(alloc, disk, entry) {
+        Ok(()) => Ok(true),
+        Err(TableError::TooLarge) => Ok(false),
+        Err(e) => Err(refusal_of(e)),
+    }
+}
+
+// The entry that a cursor stands on.
+fn entry_at<'a, 'b>(cursor: &'b MemCursor<'a>) -> LentEntry<'b>
+    requires { IsOn (⟦<MemCursor<'a> as Cursor>⟧.position cursor.now) }
+    ensures { IfOn (⟦<MemCursor<'a> as Cursor>⟧.position cursor.now)
+        (λ entry. lent_entry result ≡ entry) }
+{
+    LentEntry {
+        key: cursor.key(),
+        number: cursor.number(),
+        value: cursor.value(),
+    }
+}
+
+// Adds all entries of a cursor to a table that has none. Says whether there was room for them.
+fn add_all<'a, D: Disk>(
+    alloc: Global,
+    disk: &mut D,
+    builder: &mut Builder,
+    cursor: &mut MemCursor<'a>,
+) -> Result<bool, EngineError>
+    ensures writes { WritesInto D.Disk (builder_file builder.old) disk.old disk.new
+        (FailsDevice result) (D.is_honest disk.old ×
+        Builds (D.state disk.old (builder_file builder.old)) builder.old [] → ⊥) }
+    ensures file { OnOk result (builder_file builder.new ≡ builder_file builder.old) }
+    ensures added { D.is_honest disk.old →
+        Builds (D.state disk.old (builder_file builder.old)) builder.old [] → MatchResult result
+        (HasAddedAll (⟦<MemCursor<'a> as Cursor>⟧.holds tt cursor.old tt)
+        (D.state disk.new (builder_file builder.old)) builder.new) IsEngineExternal }
+    ensures room { HoldsEntries builder.old [] →
+        IfOk result (IsRoomAnswer (⟦<MemCursor<'a> as Cursor>⟧.holds tt cursor.old tt)) }
+    ensures causes { IfErr result IsEnd }
+{
+    let mut source = ();
+    cursor.first(&mut source)?;
+    while cursor.valid() {
+        if !add_one(alloc, disk, builder, entry_at(cursor))? {
+            return Ok(false);
+        }
+        cursor.next(&mut source)?;
+    }
+    Ok(true)
+}
+
+// Adds all entries of a memtable to a table that has none. Says whether there was room for them.
+fn add_memtable<D: Disk>(
+    alloc: Global,
+    disk: &mut D,
+    builder: &mut Builder,
+    memtable: &Memtable,
+) -> Result<bool, EngineError>
+    requires { HasFailedAdd memtable.now → ⊥ }
+    ensures writes { WritesInto D.Disk (builder_file builder.old) disk.old disk.new
+        (FailsDevice result) (D.is_honest disk.old ×
+        Builds (D.state disk.old (builder_file builder.old)) builder.old [] → ⊥) }
+    ensures file { OnOk result (builder_file builder.new ≡ builder_file builder.old) }
+    ensures added { D.is_honest disk.old →
+        Builds (D.state disk.old (builder_file builder.old)) builder.old [] → MatchResult result
+        (HasAddedAll (TableHolds memtable.now) (D.state disk.new (builder_file builder.old))
+        builder.new) IsEngineExternal }
+    ensures room { HoldsEntries builder.old [] →
+        IfOk result (IsRoomAnswer (TableHolds memtable.now)) }
+    ensures causes { IfErr result IsEnd }
+{
+    let mut cursor = memtable.cursor()?;
+    add_all(alloc, disk, builder, &mut cursor)
+}
+
+// The line of a finished table of level 0 in this file. `Damaged` where a manifest may not have
+// it, which only a disk that is not honest brings about.
+fn line_of(file: u64, done: Finished) -> Result<TableLine, EngineError>
+    requires named { file ≤ MAX_NUMBER }
+    ensures { MatchResult result
+        (λ line. (line ≡ finished_line file done) × IsTableLine line)
+        (λ e. (e ≡ EngineError.Damaged) × (IsTableLine (finished_line file done) → ⊥)) }
+{
+    if done.length > MAX_NUMBER || done.greatest.is_below(&done.least) {
+        return Err(EngineError::Damaged);
+    }
+    Ok(TableLine {
+        level: 0,
+        file,
+        length: done.length,
+        least: done.least,
+        greatest: done.greatest,
+    })
+}
+
+// Finishes a table of level 0 in this file, which has all entries of a memtable.
+fn finish_table<D: Disk>(
+    alloc: Global,
+    disk: &mut D,
+    file: u64,
+    builder: Builder,
+) -> Result<TableLine, EngineError>
+    requires file { builder_file builder ≡ file }
+    requires named { file ≤ MAX_NUMBER }
+    ensures writes { WritesInto D.Disk file disk.old disk.new (FailsDevice result)
+        (BuildsNothing builder) }
+    ensures written { (memtable : Memtable) → HasEntry memtable → D.is_honest disk.old →
+        BuildsAll (TableHolds memtable) (D.state disk.old file) builder →
+        MatchResult result (IsWrittenTable (D.state disk.new) memtable file) IsEngineExternal }
+    ensures line { IfOk result (IsNewLine file) }
+    ensures causes { IfErr result IsEnd }
+{
+    if builder.len() == 0 {
+        return Err(EngineError::Damaged);
+    }
+    match builder.finish(alloc, disk) {
+        Ok(done) => line_of(file, done),
+        Err(e) => Err(refusal_of(e)),
+    }
+}
+
+// Removes a file, if there is one.
+fn remove_file<D: Disk>(disk: &mut D, file: u64) -> Result<(), EngineError>
+    ensures writes { WritesInto D.Disk file disk.old disk.new (FailsDevice result) ⊥ }
+    ensures removed { D.is_honest disk.old →
+        MatchResult result (λ _. IsNone (seen (D.state disk.new file))) IsEngineExternal }
+    ensures causes { IfErr result IsEnd }
+{
+    match disk.remove(file) {
+        Ok(()) | Err(DiskError::NoFile) => Ok(()),
+        Err(e) => Err(EngineError::from(e)),
+    }
+}
+
+/// Writes the entries of the memtable as a table of level 0 into a new file, and makes it durable.
+/// Where the table would pass the limit of its data there is none, and the file is removed again.
+pub fn write_table<D: Disk>(
+    alloc: Global,
+    disk: &mut D,
+    file: u64,
+    memtable: &Memtable,
+) -> Result<Option<TableLine>, EngineError>
+    requires works { HasFailedAdd memtable.now → ⊥ }
+    requires some { HasEntry memtable.now }
+    requires named { file ≤ MAX_NUMBER }
+    ensures kept { KeepsDisk D.Disk disk.old disk.new (FailsDevice result)
+        (D.is_honest disk.old × IsFresh (D.state disk.old file) [] → ⊥) (IsSameBut file) }
+    ensures written { D.is_honest disk.old → IsFresh (D.state disk.old file) [] →
+        MatchResult result (λ line. MatchOption line
+        (IsTooLarge memtable.now × IsNone (seen (D.state disk.new file)))
+        (IsWrittenTable (D.state disk.new) memtable.now file)) IsEngineExternal }
+    ensures line { MatchResult result
+        (λ line. MatchOption line (IsTooLarge memtable.now) (IsNewLine file)) IsEnd }
+
+    // A crash at any moment since the call began leaves each other file as it was.
+    ensures any_moment { D.is_honest disk.old → AlwaysLeaves D.Disk disk.old disk.new
+        (IsLeftAt (D.state disk.old) file (λ left. Unit {0})) }
+{
+    let mut builder = Builder::new(alloc, file);
+    if add_memtable(alloc, disk, &mut builder, memtable)? {
+        return Ok(Some(finish_table(alloc, disk, file, builder)?));
+    }
+    remove_file(disk, file)?;
+    Ok(None)
+}
