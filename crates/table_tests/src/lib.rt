@@ -24,6 +24,8 @@ mod sequence;
 #[cfg(test)]
 mod small_tables;
 #[cfg(test)]
+mod store_walks;
+#[cfg(test)]
 mod table_cursors;
 #[cfg(test)]
 mod table_damage;

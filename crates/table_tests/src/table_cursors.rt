@@ -26,7 +26,8 @@ fn entries_of(rt: &impl Abort, alloc: Global) -> Vec<PlainEntry> {
     entries
 }
 
-fn all_owned(rt: &impl Abort, alloc: Global, entries: &[PlainEntry]) -> Vec<OwnedEntry> {
+/// The entries, with keys and values in two bytes.
+pub fn all_owned(rt: &impl Abort, alloc: Global, entries: &[PlainEntry]) -> Vec<OwnedEntry> {
     let mut all = Vec::new(alloc);
     for entry in entries {
         all.push(owned(rt, alloc, *entry)).expect(rt, "memory");

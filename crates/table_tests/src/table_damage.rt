@@ -15,7 +15,7 @@ use std::process::Abort;
 use table_format::{Footer, IndexLine, footer_part_of, put_line, seal};
 
 /// The file of the sound table.
-const SOUND: u64 = 4;
+pub const SOUND: u64 = 4;
 
 /// An entry for each key of one byte, long enough for a block of its own.
 fn entries_of(rt: &impl Abort, alloc: Global, keys: &[u8]) -> Vec<OwnedEntry> {
@@ -29,7 +29,7 @@ fn entries_of(rt: &impl Abort, alloc: Global, keys: &[u8]) -> Vec<OwnedEntry> {
 
 /// A disk with a table whose third block of five, that of the key 5, has another byte; and a sound
 /// table of the keys between.
-fn damaged_files(rt: &impl Abort, alloc: Global) -> Files<MemDisk> {
+pub fn damaged_files(rt: &impl Abort, alloc: Global) -> Files<MemDisk> {
     let mut disk = MemDisk::new(alloc);
     build(rt, alloc, &mut disk, FILE, &entries_of(rt, alloc, b"13579"));
     build(rt, alloc, &mut disk, SOUND, &entries_of(rt, alloc, b"2468"));
@@ -123,7 +123,7 @@ fn met_back<C: Cursor>(cursor: &mut C, source: &mut C::Source, keys: &[u8]) -> u
 
 /// Fails the test unless walks forward and back meet so many keys before the damage, and a seek of
 /// the key before it is refused, and one of the key behind it is not.
-fn is_stopped<C: Cursor>(
+pub fn is_stopped<C: Cursor>(
     rt: &impl Abort,
     cursor: &mut C,
     source: &mut C::Source,

@@ -1,0 +1,4 @@
+mod Arms
+mod MemoryArm
+mod TableArm
+mod Shown

@@ -1,0 +1,2 @@
+pub mod StoreCursors
+pub mod StoreCursorLaws

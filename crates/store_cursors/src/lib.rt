@@ -1,0 +1,9 @@
+//! One kind of cursor for a store, over a memtable or over a table of a file, and the rows that
+//! several of them show at a number.
+#![tactic(auto)]
+
+mod rows;
+mod store_cursor;
+
+pub use rows::{StoreRows, rows_at};
+pub use store_cursor::StoreCursor;

@@ -1,0 +1,163 @@
+//! Walks over a memtable and two tables side by side, as a store has them, against plain lists, and
+//! a damaged block of one of the tables.
+
+use crate::counts::is_count;
+use crate::numbered::Numbered;
+use crate::plain::{PlainEntry, add_all, shown_at};
+use crate::sequence::{Sequence, batch_of, copy_of, key_of};
+use crate::table_cursors::all_owned;
+use crate::table_damage::{SOUND, damaged_files, is_stopped};
+use crate::table_walks::meet_all;
+use crate::tables::{FILE, build, table_in, with_cache};
+use crate::walks::{agreeing, changes_of};
+use disk::MemDisk;
+use kv_types::{Batch, Edit, Number, Value};
+use merge_iter::Merged;
+use sorted_table::Files;
+use std::alloc::Global;
+use std::process::Abort;
+use store_cursors::{StoreCursor, StoreRows, rows_at};
+
+const NUMBERS: u8 = 240;
+
+/// The entries of 240 batches with 12 changes each, and a memtable of every third batch.
+fn entries_and_memtable(rt: &impl Abort, alloc: Global) -> (Vec<PlainEntry>, Numbered) {
+    let (mut sequence, mut entries) = (Sequence::new(5), Vec::new(alloc));
+    let mut memtable = Numbered::new(alloc);
+    for number in 1..=u64::from(NUMBERS) {
+        let changes = changes_of(rt, alloc, &mut sequence, 12);
+        add_all(rt, &mut entries, number, &changes);
+        if number % 3 == 0 {
+            memtable.add(rt, number, &batch_of(rt, alloc, &changes));
+        }
+    }
+    (entries, memtable)
+}
+
+/// The entries whose numbers leave this when they are divided by three.
+fn part_of(rt: &impl Abort, alloc: Global, entries: &[PlainEntry], which: u64) -> Vec<PlainEntry> {
+    let mut part = Vec::new(alloc);
+    for entry in entries {
+        if entry.number % 3 == which {
+            part.push(*entry).expect(rt, "memory");
+        }
+    }
+    part
+}
+
+/// A disk with two tables, each of a third of the entries, and a cache of two blocks.
+fn files_of(rt: &impl Abort, alloc: Global, entries: &[PlainEntry]) -> Files<MemDisk> {
+    let mut disk = MemDisk::new(alloc);
+    for (file, which) in [(FILE, 1), (SOUND, 2)] {
+        let part = all_owned(rt, alloc, &part_of(rt, alloc, entries, which));
+        build(rt, alloc, &mut disk, file, &part);
+    }
+    with_cache(rt, alloc, disk, 2)
+}
+
+/// A cursor over the memtable, and one over each table.
+fn cursors_of<'a>(
+    rt: &impl Abort,
+    alloc: Global,
+    memtable: &'a Numbered,
+    files: &mut Files<MemDisk>,
+) -> Vec<StoreCursor<'a, MemDisk>> {
+    let mut cursors = Vec::new(alloc);
+    let newest = StoreCursor::of_memtable(memtable.table()).expect(rt, "a memtable");
+    cursors.push(newest).expect(rt, "memory");
+    for file in [FILE, SOUND] {
+        let table = table_in(rt, alloc, files, file);
+        let older = StoreCursor::of_table(alloc, &table).expect(rt, "memory");
+        cursors.push(older).expect(rt, "memory");
+    }
+    cursors
+}
+
+/// The rows of all three at a number.
+fn rows_of<'a>(
+    rt: &impl Abort,
+    alloc: Global,
+    memtable: &'a Numbered,
+    files: &mut Files<MemDisk>,
+    at: u64,
+) -> StoreRows<'a, MemDisk> {
+    let at = Number::new(at).expect(rt, "a number");
+    rows_at(alloc, cursors_of(rt, alloc, memtable, files), at)
+}
+
+fn agreeing_in_a_union(rt: &impl Abort, alloc: Global) -> usize {
+    let (entries, memtable) = entries_and_memtable(rt, alloc);
+    let mut files = files_of(rt, alloc, &entries);
+    let mut union = Merged::new(cursors_of(rt, alloc, &memtable, &mut files));
+    agreeing(rt, &mut union, &mut files, &entries, NUMBERS)
+}
+
+#[test]
+fn a_memtable_beside_two_tables(rt: HostRuntime) {
+    is_count(&rt, agreeing_in_a_union(&rt, rt.alloc()), 2_000);
+}
+
+/// How many of the moves over the rows at a number led where they lead in the plain list; before
+/// them a walk each way meets every row.
+fn agreeing_at(
+    rt: &impl Abort,
+    alloc: Global,
+    memtable: &Numbered,
+    files: &mut Files<MemDisk>,
+    shown: &[PlainEntry],
+    at: u64,
+) -> usize {
+    let mut rows = rows_of(rt, alloc, memtable, files, at);
+    let owned = all_owned(rt, alloc, shown);
+    meet_all(rt, &mut rows, files, &owned, shown.len());
+    agreeing(rt, &mut rows, files, shown, NUMBERS)
+}
+
+fn agreeing_rows(rt: &impl Abort, alloc: Global) -> usize {
+    let (entries, memtable) = entries_and_memtable(rt, alloc);
+    let mut files = files_of(rt, alloc, &entries);
+    let mut count = 0usize;
+    for at in [0, 1, 2, 3, 40, 121, 239, 240] {
+        let shown = shown_at(rt, alloc, &entries, at);
+        count = count.wrapping_add(agreeing_at(rt, alloc, &memtable, &mut files, &shown, at));
+    }
+    count
+}
+
+#[test]
+fn the_rows_of_a_memtable_and_two_tables(rt: HostRuntime) {
+    is_count(&rt, agreeing_rows(&rt, rt.alloc()), 16_000);
+}
+
+/// The batch that deletes 4, and puts 6.
+fn newer_batch(rt: &impl Abort, alloc: Global) -> Batch {
+    let value = Value::new(copy_of(rt, alloc, b"new")).expect(rt, "a value");
+    let mut edits = Vec::new(alloc);
+    edits.push(Edit::Delete(key_of(rt, alloc, b"4"))).expect(rt, "memory");
+    edits.push(Edit::Put(key_of(rt, alloc, b"6"), value)).expect(rt, "memory");
+    Batch::new(edits).expect(rt, "a batch")
+}
+
+/// A memtable of that batch, with number 2.
+fn newer(rt: &impl Abort, alloc: Global) -> Numbered {
+    let mut memtable = Numbered::new(alloc);
+    memtable.add(rt, 2, &newer_batch(rt, alloc));
+    memtable
+}
+
+#[test]
+fn a_damaged_block_stops_a_union_with_a_memtable(rt: HostRuntime) {
+    let alloc = rt.alloc();
+    let (memtable, mut files) = (newer(&rt, alloc), damaged_files(&rt, alloc));
+    let mut union = Merged::new(cursors_of(&rt, alloc, &memtable, &mut files));
+    is_stopped(&rt, &mut union, &mut files, b"12344566789", (3, 3));
+}
+
+// At 2 the key 4 is deleted. A walk back is one entry ahead.
+#[test]
+fn a_damaged_block_stops_rows(rt: HostRuntime) {
+    let alloc = rt.alloc();
+    let (memtable, mut files) = (newer(&rt, alloc), damaged_files(&rt, alloc));
+    let mut rows = rows_of(&rt, alloc, &memtable, &mut files, 2);
+    is_stopped(&rt, &mut rows, &mut files, b"12356789", (3, 2));
+}
