@@ -1,0 +1,113 @@
+//! The rows of a page while it is read, within the limits of an answer.
+ghost use Rattle.std.specs.Prelude.{◌≡◌, ◌↔◌, ◌+◌, ◌≤◌, [], length, IfOk, IsTrue};
+ghost use Rattle.kv_types.specs.declared.bounds.TheConstants.{MAX_KEY, MAX_PAGE, MAX_VALUE};
+ghost use Rattle.kv_types.specs.declared.bounds.TheConstants.{ROW_OVERHEAD};
+ghost use Rattle.kv_types.specs.{lent_key, row_size};
+ghost use Rattle.row_pages.specs.Additions.{AddsRow, HasRoom};
+
+use kv_types::bounds::{MAX_PAGE, ROW_OVERHEAD};
+use kv_types::{LentKey, Page, Row, Value};
+use std::alloc::{AllocError, Global};
+use std::marker::Model;
+
+/// The rows that a page has so far, and the bytes that they count.
+#[derive(Drop)]
+pub struct PageRows {
+    rows: Vec<Row>,
+    size: usize,
+}
+
+impl Model for PageRows {
+    ghost use Rattle.std.specs.Prelude.{◌≡◌, ◌≤◌, List};
+    ghost use Rattle.std.specs.List.{sum_by};
+    ghost use Rattle.kv_types.specs.declared.Row.{Row};
+    ghost use Rattle.kv_types.specs.declared.bounds.TheConstants.{MAX_PAGE};
+    ghost use Rattle.kv_types.specs.{row_size};
+
+    ghost Value = { List Row };
+
+    ghost view = { λ page. page.rows.items };
+
+    ghost invariant = { λ page. (page.size ≡ sum_by row_size page.rows.items)
+        × (page.size ≤ MAX_PAGE) };
+}
+
+impl PageRows {
+    /// No rows.
+    pub fn new(alloc: Global) -> PageRows
+        ensures { result ≡ [] }
+    {
+        PageRows {
+            rows: Vec::new(alloc),
+            size: 0,
+        }
+    }
+
+    // Whether a row of this size keeps the page within both limits.
+    fn has_room(&self, limit: u32, size: usize) -> bool
+        ensures { IsTrue result ↔ HasRoom limit self.now size }
+    {
+        self.rows.len() < limit as usize && size <= MAX_PAGE - self.size
+    }
+
+    /// Adds a row, unless it would exceed the limits. Says whether it was added.
+    pub fn add(
+        &mut self,
+        alloc: Global,
+        limit: u32,
+        key: LentKey,
+        value: &[u8],
+    ) -> Result<bool, AllocError>
+        requires key { length (lent_key key) ≤ MAX_KEY }
+        requires value { length value.now ≤ MAX_VALUE }
+        ensures { IfOk result (AddsRow limit self.old
+            (record { key = lent_key key.entry; value = value.now }) self.new) }
+    {
+        let size = size_of_row(key, value);
+        if !self.has_room(limit, size) {
+            return Ok(false);
+        }
+        self.rows.push(copy_row(alloc, key, value)?)?;
+        self.size += size;
+        Ok(true)
+    }
+
+    /// The page of these rows.
+    pub fn into_page(self, more: bool) -> Page
+        ensures { result ≡ record { rows = self; more = more } }
+    {
+        Page::new(self.rows, more)
+    }
+}
+
+// The bytes that a row of this key and value counts in a page.
+fn size_of_row(key: LentKey, value: &[u8]) -> usize
+    requires key { length (lent_key key) ≤ MAX_KEY }
+    requires value { length value.now ≤ MAX_VALUE }
+    ensures { result ≡ row_size (record { key = lent_key key.entry; value = value.now }) }
+{
+    key.len() + value.len() + ROW_OVERHEAD
+}
+
+// A copy of the value.
+fn copy_value(alloc: Global, value: &[u8]) -> Result<Value, AllocError>
+    requires { length value.now ≤ MAX_VALUE }
+    ensures { IfOk result (λ copy. copy ≡ value.now) }
+{
+    match Value::new(Vec::from_slice(alloc, value)?) {
+        Ok(copy) => Ok(copy),
+        Err(_) => unreachable!(),
+    }
+}
+
+// The row of this key and value, with memory of its own.
+fn copy_row(alloc: Global, key: LentKey, value: &[u8]) -> Result<Row, AllocError>
+    requires key { length (lent_key key) ≤ MAX_KEY }
+    requires value { length value.now ≤ MAX_VALUE }
+    ensures { IfOk result (λ row. row ≡ record { key = lent_key key.entry; value = value.now }) }
+{
+    Ok(Row {
+        key: key.to_stored(alloc)?,
+        value: copy_value(alloc, value)?,
+    })
+}

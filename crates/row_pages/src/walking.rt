@@ -1,0 +1,95 @@
+//! Walks of a cursor over the entries of a range.
+ghost use Rattle.std.specs.Prelude.{◌≡◌, ◌≤◌, ◌↔◌, IsTrue, OnOk, IfSome};
+ghost use Rattle.kv_types.specs.{Entry, lent_key};
+ghost use Rattle.kv_types.specs.Order.{IsBelow};
+ghost use Rattle.kv_types.specs.Pages.{IsWithin};
+ghost use Rattle.kv_types.specs.declared.bounds.TheConstants.{MAX_NUMBER};
+ghost use Rattle.merge_iter.specs.LentCursors.{ShiftsCursor, StepsCursor};
+ghost use Rattle.merge_iter.specs.{CanStep, IsFirst};
+ghost use Rattle.merge_iter.specs.declared.Direction.TheVariants.{Backward};
+ghost use Rattle.row_pages.specs.Walking.{AreNumbered, HasBegun, StandsWithin, way_of};
+
+use kv_types::bounds::MAX_NUMBER;
+use kv_types::{LentKey, Range};
+use merge_iter::{Cursor, CursorError};
+
+// Whether the key lies in the range.
+fn is_within(key: LentKey, range: &Range) -> bool
+    ensures { IsTrue result ↔ IsWithin range.now (lent_key key.entry) }
+{
+    if key.cmp(range.from().lent()).is_lt() {
+        return false;
+    }
+    match range.to() {
+        Some(to) => key.cmp(to.lent()).is_lt(),
+        None => true,
+    }
+}
+
+/// Whether the cursor stands on an entry whose key lies in the range.
+pub fn stands_within<C: Cursor>(cursor: &C, range: &Range) -> bool
+    ensures { IsTrue result ↔ StandsWithin range.now (C.position cursor.now) }
+{
+    cursor.valid() && is_within(cursor.key(), range)
+}
+
+// Moves to the last entry whose key is below this one.
+fn seek_below<C: Cursor>(
+    cursor: &mut C,
+    source: &mut C::Source,
+    key: LentKey,
+) -> Result<(), CursorError>
+    ensures moved { ShiftsCursor C.Cursor (Unit {0}) cursor.old source.old cursor.new source.new
+        result }
+    ensures begins { (meant : C.Meant) → C.is_sound meant cursor.old source.old →
+        AreNumbered (C.holds meant cursor.old source.old) → OnOk result (IsFirst Backward
+        (λ entry. C.holds meant cursor.old source.old entry
+        × IsBelow entry.key (lent_key key.entry)) (C.position cursor.new)) }
+{
+    cursor.seek(source, key, MAX_NUMBER)?;
+    if cursor.valid() {
+        cursor.prev(source)
+    } else {
+        cursor.last(source)
+    }
+}
+
+/// Moves to the entry that a walk over the range meets first, or to none.
+pub fn begin<C: Cursor>(
+    cursor: &mut C,
+    source: &mut C::Source,
+    range: &Range,
+) -> Result<(), CursorError>
+    ensures moved { ShiftsCursor C.Cursor (Unit {0}) cursor.old source.old cursor.new source.new
+        result }
+    ensures begins { (meant : C.Meant) → C.is_sound meant cursor.old source.old →
+        AreNumbered (C.holds meant cursor.old source.old) →
+        OnOk result (IsFirst (way_of range.now.backward)
+        (λ entry. C.holds meant cursor.old source.old entry
+        × HasBegun (way_of range.now.backward) range.now entry.key) (C.position cursor.new)) }
+{
+    if !range.is_backward() {
+        return cursor.seek(source, range.from().lent(), MAX_NUMBER);
+    }
+    match range.to() {
+        Some(to) => seek_below(cursor, source, to.lent()),
+        None => cursor.last(source),
+    }
+}
+
+/// Steps to the next entry of a walk over the range.
+pub fn step<C: Cursor>(
+    cursor: &mut C,
+    source: &mut C::Source,
+    range: &Range,
+) -> Result<(), CursorError>
+    requires { CanStep (C.position cursor.old) }
+    ensures { StepsCursor C.Cursor (way_of range.now.backward) cursor.old source.old cursor.new
+        source.new result }
+{
+    if range.is_backward() {
+        cursor.prev(source)
+    } else {
+        cursor.next(source)
+    }
+}
