@@ -4,3 +4,5 @@ pub mod SideBySide
 pub mod TableWalks
 pub mod TableCalls
 pub mod FinishedTables
+pub mod RangeTables
+pub mod OwnFiles

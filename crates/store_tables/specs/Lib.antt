@@ -3,3 +3,5 @@ pub mod KeepingLemmas
 pub mod RefusalLemmas
 pub mod LevelTables
 pub mod TableWriting
+pub mod RangeReads
+pub mod CursorListsLemmas

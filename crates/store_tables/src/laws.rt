@@ -2,6 +2,7 @@
 //! laws.
 ghost use Rattle.store_tables.specs.LevelTables.{FlushedTablesRise, LinesInOrderRise};
 ghost use Rattle.store_tables.specs.LevelTables.{TableLookUpsAreMaps, TablesFindForStores};
+ghost use Rattle.store_tables.specs.RangeReads.{VersionsNameOwnFiles};
 
 /// Tables stand in order of level where their lines in a manifest stand in order, and with a table
 /// of level 0 more.
@@ -20,3 +21,9 @@ pub fn table_look_ups_are_maps()
 {
     store_model::look_ups_are_maps(); // law: what a store finds first is what the map has
 }
+
+/// The tables that the lines of a version name have files of their own.
+// law: of `HaveOwnFiles`
+pub fn versions_name_own_files()
+    ensures { VersionsNameOwnFiles }
+{}

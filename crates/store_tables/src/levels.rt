@@ -6,9 +6,11 @@ ghost use Rattle.std.specs.Prelude.{Contains, [], ◌∷◌, ◌++◌};
 ghost use Rattle.bloom.specs.{hashes_of};
 ghost use Rattle.disk.specs.{IsSame, IsStill, KeepsDisk, Slot, State, contents};
 ghost use Rattle.kv_types.specs.{Entry};
+ghost use Rattle.kv_types.specs.Pages.{IsWithin};
+ghost use Rattle.merge_iter.specs.{AreDisjoint, AreSound, IsAlike, union_of};
 ghost use Rattle.sorted_table.specs.{TableServes, greatest_key, index_lines, last_line_key};
 ghost use Rattle.store_model.specs.{AreLeveled, FitsRange, LevelTable, RangeHolds};
-ghost use Rattle.store_model.specs.{level_entries};
+ghost use Rattle.store_model.specs.{level_entries, tables_entries};
 ghost use Rattle.store_tables.specs.Errors.{FailsDevice, IsEnd, IsEngineExternal};
 ghost use Rattle.store_tables.specs.LevelTables.{AreServed, AreTablesOf, EntriesFind, FileFits};
 ghost use Rattle.store_tables.specs.LevelTables.{IsServed, IsTableOf, LevelsRise, TablesFind};
@@ -16,14 +18,17 @@ ghost use Rattle.store_tables.specs.LevelTables.{IsTableAsMeant, WasServed, Were
 ghost use Rattle.store_tables.specs.LevelTables.{error_of_table, is_flushed, level_count};
 ghost use Rattle.store_tables.specs.LevelTables.{line_range};
 ghost use Rattle.store_tables.specs.LevelTables.{table_lines, with_flushed, with_flushed_line};
+ghost use Rattle.store_tables.specs.RangeReads.{HasTable, HaveOwnFiles, meets_span, tables_in};
 
 use crate::EngineError;
 use bloom::KeyHashes;
 use disk::Disk;
-use kv_types::{Number, StoredKey};
+use kv_types::{Number, Range, StoredKey};
 use manifest::TableLine;
+use merge_iter::Cursor;
 use sorted_table::{FoundVersion, Table};
 use std::alloc::Global;
+use store_cursors::StoreCursor;
 use table_files::Files;
 use table_format::TableError;
 
@@ -99,6 +104,30 @@ impl OpenTable {
         ensures { IsTrue result ↔ RangeHolds (line_range self.now.line) key.now }
     {
         key >= &self.line.least && key <= &self.line.greatest
+    }
+
+    // Whether the keys of the table meet the range.
+    fn meets(&self, range: &Range) -> bool
+        ensures { result ≡ meets_span (line_range self.now.line) range.now }
+    {
+        if &self.line.greatest < range.from() {
+            return false;
+        }
+        match range.to() {
+            Some(to) => &self.line.least < to,
+            None => true,
+        }
+    }
+
+    // A cursor over the entries of the table.
+    fn cursor<'a, D: Disk + Drop>(&self, alloc: Global) -> Result<StoreCursor<'a, D>, EngineError>
+        ensures has { IfOk result (λ cursor. (meant : State) (files : _) (table : LevelTable) →
+            ⟦<Files<D> as Disk>⟧.is_honest files →
+            WasServed (⟦<Files<D> as Disk>⟧.state files) meant self.now table →
+            HasTable ⟦<StoreCursor<'a, D> as Cursor>⟧ meant files cursor table) }
+        ensures memory { IfErr result (λ e. e ≡ EngineError.Memory) }
+    {
+        Ok(StoreCursor::of_table(alloc, &self.table)?)
     }
 
     // What the table has of the key with these hashes, or `Damaged` where the block that may have
@@ -267,5 +296,43 @@ impl LevelTables {
             best = newer_of(best, found);
         }
         Ok(best)
+    }
+
+    /// Cursors over the tables whose keys meet the range, in order of the tables. No file is read.
+    /// Together they have each entry of the tables with a key in the range.
+    pub fn cursors<'a, D: Disk + Drop>(
+        &self,
+        alloc: Global,
+        range: &Range,
+    ) -> Result<Vec<StoreCursor<'a, D>>, EngineError>
+        ensures sound { IfOk result (λ cursors. (meant : State) (files : _)
+            (tables : List LevelTable) → ⟦<Files<D> as Disk>⟧.is_honest files →
+            WereServed (⟦<Files<D> as Disk>⟧.state files) meant self.now tables →
+            AreSound ⟦<StoreCursor<'a, D> as Cursor>⟧ meant cursors.items files) }
+        ensures entries { IfOk result (λ cursors. (meant : State) (files : _)
+            (tables : List LevelTable) → ⟦<Files<D> as Disk>⟧.is_honest files →
+            WereServed (⟦<Files<D> as Disk>⟧.state files) meant self.now tables →
+            IsAlike (union_of ⟦<StoreCursor<'a, D> as Cursor>⟧ meant cursors.items files)
+            (tables_entries (tables_in range.now tables))) }
+        ensures within { IfOk result (λ cursors. (meant : State) (files : _)
+            (tables : List LevelTable) (flushed : ℕ) → ⟦<Files<D> as Disk>⟧.is_honest files →
+            WereServed (⟦<Files<D> as Disk>⟧.state files) meant self.now tables →
+            AreLeveled flushed tables → (entry : Entry) → IsWithin range.now entry.key →
+            union_of ⟦<StoreCursor<'a, D> as Cursor>⟧ meant cursors.items files entry
+            ↔ tables_entries tables entry) }
+        ensures disjoint { IfOk result (λ cursors. (meant : State) (files : _)
+            (tables : List LevelTable) (flushed : ℕ) → ⟦<Files<D> as Disk>⟧.is_honest files →
+            WereServed (⟦<Files<D> as Disk>⟧.state files) meant self.now tables →
+            AreLeveled flushed tables → HaveOwnFiles tables →
+            AreDisjoint ⟦<StoreCursor<'a, D> as Cursor>⟧ meant cursors.items files) }
+        ensures memory { IfErr result (λ e. e ≡ EngineError.Memory) }
+    {
+        let mut cursors = Vec::new(alloc);
+        for open in &self.tables {
+            if open.meets(range) {
+                cursors.push(open.cursor(alloc)?)?;
+            }
+        }
+        Ok(cursors)
     }
 }
