@@ -16,6 +16,8 @@ mod memtables;
 #[cfg(test)]
 mod numbered;
 #[cfg(test)]
+mod pages;
+#[cfg(test)]
 mod parts;
 #[cfg(test)]
 mod plain;
