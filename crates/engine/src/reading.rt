@@ -4,7 +4,7 @@ ghost use Rattle.store_files.specs.OpenFiles.{AreUsableFiles};
 
 use crate::Engine;
 use disk::Disk;
-use kv_types::{Key, Number, Value};
+use kv_types::{Key, Number, Page, Range, Value};
 use std::alloc::Global;
 use store_files::EngineError;
 use store_files::laws::held_files_are_left;
@@ -13,6 +13,7 @@ impl<D: Disk + Drop> Engine<D> {
     ghost use Rattle.std.specs.Prelude.{◌≡◌, ◌⊎◌, ◌↔◌, List, take};
     ghost use Rattle.std.specs.Prelude.{IfErr, IfOk, IsErrOf, MatchResult, OnOk};
     ghost use Rattle.kv_types.specs.{BatchContent, map_of};
+    ghost use Rattle.kv_types.specs.Pages.{page_of};
     ghost use Rattle.disk.specs.{IsSame, IsStill};
     ghost use Rattle.engine.specs.Calls.{IsCloseAnswer, IsNoDamage, IsOpenAnswer};
     ghost use Rattle.engine.specs.Calls.{IsReadableAnswer, KeepsEngine, ListFollows};
@@ -62,6 +63,29 @@ impl<D: Disk + Drop> Engine<D> {
         held_files_are_left(); // law: what the disk of open files reads as, and leaves
         self.may_read(at)?;
         let answer = self.store.get(alloc, &mut self.files, at, key);
+        self.has_ended = answer.is_err();
+        answer
+    }
+
+    /// The rows of a range in the map of the first `at` batches: the longest beginning of its walk
+    /// that keeps both limits, and whether more are left.
+    pub fn rows(&mut self, alloc: Global, at: Number, range: &Range) -> Result<Page, EngineError>
+        ensures keeps { KeepsEngine D.Disk self.old self.new result ⊥ IsSame }
+        ensures told { look_ups self.new ≡ look_ups self.old }
+        ensures readable { IsReadableAnswer (look_ups self.old) at result }
+        ensures found { (list : List BatchContent) → EngineReads D.Disk self.old list →
+            IfOk result (λ page. page ≡ page_of (take at list) range.now) × IsNoDamage result }
+
+        // A damaged block of a table is never passed over.
+        ensures meant { (list : List BatchContent) → EngineWasMeant D.Disk self.old list →
+            IfOk result (λ page. page ≡ page_of (take at list) range.now) }
+        ensures kept { (list : List BatchContent) →
+            ListFollows D.Disk self.old self.new list list result }
+        ensures still { IsStill D.Disk (engine_disk self.old) (engine_disk self.new) }
+    {
+        held_files_are_left(); // law: what the disk of open files reads as, and leaves
+        self.may_read(at)?;
+        let answer = self.store.rows(alloc, &mut self.files, at, range);
         self.has_ended = answer.is_err();
         answer
     }
