@@ -1,5 +1,5 @@
 -- An engine over the files that it holds, and what its calls keep.
-use Rattle.std.proofs.Common.{◌≡◌, ℕ, List, Result, Ok, Err, inl, inr, refl}
+use Rattle.std.proofs.Common.{◌≡◌, ℕ, List, [], Result, Ok, Err, inl, inr, refl}
 use Rattle.std.proofs.Common.{sym, ap, subst, ◌∙◌, Bool, false, true}
 use Rattle.std.specs.Prelude.{◌⊎◌, ◌↔◌, IfErr, IfOk, IsErrAnd, IsErrOf, IsTrue, MatchResult, OnOk}
 use Rattle.std.specs.Prelude.{is_err}
@@ -89,20 +89,31 @@ module _ {T : Type 0} where
   of_refusal (Err e) P Q both = both
 
 -- look-ups with equal facts and counts are equal
-pub told_alike : {facts is : Facts} {count number committed : ℕ} {limits : Limits} → facts ≡ is →
-    count ≡ number →
-    ◌≡◌ {A = LookUps}
-    (record { facts = facts; count = count; committed = committed; limits = limits })
-    (record { facts = is; count = number; committed = committed; limits = limits })
+pub told_alike : {facts is : Facts} {count number committed : ℕ} {limits : Limits}
+    {snapshots : List ℕ} → facts ≡ is → count ≡ number →
+    ◌≡◌ {A = LookUps} (record {
+      facts = facts;
+      count = count;
+      committed = committed;
+      limits = limits;
+      snapshots = snapshots;
+    }) (record {
+      facts = is;
+      count = number;
+      committed = committed;
+      limits = limits;
+      snapshots = snapshots;
+    })
 told_alike facts count = rw (facts, count) refl
 
--- an engine with these facts and so many batches, of which none is known to be committed
-pub told_of : {facts is : Facts} {count number : ℕ} {limits : Limits} → facts ≡ is →
-    count ≡ number →
+-- an engine with these facts and so many batches, of which none is known to be committed, and
+-- without snapshots
+pub told_of : {facts is : Facts} {count number : ℕ} {limits : Limits} {snapshots : List ℕ} →
+    facts ≡ is → count ≡ number → snapshots ≡ [] →
     ◌≡◌ {A = LookUps}
-    (record { facts = facts; count = count; committed = 0; limits = limits })
-    (record { facts = is; count = number; committed = 0; limits = limits })
-told_of facts count = rw (facts, count) refl
+    (record { facts = facts; count = count; committed = 0; limits = limits; snapshots = snapshots })
+    (record { facts = is; count = number; committed = 0; limits = limits; snapshots = [] })
+told_of facts count none = rw (facts, count, none) refl
 
 -- ---- openings
 
@@ -143,6 +154,8 @@ explains engine.NotCreated left told opens = told
 explains engine.Failed left told opens = told
 explains engine.TooOld left told opens = told
 explains engine.NotCommitted left told opens = told
+explains engine.NoSuchSnapshot left told opens = told
+explains engine.TooManySnapshots left told opens = told
 explains engine.Exhausted left told opens = told
 
 -- ---- an engine

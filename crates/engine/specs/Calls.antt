@@ -1,6 +1,7 @@
 -- What the calls of an engine answer, and what they make of its disk.
-use Rattle.std.specs.Prelude.{◌≡◌, ◌⊎◌, ◌↔◌, ℕ, ◌<◌, ◌≤◌, List, [], ◌∷◌, Result, Ok, Err, IsErrOf}
-use Rattle.std.specs.Prelude.{IfOk, IsErrAnd, MatchResult, OnOk}
+use Rattle.std.specs.Prelude.{◌≡◌, ◌⊎◌, ◌↔◌, ℕ, ◌<◌, List, [], length, true, false}
+use Rattle.std.specs.Prelude.{Result, Ok, Err, IsErrOf, IfOk, IsErrAnd, MatchResult, OnOk}
+use Rattle.chain_model.specs.Machine.{is_open}
 use Rattle.kv_types.specs.declared.Limits.{Limits}
 use Rattle.kv_types.specs.{BatchContent}
 use Rattle.disk.specs.declared.Disk.{Ghosts}
@@ -9,7 +10,10 @@ use Rattle.engine.specs.declared.engine.Engine.{Engine}
 use Rattle.store_tables.specs.declared.error.EngineError.{EngineError}
 use Rattle.store_tables.specs.declared.error.EngineError.TheVariants as engine
 use Rattle.engine.specs.Engines.{EngineHolds, EngineReads, EngineWasMeant, HasEnded, HasOnlyFiles}
-use Rattle.engine.specs.Engines.{LookUps, engine_disk, engine_files, facts_of, look_ups}
+use Rattle.engine.specs.Snapshots.{IsReadable}
+use Rattle.engine.specs.Engines.{LookUps, engine_disk, engine_files, facts_of}
+use Rattle.engine.specs.Engines.{look_ups}
+use Rattle.engine.specs.declared.snapshots.TheConstants.{MAX_SNAPSHOTS}
 use Rattle.store_files.specs.declared.tended.Tended.{Tended}
 use Rattle.store_tables.specs.Errors.{EndsEngine, FailsDevice, IsEnd, IsEngineExternal}
 use Rattle.store_files.specs.Tending.{IsTend, IsWorkAnswer}
@@ -22,7 +26,7 @@ use Rattle.store_files.specs.StoreFiles.{WereMeant}
 
 -- a number is readable from the floor to the committed number
 abbrev pub IsReadableAnswer : {T : Type 0} → LookUps → ℕ → Result T EngineError → Type 0
-IsReadableAnswer told at (Ok x) = (told.facts.floor ≤ at) × (at ≤ told.committed)
+IsReadableAnswer told at (Ok x) = IsReadable told.facts.floor told.committed at
 IsReadableAnswer told at (Err engine.TooOld) = at < told.facts.floor
 IsReadableAnswer told at (Err engine.NotCommitted) = told.committed < at
 IsReadableAnswer told at (Err engine.Disk) = Unit {0}
@@ -30,7 +34,38 @@ IsReadableAnswer told at (Err engine.Damaged) = Unit {0}
 IsReadableAnswer told at (Err engine.Memory) = Unit {0}
 IsReadableAnswer told at (Err engine.Failed) = Unit {0}
 IsReadableAnswer told at (Err engine.NotCreated) = ⊥
+IsReadableAnswer told at (Err engine.NoSuchSnapshot) = ⊥
+IsReadableAnswer told at (Err engine.TooManySnapshots) = ⊥
 IsReadableAnswer told at (Err engine.Exhausted) = ⊥
+
+-- ---- which snapshots are refused
+
+-- a snapshot at this number may be opened: it can be read, and fewer than may be are open
+abbrev pub MayOpen : LookUps → ℕ → Type 0
+MayOpen told at =
+    IsReadable told.facts.floor told.committed at × (length told.snapshots < MAX_SNAPSHOTS)
+
+-- The answer to an opening of a snapshot at this number. `TooManySnapshots` is answered only where
+-- the number can be read, and `Memory` only where nothing else is in the way.
+abbrev pub IsOpenAnswer : {T : Type 0} → LookUps → ℕ → Result T EngineError → Type 0
+IsOpenAnswer told at (Ok x) = MayOpen told at
+IsOpenAnswer told at (Err engine.TooOld) = at < told.facts.floor
+IsOpenAnswer told at (Err engine.NotCommitted) = told.committed < at
+IsOpenAnswer told at (Err engine.TooManySnapshots) =
+    IsReadable told.facts.floor told.committed at × (length told.snapshots ≡ MAX_SNAPSHOTS)
+IsOpenAnswer told at (Err engine.Memory) = MayOpen told at
+IsOpenAnswer told at (Err engine.Failed) = Unit {0}
+IsOpenAnswer told at (Err engine.Disk) = ⊥
+IsOpenAnswer told at (Err engine.Damaged) = ⊥
+IsOpenAnswer told at (Err engine.NotCreated) = ⊥
+IsOpenAnswer told at (Err engine.NoSuchSnapshot) = ⊥
+IsOpenAnswer told at (Err engine.Exhausted) = ⊥
+
+-- the answer to a closing of a snapshot at this number, which takes no memory
+abbrev pub IsCloseAnswer : {T : Type 0} → LookUps → ℕ → Result T EngineError → Type 0
+IsCloseAnswer told number (Ok x) = is_open number told.snapshots ≡ true
+IsCloseAnswer told number (Err e) =
+    ((e ≡ engine.NoSuchSnapshot) × (is_open number told.snapshots ≡ false)) ⊎ (e ≡ engine.Failed)
 
 -- files that represent a list are not damaged
 abbrev pub IsNoDamage : {T : Type 0} → Result T EngineError → Type 0
@@ -104,16 +139,18 @@ pub record IsNewEngine {D : Type 0} {g : Ghosts D} (x : ℕ) (ids : List ℕ) (l
     count = 0;
     committed = 0;
     limits = limits;
+    snapshots = [];
   }
   pub files : g.is_honest (engine_disk engine) → HasFirstFiles (g.state (engine_disk engine)) x ids
 
--- an opened engine has these limits, and knows only the batches below the floor to be
--- committed; its disk has no file that its version does not name
+-- an opened engine has these limits and no open snapshot, and knows only the batches below the
+-- floor to be committed; its disk has no file that its version does not name
 pub record IsJustOpened {D : Type 0} {g : Ghosts D} (given : Limits) (engine : Engine D g) : Type 0
   where
     pub works : HasEnded engine → ⊥
     pub committed : (look_ups engine).committed ≡ (look_ups engine).facts.floor
     pub limits : (look_ups engine).limits ≡ given
+    pub snapshots : (look_ups engine).snapshots ≡ []
     pub swept : HasOnlyFiles g engine (engine_files engine)
 
 -- the engine tells these facts, and its disk represents them and the list
@@ -149,4 +186,6 @@ ExplainsRefusal engine.NotCreated left = IsNotCreated left
 ExplainsRefusal engine.Failed left = ⊥
 ExplainsRefusal engine.TooOld left = ⊥
 ExplainsRefusal engine.NotCommitted left = ⊥
+ExplainsRefusal engine.NoSuchSnapshot left = ⊥
+ExplainsRefusal engine.TooManySnapshots left = ⊥
 ExplainsRefusal engine.Exhausted left = ⊥

@@ -1,5 +1,5 @@
 -- An engine and the list of batches that its disk represents.
-use Rattle.std.specs.Prelude.{◌≡◌, ◌⊎◌, ℕ, ◌+◌, ◌≤◌, List, length, IsTrue, IsSomeAnd}
+use Rattle.std.specs.Prelude.{◌≡◌, ◌⊎◌, ℕ, ◌+◌, ◌≤◌, List, ◌∷◌, length, IsTrue, IsSomeAnd}
 use Rattle.kv_types.specs.declared.Limits.{Limits}
 use Rattle.kv_types.specs.declared.bounds.TheConstants.{MAX_NUMBER}
 use Rattle.kv_types.specs.{BatchContent}
@@ -7,6 +7,7 @@ use Rattle.disk.specs.declared.Disk.{Ghosts}
 use Rattle.disk.specs.{State, EndsOutOfRange, OnlyLeaves, contents, seen}
 use Rattle.record_log.specs.declared.log.TheConstants.{MAX_RECORD}
 use Rattle.table_files.specs.{inner_disk}
+use Rattle.chain_model.specs.Machine.{without}
 use Rattle.engine.specs.declared.engine.Engine.{Engine}
 use Rattle.store_files.specs.Files.{Facts}
 use Rattle.manifest.specs.{HasFullSlot}
@@ -18,16 +19,18 @@ use Rattle.store_files.specs.Openings.{kept_files}
 use Rattle.store_files.specs.Settling.{AreAlone}
 use Rattle.store_files.specs.StoreFiles.{FilesRepresent, WereMeant}
 use Rattle.store_files.specs.Tending.{tended_files}
+use Rattle.engine.specs.Snapshots.{AreReadable}
 
 -- ---- what an engine tells
 
 -- what an engine knows: the facts of its files, the number of batches, that of the committed ones,
--- and the limits by which it works
+-- the limits by which it works, and the numbers of the open snapshots, the one opened last first
 pub record LookUps : Type 0 where
   pub facts : Facts
   pub count : ℕ
   pub committed : ℕ
   pub limits : Limits
+  pub snapshots : List ℕ
 
 module _ {D : Type 0} {g : Ghosts D} where
   -- the facts that an engine knows of its files
@@ -45,6 +48,7 @@ module _ {D : Type 0} {g : Ghosts D} where
     count = batch_count engine.store;
     committed = engine.committed;
     limits = engine.limits;
+    snapshots = engine.snapshots;
   }
 
   -- the disk that it owns
@@ -87,12 +91,22 @@ with_one_more told = record told { count = told.count + 1 }
 abbrev pub with_committed : LookUps → ℕ → LookUps
 with_committed told committed = record told { committed = committed }
 
--- the committed number lies between the floor and the count
+-- one snapshot more, at this number
+abbrev pub with_opened : LookUps → ℕ → LookUps
+with_opened told at = record told { snapshots = at ∷ told.snapshots }
+
+-- without the snapshot of this number that was opened last
+abbrev pub with_closed : LookUps → ℕ → LookUps
+with_closed told number = record told { snapshots = without number told.snapshots }
+
+-- the committed number lies between the floor and the count, and the open snapshots from the floor
+-- to the committed number
 pub record AreOrdered (told : LookUps) : Type 0 where
   pub kept : told.facts.kept ≤ told.facts.floor
   pub floor : told.facts.floor ≤ told.committed
   pub committed : told.committed ≤ told.count
   pub few : told.count ≤ MAX_NUMBER
+  pub snapshots : AreReadable told.facts.floor told.committed told.snapshots
 
 -- an honest disk of the engine has no other file than these
 abbrev pub HasOnlyFiles : {D : Type 0} (g : Ghosts D) → Engine D g → List ℕ → Type 0

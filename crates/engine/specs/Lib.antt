@@ -1,3 +1,4 @@
+pub mod Snapshots
 pub mod Engines
 pub mod Calls
 -- What crates above name.
@@ -5,12 +6,15 @@ pub use Rattle.engine.specs.Calls.{IsNewEngine, IsEngineOf, IsJustOpened, IsOldO
 pub use Rattle.engine.specs.Calls.{IsMeantEngineOf, KeepsEngine, ListFollows, ExplainsRefusal}
 pub use Rattle.engine.specs.Calls.{IsTendOf, OpensEngineFor, RefusedByDevice}
 pub use Rattle.engine.specs.Calls.{IsAdrift, IsReadableAnswer, IsTendAnswer, TendsAlike, disk_after}
+pub use Rattle.engine.specs.Calls.{IsCloseAnswer, IsOpenAnswer, MayOpen}
 pub use Rattle.engine.specs.Engines.{AreOrdered, HasEnded, HasLongFile, HasOnlyFiles, EngineHolds}
 pub use Rattle.engine.specs.Engines.{HasNearlyFullLog, IsNearlyFull}
+pub use Rattle.engine.specs.Snapshots.{AreReadable, IsReadable}
 pub use Rattle.engine.specs.Engines.{EngineWasMeant, LookUps, EngineReads, engine_disk}
 pub use Rattle.engine.specs.Engines.{engine_files, facts_of}
 pub use Rattle.engine.specs.Engines.{files_of_tend, look_ups, newest_log_file, raised_facts}
 pub use Rattle.engine.specs.Engines.{table_count, with_one_more, with_committed}
+pub use Rattle.engine.specs.Engines.{with_closed, with_opened}
 -- What they name of the files of a store.
 pub use Rattle.store_tables.specs.declared.error.EngineError
 pub use Rattle.store_files.specs.declared.tended.Tended

@@ -1,9 +1,11 @@
 //! One node's store.
 ghost use Rattle.std.specs.Prelude.{◌≡◌, IfOk, IfErr, false};
 ghost use Rattle.table_files.specs.{inner_disk};
-ghost use Rattle.store_files.specs.OpenFiles.{AreCounted, AreUsableFiles};
+ghost use Rattle.store_files.specs.OpenFiles.{AreCounted, AreUsableFiles, known_facts};
 ghost use Rattle.store_files.specs.UsableProps.{props};
+ghost use Rattle.engine.specs.Snapshots.{AreReadable};
 
+use crate::snapshots::Snapshots;
 use configurations::{Config, Epoch, NodeId};
 use disk::{Crash, Disk, Fault};
 use kv_types::{Batch, Key, Limits, Number, Value};
@@ -18,11 +20,13 @@ use table_files::Files;
 /// list (`EngineHolds`). In memory are the entries of the batches that no table has.
 #[derive(Drop)]
 pub struct Engine<D: Disk + Drop> {
-    files: Files<D>,
-    store: StoreFiles,
+    pub(crate) files: Files<D>,
+    pub(crate) store: StoreFiles,
     limits: Limits,
-    committed: Number,
-    has_ended: bool,
+    pub(crate) committed: Number,
+    pub(crate) snapshots: Snapshots,
+    pub(crate) has_ended: bool,
+    ghost readable: { AreReadable (known_facts store).floor committed snapshots },
     ghost counted: { AreCounted store committed },
     ghost usable: { has_ended ≡ false → AreUsableFiles store } by { Prim.hlevel props },
 }
@@ -90,6 +94,7 @@ impl<D: Disk + Drop> Engine<D> {
                 store,
                 limits: *limits,
                 committed: Number::ZERO,
+                snapshots: Snapshots::new(alloc),
                 has_ended: false,
             }),
             Err(e) => Err((e, files.into_disk())),
@@ -132,6 +137,7 @@ impl<D: Disk + Drop> Engine<D> {
                     store,
                     limits: *limits,
                     committed,
+                    snapshots: Snapshots::new(alloc),
                     has_ended: false,
                 })
             }
@@ -184,53 +190,6 @@ impl<D: Disk + Drop> Engine<D> {
         self.store.append(alloc, &mut self.files, number, batch)?;
         self.has_ended = false;
         Ok(number)
-    }
-
-    // Whether a read at the number may be answered.
-    fn may_read(&self, at: Number) -> Result<(), EngineError>
-        ensures readable { IsReadableAnswer (look_ups self.now) at result }
-        ensures closed { IsErrOf result EngineError.Failed ↔ HasEnded self.now }
-        ensures only { IfErr result (λ e. (e ≡ EngineError.Failed)
-            ⊎ (e ≡ EngineError.TooOld) ⊎ (e ≡ EngineError.NotCommitted)) }
-        ensures usable { OnOk result (AreUsableFiles self.now.store) }
-    {
-        if self.has_ended {
-            return Err(EngineError::Failed);
-        }
-        if at < self.floor() {
-            return Err(EngineError::TooOld);
-        }
-        if at > self.committed {
-            return Err(EngineError::NotCommitted);
-        }
-        Ok(())
-    }
-
-    /// The value of a key in the map of the first `at` batches.
-    pub fn get(
-        &mut self,
-        alloc: Global,
-        at: Number,
-        key: &Key,
-    ) -> Result<Option<Value>, EngineError>
-        ensures keeps { KeepsEngine D.Disk self.old self.new result ⊥ IsSame }
-        ensures told { look_ups self.new ≡ look_ups self.old }
-        ensures readable { IsReadableAnswer (look_ups self.old) at result }
-        ensures found { (list : List BatchContent) → EngineReads D.Disk self.old list →
-            IfOk result (λ value. value ≡ map_of (take at list) key.now) × IsNoDamage result }
-
-        // A damaged block of a table is never passed over.
-        ensures meant { (list : List BatchContent) → EngineWasMeant D.Disk self.old list →
-            IfOk result (λ value. value ≡ map_of (take at list) key.now) }
-        ensures kept { (list : List BatchContent) →
-            ListFollows D.Disk self.old self.new list list result }
-        ensures still { IsStill D.Disk (engine_disk self.old) (engine_disk self.new) }
-    {
-        held_files_are_left(); // law: what the disk of open files reads as, and leaves
-        self.may_read(at)?;
-        let answer = self.store.get(alloc, &mut self.files, at, key);
-        self.has_ended = answer.is_err();
-        answer
     }
 
     /// The batch of a number that the logs have, read from the disk.

@@ -3,6 +3,9 @@
 
 mod engine;
 pub mod laws;
+mod reading;
+mod snapshots;
 
 pub use engine::Engine;
+pub use snapshots::MAX_SNAPSHOTS;
 pub use store_files::{EngineError, Tended};

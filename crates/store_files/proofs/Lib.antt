@@ -40,3 +40,6 @@ pub mod MeantFiles
 pub mod MeantMoments
 pub mod MeantTends
 pub mod MeantInstalls
+pub mod RangeRows
+pub mod RangeCursors
+pub mod RowReads

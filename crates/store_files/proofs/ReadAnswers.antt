@@ -119,6 +119,8 @@ end_explained engine.NotCreated left ends created opens = absurd ends
 end_explained engine.Failed left ends created opens = absurd ends
 end_explained engine.TooOld left ends created opens = absurd ends
 end_explained engine.NotCommitted left ends created opens = absurd ends
+end_explained engine.NoSuchSnapshot left ends created opens = absurd ends
+end_explained engine.TooManySnapshots left ends created opens = absurd ends
 end_explained engine.Exhausted left ends created opens = absurd ends
 
 -- so is one of the manifest

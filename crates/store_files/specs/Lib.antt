@@ -13,3 +13,4 @@ pub mod Replaying
 pub mod Tending
 pub mod TendKeeps
 pub mod HeldFiles
+pub mod RangeEntries

@@ -183,6 +183,8 @@ OpeningRefusal engine.NotCreated left = IsNotCreated left
 OpeningRefusal engine.Failed left = ⊥
 OpeningRefusal engine.TooOld left = ⊥
 OpeningRefusal engine.NotCommitted left = ⊥
+OpeningRefusal engine.NoSuchSnapshot left = ⊥
+OpeningRefusal engine.TooManySnapshots left = ⊥
 OpeningRefusal engine.Exhausted left = ⊥
 
 -- ---- an opening

@@ -7,6 +7,7 @@ pub mod laws;
 mod layout;
 mod opening;
 mod replaying;
+mod rows;
 mod settling;
 mod store_files;
 mod tended;

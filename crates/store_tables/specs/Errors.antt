@@ -72,6 +72,8 @@ IsEnd engine.NotCreated = ⊥
 IsEnd engine.Failed = ⊥
 IsEnd engine.TooOld = ⊥
 IsEnd engine.NotCommitted = ⊥
+IsEnd engine.NoSuchSnapshot = ⊥
+IsEnd engine.TooManySnapshots = ⊥
 IsEnd engine.Exhausted = ⊥
 
 -- the call ended the engine

@@ -37,9 +37,15 @@ pub enum EngineError {
     /// The number is above the committed number.
     #[error("not committed")]
     NotCommitted,
+    /// No snapshot at the number is open.
+    #[error("no such snapshot")]
+    NoSuchSnapshot,
+    /// As many snapshots are open as may be.
+    #[error("too many snapshots")]
+    TooManySnapshots,
     /// No number is left for a batch.
     #[error("exhausted")]
-    Exhausted = 10,
+    Exhausted,
 }
 
 impl From<DiskError> for EngineError {

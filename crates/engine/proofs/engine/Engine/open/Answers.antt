@@ -50,6 +50,7 @@ returns-in-Ok-clause-fresh g c = record {
   works = not_true;
   committed = c.floor-committed.ensures;
   limits = refl;
+  snapshots = c.new.ensures;
   swept = λ honest. (c.in-Ok.ensures.swept (c.open.ensures.kept.honest.0 honest)).alone;
 }
 

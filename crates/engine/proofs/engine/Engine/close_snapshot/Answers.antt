@@ -1,0 +1,25 @@
+use Rattle.std.proofs.Common.{refl, subst, sym}
+use Rattle.engine.specs.Snapshots.{AreReadable}
+use Rattle.engine.proofs.Engines.{goes_on}
+use Rattle.engine.proofs.Removals.{readable_without}
+use Rattle.engine.proofs.engine.Engine.close_snapshot.Goals as goal
+
+-- those that are left can still be read
+pub invariant_of-self : goal.invariant_of-self
+invariant_of-self g c =
+    let old = c.args.self.now in
+    record {
+      readable = subst (AreReadable _ _) (sym c.remove.ensures)
+          (readable_without _ _ c.args.number old.snapshots old.readable);
+      counted = old.counted;
+      usable = old.usable;
+    }
+
+-- the files and the store stay
+pub returns-clause-kept : goal.returns-clause-kept
+returns-clause-kept g c = λ list.
+    goes_on g.D.Disk c.held_files_are_left.ensures c.args.self.now _ list _ (record {
+      store = refl;
+      honest = λ honest. honest;
+      same = λ honest file. refl;
+    }) (λ h. absurd cc)

@@ -1,0 +1,139 @@
+//! Reads of an engine, and the snapshots that keep numbers readable.
+ghost use Rattle.std.specs.Prelude.{◌≡◌, IfErr, IfOk};
+ghost use Rattle.store_files.specs.OpenFiles.{AreUsableFiles};
+
+use crate::Engine;
+use disk::Disk;
+use kv_types::{Key, Number, Page, Range, Value};
+use std::alloc::Global;
+use store_files::EngineError;
+use store_files::laws::held_files_are_left;
+
+impl<D: Disk + Drop> Engine<D> {
+    ghost use Rattle.std.specs.Prelude.{◌≡◌, ◌⊎◌, ◌↔◌, List, take};
+    ghost use Rattle.std.specs.Prelude.{IfErr, IfOk, IsErrOf, MatchResult, OnOk};
+    ghost use Rattle.kv_types.specs.{BatchContent, map_of};
+    ghost use Rattle.kv_types.specs.Pages.{page_of};
+    ghost use Rattle.disk.specs.{IsSame, IsStill};
+    ghost use Rattle.engine.specs.Calls.{IsCloseAnswer, IsNoDamage, IsOpenAnswer};
+    ghost use Rattle.engine.specs.Calls.{IsReadableAnswer, KeepsEngine, ListFollows};
+    ghost use Rattle.engine.specs.Engines.{EngineReads, EngineWasMeant, HasEnded, engine_disk};
+    ghost use Rattle.engine.specs.Engines.{look_ups, with_closed, with_opened};
+
+    // Whether a read at the number may be answered.
+    fn may_read(&self, at: Number) -> Result<(), EngineError>
+        ensures readable { IsReadableAnswer (look_ups self.now) at result }
+        ensures closed { IsErrOf result EngineError.Failed ↔ HasEnded self.now }
+        ensures only { IfErr result (λ e. (e ≡ EngineError.Failed)
+            ⊎ (e ≡ EngineError.TooOld) ⊎ (e ≡ EngineError.NotCommitted)) }
+        ensures usable { OnOk result (AreUsableFiles self.now.store) }
+    {
+        if self.has_ended {
+            return Err(EngineError::Failed);
+        }
+        if at < self.floor() {
+            return Err(EngineError::TooOld);
+        }
+        if at > self.committed {
+            return Err(EngineError::NotCommitted);
+        }
+        Ok(())
+    }
+
+    /// The value of a key in the map of the first `at` batches.
+    pub fn get(
+        &mut self,
+        alloc: Global,
+        at: Number,
+        key: &Key,
+    ) -> Result<Option<Value>, EngineError>
+        ensures keeps { KeepsEngine D.Disk self.old self.new result ⊥ IsSame }
+        ensures told { look_ups self.new ≡ look_ups self.old }
+        ensures readable { IsReadableAnswer (look_ups self.old) at result }
+        ensures found { (list : List BatchContent) → EngineReads D.Disk self.old list →
+            IfOk result (λ value. value ≡ map_of (take at list) key.now) × IsNoDamage result }
+
+        // A damaged block of a table is never passed over.
+        ensures meant { (list : List BatchContent) → EngineWasMeant D.Disk self.old list →
+            IfOk result (λ value. value ≡ map_of (take at list) key.now) }
+        ensures kept { (list : List BatchContent) →
+            ListFollows D.Disk self.old self.new list list result }
+        ensures still { IsStill D.Disk (engine_disk self.old) (engine_disk self.new) }
+    {
+        held_files_are_left(); // law: what the disk of open files reads as, and leaves
+        self.may_read(at)?;
+        let answer = self.store.get(alloc, &mut self.files, at, key);
+        self.has_ended = answer.is_err();
+        answer
+    }
+
+    /// The rows of a range in the map of the first `at` batches: the longest beginning of its walk
+    /// that keeps both limits, and whether more are left.
+    pub fn rows(&mut self, alloc: Global, at: Number, range: &Range) -> Result<Page, EngineError>
+        ensures keeps { KeepsEngine D.Disk self.old self.new result ⊥ IsSame }
+        ensures told { look_ups self.new ≡ look_ups self.old }
+        ensures readable { IsReadableAnswer (look_ups self.old) at result }
+        ensures found { (list : List BatchContent) → EngineReads D.Disk self.old list →
+            IfOk result (λ page. page ≡ page_of (take at list) range.now) × IsNoDamage result }
+
+        // A damaged block of a table is never passed over.
+        ensures meant { (list : List BatchContent) → EngineWasMeant D.Disk self.old list →
+            IfOk result (λ page. page ≡ page_of (take at list) range.now) }
+        ensures kept { (list : List BatchContent) →
+            ListFollows D.Disk self.old self.new list list result }
+        ensures still { IsStill D.Disk (engine_disk self.old) (engine_disk self.new) }
+    {
+        held_files_are_left(); // law: what the disk of open files reads as, and leaves
+        self.may_read(at)?;
+        let answer = self.store.rows(alloc, &mut self.files, at, range);
+        self.has_ended = answer.is_err();
+        answer
+    }
+
+    /// Opens a snapshot at a number that can be read. While it is open, the number stays readable.
+    pub fn open_snapshot(&mut self, at: Number) -> Result<(), EngineError>
+        ensures keeps { KeepsEngine D.Disk self.old self.new result ⊥ IsSame }
+        ensures told { MatchResult result
+            (λ _. look_ups self.new ≡ with_opened (look_ups self.old) at)
+            (λ _. look_ups self.new ≡ look_ups self.old) }
+        ensures opened { IsOpenAnswer (look_ups self.old) at result }
+        ensures kept { (list : List BatchContent) →
+            ListFollows D.Disk self.old self.new list list result }
+        ensures disk { engine_disk self.new ≡ engine_disk self.old }
+    {
+        held_files_are_left(); // law: what the disk of open files reads as, and leaves
+        self.may_read(at)?;
+        if self.snapshots.is_full() {
+            return Err(EngineError::TooManySnapshots);
+        }
+        match self.snapshots.add(at) {
+            Ok(()) => Ok(()),
+            Err(_) => {
+                self.has_ended = true;
+                Err(EngineError::Memory)
+            }
+        }
+    }
+
+    /// Closes the snapshot of this number that was opened last. It takes no memory.
+    pub fn close_snapshot(&mut self, number: Number) -> Result<(), EngineError>
+        ensures keeps { KeepsEngine D.Disk self.old self.new result ⊥ IsSame }
+        ensures told { MatchResult result
+            (λ _. look_ups self.new ≡ with_closed (look_ups self.old) number)
+            (λ _. look_ups self.new ≡ look_ups self.old) }
+        ensures closed { IsCloseAnswer (look_ups self.old) number result }
+        ensures kept { (list : List BatchContent) →
+            ListFollows D.Disk self.old self.new list list result }
+        ensures disk { engine_disk self.new ≡ engine_disk self.old }
+    {
+        held_files_are_left(); // law: what the disk of open files reads as, and leaves
+        if self.has_ended {
+            return Err(EngineError::Failed);
+        }
+        if !self.snapshots.contains(number) {
+            return Err(EngineError::NoSuchSnapshot);
+        }
+        self.snapshots.remove(number);
+        Ok(())
+    }
+}

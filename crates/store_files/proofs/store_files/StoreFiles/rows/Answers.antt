@@ -1,0 +1,44 @@
+use Rattle.std.proofs.Common.{refl, subst, sym, take}
+use Rattle.disk.specs.StillLemmas.{still}
+use Rattle.kv_types.specs.{map_of}
+use Rattle.kv_types.specs.Pages.{page_of}
+use Rattle.row_pages.specs.ViewRowsLemmas.{walk_of_page}
+use Rattle.store_tables.specs.Errors.{IsEngineExternal}
+use Rattle.store_files.proofs.Meant.{own_blocks}
+use Rattle.store_files.proofs.RowReads.{kept_answered, page_is, refusal_external}
+use Rattle.store_files.proofs.store_files.StoreFiles.rows.Goals as goal
+
+-- no call of the disk
+pub returns-in_err-rows-clause-still : goal.returns-in_err-rows-clause-still
+returns-in_err-rows-clause-still g c = λ honest.
+    still (g.D.Disk.state c.args.files.now.disk) (g.D.Disk.past c.args.files.now.disk)
+
+-- the page that was read
+pub returns-in-Ok-clause-kept : goal.returns-in-Ok-clause-kept
+returns-in-Ok-clause-kept g c =
+    kept_answered _ c.args.files.now c.read_page.new.source c.read_page.result c.in-Ok.page
+    c.in-Ok.page c.in-Ok.is c.read_page.ensures.moved.device
+
+pub returns-in-Ok-clause-found : goal.returns-in-Ok-clause-found
+returns-in-Ok-clause-found g c = λ list honest w floor count.
+    let range = c.args.range.now in
+    let first = take c.args.at list in
+    let agree = c.pages_agree.ensures.agree in
+    let shows = c.in_ok-rows.ensures.shows w.meant c.args.files.now list honest w.hold
+    w.disk_is.blocks floor count in
+    page_is c.pages_agree.ensures.one agree first range c.in-Ok.page
+    (c.in-Ok.ensures.page w.meant (map_of first) shows.0 shows.1
+    (walk_of_page (map_of first) range (page_of first range) (agree first range)))
+
+pub returns-in-Ok-clause-still : goal.returns-in-Ok-clause-still
+returns-in-Ok-clause-still g c = c.read_page.ensures.moved.device.still
+
+-- of undamaged tables no cursor is refused for damage
+pub returns-clause-intact : goal.returns-clause-intact
+returns-clause-intact g c = λ list honest h floor count.
+    let disk = g.D.Disk.state c.args.files.now.disk in
+    let shows = c.in_ok-rows.ensures.shows disk c.args.files.now list honest h
+    (own_blocks disk c.args.self.now.tables.tables.items) floor count in
+    subst IsEngineExternal (sym c.from.ensures)
+    (refusal_external c.read_page.result c.in-Err.e c.in-Err.is c.read_page.ensures.moved.causes
+    (disk, shows.0, λ honest file. refl))

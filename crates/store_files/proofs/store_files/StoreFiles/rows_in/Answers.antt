@@ -1,0 +1,55 @@
+use Rattle.std.proofs.Common.{◌≡◌, ◌≤◌, ℕ, List, arith, length, subst, sym}
+use Rattle.disk.specs.{contents}
+use Rattle.kv_types.specs.{Entry}
+use Rattle.kv_types.specs.declared.bounds.TheConstants.{MAX_NUMBER}
+use Rattle.merge_iter.specs.{AreDisjoint, AreSound, IsAlike, union_of}
+use Rattle.store_cursors.specs.contracts.store_cursor.StoreCursorCursor.TheImpl.{ghosts, no_dict}
+use Rattle.store_model.specs.{memory_entries, store_entries}
+use Rattle.store_files.specs.OpenFiles.{batch_count, known_store, known_version}
+use Rattle.store_files.specs.RangeEntries.{HasRange}
+use Rattle.store_files.proofs.Meant.{zip_was}
+use Rattle.store_files.proofs.RangeCursors.{all_apart, all_in_range, all_sound}
+use Rattle.store_files.proofs.RangeRows.{range_has_rows}
+use Rattle.store_files.proofs.store_files.StoreFiles.rows_in.Goals as goal
+
+-- the cursors have the entries of the store in the range, which show the rows of the map
+pub returns-clause-shows : goal.returns-clause-shows
+returns-clause-shows g c = λ meant files list honest hold blocks floor count.
+    let self = c.args.self.now in
+    let range = c.args.range.now in
+    let known = hold.known in
+    let tables = known.tables in
+    let store = known_store self tables in
+    let G = ghosts g.row.D g.D.Disk no_dict no_dict in
+    let cursors = c.in_ok-cursors.cursors.items in
+    let memory = c.in_ok-of_memtable.field-0 in
+    let told = c.in_ok-cursors.ensures in
+    let served = zip_was (g.D.Disk.state files.disk) meant self.tables.tables.items tables
+    known.served blocks in
+    let own = c.versions_name_own_files.ensures (known_version self).version known.usable.version
+    (contents meant) tables known.read in
+    let mine = c.in_ok-of_memtable.ensures.serves meant files in
+    let holds : IsAlike (G.holds meant memory files) (memory_entries list store) =
+    λ entry. (
+      (λ h. (known.entries entry).0 ((mine.1 entry).0 h)),
+      (λ h. (mine.1 entry).1 ((known.entries entry).1 h)),
+    ) in
+    let met = told.entries meant files tables honest served in
+    let sound = all_sound G meant files cursors memory list store known.store range met holds
+    (told.sound meant files tables honest served) mine.0 in
+    let apart = all_apart G meant files cursors memory list store known.store range met holds
+    (told.disjoint meant files tables store.flushed honest served known.store.tables own) in
+    let has = all_in_range G meant files cursors memory list store known.store range met holds
+    (told.within meant files tables store.flushed honest served known.store.tables) in
+    let pushed = sym c.in_ok-push.ensures.items in
+    let within : c.args.at ≤ length list = subst (λ (n : ℕ). c.args.at ≤ n) known.count count in
+    let few : length list ≤ MAX_NUMBER =
+    subst (λ (n : ℕ). n ≤ MAX_NUMBER) known.count known.usable.numbers.few in
+    let all = subst (λ (l : List _). HasRange range (store_entries list store)
+    (union_of G meant l files)) pushed has in (
+      c.rows_at.ensures.sound meant files
+          (subst (λ (l : List _). AreSound G meant l files) pushed sound)
+          (subst (λ (l : List _). AreDisjoint G meant l files) pushed apart),
+      range_has_rows list store known.store c.args.at floor within range _ all _
+          (c.rows_at.ensures.entries meant files) few,
+    )

@@ -1,0 +1,79 @@
+//! Reads of rows, through cursors over memory and tables.
+ghost use Rattle.std.specs.Prelude.{◌≡◌, ℕ, ◌≤◌, List, take, All, IfErr, IfOk};
+ghost use Rattle.kv_types.specs.Pages.{page_of};
+ghost use Rattle.kv_types.specs.{BatchContent, map_of};
+ghost use Rattle.disk.specs.{IsSame, IsStill, KeepsDisk, State};
+ghost use Rattle.row_pages.specs.{HasRowsOf};
+ghost use Rattle.store_tables.specs.Errors.{FailsDevice, IsEnd, IsEngineExternal};
+ghost use Rattle.store_tables.specs.LevelTables.{HasMeantBlocks};
+ghost use Rattle.store_files.specs.OpenFiles.{AreUsableFiles, FilesHold, WereMeantToHold};
+ghost use Rattle.store_files.specs.OpenFiles.{batch_count, known_facts};
+
+use crate::{EngineError, StoreFiles};
+use disk::Disk;
+use kv_types::laws::pages_agree;
+use kv_types::{Number, Page, Range};
+use merge_iter::Cursor;
+use row_pages::read_page;
+use std::alloc::Global;
+use store_cursors::{StoreCursor, StoreRows, rows_at};
+use store_tables::laws::versions_name_own_files;
+use table_files::Files;
+
+impl StoreFiles {
+    // The rows of the map of the first `at` batches, of keys in the range: what the memory and the
+    // tables whose keys meet the range show at the number.
+    fn rows_in<'a, D: Disk + Drop>(
+        &'a self,
+        alloc: Global,
+        at: Number,
+        range: &Range,
+    ) -> Result<StoreRows<'a, D>, EngineError>
+        requires usable { AreUsableFiles self.now }
+        ensures shows { IfOk result (λ rows. (meant : State) (files : _)
+            (list : List BatchContent) → ⟦<Files<D> as Disk>⟧.is_honest files →
+            FilesHold meant self.now list →
+            All (HasMeantBlocks (⟦<Files<D> as Disk>⟧.state files) meant)
+            self.now.tables.tables.items → (known_facts self.now).floor ≤ at →
+            at ≤ batch_count self.now → ⟦<StoreRows<'a, D> as Cursor>⟧.is_sound meant rows files
+            × HasRowsOf (map_of (take at list)) range.now
+            (⟦<StoreRows<'a, D> as Cursor>⟧.holds meant rows files)) }
+        ensures memory { IfErr result (λ e. e ≡ EngineError.Memory) }
+    {
+        versions_name_own_files(); // law: no two tables have one file
+        let mut cursors = self.tables.cursors(alloc, range)?;
+        cursors.push(StoreCursor::of_memtable(&self.memtable)?)?;
+        Ok(rows_at(alloc, cursors, at))
+    }
+
+    /// The page of a range in the map of the first `at` batches. It reads the blocks of its rows
+    /// and of one more. `Damaged` only where a block of a table is damaged.
+    pub fn rows<D: Disk + Drop>(
+        &self,
+        alloc: Global,
+        files: &mut Files<D>,
+        at: Number,
+        range: &Range,
+    ) -> Result<Page, EngineError>
+        requires usable { AreUsableFiles self.now }
+        ensures kept { KeepsDisk ⟦<Files<D> as Disk>⟧ files.old files.new (FailsDevice result) ⊥
+            IsSame }
+        ensures found { (list : List BatchContent) → ⟦<Files<D> as Disk>⟧.is_honest files.old →
+            WereMeantToHold (⟦<Files<D> as Disk>⟧.state files.old) self.now list →
+            (known_facts self.now).floor ≤ at → at ≤ batch_count self.now →
+            IfOk result (λ page. page ≡ page_of (take at list) range.now) }
+        ensures intact { (list : List BatchContent) → ⟦<Files<D> as Disk>⟧.is_honest files.old →
+            FilesHold (⟦<Files<D> as Disk>⟧.state files.old) self.now list →
+            (known_facts self.now).floor ≤ at → at ≤ batch_count self.now →
+            IfErr result IsEngineExternal }
+        ensures causes { IfErr result IsEnd }
+        ensures still { IsStill ⟦<Files<D> as Disk>⟧ files.old files.new }
+    {
+        pages_agree(); // law: a map has one page in a range
+        let mut rows = self.rows_in(alloc, at, range)?;
+        match read_page(alloc, &mut rows, files, range) {
+            Ok(page) => Ok(page),
+            Err(e) => Err(EngineError::from(e)),
+        }
+    }
+}
