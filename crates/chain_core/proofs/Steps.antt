@@ -87,6 +87,24 @@ steps_leave x n batch (done.Acked committed have) =
           (same_ack (predecessor n.ids x) x m (not_due m.committed m.pending));
       dropped = refl;
     }
+steps_leave x n batch (done.Opened i s) = record {
+  list = refl;
+  epoch = refl;
+  ids = refl;
+  floor = refl;
+  kept = refl;
+  frames = refl;
+  dropped = refl;
+}
+steps_leave x n batch (done.Closed i s) = record {
+  list = refl;
+  epoch = refl;
+  ids = refl;
+  floor = refl;
+  kept = refl;
+  frames = refl;
+  dropped = refl;
+}
 
 pub stands_last : StandsLast
 stands_last [] batch = refl
