@@ -11,3 +11,4 @@ pub use Rattle.chain_core.specs.States.{AreSnapshots, Core, CoreRefines, HasOrde
 pub use Rattle.chain_core.specs.States.{Machine, committed_responses, waiting}
 pub use Rattle.chain_core.specs.Steps.{StandsLast, StepLeaves, StepsLeave, epoch_after, floor_after}
 pub use Rattle.chain_core.specs.Steps.{frames_after, ids_after, kept_after, list_after}
+pub use Rattle.chain_core.specs.Steps.{snapshots_after}
