@@ -13,7 +13,7 @@ returns-in-Ok c =
       decides = λ n is.
           let answer = open_if_room n i (number_read n c.args.at) in
           let read = can.answered n i answer is in
-          let room : length n.snapshots ≡ length c.args.state.now.snapshots = ap length is.snapshots in
+          let room = ap length is.snapshots in
           record {
             rule = read.1 ∙ (ap (open_if_room n i) read.0
                 ∙ opened_with_room n i s (omega (arith, room, few)));

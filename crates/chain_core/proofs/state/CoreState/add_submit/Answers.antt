@@ -81,7 +81,8 @@ returns c = record {
         committed = committed;
         pending = pending;
       } in
-      subst (λ (v : Core). CoreFollows v (accept now.id n i batch) (committed_responses due)) (sym (ap new same))
+      let replies = committed_responses due in
+      subst (λ (v : Core). CoreFollows v (accept now.id n i batch) replies) (sym (ap new same))
       (follows_accept now n is i batch number committed next ordered
       c.committed_with-committed.ensures pending due left out);
   rises = search rules;

@@ -48,7 +48,8 @@ returns c = record {
         successor_has = has;
         pending = pending;
       } in
-      subst (λ (v : Core). CoreFollows v (on_ack now.id n told have) (committed_responses due)) (sym (ap new same))
+      let replies = committed_responses due in
+      subst (λ (v : Core). CoreFollows v (on_ack now.id n told have) replies) (sym (ap new same))
       (follows_told now n is told have more has pending due
       (c.greater-committed.ensures ∙ ap (λ (v : Core). max v.committed told) same)
       (c.greater-self-inside.ensures ∙ ap (λ (v : Core). max v.successor_has have) same)

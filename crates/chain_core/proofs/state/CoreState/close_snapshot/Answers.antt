@@ -17,7 +17,8 @@ returns-in-Some c =
     let removed : c.remove.new.self.items ≡ remove inside.snapshots.items c.in-Some.place =
     grind (arith, common_steps) in
     let left : c.remove.new.self.items ≡ without s c.args.self.now.snapshots =
-    removed ∙ (ap (remove inside.snapshots.items) same ∙ at.2 ∙ ap (λ (v : Core). without s v.snapshots) c.self.view_is) in
+    removed ∙ (ap (remove inside.snapshots.items) same ∙ at.2
+    ∙ ap (λ (v : Core). without s v.snapshots) c.self.view_is) in
     ap (λ (v : Core). record v { snapshots = c.remove.new.self.items }) c.self.view_is
     ∙ ap (λ (l : List ℕ). record c.args.self.now { snapshots = l }) left
 
