@@ -3,7 +3,7 @@ use Rattle.chain_core.specs.{IsReadOf}
 use Rattle.chain_core.specs.declared.Decision.TheVariants as decision
 use Rattle.node.proofs.Causes.{still_works}
 use Rattle.node.proofs.Outputs.{rows_readable, tells_rows}
-use Rattle.node.proofs.Reads.{read_answered, read_refused}
+use Rattle.node.proofs.ReadSteps.{read_answered, read_refused}
 use Rattle.node.proofs.node.Node.read_rows.Goals as goal
 
 -- the page could not be read

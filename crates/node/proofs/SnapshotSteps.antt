@@ -1,5 +1,5 @@
 -- A step that opens or closes a snapshot, in the store and in the node's state.
-use Rattle.std.proofs.Common.{◌≡◌, ℕ, List, [], Err, ap, inr, refl, sym, subst, ◌∙◌}
+use Rattle.std.proofs.Common.{◌≡◌, ℕ, List, [], ap, inr, sym, subst, ◌∙◌}
 use Rattle.std.specs.Prelude.{Result, IfErr, IfOk, IsErrAnd}
 use Rattle.std.proofs.lemmas.Result.{err_from_is_err_and}
 use Rattle.kv_types.specs.{BatchContent}
@@ -9,7 +9,6 @@ use Rattle.chain_core.specs.declared.Done.{Done}
 use Rattle.chain_core.specs.declared.Input.{Input}
 use Rattle.chain_core.specs as core
 use Rattle.chain_core.specs.{Machine, StepsLeave, done_of, list_after, snapshots_after}
-use Rattle.engine.specs.declared.Engine.{Engine}
 use Rattle.engine.specs.{EngineHolds, HasEnded, LookUps, look_ups}
 use Rattle.node.specs.declared.node.Node.{Node}
 use Rattle.node.specs.declared.output.Output.{Output}
