@@ -104,7 +104,7 @@ DecisionFits core (decision.Close request number) = IsTrue (is_open number core.
 DecisionFits core _ = Unit {0}
 
 -- the number that a client asks for can be read at each machine with these numbers
-pub record IsReadable (core : Core) (at : Option ℕ) (s : ℕ) : Type 0 where
+pub record IsReadAt (core : Core) (at : Option ℕ) (s : ℕ) : Type 0 where
   pub floor : core.floor ≤ s
   pub committed : s ≤ core.committed
   pub answered : (n : Machine) (i : ℕ) (answer : Answer BatchContent) → CoreRefines core n →

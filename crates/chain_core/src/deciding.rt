@@ -1,6 +1,6 @@
 // The rule for each input, by the numbers of the node that receives it.
 ghost use Rattle.std.specs.Prelude.{MatchResult};
-ghost use Rattle.chain_core.specs.Decisions.{IsDecisionOn, IsReadable, IsRefused};
+ghost use Rattle.chain_core.specs.Decisions.{IsDecisionOn, IsReadAt, IsRefused};
 
 use crate::{CoreState, Decision, DropReason, Input};
 use configurations::{Epoch, NodeId};
@@ -28,7 +28,7 @@ fn of_submit(state: &CoreState, request: Number, batch: Batch) -> Decision
 
 // The number that a client asks for, which can be read, or why it is refused.
 fn number_read(state: &CoreState, at: Option<Number>) -> Result<Number, Refusal>
-    ensures { MatchResult result (IsReadable state.now at) (IsRefused state.now at) }
+    ensures { MatchResult result (IsReadAt state.now at) (IsRefused state.now at) }
 {
     let number = at.unwrap_or(state.committed());
     if state.is_removed() {

@@ -1,4 +1,4 @@
-use Rattle.std.proofs.Common.{◌≡◌, ◌∙◌, ap, length, arith}
+use Rattle.std.proofs.Common.{◌∙◌, ap, length, arith}
 use Rattle.chain_model.specs.Rules.{open_if_room, number_read}
 use Rattle.chain_core.proofs.Snapshots.{opened_with_room}
 use Rattle.chain_core.proofs.deciding.of_open.Goals as goal
