@@ -9,22 +9,28 @@ Statement = collections.namedtuple("Statement", "line text words fault")
 # A frame that was sent: its place, sender and addressee, its kind, and its numbers.
 SENT = re.compile(r"#(\d+) (\d+)>(\d+) (forward|ack) (\d+ \d+(?: \d+)?)")
 # The statements that always have an answer: a submit may have a frame in place of it.
-ANSWERED = ("get", "submit", "tend", "settle", "show", "stop", "start")
+ANSWERED = ("get", "submit", "tend", "settle", "show", "stop", "start", "rows", "back", "open")
+ANSWERED += ("close",)
 # The statements that a line of each kind can be printed for.
 CAUSES = {
     "sent": ("submit", "deliver", "tick", "flow"),
     "committed": ("submit",),
     "value": ("get",),
     "none": ("get",),
-    "refused": ("submit", "get"),
-    "invalid": ("submit", "get"),
+    "row": ("rows", "back"),
+    "rows": ("rows", "back"),
+    "opened": ("open",),
+    "closed": ("close",),
+    "refused": ("submit", "get", "rows", "back", "open", "close"),
+    "invalid": ("submit", "get", "rows", "back"),
     "nothing": ("deliver",),
     "busy": ("flow", "settle"),
     "tended": ("tend",),
     "idle": ("tend", "settle"),
     "full": ("tend", "settle"),
     "dropped": ("deliver", "tick", "tend", "settle", "start", "stop", "flow"),
-    "node": ("submit", "get", "deliver", "tick", "tend", "show", "start", "stop"),
+    "node": ("submit", "get", "deliver", "tick", "tend", "show", "start", "stop")
+    + ("rows", "back", "open", "close"),
 }
 
 

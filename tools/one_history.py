@@ -21,6 +21,10 @@ from lab_texts import ANSWERED, CAUSES, SENT, kind_of, read_script
 STARTED = re.compile(r"started epoch (\d+) count (\d+) committed (\d+)")
 SHOWN = re.compile(r"epoch 0 count (\d+) committed (\d+) floor 0 kept 0 tables (\d+)( 0){6}")
 READ = re.compile(r"(?:value (\S+)|none) at (\d+)")
+PAGE = re.compile(r"rows (\d+) at (\d+)( more)?")
+# The most bytes of a page, of which each row has its key, its value and so many more, and the most
+# open snapshots of a node.
+MOST_BYTES, ROW, MOST_OPEN = 98_304, 4, 64
 
 
 class Broken(Exception):
@@ -44,12 +48,41 @@ def value_at(batches, key):
     return value
 
 
+def bytes_of(word):
+    """The bytes that a word spells."""
+    plain = re.sub("%(..)", lambda it: chr(int(it[1], 16)), "" if word == "@" else word)
+    return plain.encode("latin-1")
+
+
+def page_of(batches, low, bound, backward, limit):
+    """The rows of a page after these batches, as pairs of words, and whether rows are left."""
+    values = {}
+    for edit in (edit for batch in batches for edit in batch):
+        if edit[:1] == "-":
+            values.pop(edit[1:], None)
+        else:
+            key, _, value = edit.partition("=")
+            values[key] = value
+    keys = [key for key in values if bytes_of(key) >= bytes_of(low)]
+    keys = [key for key in keys if bound == "*" or bytes_of(key) < bytes_of(bound)]
+    rows, size = [], 0
+    keys.sort(key=bytes_of, reverse=backward)
+    for key in keys:
+        size += len(bytes_of(key)) + len(bytes_of(values[key])) + ROW
+        if len(rows) == limit or size > MOST_BYTES:
+            break
+        rows.append((key, values[key]))
+    return rows, len(rows) < len(keys)
+
+
 def outcome_of(kind, text):
     """An output without what differs from run to run."""
     if kind == "node":
         return text.split(" ", 2)[2].split(" epoch")[0]
     if kind == "sent":
         return "sent " + text.split(" ")[2]
+    if kind == "rows":
+        return kind + " more" * text.endswith(" more")
     return text if kind in ("dropped", "refused", "invalid") else kind
 
 
@@ -76,6 +109,10 @@ class History:
         # The greatest number acknowledged or read, the last acknowledged, the last place and line.
         self.known, self.acked, self.places, self.now = 0, 0, 0, 0
         self.reads, self.starts = [], []
+        # The rows of the page that is not ended yet, with the line of its statement, and of each
+        # node the numbers of its open snapshots.
+        self.rows_of_page, self.line_of_page = [], None
+        self.snapshots = {node: collections.Counter() for node in self.chain}
         for line in output.split("\n")[:-1]:
             try:
                 number, _, text = line.partition(": ")
@@ -94,7 +131,8 @@ class History:
         kind = kind_of(text)
         expect(kind in CAUSES, "a line of no form")
         expect(words[0] in CAUSES[kind], f"'{kind}' for a statement that can't have it")
-        if words[0] in ANSWERED and kind != "sent":
+        expect(kind in ("row", "rows") or not self.rows_of_page, "a page without an end")
+        if words[0] in ANSWERED and kind not in ("sent", "row"):
             expect(line not in self.answered, "a second answer")
             expect(kind == "committed" or line not in self.forwarded, "a second answer")
             self.answered.add(line)
@@ -166,20 +204,63 @@ class History:
         form, node = READ.fullmatch(text), words[1]
         expect(form, "a line of no form")
         value, at = form[1], int(form[2])
-        expect(node in self.up, "an answer of a node that does not run")
-        expect(at <= self.committed_at(node), "a read of what is not committed")
-        if len(words) > 3:
-            expect(at == int(words[3]), "a read at another number than the one asked")
-        else:
-            expect(node != self.tail or at >= self.known, "an old read at the tail")
-            expect(at >= self.shown[node], "a node's reads go back")
-            self.shown[node] = at
+        self.read_at(node, at, words[3:])
         expect(value_at(self.batches[:at], words[2]) == value, "not the value at this number")
         self.note_read(node, at, value)
         self.known = max(self.known, at)
         self.reads.append((line, words[2], at, value))
 
     none = value
+
+    def read_at(self, node, at, asked):
+        """A read of a node is at a number that it knows as committed: the one asked, if one was."""
+        expect(node in self.up, "an answer of a node that does not run")
+        expect(at <= self.committed_at(node), "a read of what is not committed")
+        if asked:
+            expect([str(at)] == asked, "a read at another number than the one asked")
+        else:
+            expect(node != self.tail or at >= self.known, "an old read at the tail")
+            expect(at >= self.shown[node], "a node's reads go back")
+            self.shown[node] = at
+
+    def row(self, line, words, text):
+        """A row of a page that is not ended yet."""
+        expect(self.line_of_page in (None, line), "a row of another page")
+        self.line_of_page = line
+        key, sign, value = text.partition(" ")[2].partition("=")
+        expect(sign, "a line of no form")
+        self.rows_of_page.append((key, value))
+
+    def rows(self, line, words, text):
+        """A page has the rows of the range in the map of so many first batches."""
+        form, node = PAGE.fullmatch(text), words[1]
+        expect(form, "a line of no form")
+        count, at, found = int(form[1]), int(form[2]), self.rows_of_page
+        expect(self.line_of_page in (None, line), "a row of another page")
+        self.rows_of_page, self.line_of_page = [], None
+        self.read_at(node, at, words[5:])
+        low, bound, limit = words[2], words[3], int(words[4])
+        expect(1 <= limit <= 1024, "a limit that there can't be")
+        page = page_of(self.batches[:at], low, bound, words[0] == "back", limit)
+        expect((found, form[3] is not None) == page, "not the page at this number")
+        expect(count == len(found), "not the number of its rows")
+        self.known = max(self.known, at)
+
+    def opened(self, line, words, text):
+        """A snapshot is open, at a number at which the node can be read."""
+        at, held = int(text.split(" ")[1]), self.snapshots[words[1]]
+        self.read_at(words[1], at, words[2:])
+        expect(sum(held.values()) < MOST_OPEN, "too many snapshots")
+        held[at] += 1
+        self.known = max(self.known, at)
+
+    def closed(self, line, words, text):
+        """One snapshot is closed that was open at the number asked."""
+        at, held = int(text.split(" ")[1]), self.snapshots[words[1]]
+        expect(words[1] in self.up, "an answer of a node that does not run")
+        expect([str(at)] == words[2:], "another number than the one asked")
+        expect(held[at] > 0, "no such snapshot")
+        held[at] -= 1
 
     def note_read(self, node, at, value):
         """Counts reads at numbers below one that was acknowledged or read."""
@@ -195,12 +276,24 @@ class History:
             expect(why == "1 NotRunning", "a node that does not run answers")
         elif words[0] == "submit":
             expect(why == "2 NotHead" and words[1] != self.head, "refused without cause")
+        elif words[0] == "close":
+            is_open = self.snapshots[words[1]][int(words[2])] > 0
+            expect(why == "5 NoSuchSnapshot" and not is_open, "refused without cause")
+        elif words[0] == "open" and why == "6 TooManySnapshots":
+            is_full = sum(self.snapshots[words[1]].values()) == MOST_OPEN
+            expect(is_full, "refused without cause")
         else:
-            expect(why == "4 NotCommitted" and len(words) > 3, "refused without cause")
-            expect(words[1] != self.tail or int(words[3]) > self.known, "refused without cause")
+            asked = words[{"get": 3, "open": 2}.get(words[0], 5) :]
+            expect(why == "4 NotCommitted" and asked, "refused without cause")
+            expect(words[1] != self.tail or int(asked[0]) > self.known, "refused without cause")
 
     def invalid(self, line, words, text):
-        """A submit has no edits, or something is long."""
+        """A submit has no edits, a limit is none, or something is long."""
+        is_walk = words[0] in ("rows", "back")
+        is_bad = is_walk and not 1 <= int(words[4]) <= 1024
+        expect((text == "invalid 8 BadLimit") == is_bad, "invalid without cause")
+        if is_bad:
+            return
         is_empty = words[0] == "submit" and len(words) == 2
         expect((text == "invalid 3 NoEdits") == is_empty, "invalid without cause")
         expect(is_empty or len(" ".join(words)) > 1024, "invalid without cause")
@@ -248,6 +341,7 @@ class History:
         expect(node in self.up or words[0] == "start", "a stop of a node that does not run")
         self.up.discard(node)
         self.stopped.add(node)
+        self.snapshots[node].clear()
         if node == self.head:
             self.waiting = {}
             self.unsure = line if words[0] == "submit" else self.unsure
@@ -294,6 +388,7 @@ class History:
             self.seen[f"{words[0]} statements"] += 1
             is_answered = line in self.answered or line in self.forwarded
             expect(words[0] not in ANSWERED or is_answered, f"no answer to line {line}")
+        expect(not self.rows_of_page, "a page without an end")
 
 
 def main():
