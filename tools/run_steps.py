@@ -22,6 +22,7 @@ SHAPES = {
     r"dropped \w+": "cross",
     r"(refused|invalid) \d+ \w+": "square",
     r"(value \S*|none) at \d+": "circle",
+    r"rows \d+ at \d+( more)?|(opened|closed) \d+": "circle",
     r"tended|idle|full|busy": "tend",
 }
 SHOWN = re.compile(r"epoch \d+ (count \d+ committed \d+) floor \d+ kept \d+ tables.*|stopped")
@@ -76,6 +77,9 @@ class Run:
         else:
             node, notes = int(it.words[1]), []
             texts = list(iter(lambda: self.take(it.line, ""), None))
+            # Of a page its own line is drawn, and not its rows.
+            if it.words[0] in CAUSES["row"]:
+                texts = [text for text in texts if kind_of(text) != "row"]
             if len(texts) != 1 and it.words[0] in ANSWERED:
                 number = len(texts) or "no"
                 raise ValueError(f"the output has {number} answers to '{it.line}: {it.text}'")
