@@ -5,10 +5,13 @@ use std::test::Fail;
 
 const PAGES: &[(&str, &str)] = &[
     ("config 1\nrows 1 @ * 10\n", "2: rows 0 at 0\n"),
+    // The example of docs/SCRIPT.md.
     (
-        "config 1\nsubmit 1 a=1 b=1 c=1 d=1\nsubmit 1 c=2\nback 1 b d 2 1\nback 1 a d 2 1\n",
+        "config 1\nsubmit 1 a=1 b=1 c=1 d=1\nsubmit 1 c=2\nback 1 b d 2 1\nback 1 a d 2 1\n\
+         rows 1 @ * 10\n",
         "2: committed 1\n3: committed 2\n4: row c=1\n4: row b=1\n4: rows 2 at 1\n\
-         5: row c=1\n5: row b=1\n5: rows 2 at 1 more\n",
+         5: row c=1\n5: row b=1\n5: rows 2 at 1 more\n6: row a=1\n6: row b=1\n6: row c=2\n\
+         6: row d=1\n6: rows 4 at 2\n",
     ),
     // Rows of a table.
     (
