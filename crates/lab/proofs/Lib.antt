@@ -15,6 +15,7 @@ mod Worlds
 mod WorldSteps
 mod Nodes
 mod TraceLines
+mod Submits
 mod Histories
 mod Freshness
 mod Reports

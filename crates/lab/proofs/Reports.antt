@@ -5,6 +5,7 @@ use Rattle.std.specs.List.{AllZip, flat_map}
 use Rattle.std.proofs.lemmas.List.Elements.{All-weaker, recursion_from_All}
 use Rattle.kv_types.specs.declared.Limits.{Limits}
 use Rattle.kv_types.specs.{BatchContent}
+use Rattle.kv_types.specs.Pages.{PagesAgree}
 use Rattle.disk.specs.{Marks, Slots, State}
 use Rattle.chain_model.specs.{Configurations, has, last_of, ResponseAgrees, OneList, batches, Part}
 use Rattle.chain_model.specs.{IsPrefix, RunIsOutcomes, Response, Outcome, SystemEvent as ModelEvent}
@@ -24,7 +25,7 @@ use Rattle.lab.specs.declared.report.Report.{Report}
 use Rattle.lab.specs.declared.sim_node.SimNode.{SimNode}
 use Rattle.lab.specs.Disks.{HaveDisks, IsDiskOf}
 use Rattle.lab.specs.Freshness.{NodesKeepEnough, ReadsAreFresh}
-use Rattle.lab.specs.History.{Placed, IsHistory, StepSpeaksOf, HasAll}
+use Rattle.lab.specs.History.{HasAll, IsHistory, LineAgrees, Placed}
 use Rattle.lab.specs.SimNodes.{Choice, IsUnarmed, StateRefines, disk_in, is_honest, state}
 use Rattle.lab.specs.SimNodes.{failures, marks}
 use Rattle.lab.specs.Runs.{IsRun, RunningRefines}
@@ -32,7 +33,8 @@ use Rattle.lab.specs.Traces.{modelled_from, IsTrace}
 use Rattle.lab.specs.declared.world.World.{World}
 use Rattle.lab.specs.Worlds.{AreLeft, AreNodesAfter, AreReportsAfter, HasRun, IsLeft, IsReportOf}
 use Rattle.lab.specs.Worlds.{RunRefines, SimNodeRefines, WorldHasLimits, WorldRun}
-use Rattle.lab.proofs.Histories.{numbered_same, submitted_same, all_speak}
+use Rattle.lab.proofs.Histories.{numbered_same, submitted_same, all_agree}
+use Rattle.lab.proofs.Submits.{all_ordered, all_submitted}
 use Rattle.lab.proofs.Nodes.{reported_ids}
 
 -- the model's one list is that of the lines and of the disks
@@ -42,9 +44,9 @@ pub one_of : {D N : Type 0} (state : D → State) (failures : D → ℕ) (past :
     (nodes : List N) → IsTrace cs events choices steps →
     HaveDisks state failures past marks id disk cs events choices nodes →
     OneList cs (modelled_from 1 events choices) →
-    RunIsOutcomes cs (modelled_from 1 events choices) →
+    RunIsOutcomes cs (modelled_from 1 events choices) → PagesAgree →
     IsHistory state id disk cs events steps nodes
-one_of state failures past marks id disk cs events choices steps nodes trace disks one made =
+one_of state failures past marks id disk cs events choices steps nodes trace disks one made pages =
     let es = modelled_from 1 events choices in
     let same = numbered_same 1 events choices in
     let agrees = subst (λ (l : List (ModelEvent BatchContent)). All (ResponseAgrees one.B)
@@ -57,14 +59,19 @@ one_of state failures past marks id disk cs events choices steps nodes trace dis
     in
     let begins = subst (λ (l : List (ModelEvent BatchContent)). (x : ℕ) → has (last_of cs) x ≡ true
     → IsPrefix (batches one.B) (node_of cs l x).list) same one.stands in
+    let part = subst (λ (l : List Placed). Part one.B l)
+    (submitted_same 1 events choices trace.one_each) one.taken in
     record {
       B = one.B;
-      taken = subst (λ (l : List Placed). Part one.B l)
-          (submitted_same 1 events choices trace.one_each) one.taken;
-      speaks = subst (λ (l : List (List Line)). AllZip (StepSpeaksOf one.B) events l)
-          (sym trace.traced)
-          (all_speak one.B cs 1 events choices (first_state cs) trace.one_each replies);
-      stands = All-weaker
+      clients = record {
+        submitted = all_submitted one.B events part;
+        ordered = all_ordered one.B events part;
+        agrees = subst (λ (l : List (List Line)).
+            AllZip (λ event lines. All (LineAgrees one.B event.kind) lines) events l)
+            (sym trace.traced)
+            (all_agree pages one.B cs 1 events choices (first_state cs) trace.one_each replies);
+      };
+      disks = All-weaker
           (λ node. IsDiskOf state (id node) (node_of cs es (id node)) (disk node)
           (disks.disks (id node)))
           (λ node. has (last_of cs) (id node) ≡ true → HasAll one.B (id node) (state (disk node)))

@@ -1,73 +1,58 @@
--- One history: the list of batches of which every line of a report speaks, and every disk.
-use Rattle.std.specs.Prelude.{◌≡◌, ℕ, suc, ◌≤◌, List, [], ◌∷◌, length, take, Option, Some, true}
-use Rattle.std.specs.Prelude.{All}
-use Rattle.std.specs.List.{AllZip}
+-- The headline: one list of batches of which clients see beginnings, and which the disks hold.
+use Rattle.std.specs.Prelude.{◌≡◌, ℕ, ◌<◌, ◌≤◌, List, length, take, Some, true, All}
+use Rattle.std.specs.List.{AllPairs, AllZip}
 use Rattle.kv_types.specs.{BatchContent, map_of}
+use Rattle.kv_types.specs.Pages.{IsPage}
 use Rattle.disk.specs.{State, Contents, IsCrashOutcome}
-use Rattle.chain_model.specs.{IsPrefix, Part, place, Configurations, has, last_of, batches}
+use Rattle.chain_model.specs.{IsPrefix, place, Configurations, has, last_of, batches}
 use Rattle.node.specs.{DiskRepresents}
-use Rattle.node.specs.declared.Reply.{Reply}
-use Rattle.node.specs.declared.Reply.TheVariants.{Committed, Value, Refused}
+use Rattle.node.specs.declared.Reply.TheVariants as reply
 use Rattle.lab.specs.declared.event.Event.{Event}
 use Rattle.lab.specs.declared.event.EventKind.{EventKind}
-use Rattle.lab.specs.declared.event.EventKind.TheVariants.{Submit, Get, Deliver, Tick, Tend, Start}
-use Rattle.lab.specs.declared.event.EventKind.TheVariants.{Stop}
+use Rattle.lab.specs.declared.event.EventKind.TheVariants as kind
 use Rattle.lab.specs.declared.report.Line.{Line}
 use Rattle.lab.specs.declared.report.Line.TheVariants as line
 use Rattle.lab.specs.declared.report.NodeReport.{NodeReport}
 use Rattle.lab.specs.declared.report.Report.{Report}
 use Rattle.lab.specs.SimNodes.{state}
 
--- a batch with the place of its event
+-- ---- what clients see
+
+-- a batch with the place of its event, the first place being 1
 abbrev pub Placed : Type 0
 Placed = ℕ × BatchContent
 
--- the batches that events submit, the first event being in place i
-abbrev pub with_batch : ℕ → EventKind → List Placed → List Placed
-with_batch i (Submit node batch) later = (i, batch) ∷ later
-with_batch i (Get node key at) later = later
-with_batch i (Deliver place) later = later
-with_batch i (Tick node) later = later
-with_batch i (Tend node) later = later
-with_batch i (Start node) later = later
-with_batch i (Stop node junk) later = later
+-- the event at this place submits the batch
+abbrev pub IsSubmitted : List Event → Placed → Type 0
+IsSubmitted events placed =
+    (node : ℕ) × (event : Event) × (place events placed.0 ≡ Some event)
+    × (event.kind ≡ kind.Submit node placed.1)
 
--- the batches that these events submit, each with the place of its event
-abbrev pub submitted_from : ℕ → List Event → List Placed
-submitted_from i [] = []
-submitted_from i (event ∷ events) = with_batch i event.kind (submitted_from (suc i) events)
-
--- a read at s shows what its key has in the map of B's first s batches
-abbrev pub ShowsOf : List Placed → EventKind → ℕ → Option (List ℕ) → Type 0
-ShowsOf B (Get node key at) s value =
+-- An acknowledgement of n to request i says that place n of B is the batch of event i. A read at s
+-- shows what its key has in the map of B's first s batches, or the page of its range in this map.
+-- No other line speaks of B.
+abbrev pub LineAgrees : List Placed → EventKind → Line → Type 0
+LineAgrees B asked (line.Replied (reply.Committed i n)) =
+    (batch : BatchContent) × (place B n ≡ Some (i, batch))
+LineAgrees B (kind.Get node key at) (line.Replied (reply.Value i s value)) =
     (s ≤ length B) × (value ≡ map_of (take s (batches B)) key)
-ShowsOf B (Submit node batch) s value = ⊥
-ShowsOf B (Deliver place) s value = ⊥
-ShowsOf B (Tick node) s value = ⊥
-ShowsOf B (Tend node) s value = ⊥
-ShowsOf B (Start node) s value = ⊥
-ShowsOf B (Stop node junk) s value = ⊥
+LineAgrees B (kind.Rows node range at) (line.Replied (reply.Rows i s page)) =
+    (s ≤ length B) × IsPage (map_of (take s (batches B))) range page
+LineAgrees B asked (line.Replied (reply.Value i s value)) = ⊥
+LineAgrees B asked (line.Replied (reply.Rows i s page)) = ⊥
+LineAgrees B asked other = Unit {0}
 
--- an acknowledgement of n to request i says that place n of B is the batch of event i
-abbrev pub SpeaksOf : List Placed → EventKind → Reply → Type 0
-SpeaksOf B kind (Committed i n) = (batch : BatchContent) × (place B n ≡ Some (i, batch))
-SpeaksOf B kind (Value i s value) = ShowsOf B kind s value
-SpeaksOf B kind (Refused i refusal) = Unit {0}
+-- The list B is a history of what clients see of these events, by the lines of each.
+pub record ClientHistory (events : List Event) (steps : List (List Line)) (B : List Placed)
+    : Type 0 where
+  -- its batches were submitted ..
+  pub submitted : All (IsSubmitted events) B
+  -- .. and stand in the order of their submits, none twice
+  pub ordered : AllPairs (λ a b. a.0 < b.0) B
+  -- every read and every acknowledgement agrees with it
+  pub agrees : AllZip (λ event lines. All (LineAgrees B event.kind) lines) events steps
 
--- a line of a reply speaks of these batches
-abbrev pub LineSpeaksOf : List Placed → EventKind → Line → Type 0
-LineSpeaksOf B kind (line.Replied reply) = SpeaksOf B kind reply
-LineSpeaksOf B kind line.Nothing = Unit {0}
-LineSpeaksOf B kind (line.Dropped reason) = Unit {0}
-LineSpeaksOf B kind (line.Started node epoch count committed) = Unit {0}
-LineSpeaksOf B kind (line.Forwarded place from to epoch number) = Unit {0}
-LineSpeaksOf B kind (line.Acknowledged place from to epoch committed have) = Unit {0}
-LineSpeaksOf B kind (line.Stopped node cause) = Unit {0}
-LineSpeaksOf B kind (line.Tended did) = Unit {0}
-
--- each line of an event speaks of B
-abbrev pub StepSpeaksOf : List Placed → Event → List Line → Type 0
-StepSpeaksOf B event lines = All (LineSpeaksOf B event.kind) lines
+-- ---- what the disks hold
 
 -- whatever a crash leaves of node x's disk represents the node with a list that begins with B
 abbrev pub HasAll : List Placed → ℕ → State → Type 0
@@ -75,18 +60,21 @@ HasAll B x disk = (left : Contents) → IsCrashOutcome disk left →
     (epoch : ℕ) × (ids : List ℕ) × (list : List BatchContent) × (floor : ℕ) × (kept : ℕ)
     × DiskRepresents left x epoch ids list floor kept × IsPrefix (batches B) list
 
--- There is one list B ..
+-- every node of the last configuration has B on its disk
+abbrev pub DisksHold : {D N : Type 0} → (D → State) → (N → ℕ) → (N → D) → Configurations → List N
+    → List Placed → Type 0
+DisksHold state id disk cs nodes B =
+    All (λ node. has (last_of cs) (id node) ≡ true → HasAll B (id node) (state (disk node))) nodes
+
+-- ---- both, of one list
+
+-- There is one list B: clients see it, and the disks hold it.
 pub record IsHistory {D N : Type 0} (state : D → State) (id : N → ℕ) (disk : N → D)
     (cs : Configurations) (events : List Event) (steps : List (List Line)) (nodes : List N)
     : Type 0 where
   pub B : List Placed
-  -- .. taken in order and none twice from the batches that were submitted
-  pub taken : Part B (submitted_from 1 events)
-  -- .. of which every read and every acknowledgement speaks
-  pub speaks : AllZip (StepSpeaksOf B) events steps
-  -- .. and which every node of the last configuration has on its disk
-  pub stands : All (λ node. has (last_of cs) (id node) ≡ true →
-      HasAll B (id node) (state (disk node))) nodes
+  pub clients : ClientHistory events steps B
+  pub disks : DisksHold state id disk cs nodes B
 
 -- .. for a report
 abbrev pub OneHistory : Configurations → List Event → Report → Type 0

@@ -22,7 +22,7 @@ pub use Rattle.node.specs.declared.stop.Stop
 pub use Rattle.engine.specs.Tended
 -- What crates above name.
 pub use Rattle.lab.specs.Events.{NamesNode, node_in}
-pub use Rattle.lab.specs.History.{OneHistory}
+pub use Rattle.lab.specs.History.{ClientHistory, DisksHold, OneHistory}
 pub use Rattle.lab.specs.Runs.{AreNumbersOf, IsRun}
 pub use Rattle.lab.specs.SimNodes.{Choice}
 pub use Rattle.lab.specs.Worlds.{AreNodesAfter, AreReportsAfter, HasRun, WorldHasLimits, WorldRun}

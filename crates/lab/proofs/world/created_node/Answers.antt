@@ -1,4 +1,4 @@
-use Rattle.std.proofs.Common.{None, [], ◌∷◌, ◌∙◌, ℕ, ap, ap₂, length, sym}
+use Rattle.std.proofs.Common.{None, ◌∷◌, ◌∙◌, ℕ, ap, ap₂, length, sym}
 use Rattle.chain_model.specs.{created}
 use Rattle.disk.specs.declared.Mark.TheVariants.{Armed}
 use Rattle.disk.specs.{Marks}

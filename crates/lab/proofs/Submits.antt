@@ -1,0 +1,105 @@
+-- The batches that events submit, and what the parts of their list are.
+use Rattle.std.proofs.Common.{◌≡◌, inl, inr, ℕ, suc, ◌+◌, ◌<◌, List, [], ◌∷◌, Some}
+use Rattle.std.proofs.Common.{All, AllPairs, refl, sym, ap, subst, ◌∙◌, arith}
+use Rattle.kv_types.specs.OrderLemmas.{Among, All-among, AllPairs-rises, Rises}
+use Rattle.chain_model.specs.{Part, place}
+use Rattle.lab.specs.declared.event.Event.{Event}
+use Rattle.lab.specs.declared.event.EventKind.{EventKind}
+use Rattle.lab.specs.declared.event.EventKind.TheVariants.{Submit, Get, Rows, Open, Close}
+use Rattle.lab.specs.declared.event.EventKind.TheVariants.{Deliver, Tick, Tend, Start, Stop}
+use Rattle.lab.specs.History.{IsSubmitted, Placed}
+
+-- ---- parts of a list
+
+-- an element of a part is one of the list
+part_among : {A : Type 0} (l m : List A) → Part l m → (x : A) → Among x l → Among x m
+part_among [] m part x a = absurd a
+part_among (y ∷ l) [] part x a = absurd part
+part_among (y ∷ l) (z ∷ m) (inl first) x (inl e) = inl (sym first.0 ∙ e)
+part_among (y ∷ l) (z ∷ m) (inl first) x (inr a) = inr (part_among l m first.1 x a)
+part_among (y ∷ l) (z ∷ m) (inr later) x a = inr (part_among (y ∷ l) m later x a)
+
+-- a part of an ordered list is in order
+part_rises : {A : Type 0} (R : A → A → Type 0) (l m : List A) → Part l m → Rises R m → Rises R l
+part_rises R [] m part rises = tt
+part_rises R (y ∷ l) [] part rises = absurd part
+part_rises R (y ∷ l) (z ∷ m) (inl first) rises = (
+  λ x a. subst (λ q. R q x) (sym first.0) (rises.0 x (part_among l m first.1 x a)),
+  part_rises R l m first.1 rises.1,
+)
+part_rises R (y ∷ l) (z ∷ m) (inr later) rises = part_rises R (y ∷ l) m later rises.1
+
+-- ---- the batches that events submit
+
+-- the batches that events submit, the first event being in place i
+abbrev pub with_batch : ℕ → EventKind → List Placed → List Placed
+with_batch i (Submit node batch) later = (i, batch) ∷ later
+with_batch i kind later = later
+
+-- the batches that these events submit, each with the place of its event
+abbrev pub submitted_from : ℕ → List Event → List Placed
+submitted_from i [] = []
+submitted_from i (event ∷ events) = with_batch i event.kind (submitted_from (suc i) events)
+
+-- the batch is that of one of these events, before the first of which there are i others
+abbrev IsSubmittedFrom : ℕ → List Event → Placed → Type 0
+IsSubmittedFrom i events placed =
+    (k : ℕ) × (i + suc k ≡ placed.0) × (node : ℕ) × (event : Event)
+    × (place events (suc k) ≡ Some event) × (event.kind ≡ Submit node placed.1)
+
+-- each of these batches is that of an event
+from_event : (i : ℕ) (events : List Event) (placed : Placed) →
+    Among placed (submitted_from (suc i) events) → IsSubmittedFrom i events placed
+from_event i [] placed a = absurd a
+from_event i (event ∷ events) placed a =
+    one event.kind refl (λ later. from_event (suc i) events placed later) a
+  where
+    behind : IsSubmittedFrom (suc i) events placed → IsSubmittedFrom i (event ∷ events) placed
+    behind it =
+        let at : suc i + suc it.0 ≡ placed.0 = it.1 in
+        (suc it.0, omega (arith, at), it.2, it.3, it.4, it.5)
+
+    one : (kind : EventKind) → event.kind ≡ kind →
+        (Among placed (submitted_from (suc (suc i)) events) →
+        IsSubmittedFrom (suc i) events placed) →
+        Among placed (with_batch (suc i) kind (submitted_from (suc (suc i)) events)) →
+        IsSubmittedFrom i (event ∷ events) placed
+    one (Submit x batch) is later (inl e) =
+        let at : suc i ≡ placed.0 = ap (λ (p : Placed). p.0) e in
+        (0, omega (arith, at), x, event, refl, is ∙ ap (λ (p : Placed). Submit x p.1) e)
+    one (Submit x batch) is later (inr a) = behind (later a)
+    one kind is later a = behind (later a)
+
+-- an earlier place
+abbrev Precedes : Placed → Placed → Type 0
+Precedes a b = a.0 < b.0
+
+-- they stand in the order of their events
+in_places : (i : ℕ) (events : List Event) → Rises Precedes (submitted_from (suc i) events)
+in_places i [] = tt
+in_places i (event ∷ events) = one event.kind (in_places (suc i) events)
+  where
+    one : (kind : EventKind) → Rises Precedes (submitted_from (suc (suc i)) events) →
+        Rises Precedes (with_batch (suc i) kind (submitted_from (suc (suc i)) events))
+    one (Submit x batch) later = (
+      λ y a. let it = from_event (suc i) events y a in
+          let at : suc i + suc it.0 ≡ y.0 = it.1 in omega (arith, at),
+      later,
+    )
+    one kind later = later
+
+-- ---- a part of them
+
+-- each batch of a part was submitted by the event at its place
+pub all_submitted : (B : List Placed) (events : List Event) → Part B (submitted_from 1 events) →
+    All (IsSubmitted events) B
+all_submitted B events part = All-among (IsSubmitted events) B (λ placed a.
+    let it = from_event 0 events placed (part_among B (submitted_from 1 events) part placed a) in
+    let at : suc it.0 ≡ placed.0 = omega (arith, it.1) in
+    (it.2, it.3, subst (λ (n : ℕ). place events n ≡ Some it.3) at it.4, it.5))
+
+-- and a part of them is in the order of their submits
+pub all_ordered : (B : List Placed) (events : List Event) → Part B (submitted_from 1 events) →
+    AllPairs (λ (a b : Placed). a.0 < b.0) B
+all_ordered B events part = AllPairs-rises Precedes B
+    (part_rises Precedes B (submitted_from 1 events) part (in_places 0 events))
