@@ -9,10 +9,8 @@ Statement = collections.namedtuple("Statement", "line text words fault")
 # A frame that was sent: its place, sender and addressee, its kind, and its numbers.
 SENT = re.compile(r"#(\d+) (\d+)>(\d+) (forward|ack) (\d+ \d+(?: \d+)?)")
 # The statements that always have an answer: a submit may have a frame in place of it.
-READS = ("get", "rows", "back", "open", "close")
-ANSWERED = (*READS, "submit", "tend", "settle", "show", "stop", "start")
-# The place of the number at which a statement reads or opens, among its words, if it is there.
-NUMBERS = {"get": 3, "rows": 5, "back": 5, "open": 2, "close": 2}
+ANSWERED = ("get", "submit", "tend", "settle", "show", "stop", "start", "rows", "back", "open")
+ANSWERED += ("close",)
 # The statements that a line of each kind can be printed for.
 CAUSES = {
     "sent": ("submit", "deliver", "tick", "flow"),
@@ -23,7 +21,7 @@ CAUSES = {
     "rows": ("rows", "back"),
     "opened": ("open",),
     "closed": ("close",),
-    "refused": ("submit", *READS),
+    "refused": ("submit", "get", "rows", "back", "open", "close"),
     "invalid": ("submit", "get", "rows", "back"),
     "nothing": ("deliver",),
     "busy": ("flow", "settle"),
@@ -31,21 +29,9 @@ CAUSES = {
     "idle": ("tend", "settle"),
     "full": ("tend", "settle"),
     "dropped": ("deliver", "tick", "tend", "settle", "start", "stop", "flow"),
-    "node": ("submit", *READS, "deliver", "tick", "tend", "show", "start", "stop"),
+    "node": ("submit", "get", "deliver", "tick", "tend", "show", "start", "stop")
+    + ("rows", "back", "open", "close"),
 }
-
-
-def number_in(words):
-    """The number that a statement reads at, opens or closes, or None if it has none."""
-    place = NUMBERS[words[0]]
-    return int(words[place]) if len(words) > place else None
-
-
-def bytes_of(word):
-    """The bytes that a word of a script spells."""
-    if word == "@":
-        return b""
-    return re.sub(rb"%([0-9a-f]{2})", lambda it: bytes([int(it[1], 16)]), word.encode())
 
 
 def kind_of(text):

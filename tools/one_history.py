@@ -16,14 +16,15 @@ import re
 import sys
 
 sys.dont_write_bytecode = True
-from lab_texts import ANSWERED, CAUSES, SENT, bytes_of, kind_of, number_in, read_script
+from lab_texts import ANSWERED, CAUSES, SENT, kind_of, read_script
 
 STARTED = re.compile(r"started epoch (\d+) count (\d+) committed (\d+)")
 SHOWN = re.compile(r"epoch 0 count (\d+) committed (\d+) floor 0 kept 0 tables (\d+)( 0){6}")
 READ = re.compile(r"(?:value (\S+)|none) at (\d+)")
-ROWS = re.compile(r"rows (\d+) at (\d+)( more)?")
-# The limits of a page, and of the snapshots that a node has open.
-PAGE_BYTES, ROW_BYTES, SNAPSHOTS = 98_304, 4, 64
+PAGE = re.compile(r"rows (\d+) at (\d+)( more)?")
+# The most bytes of a page, of which each row has its key, its value and so many more, and the most
+# open snapshots of a node.
+MOST_BYTES, ROW, MOST_OPEN = 98_304, 4, 64
 
 
 class Broken(Exception):
@@ -47,33 +48,31 @@ def value_at(batches, key):
     return value
 
 
-def map_of(batches):
-    """The last put of each key that has a value after these batches of edits, by its bytes."""
-    rows = {}
+def bytes_of(word):
+    """The bytes that a word spells."""
+    plain = re.sub("%(..)", lambda it: chr(int(it[1], 16)), "" if word == "@" else word)
+    return plain.encode("latin-1")
+
+
+def page_of(batches, low, bound, backward, limit):
+    """The rows of a page after these batches, as pairs of words, and whether rows are left."""
+    values = {}
     for edit in (edit for batch in batches for edit in batch):
         if edit[:1] == "-":
-            rows.pop(bytes_of(edit[1:]), None)
+            values.pop(edit[1:], None)
         else:
-            rows[bytes_of(edit.partition("=")[0])] = edit
-    return rows
-
-
-def page_of(batches, words):
-    """The rows that a `rows` or `back` shows of these batches, and whether more are left."""
-    start, end = bytes_of(words[2]), None if words[3] == "*" else bytes_of(words[3])
-    rows = map_of(batches)
-    keys = sorted(key for key in rows if start <= key and (end is None or key < end))
-    walk = [rows[key] for key in keys]
-    if words[0] == "back":
-        walk.reverse()
-    page, size = [], 0
-    for row in walk:
-        key, _, value = row.partition("=")
-        size += len(bytes_of(key)) + len(bytes_of(value)) + ROW_BYTES
-        if len(page) == int(words[4]) or size > PAGE_BYTES:
+            key, _, value = edit.partition("=")
+            values[key] = value
+    keys = [key for key in values if bytes_of(key) >= bytes_of(low)]
+    keys = [key for key in keys if bound == "*" or bytes_of(key) < bytes_of(bound)]
+    rows, size = [], 0
+    keys.sort(key=bytes_of, reverse=backward)
+    for key in keys:
+        size += len(bytes_of(key)) + len(bytes_of(values[key])) + ROW
+        if len(rows) == limit or size > MOST_BYTES:
             break
-        page.append(row)
-    return page, len(page) < len(walk)
+        rows.append((key, values[key]))
+    return rows, len(rows) < len(keys)
 
 
 def outcome_of(kind, text):
@@ -83,7 +82,7 @@ def outcome_of(kind, text):
     if kind == "sent":
         return "sent " + text.split(" ")[2]
     if kind == "rows":
-        return "rows with more" if text.endswith(" more") else "rows"
+        return kind + " more" * text.endswith(" more")
     return text if kind in ("dropped", "refused", "invalid") else kind
 
 
@@ -104,15 +103,16 @@ class History:
         # Of each node how many batches were reported to it as committed, and its last own number.
         self.reported, self.shown = dict.fromkeys(self.chain, 0), dict.fromkeys(self.chain, 0)
         self.up, self.stopped = set(self.chain), set()
-        # Of each statement the rows that it printed, and of each node its open snapshots.
-        self.rows_of = collections.defaultdict(list)
-        self.snapshots = {node: collections.Counter() for node in self.chain}
         # Of each node how many tables were shown last.
         self.tables = dict.fromkeys(self.chain, 0)
         self.answered, self.forwarded, self.waiting = set(), set(), {}
         # The greatest number acknowledged or read, the last acknowledged, the last place and line.
         self.known, self.acked, self.places, self.now = 0, 0, 0, 0
         self.reads, self.starts = [], []
+        # The rows of the page that is not ended yet, with the line of its statement, and of each
+        # node the numbers of its open snapshots.
+        self.rows_of_page, self.line_of_page = [], None
+        self.snapshots = {node: collections.Counter() for node in self.chain}
         for line in output.split("\n")[:-1]:
             try:
                 number, _, text = line.partition(": ")
@@ -131,7 +131,7 @@ class History:
         kind = kind_of(text)
         expect(kind in CAUSES, "a line of no form")
         expect(words[0] in CAUSES[kind], f"'{kind}' for a statement that can't have it")
-        expect(kind != "row" or line not in self.answered, "a row behind its page")
+        expect(kind in ("row", "rows") or not self.rows_of_page, "a page without an end")
         if words[0] in ANSWERED and kind not in ("sent", "row"):
             expect(line not in self.answered, "a second answer")
             expect(kind == "committed" or line not in self.forwarded, "a second answer")
@@ -204,57 +204,67 @@ class History:
         form, node = READ.fullmatch(text), words[1]
         expect(form, "a line of no form")
         value, at = form[1], int(form[2])
-        self.read(node, words, at)
+        self.read_at(node, at, words[3:])
         expect(value_at(self.batches[:at], words[2]) == value, "not the value at this number")
-        self.note_read(node, at, "none" if value is None else "value")
+        self.note_read(node, at, value)
         self.known = max(self.known, at)
         self.reads.append((line, words[2], at, value))
 
     none = value
 
-    def read(self, node, words, at):
-        """A node reads, or opens a snapshot, at the number asked, or else at no old one."""
+    def read_at(self, node, at, asked):
+        """A read of a node is at a number that it knows as committed: the one asked, if one was."""
         expect(node in self.up, "an answer of a node that does not run")
         expect(at <= self.committed_at(node), "a read of what is not committed")
-        if number_in(words) is not None:
-            expect(at == number_in(words), "a read at another number than the one asked")
+        if asked:
+            expect([str(at)] == asked, "a read at another number than the one asked")
         else:
             expect(node != self.tail or at >= self.known, "an old read at the tail")
             expect(at >= self.shown[node], "a node's reads go back")
             self.shown[node] = at
 
     def row(self, line, words, text):
-        """A row of a page, which is checked at its last line."""
-        self.rows_of[line].append(text.partition(" ")[2])
+        """A row of a page that is not ended yet."""
+        expect(self.line_of_page in (None, line), "a row of another page")
+        self.line_of_page = line
+        key, sign, value = text.partition(" ")[2].partition("=")
+        expect(sign, "a line of no form")
+        self.rows_of_page.append((key, value))
 
     def rows(self, line, words, text):
-        """A page shows the rows of a range in the map of so many first batches."""
-        form = ROWS.fullmatch(text)
+        """A page has the rows of the range in the map of so many first batches."""
+        form, node = PAGE.fullmatch(text), words[1]
         expect(form, "a line of no form")
-        at, rows = int(form[2]), self.rows_of[line]
-        self.read(words[1], words, at)
-        expect(int(form[1]) == len(rows), "not the number of its rows")
-        page = page_of(self.batches[:at], words)
-        expect((rows, bool(form[3])) == page, "not the page at this number")
-        self.note_read(words[1], at, "page")
+        count, at, found = int(form[1]), int(form[2]), self.rows_of_page
+        expect(self.line_of_page in (None, line), "a row of another page")
+        self.rows_of_page, self.line_of_page = [], None
+        self.read_at(node, at, words[5:])
+        low, bound, limit = words[2], words[3], int(words[4])
+        expect(1 <= limit <= 1024, "a limit that there can't be")
+        page = page_of(self.batches[:at], low, bound, words[0] == "back", limit)
+        expect((found, form[3] is not None) == page, "not the page at this number")
+        expect(count == len(found), "not the number of its rows")
         self.known = max(self.known, at)
 
     def opened(self, line, words, text):
-        """A snapshot is opened at a number that can be read."""
-        at, opened = int(text.split(" ")[1]), self.snapshots[words[1]]
-        self.read(words[1], words, at)
-        expect(opened.total() < SNAPSHOTS, "too many snapshots are open")
-        opened[at] += 1
+        """A snapshot is open, at a number at which the node can be read."""
+        at, held = int(text.split(" ")[1]), self.snapshots[words[1]]
+        self.read_at(words[1], at, words[2:])
+        expect(sum(held.values()) < MOST_OPEN, "too many snapshots")
+        held[at] += 1
+        self.known = max(self.known, at)
 
     def closed(self, line, words, text):
-        """A snapshot that is open is closed."""
-        number, opened = int(text.split(" ")[1]), self.snapshots[words[1]]
+        """One snapshot is closed that was open at the number asked."""
+        at, held = int(text.split(" ")[1]), self.snapshots[words[1]]
         expect(words[1] in self.up, "an answer of a node that does not run")
-        expect(number == number_in(words) and opened[number], "closed what is not open")
-        opened[number] -= 1
+        expect([str(at)] == words[2:], "another number than the one asked")
+        expect(held[at] > 0, "no such snapshot")
+        held[at] -= 1
 
-    def note_read(self, node, at, kind):
+    def note_read(self, node, at, value):
         """Counts reads at numbers below one that was acknowledged or read."""
+        kind = "none" if value is None else "value"
         if at < self.known:
             self.seen[f"read of a {kind} at an old number"] += 1
             self.seen[f"read of a {kind} at an old number after a stop"] += node in self.stopped
@@ -267,24 +277,26 @@ class History:
         elif words[0] == "submit":
             expect(why == "2 NotHead" and words[1] != self.head, "refused without cause")
         elif words[0] == "close":
-            opened = self.snapshots[words[1]][number_in(words)]
-            expect(why == "5 NoSuchSnapshot" and not opened, "refused without cause")
-        elif why == "6 TooManySnapshots":
-            opened = self.snapshots[words[1]].total()
-            expect(words[0] == "open" and opened == SNAPSHOTS, "refused without cause")
+            is_open = self.snapshots[words[1]][int(words[2])] > 0
+            expect(why == "5 NoSuchSnapshot" and not is_open, "refused without cause")
+        elif words[0] == "open" and why == "6 TooManySnapshots":
+            is_full = sum(self.snapshots[words[1]].values()) == MOST_OPEN
+            expect(is_full, "refused without cause")
         else:
-            number = number_in(words)
-            expect(why == "4 NotCommitted" and number is not None, "refused without cause")
-            expect(words[1] != self.tail or number > self.known, "refused without cause")
+            asked = words[{"get": 3, "open": 2}.get(words[0], 5) :]
+            expect(why == "4 NotCommitted" and asked, "refused without cause")
+            expect(words[1] != self.tail or int(asked[0]) > self.known, "refused without cause")
 
     def invalid(self, line, words, text):
-        """A submit has no edits, a limit is out of bounds, or something is long."""
+        """A submit has no edits, a limit is none, or something is long."""
+        is_walk = words[0] in ("rows", "back")
+        is_bad = is_walk and not 1 <= int(words[4]) <= 1024
+        expect((text == "invalid 8 BadLimit") == is_bad, "invalid without cause")
+        if is_bad:
+            return
         is_empty = words[0] == "submit" and len(words) == 2
-        is_range = words[0] in ("rows", "back")
-        is_wide = is_range and not 1 <= int(words[4]) <= 1024
         expect((text == "invalid 3 NoEdits") == is_empty, "invalid without cause")
-        expect(text != "invalid 8 BadLimit" or is_wide, "invalid without cause")
-        expect(is_empty or is_wide or len(" ".join(words)) > 1024, "invalid without cause")
+        expect(is_empty or len(" ".join(words)) > 1024, "invalid without cause")
 
     def dropped(self, line, words, text):
         """A drop has its cause, as far as the statement says which node it was for."""
@@ -376,6 +388,7 @@ class History:
             self.seen[f"{words[0]} statements"] += 1
             is_answered = line in self.answered or line in self.forwarded
             expect(words[0] not in ANSWERED or is_answered, f"no answer to line {line}")
+        expect(not self.rows_of_page, "a page without an end")
 
 
 def main():

@@ -21,7 +21,8 @@ SHAPES = {
     r"committed \d+": "diamond",
     r"dropped \w+": "cross",
     r"(refused|invalid) \d+ \w+": "square",
-    r"(value \S*|none|rows \d+) at \d+( more)?|(opened|closed) \d+": "circle",
+    r"(value \S*|none) at \d+": "circle",
+    r"rows \d+ at \d+( more)?|(opened|closed) \d+": "circle",
     r"tended|idle|full|busy": "tend",
 }
 SHOWN = re.compile(r"epoch \d+ (count \d+ committed \d+) floor \d+ kept \d+ tables.*|stopped")
@@ -75,9 +76,10 @@ class Run:
             self.add_delivery(it, int(it.words[1]), it.text)
         else:
             node, notes = int(it.words[1]), []
-            # Of a page the last line is drawn, which counts its rows.
             texts = list(iter(lambda: self.take(it.line, ""), None))
-            texts = [text for text in texts if kind_of(text) != "row"]
+            # Of a page its own line is drawn, and not its rows.
+            if it.words[0] in CAUSES["row"]:
+                texts = [text for text in texts if kind_of(text) != "row"]
             if len(texts) != 1 and it.words[0] in ANSWERED:
                 number = len(texts) or "no"
                 raise ValueError(f"the output has {number} answers to '{it.line}: {it.text}'")

@@ -1,8 +1,8 @@
 -- The words of an event: where those of its kind end, and what they and those of its fault say.
 use Rattle.std.proofs.Common.{◌≡◌, ◌/◌, ◌<◌, ◌^◌, ℕ, List, [], ◌∷◌, ◌++◌, Some, None}
 use Rattle.std.proofs.Common.{refl, sym, ap, ap₂, subst, ◌∙◌, inl, inr, arith, true, false}
-use Rattle.std.proofs.Common.{map, drop, length, append-nil}
-use Rattle.std.specs.Prelude.{All, nat_lt}
+use Rattle.std.proofs.Common.{map, drop, length, append-nil, Option}
+use Rattle.std.specs.Prelude.{All, IfSome, nat_lt}
 use Rattle.std.specs.Fmt.{decimal}
 use Rattle.std.proofs.lemmas.Bool.{cases_Bool}
 use Rattle.std.proofs.lemmas.Bool.Decides.{nat_tests}
@@ -16,10 +16,11 @@ use Rattle.kv_types.specs.declared.Edit.TheVariants.{Put, Delete}
 use Rattle.lab.specs.declared.Event.{Event}
 use Rattle.lab.specs.declared.EventKind.{EventKind}
 use Rattle.lab.specs.declared.EventKind.TheVariants.{Submit, Get, Deliver, Tick, Tend, Start, Stop}
-use Rattle.program.specs.Words.{AreBytes, is_plain, bytes_text}
+use Rattle.lab.specs.declared.EventKind.TheVariants.{Rows, Open, Close}
+use Rattle.program.specs.Words.{AreBytes, is_plain, bound_text, bytes_text}
 use Rattle.program.specs.Words.{begins_fault, has_fault, before_fault, from_fault}
 use Rattle.program.specs.Statements.{AreBytesIn, AreBytesOf, CanBeSaid, edit_word, hex_text, IsJunk}
-use Rattle.program.specs.Statements.{IsSpelled}
+use Rattle.program.specs.Statements.{IsSpelled, NumberCanBeSaid, number_words}
 use Rattle.program.specs.Events.{FaultCanBeSaid, IsFault, SpellsEvent, is_call}
 use Rattle.program.specs.Events.{fault_word, may_bear_fault}
 use Rattle.program.specs.Faults.{spelling_fault}
@@ -66,6 +67,14 @@ junk_begins (Bytes bytes) word all is = rw is.1 (hex_begins bytes all)
 text_alone : (k : List ℕ) → AreBytes k → begins_fault (bytes_text k) ≡ false
 text_alone k all = rw (append-nil (bytes_text k)) at (text_begins k [] all)
 
+bound_begins : (to : Option (List ℕ)) → IfSome to AreBytes → begins_fault (bound_text to) ≡ false
+bound_begins None all = refl
+bound_begins (Some key) all = text_alone key all
+
+at_begins : (at : Option ℕ) → NumberCanBeSaid at → has_fault (number_words at) ≡ false
+at_begins None small = refl
+at_begins (Some n) small = rw (number_begins (decimal n) (number_read n small)) refl
+
 no_fault : (what : EventKind) (words : List (List ℕ)) → CanBeSaid what → IsSpelled what words →
     has_fault (drop 1 words) ≡ false
 no_fault (Submit node edits) words said e =
@@ -78,6 +87,22 @@ no_fault (Get node key (Some at)) words said e =
       number_begins (decimal node) (number_read node said.0),
       text_alone key said.1,
       number_begins (decimal at) (number_read at said.2),
+    ) refl
+no_fault (Rows node range at) words said e =
+    rw (
+      e,
+      number_begins (decimal node) (number_read node said.0),
+      text_alone range.from said.1.0,
+      bound_begins range.to said.1.1,
+      number_begins (decimal range.limit) (number_read range.limit said.1.2),
+    ) (at_begins at said.2)
+no_fault (Open node at) words said e =
+    rw (e, number_begins (decimal node) (number_read node said.0)) (at_begins at said.1)
+no_fault (Close node number) words said e =
+    rw (
+      e,
+      number_begins (decimal node) (number_read node said.0),
+      number_begins (decimal number) (number_read number said.1),
     ) refl
 no_fault (Deliver place) words said e =
     rw (e, number_begins (decimal place) (number_read place said)) refl
@@ -164,6 +189,9 @@ pub opens : (what : EventKind) (words : List (List ℕ)) → IsSpelled what word
 opens (Submit node edits) words e = (_, e)
 opens (Get node key None) words e = (_, e)
 opens (Get node key (Some at)) words e = (_, e)
+opens (Rows node range at) words e = (_, e)
+opens (Open node at) words e = (_, e)
+opens (Close node number) words e = (_, e)
 opens (Deliver place) words e = (_, e)
 opens (Tick node) words e = (_, e)
 opens (Tend node) words e = (_, e)

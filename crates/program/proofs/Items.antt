@@ -8,7 +8,6 @@ use Rattle.kv_types.specs.declared.KvError.{KvError}
 use Rattle.lab.specs.Configuration.{Configurations}
 use Rattle.lab.specs.declared.Event as lab
 use Rattle.lab.specs.declared.EventKind.{EventKind}
-use Rattle.lab.specs.declared.EventKind.TheVariants.{Submit, Get, Deliver, Tick, Tend, Start, Stop}
 use Rattle.program.specs.declared.script.error.ScriptError.{ScriptError}
 use Rattle.program.specs.declared.script.statement.Action.{Action}
 use Rattle.program.specs.declared.script.statement.Action.TheVariants.{Event, Invalid}
@@ -21,16 +20,22 @@ use Rattle.program.specs.Reading.{Places, ReadsLine, ReadsWords, begins}
 use Rattle.program.specs.Scripts.{IsStatement, is_skipped, words_of}
 use Rattle.program.proofs.EventWords.{opens}
 use Rattle.program.proofs.OneText.{first_word}
-use Rattle.program.proofs.OneEvent.{name_of}
+use Rattle.program.proofs.OneEvent.{name_of, of_name}
 
 never_shows : (what : EventKind) → bytes_eq (name_of what) (codes "show") ≡ false
-never_shows (Submit node edits) = refl
-never_shows (Get node key at) = refl
-never_shows (Deliver place) = refl
-never_shows (Tick node) = refl
-never_shows (Tend node) = refl
-never_shows (Start node) = refl
-never_shows (Stop node junk) = refl
+never_shows = of_name (λ name. bytes_eq name (codes "show") ≡ false) (record {
+  submit = refl;
+  get = refl;
+  rows = refl;
+  back = refl;
+  opening = refl;
+  closing = refl;
+  deliver = refl;
+  tick = refl;
+  tend = refl;
+  start = refl;
+  stop = refl;
+})
 
 event_begins : (event : lab.Event) (o : Option KvError) →
     begins (option_map_or (λ e. Invalid e) o (Event event)) ≡ true

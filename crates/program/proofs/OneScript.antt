@@ -6,7 +6,6 @@ use Rattle.std.specs.Str.{bytes_eq}
 use Rattle.std.specs.Fmt.{decimal}
 use Rattle.lab.specs.declared.Event as lab
 use Rattle.lab.specs.declared.EventKind.{EventKind}
-use Rattle.lab.specs.declared.EventKind.TheVariants.{Submit, Get, Deliver, Tick, Tend, Start, Stop}
 use Rattle.lab.specs.Configuration.{Configurations}
 use Rattle.lab.specs.Configs.{IsConfig}
 use Rattle.program.specs.declared.script.setup.Setup.{Setup}
@@ -20,7 +19,7 @@ use Rattle.program.specs.Laws.{AreAlike, ScriptsDiffer}
 use Rattle.program.specs.Scripts.{words_of, is_skipped, statement, AreStatements, IsOtherStatement}
 use Rattle.program.specs.Scripts.{IsScriptWith, IsStatement, NamesOneNode, SetsLog, SetsUp}
 use Rattle.program.specs.Scripts.{default_log}
-use Rattle.program.proofs.OneEvent.{name_of, one_number}
+use Rattle.program.proofs.OneEvent.{name_of, of_name, one_number}
 use Rattle.program.proofs.EventWords.{one_whole, opens}
 use Rattle.program.proofs.Ids.{ids_read}
 use Rattle.program.proofs.ReadScripts.{first_byte, not_skipped, statement_passes}
@@ -59,13 +58,19 @@ later_words (name ∷ words) = words
 
 -- an event's name has no number
 event_number : (what : EventKind) → name_number (name_of what) ≡ 0
-event_number (Submit node edits) = refl
-event_number (Get node key at) = refl
-event_number (Deliver place) = refl
-event_number (Tick node) = refl
-event_number (Tend node) = refl
-event_number (Start node) = refl
-event_number (Stop node junk) = refl
+event_number = of_name (λ name. name_number name ≡ 0) (record {
+  submit = refl;
+  get = refl;
+  rows = refl;
+  back = refl;
+  opening = refl;
+  closing = refl;
+  deliver = refl;
+  tick = refl;
+  tend = refl;
+  start = refl;
+  stop = refl;
+})
 
 -- words of an event have no number
 event_words : (words : List (List ℕ)) (event : lab.Event) → SpellsEvent words event

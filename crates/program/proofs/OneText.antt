@@ -129,6 +129,18 @@ one_text a b la lb e =
     rw (append-nil (bytes_text a), append-nil (bytes_text b)) e in
     (one_string a b [] [] la lb tt tt same).0
 
+-- no spelling of bytes is a star
+pub no_star : (k : List ℕ) → 42 ∷ [] ≡ bytes_text k → ⊥
+no_star [] e = let at : 42 ≡ 64 = ap head e in omega (arith, at)
+no_star (b ∷ k) e = elim (begins b (flat_map byte_text k)) [
+  | inl p ↦
+      let at : b ≡ 42 = ap head (sym p.1 ∙ sym e) in
+      grind (arith, nat_tests)
+  | inr p ↦
+      let at : 37 ≡ 42 = ap head (sym p.1 ∙ sym e) in
+      omega (arith, at)
+]
+
 no_dash : (k xs ys : List ℕ) → bytes_text k ++ xs ≡ 45 ∷ ys → ⊥
 no_dash [] xs ys e = let at : 64 ≡ 45 = ap head e in omega (arith, at)
 no_dash (b ∷ k) xs ys e = elim (begins b (flat_map byte_text k ++ xs)) [

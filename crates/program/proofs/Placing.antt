@@ -1,11 +1,12 @@
 -- Where a statement stands, and the node that it names.
 use Rattle.std.proofs.Common.{◌≡◌, ◌<◌, ◌^◌, ℕ, List, [], ◌∷◌, refl, ◌∙◌, codes, Option}
 use Rattle.std.proofs.Common.{is_none, Some, None, Ok, Err, inl, inr, true, false, arith, map, ap}
-use Rattle.std.proofs.Common.{subst, sym, length}
+use Rattle.std.proofs.Common.{subst, sym, length, Bool}
 use Rattle.std.specs.Prelude.{◌==◌, MatchResult, Result}
 use Rattle.std.proofs.lemmas.Bool.Decides.{nat_tests}
 use Rattle.std.proofs.lemmas.Bool.{cases_Bool}
 use Rattle.std.proofs.lemmas.Grind.{common_steps}
+use Rattle.std.specs.Str.{bytes_eq}
 use Rattle.std.specs.Str.Parse.{digits_value}
 use Rattle.std.specs.Fmt.{decimal}
 use Rattle.std.proofs.lemmas.Fmt.{digits_value-decimal}
@@ -15,6 +16,7 @@ use Rattle.lab.specs.Fault.{Fault}
 use Rattle.lab.specs.declared.Event as lab
 use Rattle.lab.specs.declared.EventKind.{EventKind}
 use Rattle.lab.specs.declared.EventKind.TheVariants.{Submit, Get, Deliver, Tick, Tend, Start, Stop}
+use Rattle.lab.specs.declared.EventKind.TheVariants.{Rows, Open, Close}
 use Rattle.lab.specs.{node_in, NamesNode}
 use Rattle.program.specs.declared.script.error.ScriptError.{ScriptError}
 use Rattle.program.specs.declared.script.error.ScriptError.TheVariants.{OutOfPlace, BadFault}
@@ -25,7 +27,7 @@ use Rattle.program.specs.declared.script.statement.LineItem.TheVariants.{Config}
 use Rattle.program.specs.declared.script.statement.Action.{Action}
 use Rattle.program.specs.declared.script.statement.Action.TheVariants.{Event, Flow, Settle, Show}
 use Rattle.program.specs.Words.{before_fault, from_fault, is_number}
-use Rattle.program.specs.Statements.{CanBeSaid, IsSpelled, fault_of_words}
+use Rattle.program.specs.Statements.{CanBeSaid, IsSpelled, fault_of_words, walk_name}
 use Rattle.program.specs.Actions.{action_of}
 use Rattle.program.specs.Events.{SpellsEvent, bears_fault, fault_word, may_bear_fault}
 use Rattle.program.specs.Faults.{node_named, node_fault, statement_fault, config_fault, numbers_of}
@@ -33,11 +35,15 @@ use Rattle.program.specs.Faults.{spelling_fault}
 use Rattle.program.specs.Reading.{IsOfOneNode, Places, PlacesNode, ReadsFaultAs, ReadsWords}
 use Rattle.program.proofs.FaultWords.{split_words}
 use Rattle.program.proofs.Numbers.{own}
-use Rattle.program.proofs.OneEvent.{name_of, named}
+use Rattle.program.proofs.OneEvent.{name_of, named, of_walk}
 use Rattle.program.proofs.ReadBack.{event_read}
 
 pub number_back : (n : ℕ) → n < 2 ^ 63 → digits_value 10 (decimal n) ≡ n
 number_back n small = digits_value-decimal own n (omega (arith, small))
+
+-- a walk is no delivery
+no_delivery : (backward : Bool) → bytes_eq (walk_name backward) (codes "deliver") ≡ false
+no_delivery = of_walk (λ name. bytes_eq name (codes "deliver") ≡ false) refl refl
 
 -- the node that the words of an event name is that of the event
 pub names : (what : EventKind) (words : List (List ℕ)) → CanBeSaid what → IsSpelled what words
@@ -45,6 +51,10 @@ pub names : (what : EventKind) (words : List (List ℕ)) → CanBeSaid what → 
 names (Submit n batch) words said e = rw (e, number_back n said.0) refl
 names (Get n key None) words said e = rw (e, number_back n said.0) refl
 names (Get n key (Some at)) words said e = rw (e, number_back n said.0) refl
+names (Rows n range at) words said e =
+    rw (e, no_delivery range.backward, number_back n said.0) refl
+names (Open n at) words said e = rw (e, number_back n said.0) refl
+names (Close n number) words said e = rw (e, number_back n said.0) refl
 names (Deliver place) words said e = rw e refl
 names (Tick n) words said e = rw (e, number_back n said) refl
 names (Tend n) words said e = rw (e, number_back n said) refl
@@ -55,6 +65,10 @@ names (Stop n junk) words said (inr e) = rw (e.2, number_back n said.0) refl
 bears_by_name : (what : EventKind) → may_bear_fault (name_of what) ≡ bears_fault what
 bears_by_name (Submit node edits) = refl
 bears_by_name (Get node key at) = refl
+bears_by_name (Rows node range at) =
+    of_walk (λ name. may_bear_fault name ≡ true) refl refl range.backward
+bears_by_name (Open node at) = refl
+bears_by_name (Close node number) = refl
 bears_by_name (Deliver place) = refl
 bears_by_name (Tick node) = refl
 bears_by_name (Tend node) = refl

@@ -4,7 +4,8 @@ use Rattle.std.proofs.Common.{refl, ◌∙◌, inl, inr, arith, true, false, Boo
 use Rattle.std.proofs.Common.{map, length, get_or, take, drop, Some}
 use Rattle.std.proofs.Common.{None}
 use Rattle.std.proofs.Common.{length-append}
-use Rattle.std.specs.Prelude.{All, ◌==◌, nat_lt, position}
+use Rattle.std.specs.Prelude.{All, IfSome, Option, ◌==◌, nat_lt, position}
+use Rattle.std.specs.Option.{option_map_or}
 use Rattle.std.specs.Str.{bytes_eq}
 use Rattle.std.specs.Char.{digit_char}
 use Rattle.std.specs.Fmt.{decimal}
@@ -16,18 +17,23 @@ use Rattle.std.proofs.lemmas.Bool.Decides.{nat_tests}
 use Rattle.std.proofs.lemmas.Fmt.{digits_decimal, digits_value-decimal, decimal_nonempty}
 use Rattle.std.proofs.lemmas.Fmt.{first_decimal, length-decimal-le}
 use Rattle.std.proofs.lemmas.List.Elements.{All-head, All-tail}
+use Rattle.kv_types.specs.{Span}
 use Rattle.lab.specs.Junk.{Junk}
 use Rattle.lab.specs.Junk.TheVariants.{Old, New, Bytes}
 use Rattle.kv_types.specs.declared.Edit.{Edit}
 use Rattle.kv_types.specs.declared.Edit.TheVariants.{Put, Delete}
 use Rattle.lab.specs.declared.EventKind.{EventKind}
 use Rattle.lab.specs.declared.EventKind.TheVariants.{Submit, Get, Deliver, Tick, Tend, Start, Stop}
+use Rattle.lab.specs.declared.EventKind.TheVariants.{Rows, Open, Close}
 use Rattle.program.specs.Words.{is_plain, byte_text, bytes_text, is_hex, hex_value, escaped}
-use Rattle.program.specs.Words.{are_bytes, is_byte_string, is_number}
+use Rattle.program.specs.Words.{are_bytes, bound_text, is_bound, is_byte_string, is_number}
 use Rattle.program.specs.Statements.{edit_word, hex_text, IsJunk, IsSpelled, is_edit, is_junk}
 use Rattle.program.specs.Statements.{are_pairs, is_bad_number, is_bad_text, is_bad_junk}
-use Rattle.program.specs.Statements.{fault_of_words, Kind}
+use Rattle.program.specs.Statements.{fault_of_places, fault_of_words, number_words, rows_shape}
+use Rattle.program.specs.Statements.{walk_name, Kind}
 use Rattle.program.specs.Statements.Kind.{edit}
+use Rattle.program.specs.declared.script.error.ScriptError.{ScriptError}
+use Rattle.program.specs.declared.script.error.ScriptError.TheVariants.{WrongNumberOfWords}
 use Rattle.program.specs.Words.{AreBytes}
 use Rattle.program.specs.Statements.{AreBytesIn, AreBytesOf, CanBeSaid}
 use Rattle.program.proofs.Numbers.{own, is_number_of}
@@ -193,6 +199,40 @@ no_texts [] la = refl
 no_texts (e ∷ es) la =
     rw (edit_read e (All-head AreBytesIn e es la), no_texts es (All-tail AreBytesIn e es la)) refl
 
+bound_read : (to : Option (List ℕ)) → IfSome to AreBytes → is_bound (bound_text to) ≡ true
+bound_read None la = refl
+bound_read (Some key) la = rw (bytes_read key la, or-true) refl
+
+-- the fault of the words of a walk, in each direction
+abbrev pub fault_of_walk : List (List ℕ) → Option ScriptError
+fault_of_walk args =
+    option_map_or (λ kinds. fault_of_places (zip kinds args)) (rows_shape (length args))
+    (Some WrongNumberOfWords)
+
+pub rows_fault : (backward : Bool) (args : List (List ℕ))
+    → fault_of_words (walk_name backward ∷ args) ≡ fault_of_walk args
+rows_fault true args = refl
+rows_fault false args = refl
+
+rows_read : (node : ℕ) (range : Span) (at : Option ℕ) → CanBeSaid (Rows node range at)
+    → fault_of_walk (decimal node ∷ bytes_text range.from ∷ bound_text range.to
+    ∷ decimal range.limit ∷ number_words at) ≡ None
+rows_read node range None la =
+    rw (
+      number_read node la.0,
+      number_read range.limit la.1.2,
+      bytes_read range.from la.1.0,
+      bound_read range.to la.1.1,
+    ) refl
+rows_read node range (Some at) la =
+    rw (
+      number_read node la.0,
+      number_read range.limit la.1.2,
+      number_read at la.2,
+      bytes_read range.from la.1.0,
+      bound_read range.to la.1.1,
+    ) refl
+
 pub event_read : (what : EventKind) (words : List (List ℕ)) → CanBeSaid what → IsSpelled what words
     → fault_of_words words ≡ None
 event_read (Submit node edits) words la e =
@@ -207,6 +247,13 @@ event_read (Get node key None) words la e =
     rw (e, number_read node la.0, bytes_read key la.1) refl
 event_read (Get node key (Some at)) words la e =
     rw (e, number_read node la.0, bytes_read key la.1, number_read at la.2) refl
+event_read (Rows node range at) words la e =
+    rw (e, rows_fault range.backward) (rows_read node range at la)
+event_read (Open node None) words la e = rw (e, number_read node la.0) refl
+event_read (Open node (Some at)) words la e =
+    rw (e, number_read node la.0, number_read at la.1) refl
+event_read (Close node number) words la e =
+    rw (e, number_read node la.0, number_read number la.1) refl
 event_read (Deliver place) words la e = rw (e, number_read place la) refl
 event_read (Tick node) words la e = rw (e, number_read node la) refl
 event_read (Tend node) words la e = rw (e, number_read node la) refl

@@ -1,7 +1,7 @@
 -- A script has no fault, where its lines are neither too long nor too many.
 use Rattle.std.proofs.Common.{◌≡◌, ◌+◌, ◌≤◌, ℕ, suc, List, [], ◌∷◌, ◌++◌, codes, subst}
 use Rattle.std.proofs.Common.{refl, sym, ◌∙◌, inl, inr, arith, true, false, Bool, map, length}
-use Rattle.std.proofs.Common.{Option, Some, None}
+use Rattle.std.proofs.Common.{Option, Some, None, lit≤}
 use Rattle.std.specs.Prelude.{All, IfSome, ◌==◌, nat_lt, ◌||◌, not, ◌<◌, ◌^◌, ◌⊎◌}
 use Rattle.std.specs.Str.{bytes_eq}
 use Rattle.std.specs.Fmt.{decimal}
@@ -11,7 +11,6 @@ use Rattle.std.proofs.lemmas.Bool.Decides.{nat_tests}
 use Rattle.std.proofs.lemmas.List.Elements.{All-head, All-tail}
 use Rattle.lab.specs.declared.Event as lab
 use Rattle.lab.specs.declared.EventKind.{EventKind}
-use Rattle.lab.specs.declared.EventKind.TheVariants.{Submit, Get, Deliver, Tick, Tend, Start, Stop}
 use Rattle.lab.specs.{node_in, NamesNode}
 use Rattle.lab.specs.Configuration.{Configurations, has, at_epoch}
 use Rattle.lab.specs.Configs.{IsConfig, TestDecidesConfig}
@@ -31,7 +30,7 @@ use Rattle.program.proofs.FaultWords.{all_before}
 use Rattle.program.proofs.Placing.{is_of_place, number_back, of_one_node}
 use Rattle.program.proofs.Ids.{ids_read, number_begins}
 use Rattle.program.proofs.ReadBack.{number_read}
-use Rattle.program.proofs.OneEvent.{name_of}
+use Rattle.program.proofs.OneEvent.{name_of, of_name}
 use Rattle.program.proofs.EventWords.{divides, divided_read, opens}
 
 -- ---- a line of words that begin so is not skipped
@@ -103,31 +102,49 @@ passes cs begun log event words name args e other third letter spells named = re
 
 -- no event's name is that of a configuration, and each begins with a letter
 no_config : (what : EventKind) → bytes_eq (name_of what) (codes "config") ≡ false
-no_config (Submit node edits) = refl
-no_config (Get node key at) = refl
-no_config (Deliver place) = refl
-no_config (Tick node) = refl
-no_config (Tend node) = refl
-no_config (Start node) = refl
-no_config (Stop node junk) = refl
+no_config = of_name (λ name. bytes_eq name (codes "config") ≡ false) (record {
+  submit = refl;
+  get = refl;
+  rows = refl;
+  back = refl;
+  opening = refl;
+  closing = refl;
+  deliver = refl;
+  tick = refl;
+  tend = refl;
+  start = refl;
+  stop = refl;
+})
 
 no_limit : (what : EventKind) → bytes_eq (name_of what) (codes "limit") ≡ false
-no_limit (Submit node edits) = refl
-no_limit (Get node key at) = refl
-no_limit (Deliver place) = refl
-no_limit (Tick node) = refl
-no_limit (Tend node) = refl
-no_limit (Start node) = refl
-no_limit (Stop node junk) = refl
+no_limit = of_name (λ name. bytes_eq name (codes "limit") ≡ false) (record {
+  submit = refl;
+  get = refl;
+  rows = refl;
+  back = refl;
+  opening = refl;
+  closing = refl;
+  deliver = refl;
+  tick = refl;
+  tend = refl;
+  start = refl;
+  stop = refl;
+})
 
 lettered : (what : EventKind) (args : List (List ℕ)) → 97 ≤ first_byte (name_of what ∷ args)
-lettered (Submit node edits) args = omega arith
-lettered (Get node key at) args = omega arith
-lettered (Deliver place) args = omega arith
-lettered (Tick node) args = omega arith
-lettered (Tend node) args = omega arith
-lettered (Start node) args = omega arith
-lettered (Stop node junk) args = omega arith
+lettered what args = of_name (λ name. 97 ≤ first_byte (name ∷ args)) (record {
+  submit = lit≤ tt;
+  get = lit≤ tt;
+  rows = lit≤ tt;
+  back = lit≤ tt;
+  opening = lit≤ tt;
+  closing = lit≤ tt;
+  deliver = lit≤ tt;
+  tick = lit≤ tt;
+  tend = lit≤ tt;
+  start = lit≤ tt;
+  stop = lit≤ tt;
+}) what
 
 event_passes : (cs : Configurations) (begun : Bool) (log : ℕ) (event : lab.Event)
     (words : List (List ℕ)) →

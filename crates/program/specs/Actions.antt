@@ -1,17 +1,20 @@
 -- What a statement comes to: its event, or the first thing wrong with its keys, values or batch.
-use Rattle.std.specs.Prelude.{ℕ, ◌==◌, nat_lt, if◌then◌else◌, List, [], ◌∷◌, length}
+use Rattle.std.specs.Prelude.{ℕ, ◌==◌, ◌||◌, nat_lt, if◌then◌else◌, List, [], ◌∷◌, length}
 use Rattle.std.specs.Prelude.{Option, Some, None}
 use Rattle.std.specs.Option.{option_map_or, option_or}
 use Rattle.kv_types.specs.declared.bounds.TheConstants.{MAX_KEY, MAX_VALUE, MAX_EDITS, MAX_BATCH}
+use Rattle.kv_types.specs.declared.bounds.TheConstants.{MAX_ROWS}
 use Rattle.kv_types.specs.declared.Edit.{Edit}
 use Rattle.kv_types.specs.declared.Edit.TheVariants.{Put, Delete}
 use Rattle.kv_types.specs.declared.KvError.{KvError}
 use Rattle.kv_types.specs.declared.KvError.TheVariants.{KeyTooLong, ValueTooLong, NoEdits}
-use Rattle.kv_types.specs.declared.KvError.TheVariants.{TooManyEdits, BatchTooLong}
+use Rattle.kv_types.specs.declared.KvError.TheVariants.{TooManyEdits, BatchTooLong, BadLimit}
 use Rattle.kv_types.specs.{batch_bytes}
+use Rattle.kv_types.specs.{Span}
 use Rattle.lab.specs.declared.Event as lab
 use Rattle.lab.specs.declared.EventKind.{EventKind}
 use Rattle.lab.specs.declared.EventKind.TheVariants.{Submit, Get, Deliver, Tick, Tend, Start, Stop}
+use Rattle.lab.specs.declared.EventKind.TheVariants.{Rows, Open, Close}
 use Rattle.program.specs.declared.script.statement.Action.{Action}
 use Rattle.program.specs.declared.script.statement.Action.TheVariants.{Event, Invalid}
 
@@ -40,10 +43,28 @@ size_error edits =
     if nat_lt MAX_EDITS (length edits) then Some TooManyEdits else
     if nat_lt MAX_BATCH (length (batch_bytes edits)) then Some BatchTooLong else None
 
--- the first error of a statement, that of the batch last
+-- what is wrong with an upper bound of keys, if anything is
+abbrev pub bound_error : Option (List ℕ) → Option KvError
+bound_error None = None
+bound_error (Some key) = key_error key
+
+-- what is wrong with the greatest number of rows, if anything is
+abbrev pub limit_error : ℕ → Option KvError
+limit_error limit = if (limit == 0) || nat_lt MAX_ROWS limit then Some BadLimit else None
+
+-- of a range, the least key comes before the bound, and both before the limit
+abbrev pub range_error : Span → Option KvError
+range_error range =
+    option_or (key_error range.from)
+    (option_or (bound_error range.to) (limit_error range.limit))
+
+-- the first error of a statement, that of the batch or range last
 abbrev pub error_of : EventKind → Option KvError
 error_of (Submit node edits) = option_or (edits_error edits) (size_error edits)
 error_of (Get node key at) = key_error key
+error_of (Rows node range at) = range_error range
+error_of (Open node at) = None
+error_of (Close node number) = None
 error_of (Deliver place) = None
 error_of (Tick node) = None
 error_of (Tend node) = None

@@ -14,6 +14,7 @@ use Rattle.program.specs.declared.script.error.ScriptError.TheVariants.{OutOfMem
 use Rattle.program.specs.declared.script.command.Command.{Command}
 use Rattle.program.specs.declared.script.command.Command.TheVariants.{Submit, Get, Tick, Tend}
 use Rattle.program.specs.declared.script.command.Command.TheVariants.{Stop, Start}
+use Rattle.program.specs.declared.script.command.Command.TheVariants.{Rows, Open, Close}
 use Rattle.program.specs.declared.script.statement.ParserState.{ParserState}
 use Rattle.program.specs.declared.script.statement.LineItem.{LineItem}
 use Rattle.program.specs.declared.script.statement.LineItem.TheVariants.{Skipped, Limit, Config}
@@ -32,6 +33,9 @@ use Rattle.program.specs.Faults.{after_line, numbered_fault}
 abbrev pub what_of : Command → EventKind
 what_of (Submit node changes) = what.Submit node changes
 what_of (Get node key at) = what.Get node key at
+what_of (Rows node range at) = what.Rows node range at
+what_of (Open node at) = what.Open node at
+what_of (Close node number) = what.Close node number
 what_of (Stop node junk) = what.Stop node junk
 what_of (Tick node) = what.Tick node
 what_of (Tend node) = what.Tend node

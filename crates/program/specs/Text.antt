@@ -1,15 +1,18 @@
 -- The text of a run: what is printed for each line of a report, and for each invalid statement.
 use Rattle.std.specs.Prelude.{ℕ, ◌-◌, List, [], ◌∷◌, ◌++◌, codes, take, drop, replicate, slice_get}
+use Rattle.std.specs.Prelude.{length, map, Bool, true, false}
 use Rattle.std.specs.Prelude.{Option, Some, None}
 use Rattle.std.specs.Fmt.{decimal}
 use Rattle.std.specs.List.{flat_map}
 use Rattle.std.specs.Option.{option_map_or}
 use Rattle.kv_types.specs.declared.KvError.{KvError}
 use Rattle.kv_types.specs.declared.KvError.TheVariants as kv
+use Rattle.kv_types.specs.declared.row.Row.{Row}
+use Rattle.kv_types.specs.Spans as page
 use Rattle.lab.specs.Refusal.{Refusal}
 use Rattle.lab.specs.Refusal.TheVariants as refused
 use Rattle.lab.specs.Reply.{Reply}
-use Rattle.lab.specs.Reply.TheVariants.{Committed, Value, Refused}
+use Rattle.lab.specs.Reply.TheVariants.{Committed, Value, Rows, Opened, Closed, Refused}
 use Rattle.lab.specs.Stop.{Stop}
 use Rattle.lab.specs.Stop.TheVariants as stop
 use Rattle.lab.specs.Tended.{Tended}
@@ -70,12 +73,31 @@ cause_text stop.Damaged = codes "damaged"
 cause_text stop.Memory = codes "memory"
 cause_text stop.NotCreated = codes "not created"
 
--- a reply to a client
+-- a row of an answer
+abbrev pub printed_row : Row → List ℕ
+printed_row row =
+    codes "row " ++ (bytes_text row.key ++ (codes "=" ++ bytes_text row.value))
+
+-- what is said where rows were left
+abbrev pub more_text : Bool → List ℕ
+more_text true = codes " more"
+more_text false = []
+
+-- how many rows an answer has, and at which number
+abbrev pub rows_text : ℕ → page.Rows → List ℕ
+rows_text n it =
+    codes "rows " ++ (decimal (length it.rows) ++ (codes " at " ++ (decimal n
+    ++ more_text it.more)))
+
+-- a reply to a client, but for its rows
 abbrev pub reply_text : Reply → List ℕ
 reply_text (Committed request n) = codes "committed " ++ decimal n
 reply_text (Value request n None) = codes "none at " ++ decimal n
 reply_text (Value request n (Some value)) =
     codes "value " ++ (bytes_text value ++ (codes " at " ++ decimal n))
+reply_text (Rows request n it) = rows_text n it
+reply_text (Opened request n) = codes "opened " ++ decimal n
+reply_text (Closed request n) = codes "closed " ++ decimal n
 reply_text (Refused request refusal) = codes "refused " ++ refusal_text refusal
 
 -- a node that started, with what it has
@@ -136,7 +158,7 @@ numbers_text node it =
     ++ (codes " " ++ (counts_text it.epoch it.count it.committed
     ++ (codes " " ++ kept_text it.floor it.kept it.tables))))
 
--- a line of a report
+-- a line of a report, but for the rows of an answer
 abbrev pub line_text : Line → List ℕ
 line_text line.Nothing = codes "nothing"
 line_text (line.Dropped reason) = codes "dropped " ++ reason_text reason
@@ -149,9 +171,29 @@ line_text (line.Replied reply) = reply_text reply
 line_text (line.Stopped node cause) = stopped_text node cause
 line_text (line.Tended did) = tended_text did
 
--- the lines that are printed for a line of a report: one for each of today's
+-- the rows of a reply
+abbrev pub rows_of_reply : Reply → List Row
+rows_of_reply (Committed request n) = []
+rows_of_reply (Value request n value) = []
+rows_of_reply (Rows request n it) = it.rows
+rows_of_reply (Opened request n) = []
+rows_of_reply (Closed request n) = []
+rows_of_reply (Refused request refusal) = []
+
+-- the rows of a line of a report
+abbrev pub rows_of_line : Line → List Row
+rows_of_line (line.Replied reply) = rows_of_reply reply
+rows_of_line line.Nothing = []
+rows_of_line (line.Dropped reason) = []
+rows_of_line (line.Started node epoch count committed) = []
+rows_of_line (line.Forwarded place from to epoch number) = []
+rows_of_line (line.Acknowledged place from to epoch committed have) = []
+rows_of_line (line.Stopped node cause) = []
+rows_of_line (line.Tended did) = []
+
+-- the lines that are printed for a line of a report: one for each of its rows, then its own
 abbrev pub line_texts : Line → List (List ℕ)
-line_texts line = line_text line ∷ []
+line_texts line = map printed_row (rows_of_line line) ++ line_text line ∷ []
 
 -- a line of output: a number of a line of the script, and what is said of it
 abbrev pub numbered_line : ℕ → List ℕ → List ℕ
@@ -170,6 +212,9 @@ line_of_request events here request =
 abbrev pub request_of : Reply → ℕ
 request_of (Committed request n) = request
 request_of (Value request n value) = request
+request_of (Rows request n it) = request
+request_of (Opened request n) = request
+request_of (Closed request n) = request
 request_of (Refused request refusal) = request
 
 -- a reply is told at its request's line, all else here

@@ -2,10 +2,10 @@
 use Rattle.std.specs.Prelude.{ℕ, ◌+◌, ◌-◌, ◌*◌, ◌/◌, ◌%◌, ◌^◌, Bool, true, false, ◌&&◌, ◌||◌, not}
 use Rattle.std.specs.Prelude.{◌<◌, All}
 use Rattle.std.specs.Prelude.{◌==◌, nat_lt, nat_le, if◌then◌else◌, List, [], ◌∷◌, length}
-use Rattle.std.specs.Prelude.{slice_index, ◌≡◌, ◌++◌}
+use Rattle.std.specs.Prelude.{slice_index, ◌≡◌, ◌++◌, codes, Option, Some, None}
 use Rattle.std.specs.List.{flat_map, list_any}
 use Rattle.std.specs.Char.{digit_char}
-use Rattle.std.specs.Str.{all_ascii_digits}
+use Rattle.std.specs.Str.{all_ascii_digits, bytes_eq}
 use Rattle.std.specs.Str.Parse.{digits_value}
 
 -- each is a byte
@@ -27,6 +27,11 @@ byte_text b =
 abbrev pub bytes_text : List ℕ → List ℕ
 bytes_text [] = 64 ∷ []
 bytes_text (b ∷ bs) = flat_map byte_text (b ∷ bs)
+
+-- the word for an upper bound of keys; * is none
+abbrev pub bound_text : Option (List ℕ) → List ℕ
+bound_text None = codes "*"
+bound_text (Some key) = bytes_text key
 
 -- 0 to 9, a to f
 abbrev pub is_hex : ℕ → Bool
@@ -62,6 +67,10 @@ pub record HasPlainFront (bytes front behind : List ℕ) : Type 0 where
 abbrev pub is_byte_string : List ℕ → Bool
 is_byte_string [] = false
 is_byte_string (a ∷ bs) = ((a == 64) && (length bs == 0)) || are_bytes (a ∷ bs)
+
+-- whether a word is an upper bound of keys
+abbrev pub is_bound : List ℕ → Bool
+is_bound w = bytes_eq w (codes "*") || is_byte_string w
 
 -- whether a word is a number: digits, the first of them no 0 but in 0 itself, at most 2^63 - 1
 abbrev pub is_number : List ℕ → Bool

@@ -45,6 +45,67 @@ const STATEMENTS: &[Fault] = &[
     ("config one\n", "line 1: bad number\n"),
 ];
 
+// Rows and snapshots.
+const ROWS: &[Fault] = &[
+    ("config 1\nrows 1 @ *\n", "line 2: wrong number of words\n"),
+    (
+        "config 1\nback 1 @ * 10 0 0\n",
+        "line 2: wrong number of words\n",
+    ),
+    ("config 1\nrow 1 @ * 10\n", "line 2: unknown statement\n"),
+    ("config 1\nrows x @ * 10\n", "line 2: bad number\n"),
+    ("config 1\nrows 1 @ * x\n", "line 2: bad number\n"),
+    ("config 1\nback 1 @ * 010\n", "line 2: bad number\n"),
+    (
+        "config 1\nrows 1 @ * 9223372036854775808\n",
+        "line 2: bad number\n",
+    ),
+    ("config 1\nrows 1 @ * 10 x\n", "line 2: bad number\n"),
+    ("config 1\nrows 1 * * 10\n", "line 2: bad bytes\n"),
+    ("config 1\nback 1 @ ** 10\n", "line 2: bad bytes\n"),
+    ("config 1\nrows 1 @ %2a 10 -\n", "line 2: bad number\n"),
+    ("config 1\nrows 1 a-b * 0\n", "line 2: bad bytes\n"),
+    ("config 1\nrows 1 @  10\n", "line 2: bad bytes\n"),
+    ("config 1\nrows 1 @ * 10 !fail 0\n", "line 2: bad fault\n"),
+    ("config 1\nback 1 @ * 0 !stop 1\n", "line 2: bad fault\n"),
+    ("config 1\nrows 2 @ * 10\n", "line 2: unknown node\n"),
+    // Where the line has a fault, its limit is not looked at.
+    ("config 1\nrows 2 @ * 0\n", "line 2: unknown node\n"),
+    ("back 1 @ * 10\nconfig 1\n", "line 1: out of place\n"),
+    (
+        "config 1\nrows 1 @ * 0\nconfig 1\n",
+        "line 3: out of place\n",
+    ),
+];
+
+const SNAPSHOTS: &[Fault] = &[
+    ("config 1\nopen\n", "line 2: wrong number of words\n"),
+    ("config 1\nopen 1 0 0\n", "line 2: wrong number of words\n"),
+    ("config 1\nopen x\n", "line 2: bad number\n"),
+    ("config 1\nopen 1 x\n", "line 2: bad number\n"),
+    ("config 1\nopen 1 !fail 0\n", "line 2: bad fault\n"),
+    ("config 1\nopen 2\n", "line 2: unknown node\n"),
+    ("open 1\nconfig 1\n", "line 1: out of place\n"),
+    ("config 1\nclose 1\n", "line 2: wrong number of words\n"),
+    ("config 1\nclose 1 0 0\n", "line 2: wrong number of words\n"),
+    ("config 1\nclose x 0\n", "line 2: bad number\n"),
+    ("config 1\nclose 1 x\n", "line 2: bad number\n"),
+    ("config 1\nclose 1 0 !stop 1 0\n", "line 2: bad fault\n"),
+    ("config 1\nclose 2 0\n", "line 2: unknown node\n"),
+    ("close 1 0\nconfig 1\n", "line 1: out of place\n"),
+    ("config 1\nclose 1 0\nconfig 1\n", "line 3: out of place\n"),
+];
+
+#[test]
+fn rows_and_bounds(rt: HostRuntime) {
+    all_told(&rt, first_silent(&rt, ROWS));
+}
+
+#[test]
+fn snapshots(rt: HostRuntime) {
+    all_told(&rt, first_silent(&rt, SNAPSHOTS));
+}
+
 #[test]
 fn statements_and_numbers(rt: HostRuntime) {
     all_told(&rt, first_silent(&rt, STATEMENTS));

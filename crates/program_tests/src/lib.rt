@@ -12,6 +12,8 @@ mod faults;
 #[cfg(test)]
 mod rewrites;
 #[cfg(test)]
+mod rows;
+#[cfg(test)]
 mod runs;
 #[cfg(test)]
 mod sizes;

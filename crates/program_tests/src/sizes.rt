@@ -28,6 +28,11 @@ const SUBMITS: &[(&str, &str, u32, &str, &str)] = &[
     ("submit 1", " k=v", 257, "", "2: invalid 4 TooManyEdits\n"),
     ("get 1 ", "k", 1024, "", "2: none at 0\n"),
     ("get 1 ", "k", 1025, "", "2: invalid 1 KeyTooLong\n"),
+    ("rows 1 ", "k", 1024, " * 1024", "2: rows 0 at 0\n"),
+    ("back 1 @ ", "k", 1024, " 1", "2: rows 0 at 0\n"),
+    // A range's limit is looked at behind its keys.
+    ("rows 1 ", "k", 1025, " * 0", "2: invalid 1 KeyTooLong\n"),
+    ("back 1 @ ", "k", 1025, " 1025", "2: invalid 1 KeyTooLong\n"),
 ];
 
 #[test]

@@ -4,12 +4,13 @@ ghost use Rattle.std.specs.Option.{option_or};
 ghost use Rattle.lab.specs.{node_in};
 ghost use Rattle.program.specs.Edits.{edit_of};
 ghost use Rattle.program.specs.Actions.{key_error, value_error, edit_error, edits_error};
-ghost use Rattle.program.specs.Actions.{size_error, action_of};
+ghost use Rattle.program.specs.Actions.{size_error, bound_error, range_error, action_of};
 ghost use Rattle.program.specs.Reading.{what_of};
 
 use super::command::{Bytes, Command, RawEdit, RawEdits};
+use super::range::RawRange;
 use super::statement::Action;
-use kv_types::{Batch, Edit, Key, KvError, Value};
+use kv_types::{Batch, Edit, Key, KvError, Range, Value};
 use lab::{Event, EventKind, Fault, NodeId};
 use std::alloc::{AllocError, Global};
 
@@ -90,6 +91,30 @@ fn submit(
     }
 }
 
+fn bound_of(bytes: Option<Bytes>) -> Result<Option<Key>, KvError>
+    ensures { MatchResult result (λ to. (bound_error bytes ≡ None) × (to ≡ bytes))
+        (λ e. bound_error bytes ≡ Some e) }
+{
+    match bytes {
+        None => Ok(None),
+        Some(bytes) => Ok(Some(key_of(bytes)?)),
+    }
+}
+
+/// The range that two keys and a limit make. The errors of the keys stand before that of the limit.
+fn range_of(range: RawRange) -> Result<Range, KvError>
+    ensures { MatchResult result (λ made. (range_error range ≡ None) × (made ≡ range))
+        (λ e. range_error range ≡ Some e) }
+{
+    let (from, to, backward, limit) = range.into_parts();
+    let from = key_of(from)?;
+    let to = bound_of(to)?;
+    match u32::try_from(limit) {
+        Ok(limit) => Range::new(from, to, backward, limit),
+        Err(_) => Err(KvError::BadLimit),
+    }
+}
+
 /// What comes of a statement that names this node.
 pub fn action(
     alloc: Global,
@@ -107,6 +132,12 @@ pub fn action(
             Ok(key) => EventKind::Get { node, key, at },
             Err(e) => return Ok(Action::Invalid(e)),
         },
+        Command::Rows(_, range, at) => match range_of(range) {
+            Ok(range) => EventKind::Rows { node, range, at },
+            Err(e) => return Ok(Action::Invalid(e)),
+        },
+        Command::Open(_, at) => EventKind::Open { node, at },
+        Command::Close(_, number) => EventKind::Close { node, number },
         Command::Tick(_) => EventKind::Tick { node },
         Command::Tend(_) => EventKind::Tend { node },
         Command::Stop(_, junk) => EventKind::Stop { node, junk },

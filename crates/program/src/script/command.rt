@@ -4,6 +4,7 @@ ghost use Rattle.lab.specs.{node_in};
 ghost use Rattle.program.specs.Reading.{what_of};
 ghost use Rattle.program.specs.Edits.{edit_of};
 
+use super::range::RawRange;
 use kv_types::Number;
 use lab::Junk;
 use std::alloc::{AllocError, Global};
@@ -88,6 +89,9 @@ impl RawEdits {
 pub enum Command {
     Submit(u64, RawEdits),
     Get(u64, Bytes, Option<Number>),
+    Rows(u64, RawRange, Option<Number>),
+    Open(u64, Option<Number>),
+    Close(u64, Number),
     Tick(u64),
     Tend(u64),
     Stop(u64, Junk),
@@ -102,6 +106,9 @@ impl Command {
         match self {
             Command::Submit(node, _) => *node,
             Command::Get(node, _, _) => *node,
+            Command::Rows(node, _, _) => *node,
+            Command::Open(node, _) => *node,
+            Command::Close(node, _) => *node,
             Command::Tick(node) => *node,
             Command::Tend(node) => *node,
             Command::Stop(node, _) => *node,

@@ -10,6 +10,7 @@ mod fault;
 mod junk;
 pub mod laws;
 mod lines;
+mod range;
 mod reader;
 mod setup;
 mod statement;

@@ -1,12 +1,14 @@
 //! Each statement, read from its words.
 ghost use Rattle.std.specs.Prelude.{◌≡◌, ◌∷◌, false, map, codes};
 ghost use Rattle.std.specs.Str.{bytes_eq};
+ghost use Rattle.program.specs.Statements.{walk_name};
 ghost use Rattle.program.specs.Reading.{ReadsCommand};
 
 use super::command::{Bytes, Command};
 use super::edit::raw_edits_of;
 use super::error::ScriptError;
 use super::junk::junk_of;
+use super::range::{RawRange, bounds_of};
 use super::word::{batch_number, bytes_of, number};
 use lab::Junk;
 use std::alloc::Global;
@@ -32,6 +34,65 @@ fn get(alloc: Global, args: &[&[u8]]) -> Result<Command, ScriptError>
     match bytes_of(alloc, key)? {
         None => Err(ScriptError::BadBytes),
         Some(key) => Ok(Command::Get(node, Bytes::new(key), at)),
+    }
+}
+
+fn rows(alloc: Global, backward: bool, args: &[&[u8]]) -> Result<Command, ScriptError>
+    ensures { ReadsCommand (walk_name backward ∷ map (λ w. w.now) args.now) result }
+{
+    let (node, from, to, limit, at) = match args {
+        [node, from, to, limit] => (node, from, to, limit, None),
+        [node, from, to, limit, at] => (node, from, to, limit, Some(at)),
+        _ => return Err(ScriptError::WrongNumberOfWords),
+    };
+    let (Some(node), Some(limit)) = (number(node), number(limit)) else {
+        return Err(ScriptError::BadNumber);
+    };
+    let at = match at {
+        None => None,
+        Some(at) => match batch_number(at) {
+            None => return Err(ScriptError::BadNumber),
+            at => at,
+        },
+    };
+    match bounds_of(alloc, from, to)? {
+        None => Err(ScriptError::BadBytes),
+        Some((from, to)) => Ok(Command::Rows(node, RawRange::new(from, to, backward, limit), at)),
+    }
+}
+
+fn open_snapshot(args: &[&[u8]]) -> Result<Command, ScriptError>
+    ensures { ReadsCommand (codes "open" ∷ map (λ w. w.now) args.now) result }
+{
+    let (node, at) = match args {
+        [node] => (node, None),
+        [node, at] => (node, Some(at)),
+        _ => return Err(ScriptError::WrongNumberOfWords),
+    };
+    let Some(node) = number(node) else {
+        return Err(ScriptError::BadNumber);
+    };
+    match at {
+        None => Ok(Command::Open(node, None)),
+        Some(at) => match batch_number(at) {
+            None => Err(ScriptError::BadNumber),
+            at => Ok(Command::Open(node, at)),
+        },
+    }
+}
+
+fn close_snapshot(args: &[&[u8]]) -> Result<Command, ScriptError>
+    ensures { ReadsCommand (codes "close" ∷ map (λ w. w.now) args.now) result }
+{
+    let [node, at] = args else {
+        return Err(ScriptError::WrongNumberOfWords);
+    };
+    let Some(node) = number(node) else {
+        return Err(ScriptError::BadNumber);
+    };
+    match batch_number(at) {
+        None => Err(ScriptError::BadNumber),
+        Some(at) => Ok(Command::Close(node, at)),
     }
 }
 
@@ -120,6 +181,14 @@ pub fn command_of(alloc: Global, name: &[u8], args: &[&[u8]]) -> Result<Command,
         submit(alloc, args)
     } else if name == b"get".as_slice() {
         get(alloc, args)
+    } else if name == b"rows".as_slice() {
+        rows(alloc, false, args)
+    } else if name == b"back".as_slice() {
+        rows(alloc, true, args)
+    } else if name == b"open".as_slice() {
+        open_snapshot(args)
+    } else if name == b"close".as_slice() {
+        close_snapshot(args)
     } else if name == b"stop".as_slice() {
         stop(alloc, args)
     } else if name == b"start".as_slice() {

@@ -4,6 +4,7 @@ ghost use Rattle.program.specs.Text.{reply_text, started_text, frame_text, stopp
 ghost use Rattle.program.specs.Text.{line_text};
 
 use super::names::{cause_name, reason_name, refusal_name, tended_name};
+use super::rows::RowsText;
 use super::spelled::Spelled;
 use kv_types::Number;
 use lab::{Epoch, Line, NodeId, Reply, Stop};
@@ -31,6 +32,13 @@ impl fmt::Display for ReplyText<'_> {
                 let value = Spelled(value.as_bytes());
                 write!(f, "value {value} at {}", number.get())
             }
+            Reply::Rows {
+                number,
+                ref page,
+                ..
+            } => RowsText(number, page).fmt(f),
+            Reply::Opened { number, .. } => write!(f, "opened {}", number.get()),
+            Reply::Closed { number, .. } => write!(f, "closed {}", number.get()),
             Reply::Refused { refusal, .. } => write!(f, "refused {}", refusal_name(refusal)),
         }
     }

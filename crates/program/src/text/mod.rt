@@ -3,6 +3,7 @@
 mod line;
 mod names;
 mod printing;
+mod rows;
 mod shown;
 mod spelled;
 

@@ -1,14 +1,17 @@
 //! The text of a whole run.
-ghost use Rattle.std.specs.Prelude.{◌≡◌, ◌++◌, drop, replicate, OnOk, IfOk};
+ghost use Rattle.std.specs.Prelude.{◌≡◌, ◌++◌, drop, map, replicate, OnOk, IfOk};
 ghost use Rattle.std.specs.List.{flat_map};
 ghost use Rattle.std.specs.Io.KnownBytes.{Appends};
 ghost use Rattle.program.specs.Text.{event_lines, line_of_request, reply_place, line_output};
 ghost use Rattle.program.specs.Text.{step_text, note_text, result_text, run_text, request_of};
+ghost use Rattle.program.specs.Text.{line_text, numbered_line, printed_row, rows_of_line};
 
 use super::line::{LineText, StoppedText};
 use super::names::error_name;
+use super::rows::RowText;
 use super::shown::NumbersText;
 use crate::statement_result::{Note, StatementResult};
+use kv_types::Row;
 use lab::{Line, Lines, Reply};
 use std::alloc::{AllocError, Global};
 use std::io::{self, Write};
@@ -39,6 +42,9 @@ fn request(reply: &Reply) -> u64
     match reply {
         Reply::Committed { request, .. } => request.get(),
         Reply::Value { request, .. } => request.get(),
+        Reply::Rows { request, .. } => request.get(),
+        Reply::Opened { request, .. } => request.get(),
+        Reply::Closed { request, .. } => request.get(),
         Reply::Refused { request, .. } => request.get(),
     }
 }
@@ -64,13 +70,44 @@ fn place_of(events: &[u32], here: u32, line: &Line) -> u32
     }
 }
 
+/// The rows of an answer, which stand before its own line.
+fn rows_of(line: &Line) -> &[Row]
+    ensures { result.now ≡ rows_of_line line.now }
+{
+    match line {
+        Line::Replied(Reply::Rows { page, .. }) => page.rows(),
+        _ => &[],
+    }
+}
+
+fn print_rows<W: Write>(number: u32, rows: &[Row], out: &mut W) -> io::Result<()>
+    ensures { OnOk result (Appends (W.contents out.old) (W.contents out.new)
+        (flat_map (numbered_line number) (map printed_row rows.now))) }
+{
+    for row in rows {
+        let text = RowText(row);
+        writeln!(out, "{number}: {text}")?;
+    }
+    Ok(())
+}
+
+// The line without its rows.
+fn print_text<W: Write>(number: u32, line: &Line, out: &mut W) -> io::Result<()>
+    ensures { OnOk result (Appends (W.contents out.old) (W.contents out.new)
+        (numbered_line number (line_text line.now))) }
+{
+    let text = LineText(line);
+    writeln!(out, "{number}: {text}")
+}
+
 fn print_line<W: Write>(events: &[u32], here: u32, line: &Line, out: &mut W) -> io::Result<()>
     ensures { OnOk result (Appends (W.contents out.old) (W.contents out.new)
         (line_output events.now here line.now)) }
 {
     let number = place_of(events, here, line);
-    let text = LineText(line);
-    writeln!(out, "{number}: {text}")
+    print_rows(number, rows_of(line), out)?;
+    print_text(number, line, out)?;
+    Ok(())
 }
 
 fn print_step<W: Write>(events: &[u32], here: u32, step: &[Line], out: &mut W) -> io::Result<()>

@@ -1,9 +1,9 @@
-use Rattle.std.proofs.Common.{append-nil, rules}
-use Rattle.program.specs.Text.{numbered_line, reply_place, line_text}
+use Rattle.program.proofs.Printed.{prints_line}
 use Rattle.program.proofs.text.printing.print_line.Goals as goal
 
--- a report's line has one line of output
 pub returns : goal.returns
 returns g c =
-    rw (append-nil (numbered_line (reply_place c.args.events.now c.args.here c.args.line.now)
-    (line_text c.args.line.now))) (search rules)
+    prints_line (g.W.Write.contents c.args.out.now) (g.W.Write.contents c.print_rows.new.out) _
+    c.args.events.now c.args.here c.place_of-number.result c.args.line.now c.rows_of.result.now
+    c.place_of-number.ensures c.rows_of.ensures c.in_ok-print_rows.ensures
+    c.in_ok-print_text.ensures
