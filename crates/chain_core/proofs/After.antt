@@ -41,7 +41,7 @@ module _ (core : Core) (n : Machine) (is : CoreRefines core n) where
     pub follows_accept : (pending due : List PendingSubmit) → pending ≡ behind c all → due ≡ front c
         all →
         CoreFollows (record core { count = number; committed = c; pending = pending })
-        (accept core.id n i batch) due
+        (accept core.id n i batch) (committed_responses due)
     follows_accept pending answered left out =
         let asked : PendingSubmit = record { number = number; request = i } in
         let new : Core = record core { count = number; committed = c; pending = pending } in
@@ -53,7 +53,7 @@ module _ (core : Core) (n : Machine) (is : CoreRefines core n) where
         let waits : m.pending ≡ waiting all =
         rw (is.pending, is.count, ← next) (sym (waiting_push core.pending asked)) in
         let base : CoreFollows new (acknowledge m (forward core.id m (suc (length n.list))))
-        answered =
+        (committed_responses answered) =
         record {
           is = record {
             epoch = is.epoch;
@@ -73,7 +73,7 @@ module _ (core : Core) (n : Machine) (is : CoreRefines core n) where
               ∙ (due_front 0 number c all rises ∙ ap committed_responses (sym out)));
         } in
         subst (λ (k : Machine). CoreFollows new
-        (acknowledge k (forward core.id k (suc (length n.list)))) answered)
+        (acknowledge k (forward core.id k (suc (length n.list)))) (committed_responses answered))
         (sym (committed_by (is_tail n.ids core.id) (longer_for n i batch))) base
 
   -- after a batch of the predecessor
@@ -107,7 +107,7 @@ module _ (core : Core) (n : Machine) (is : CoreRefines core n) where
       IsInOrder 0 core.count core.pending →
       pending ≡ behind c core.pending → due ≡ front c core.pending →
       CoreFollows (record core { committed = c; successor_has = has; pending = pending })
-      (on_ack core.id n committed have) due
+      (on_ack core.id n committed have) (committed_responses due)
   follows_told committed have c has pending answered greater more ordered left out =
       let same : max n.committed committed ≡ c =
       ap (λ (k : ℕ). max k committed) is.committed ∙ sym greater in

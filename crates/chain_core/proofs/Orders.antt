@@ -5,6 +5,7 @@ use Rattle.std.proofs.lemmas.Bool.{true≢false}
 use Rattle.chain_model.specs.{is_tail}
 use Rattle.chain_core.specs.declared.pending_submit.PendingSubmit.{PendingSubmit}
 use Rattle.chain_core.specs.States.{Core, HasOrderedNumbers, IsInOrder}
+use Rattle.chain_core.proofs.Snapshots.{snapshots_stay}
 
 module _ (core : Core) (o : HasOrderedNumbers core) where
   longer_where : (b : Bool) → is_tail core.ids core.id ≡ b → (number c : ℕ)
@@ -18,6 +19,8 @@ module _ (core : Core) (o : HasOrderedNumbers core) where
     successor_has = λ no_tail. absurd (true≢false (sym tail ∙ no_tail));
     sent = omega (arith, o.sent, next);
     pending = rises;
+    snapshots = snapshots_stay core.floor core.committed core.snapshots o.snapshots c
+        (omega (arith, o.committed, next, commits));
   }
   longer_where false tail number c pending next commits rises = record {
     kept = o.kept;
@@ -26,6 +29,8 @@ module _ (core : Core) (o : HasOrderedNumbers core) where
     successor_has = λ no_tail. omega (arith, o.successor_has no_tail, commits);
     sent = omega (arith, o.sent, next);
     pending = rises;
+    snapshots = snapshots_stay core.floor core.committed core.snapshots o.snapshots c
+        (omega (arith, o.committed, next, commits));
   }
 
   -- after one more batch, which a tail commits
@@ -47,4 +52,6 @@ module _ (core : Core) (o : HasOrderedNumbers core) where
     successor_has = λ no_tail. omega (arith, o.successor_has no_tail, greater, more, told);
     sent = omega (arith, o.sent, more, there);
     pending = rises;
+    snapshots = snapshots_stay core.floor core.committed core.snapshots o.snapshots c
+        (omega (arith, greater));
   }

@@ -44,6 +44,7 @@ module _ (x : ℕ) (n : Machine) (batch : BatchContent) where
         ids = refl;
         floor = refl;
         kept = refl;
+        snapshots = refl;
         frames = same_forward (successor n.ids x) x next (place long next) m
             (not_due m.committed m.pending);
         dropped = refl;
@@ -69,6 +70,7 @@ steps_leave x n batch done.Appended =
       ids = refl;
       floor = refl;
       kept = refl;
+      snapshots = refl;
       frames = refl;
       dropped = refl;
     } in
@@ -82,11 +84,32 @@ steps_leave x n batch (done.Acked committed have) =
       ids = refl;
       floor = refl;
       kept = refl;
+      snapshots = refl;
       frames = ap
           (λ (fs : List (Message BatchContent)). if nat_lt n.committed committed then fs else [])
           (same_ack (predecessor n.ids x) x m (not_due m.committed m.pending));
       dropped = refl;
     }
+steps_leave x n batch (done.Opened i s) = record {
+  list = refl;
+  epoch = refl;
+  ids = refl;
+  floor = refl;
+  kept = refl;
+  snapshots = refl;
+  frames = refl;
+  dropped = refl;
+}
+steps_leave x n batch (done.Closed i s) = record {
+  list = refl;
+  epoch = refl;
+  ids = refl;
+  floor = refl;
+  kept = refl;
+  snapshots = refl;
+  frames = refl;
+  dropped = refl;
+}
 
 pub stands_last : StandsLast
 stands_last [] batch = refl

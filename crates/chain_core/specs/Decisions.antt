@@ -1,12 +1,16 @@
 -- Decisions on inputs, and their execution: the rules of the chain's model by name.
-use Rattle.std.specs.Prelude.{◌≡◌, ◌≤◌, ◌<◌, ℕ, suc, List, length, map, Option}
-use Rattle.std.specs.Prelude.{Some, None, Result, IfOk, OnErr}
+use Rattle.std.specs.Prelude.{◌≡◌, ◌≤◌, ◌<◌, ℕ, suc, List, ◌∷◌, length, map, Option}
+use Rattle.std.specs.Prelude.{Some, None, Result, IfOk, OnErr, IsTrue}
 use Rattle.std.specs.Global.{Vec}
 use Rattle.kv_types.specs.declared.bounds.TheConstants.{MAX_NUMBER}
 use Rattle.kv_types.specs.{BatchContent}
 use Rattle.chain_model.specs as model_frame
 use Rattle.chain_model.specs.{Answer, dropped_for, refused, ask, receive, tick, accept, append}
 use Rattle.chain_model.specs.{ack_duplicate, on_ack, resend, reply_read, Message, Request}
+use Rattle.chain_model.specs.{Response, Opened, Closed}
+use Rattle.chain_model.specs.Machine.{is_open}
+use Rattle.chain_model.specs.Rules.{add_snapshot, remove_snapshot, if_readable, number_read}
+use Rattle.chain_model.specs.declared.Refusal.{Refusal}
 use Rattle.link_messages.specs.declared.Frame.{Frame}
 use Rattle.link_messages.specs.declared.Frame.TheVariants as frame
 use Rattle.chain_core.specs.declared.input.Input.{Input}
@@ -24,6 +28,9 @@ use Rattle.chain_core.specs.States.{Machine, Core, CoreRefines, committed_respon
 abbrev pub answer_to : ℕ → Machine → Input → Answer BatchContent
 answer_to x n (input.Submit request batch) = ask x n request (Request.Submit batch)
 answer_to x n (input.Get request key at) = ask x n request (Request.Read at)
+answer_to x n (input.Rows request range at) = ask x n request (Request.Read at)
+answer_to x n (input.Open request at) = ask x n request (Request.Open at)
+answer_to x n (input.Close request number) = ask x n request (Request.Close number)
 answer_to x n (input.Forward epoch from number batch) =
     receive x n (Message.Forward x epoch from number batch)
 answer_to x n (input.Ack epoch from committed have) =
@@ -37,15 +44,21 @@ rule_of x n (decision.Append batch) = append x n (suc (length n.list)) batch
 rule_of x n decision.AckDuplicate = ack_duplicate x n
 rule_of x n (decision.OnAck committed have) = on_ack x n committed have
 rule_of x n (decision.Read request key at) = reply_read n request at
+rule_of x n (decision.ReadRows request range at) = reply_read n request at
+rule_of x n (decision.Open request number) = add_snapshot n request number
+rule_of x n (decision.Close request number) = remove_snapshot n request number
 rule_of x n decision.Resend = resend x n
 rule_of x n (decision.Refuse request why) = refused n request why
 rule_of x n (decision.Drop why) = dropped_for n why
 
--- the read is of the requested key, at a number from the floor to the committed number
+-- the read is of the requested key or range, at a number from the floor to the committed number
 abbrev pub IsReadOf : Machine → Input → Decision → Type 0
 IsReadOf n (input.Get request key at) (decision.Read same other s) =
     (other ≡ key) × (n.floor ≤ s) × (s ≤ n.committed)
+IsReadOf n (input.Rows request range at) (decision.ReadRows same other s) =
+    (other ≡ range) × (n.floor ≤ s) × (s ≤ n.committed)
 IsReadOf n input (decision.Read same other s) = ⊥
+IsReadOf n input (decision.ReadRows same other s) = ⊥
 IsReadOf n input _ = Unit {0}
 
 -- the machine's answer is the rule that the decision names
@@ -58,39 +71,78 @@ abbrev pub done_of : ℕ → Machine → BatchContent → Done → Answer BatchC
 done_of x n batch (done.Accepted request) = accept x n request batch
 done_of x n batch done.Appended = append x n (suc (length n.list)) batch
 done_of x n batch (done.Acked committed have) = on_ack x n committed have
+done_of x n batch (done.Opened request number) = add_snapshot n request number
+done_of x n batch (done.Closed request number) = remove_snapshot n request number
 
--- The bounds of a decision by the count. A number is left for a batch. A successor reports at most
--- as many batches committed as it has, and has at most as many as the node.
-abbrev pub DecisionFitsCount : ℕ → Decision → Type 0
-DecisionFitsCount count (decision.Accept request batch) = count < MAX_NUMBER
-DecisionFitsCount count (decision.Append batch) = count < MAX_NUMBER
-DecisionFitsCount count (decision.OnAck committed have) = (committed ≤ have) × (have ≤ count)
-DecisionFitsCount count _ = Unit {0}
+-- the successor has at most as many batches committed as it has, and at most as many as the node
+pub record IsReport (core : Core) (committed have : ℕ) : Type 0 where
+  pub has : committed ≤ have
+  pub there : have ≤ core.count
 
--- the bounds of a step's store part by the count
-abbrev pub DoneFitsCount : ℕ → Done → Type 0
-DoneFitsCount count (done.Accepted request) = count < MAX_NUMBER
-DoneFitsCount count done.Appended = count < MAX_NUMBER
-DoneFitsCount count (done.Acked committed have) = (committed ≤ have) × (have ≤ count)
+-- the number can be read, and one more snapshot may be open
+pub record HasRoomAt (core : Core) (number : ℕ) : Type 0 where
+  pub floor : core.floor ≤ number
+  pub committed : number ≤ core.committed
+  pub room : length core.snapshots < 64
+
+-- The store's part of a step can be done by these numbers: a number is left for a batch, a report
+-- can be true, a snapshot can be opened, or one is open at the number that is closed.
+abbrev pub DoneFits : Core → Done → Type 0
+DoneFits core (done.Accepted request) = core.count < MAX_NUMBER
+DoneFits core done.Appended = core.count < MAX_NUMBER
+DoneFits core (done.Acked committed have) = IsReport core committed have
+DoneFits core (done.Opened request number) = HasRoomAt core number
+DoneFits core (done.Closed request number) = IsTrue (is_open number core.snapshots)
+
+-- the decision can be executed by these numbers
+abbrev pub DecisionFits : Core → Decision → Type 0
+DecisionFits core (decision.Accept request batch) = core.count < MAX_NUMBER
+DecisionFits core (decision.Append batch) = core.count < MAX_NUMBER
+DecisionFits core (decision.OnAck committed have) = IsReport core committed have
+DecisionFits core (decision.Open request number) = HasRoomAt core number
+DecisionFits core (decision.Close request number) = IsTrue (is_open number core.snapshots)
+DecisionFits core _ = Unit {0}
+
+-- the number that a client asks for can be read at each machine with these numbers
+pub record IsReadable (core : Core) (at : Option ℕ) (s : ℕ) : Type 0 where
+  pub floor : core.floor ≤ s
+  pub committed : s ≤ core.committed
+  pub answered : (n : Machine) (i : ℕ) (answer : Answer BatchContent) → CoreRefines core n →
+      (number_read n at ≡ s) × (if_readable core.id n i (number_read n at) answer ≡ answer)
+
+-- the number that a client asks for is refused at each machine with these numbers
+abbrev pub IsRefused : Core → Option ℕ → Refusal → Type 0
+IsRefused core at why = (n : Machine) (i : ℕ) (answer : Answer BatchContent) →
+    CoreRefines core n → if_readable core.id n i (number_read n at) answer ≡ refused n i why
 
 -- A decision on an input, by a node's numbers: it names the rule of each machine that they refine,
--- and is within the bounds by the count.
+-- and it can be executed by them.
 pub record IsDecisionOn (core : Core) (input : Input) (decision : Decision) : Type 0 where
   pub decides : (n : Machine) → CoreRefines core n → Decides core.id n input decision
-  pub room : DecisionFitsCount core.count decision
+  pub room : DecisionFits core decision
 
--- the state refines the machine of the answer, and these requests have its replies
-pub record CoreFollows (new : Core) (answer : Answer BatchContent) (due : List PendingSubmit) : Type
-    0 where
+-- the replies after the store's part of a step: of a snapshot to its own request, and to the
+-- requests whose batches are now committed
+abbrev pub responses_after : Done → List PendingSubmit → List (Response BatchContent)
+responses_after (done.Opened request number) due =
+    Opened request number ∷ committed_responses due
+responses_after (done.Closed request number) due =
+    Closed request number ∷ committed_responses due
+responses_after _ due = committed_responses due
+
+-- the state refines the machine of the answer, which has these replies
+pub record CoreFollows (new : Core) (answer : Answer BatchContent)
+    (replies : List (Response BatchContent)) : Type 0 where
   pub is : CoreRefines new answer.node
-  pub replied : answer.replies ≡ committed_responses due
+  pub replied : answer.replies ≡ replies
 
 -- The store's part of a step was applied to the state, which then follows the rule that was done.
 -- The committed number never falls, and for want of memory nothing changes.
 pub record CoreApplies (old new : Core) (done : Done)
     (result : Result (Vec PendingSubmit) CoreError) : Type 0 where
   pub after : (n : Machine) (batch : BatchContent) → CoreRefines old n →
-      IfOk result (λ due. CoreFollows new (done_of old.id n batch done) due.items)
+      IfOk result (λ due.
+      CoreFollows new (done_of old.id n batch done) (responses_after done due.items))
   pub rises : old.committed ≤ new.committed
   pub same : new.id ≡ old.id
   pub memory : OnErr result (new ≡ old)

@@ -1,5 +1,5 @@
 -- The numbers of a node without its batches, and the machine of the chain's model with them.
-use Rattle.std.specs.Prelude.{◌≡◌, ◌≤◌, ◌<◌, ℕ, List, [], ◌∷◌, length, map, true, false}
+use Rattle.std.specs.Prelude.{◌≡◌, ◌≤◌, ◌<◌, ℕ, List, [], ◌∷◌, length, map, true, false, All}
 use Rattle.kv_types.specs.{BatchContent}
 use Rattle.chain_model.specs.{is_tail, Response, Committed}
 use Rattle.chain_model.specs as model
@@ -54,6 +54,11 @@ IsInOrder above most [] = Unit {0}
 IsInOrder above most (it ∷ rest) =
     (above < it.number) × (it.number ≤ most) × IsInOrder it.number most rest
 
+-- each snapshot is at a number from the floor to the committed number, and at most 64 are open
+pub record AreSnapshots (floor committed : ℕ) (snapshots : List ℕ) : Type 0 where
+  pub within : All (λ s. (floor ≤ s) × (s ≤ committed)) snapshots
+  pub few : length snapshots ≤ 64
+
 -- the order of a node's numbers, with pending requests of rising numbers
 pub record HasOrderedNumbers (core : Core) : Type 0 where
   pub kept : core.kept ≤ core.floor
@@ -63,6 +68,7 @@ pub record HasOrderedNumbers (core : Core) : Type 0 where
   pub successor_has : is_tail core.ids core.id ≡ false → core.committed ≤ core.successor_has
   pub sent : core.successor_has ≤ core.count
   pub pending : IsInOrder 0 core.count core.pending
+  pub snapshots : AreSnapshots core.floor core.committed core.snapshots
 
 -- each request is acknowledged: its batch is committed
 abbrev pub committed_responses : List PendingSubmit → List (Response BatchContent)

@@ -3,6 +3,7 @@ use Rattle.std.specs.Prelude.{◌≡◌, ℕ, suc, ◌+◌, List, [], ◌∷◌,
 use Rattle.std.specs.Prelude.{if◌then◌else◌, nat_lt}
 use Rattle.kv_types.specs.{BatchContent}
 use Rattle.chain_model.specs.{is_tail, Message, place, Answer, ack, forward, forwards}
+use Rattle.chain_model.specs.Machine.{without}
 use Rattle.chain_core.specs.declared.done.Done.{Done}
 use Rattle.chain_core.specs.declared.done.Done.TheVariants as done
 use Rattle.chain_core.specs.States.{Machine}
@@ -13,30 +14,48 @@ abbrev pub list_after : Machine → BatchContent → Done → List BatchContent
 list_after n batch (done.Accepted request) = n.list ++ batch ∷ []
 list_after n batch done.Appended = n.list ++ batch ∷ []
 list_after n batch (done.Acked committed have) = n.list
+list_after n batch (done.Opened request number) = n.list
+list_after n batch (done.Closed request number) = n.list
 
 -- the epoch after the step
 abbrev pub epoch_after : Machine → Done → ℕ
 epoch_after n (done.Accepted request) = n.epoch
 epoch_after n done.Appended = n.epoch
 epoch_after n (done.Acked committed have) = n.epoch
+epoch_after n (done.Opened request number) = n.epoch
+epoch_after n (done.Closed request number) = n.epoch
 
 -- the configuration after the step
 abbrev pub ids_after : Machine → Done → List ℕ
 ids_after n (done.Accepted request) = n.ids
 ids_after n done.Appended = n.ids
 ids_after n (done.Acked committed have) = n.ids
+ids_after n (done.Opened request number) = n.ids
+ids_after n (done.Closed request number) = n.ids
 
 -- the floor after the step
 abbrev pub floor_after : Machine → Done → ℕ
 floor_after n (done.Accepted request) = n.floor
 floor_after n done.Appended = n.floor
 floor_after n (done.Acked committed have) = n.floor
+floor_after n (done.Opened request number) = n.floor
+floor_after n (done.Closed request number) = n.floor
 
 -- the kept number after the step
 abbrev pub kept_after : Machine → Done → ℕ
 kept_after n (done.Accepted request) = n.kept
 kept_after n done.Appended = n.kept
 kept_after n (done.Acked committed have) = n.kept
+kept_after n (done.Opened request number) = n.kept
+kept_after n (done.Closed request number) = n.kept
+
+-- the open snapshots after the step
+abbrev pub snapshots_after : Machine → Done → List ℕ
+snapshots_after n (done.Accepted request) = n.snapshots
+snapshots_after n done.Appended = n.snapshots
+snapshots_after n (done.Acked committed have) = n.snapshots
+snapshots_after n (done.Opened request number) = number ∷ n.snapshots
+snapshots_after n (done.Closed request number) = without number n.snapshots
 
 -- the frames of the step, by the state of the new machine
 abbrev pub frames_after : ℕ → Machine → Done → Machine → List (Message BatchContent)
@@ -45,8 +64,11 @@ frames_after x old done.Appended new =
     forward x new (suc (length old.list)) ++ (if is_tail new.ids x then ack x new else [])
 frames_after x old (done.Acked committed have) new =
     if nat_lt old.committed committed then ack x new else []
+frames_after x old (done.Opened request number) new = []
+frames_after x old (done.Closed request number) new = []
 
--- the persistent state is the one that each kind of step leaves, and these frames are sent
+-- the persistent state and the snapshots are those that each kind of step leaves, and these frames
+-- are sent
 pub record StepLeaves (x : ℕ) (n : Machine) (batch : BatchContent) (d : Done)
     (a : Answer BatchContent)
     : Type 0 where
@@ -55,6 +77,7 @@ pub record StepLeaves (x : ℕ) (n : Machine) (batch : BatchContent) (d : Done)
   pub ids : a.node.ids ≡ ids_after n d
   pub floor : a.node.floor ≡ floor_after n d
   pub kept : a.node.kept ≡ kept_after n d
+  pub snapshots : a.node.snapshots ≡ snapshots_after n d
   pub frames : a.frames ≡ frames_after x n d a.node
   pub dropped : a.dropped ≡ None
 

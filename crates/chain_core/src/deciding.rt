@@ -1,10 +1,11 @@
 // The rule for each input, by the numbers of the node that receives it.
-ghost use Rattle.chain_core.specs.Decisions.{IsDecisionOn};
+ghost use Rattle.std.specs.Prelude.{MatchResult};
+ghost use Rattle.chain_core.specs.Decisions.{IsDecisionOn, IsReadable, IsRefused};
 
 use crate::{CoreState, Decision, DropReason, Input};
 use configurations::{Epoch, NodeId};
 use kv_types::bounds::MAX_NUMBER;
-use kv_types::{Batch, Key, Number};
+use kv_types::{Batch, Key, Number, Range};
 use link_messages::Refusal;
 
 fn of_submit(state: &CoreState, request: Number, batch: Batch) -> Decision
@@ -25,27 +26,66 @@ fn of_submit(state: &CoreState, request: Number, batch: Batch) -> Decision
     Decision::Accept { request, batch }
 }
 
+// The number that a client asks for, which can be read, or why it is refused.
+fn number_read(state: &CoreState, at: Option<Number>) -> Result<Number, Refusal>
+    ensures { MatchResult result (IsReadable state.now at) (IsRefused state.now at) }
+{
+    let number = at.unwrap_or(state.committed());
+    if state.is_removed() {
+        return Err(Refusal::Removed);
+    }
+    if number < state.floor() {
+        return Err(Refusal::TooOld);
+    }
+    if number > state.committed() {
+        return Err(Refusal::NotCommitted);
+    }
+    Ok(number)
+}
+
 fn of_get(state: &CoreState, request: Number, key: Key, at: Option<Number>) -> Decision
     ensures { IsDecisionOn state.now (Input.Get request key at) result }
 {
-    let number = at.unwrap_or(state.committed());
+    match number_read(state, at) {
+        Ok(at) => Decision::Read { request, key, at },
+        Err(refusal) => Decision::Refuse { request, refusal },
+    }
+}
+
+fn of_rows(state: &CoreState, request: Number, range: Range, at: Option<Number>) -> Decision
+    ensures { IsDecisionOn state.now (Input.Rows request range at) result }
+{
+    match number_read(state, at) {
+        Ok(at) => Decision::ReadRows { request, range, at },
+        Err(refusal) => Decision::Refuse { request, refusal },
+    }
+}
+
+fn of_open(state: &CoreState, request: Number, at: Option<Number>) -> Decision
+    ensures { IsDecisionOn state.now (Input.Open request at) result }
+{
+    match number_read(state, at) {
+        Ok(number) if state.has_room() => Decision::Open { request, number },
+        Ok(_) => Decision::Refuse {
+            request,
+            refusal: Refusal::TooManySnapshots,
+        },
+        Err(refusal) => Decision::Refuse { request, refusal },
+    }
+}
+
+fn of_close(state: &CoreState, request: Number, number: Number) -> Decision
+    ensures { IsDecisionOn state.now (Input.Close request number) result }
+{
     if state.is_removed() {
         let refusal = Refusal::Removed;
         return Decision::Refuse { request, refusal };
     }
-    if number < state.floor() {
-        let refusal = Refusal::TooOld;
+    if !state.is_open(number) {
+        let refusal = Refusal::NoSuchSnapshot;
         return Decision::Refuse { request, refusal };
     }
-    if number > state.committed() {
-        let refusal = Refusal::NotCommitted;
-        return Decision::Refuse { request, refusal };
-    }
-    Decision::Read {
-        request,
-        key,
-        at: number,
-    }
+    Decision::Close { request, number }
 }
 
 fn of_forward(
@@ -112,6 +152,9 @@ pub fn decide(state: &CoreState, input: Input) -> Decision
     match input {
         Input::Submit { request, batch } => of_submit(state, request, batch),
         Input::Get { request, key, at } => of_get(state, request, key, at),
+        Input::Rows { request, range, at } => of_rows(state, request, range, at),
+        Input::Open { request, at } => of_open(state, request, at),
+        Input::Close { request, number } => of_close(state, request, number),
         Input::Forward {
             epoch,
             from,

@@ -1,6 +1,6 @@
 // The decision on an input: the rule, with its arguments.
 use crate::DropReason;
-use kv_types::{Batch, Key, Number};
+use kv_types::{Batch, Key, Number, Range};
 use link_messages::Refusal;
 
 /// The action of a node on an input.
@@ -28,6 +28,22 @@ pub enum Decision {
         request: Number,
         key: Key,
         at: Number,
+    },
+    /// The node answers the client with a page of the rows of the range at this number.
+    ReadRows {
+        request: Number,
+        range: Range,
+        at: Number,
+    },
+    /// The node opens one more snapshot at this number.
+    Open {
+        request: Number,
+        number: Number,
+    },
+    /// The node closes one snapshot at this number.
+    Close {
+        request: Number,
+        number: Number,
     },
     /// The node sends again the batches that its successor may lack, and acknowledges again.
     Resend,

@@ -2,7 +2,7 @@
 use kv_types::Number;
 
 /// The store's part of a decision that changes the state of a node. The store already has the
-/// batch, if there is one.
+/// batch or the snapshot, if there is one.
 #[derive(Clone, Copy)]
 pub enum Done {
     /// A batch of this request was appended.
@@ -11,4 +11,8 @@ pub enum Done {
     Appended,
     /// The successor reported these numbers.
     Acked { committed: Number, have: Number },
+    /// A snapshot was opened at this number.
+    Opened { request: Number, number: Number },
+    /// A snapshot at this number was closed.
+    Closed { request: Number, number: Number },
 }

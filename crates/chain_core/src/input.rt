@@ -1,6 +1,6 @@
 // The inputs of a node: requests of clients, frames of neighbours, ticks.
 use configurations::{Epoch, NodeId};
-use kv_types::{Batch, Key, Number};
+use kv_types::{Batch, Key, Number, Range};
 
 /// An input of a running node.
 #[derive(Drop)]
@@ -14,6 +14,22 @@ pub enum Input {
         request: Number,
         key: Key,
         at: Option<Number>,
+    },
+    /// A client's read of the rows of a range, at a number or else at the committed number.
+    Rows {
+        request: Number,
+        range: Range,
+        at: Option<Number>,
+    },
+    /// A client holds a number open, or else the committed number.
+    Open {
+        request: Number,
+        at: Option<Number>,
+    },
+    /// A client closes a snapshot at this number.
+    Close {
+        request: Number,
+        number: Number,
     },
     /// The predecessor's batch of this number.
     Forward {

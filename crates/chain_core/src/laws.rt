@@ -2,7 +2,7 @@
 //! laws.
 ghost use Rattle.chain_core.specs.Steps.{StepsLeave, StandsLast, OneByOne};
 
-/// The persistent state after a step, and the frames that the step sends.
+/// The persistent state and the snapshots after a step, and the frames that the step sends.
 pub fn steps_leave()
     ensures { StepsLeave }
 {}

@@ -1,13 +1,15 @@
 // The state of a node besides its batches, and the change of it by each step.
-ghost use Rattle.std.specs.Prelude.{◌≡◌, ◌<◌, ◌≤◌, suc, length, max, not};
-ghost use Rattle.std.specs.Prelude.{if◌then◌else◌};
+ghost use Rattle.std.specs.Prelude.{◌≡◌, ◌==◌, ◌<◌, ◌≤◌, ◌∷◌, suc, length, max, not};
+ghost use Rattle.std.specs.Prelude.{if◌then◌else◌, IsTrue, OnErr, OnOk};
+ghost use Rattle.std.specs.List.{position_from};
 ghost use Rattle.kv_types.specs.declared.bounds.TheConstants.{MAX_NUMBER};
 ghost use Rattle.kv_types.specs.{BatchContent};
 ghost use Rattle.chain_model.specs.{has, is_head, is_tail, predecessor, successor, created};
 ghost use Rattle.chain_model.specs.{started, append};
+ghost use Rattle.chain_model.specs.Machine.{is_open, without};
 ghost use Rattle.chain_core.specs.States.{Machine, CoreRefines, PersistentRefines};
 ghost use Rattle.chain_core.specs.States.{HasOrderedNumbers};
-ghost use Rattle.chain_core.specs.Decisions.{DoneFitsCount, CoreApplies};
+ghost use Rattle.chain_core.specs.Decisions.{CoreApplies, DoneFits, HasRoomAt, IsReport};
 
 use crate::queue::{count_due, move_due};
 use crate::{CoreError, Done, PendingSubmit, PersistentState};
@@ -16,6 +18,9 @@ use kv_types::Number;
 use std::alloc::Global;
 use std::collections::VecDeque;
 use std::marker::Model;
+
+/// The greatest number of open snapshots of a node.
+const MAX_SNAPSHOTS: usize = 64;
 
 /// The state of a node besides its batches: its numbers, its configuration, and its pending
 /// requests.
@@ -29,7 +34,7 @@ pub struct CoreState {
     floor: Number,
     kept: Number,
     successor_has: Number,
-    snapshots: Vec<Number>,
+    snapshots: VecDeque<Number>,
     pending: VecDeque<PendingSubmit>,
 }
 
@@ -57,6 +62,13 @@ fn is_tail(config: &Config, id: NodeId) -> bool
     config.tail() == id
 }
 
+// The place of the newest snapshot at this number.
+fn place_of(snapshots: &VecDeque<Number>, number: Number) -> Option<usize>
+    ensures { result ≡ position_from (λ s. number == s) 0 snapshots.now.items }
+{
+    snapshots.iter().position(|open| number == *open)
+}
+
 fn greater(a: Number, b: Number) -> Number
     ensures { result ≡ max a b }
 {
@@ -78,7 +90,7 @@ impl CoreState {
             floor: Number::ZERO,
             kept: Number::ZERO,
             successor_has: Number::ZERO,
-            snapshots: Vec::new(alloc),
+            snapshots: VecDeque::new(alloc),
             pending: VecDeque::new(alloc),
         }
     }
@@ -103,7 +115,7 @@ impl CoreState {
             floor: rest.floor,
             kept: rest.kept,
             successor_has: committed,
-            snapshots: Vec::new(alloc),
+            snapshots: VecDeque::new(alloc),
             pending: VecDeque::new(alloc),
         }
     }
@@ -205,6 +217,21 @@ impl CoreState {
         is_head(&self.config, self.id)
     }
 
+    // Whether one more snapshot may be open.
+    pub(crate) fn has_room(&self) -> bool
+        ensures same { result ≡ not (length self.now.snapshots == 64) }
+        ensures room { IsTrue result → length self.now.snapshots < 64 }
+    {
+        self.snapshots.len() != MAX_SNAPSHOTS
+    }
+
+    // Whether a snapshot is open at this number.
+    pub(crate) fn is_open(&self, number: Number) -> bool
+        ensures { result ≡ is_open number self.now.snapshots }
+    {
+        place_of(&self.snapshots, number).is_some()
+    }
+
     /// Whether it is the last node of its configuration.
     pub fn is_tail(&self) -> bool
         ensures { result ≡ is_tail self.now.ids self.now.id }
@@ -252,7 +279,7 @@ impl CoreState {
         committed: Number,
         have: Number,
     ) -> Result<Vec<PendingSubmit>, CoreError>
-        requires { (committed ≤ have) × (have ≤ self.old.count) }
+        requires { IsReport self.old committed have }
         ensures { CoreApplies self.old self.new (Done.Acked committed have) result }
     {
         let committed = greater(self.committed, committed);
@@ -264,10 +291,30 @@ impl CoreState {
         Ok(due)
     }
 
+    // Opens one more snapshot.
+    fn open_snapshot(&mut self, number: Number) -> Result<(), CoreError>
+        requires { HasRoomAt self.old number }
+        ensures opened { OnOk result
+            (self.new ≡ record self.old { snapshots = number ∷ self.old.snapshots }) }
+        ensures memory { OnErr result (self.new ≡ self.old) }
+    {
+        self.snapshots.push_front(number)?;
+        Ok(())
+    }
+
+    // Closes the newest of the snapshots at this number.
+    fn close_snapshot(&mut self, number: Number)
+        ensures { self.new ≡ record self.old { snapshots = without number self.old.snapshots } }
+    {
+        if let Some(place) = place_of(&self.snapshots, number) {
+            self.snapshots.remove(place);
+        }
+    }
+
     /// Applies the store's part of a step to the state. Returns the requests whose batches are now
     /// committed, in order of number.
     pub fn after(&mut self, alloc: Global, done: Done) -> Result<Vec<PendingSubmit>, CoreError>
-        requires { DoneFitsCount self.old.count done }
+        requires { DoneFits self.old done }
         ensures { CoreApplies self.old self.new done result }
     {
         match done {
@@ -277,6 +324,14 @@ impl CoreState {
                 Ok(Vec::new(alloc))
             }
             Done::Acked { committed, have } => self.apply_ack(alloc, committed, have),
+            Done::Opened { number, .. } => {
+                self.open_snapshot(number)?;
+                Ok(Vec::new(alloc))
+            }
+            Done::Closed { number, .. } => {
+                self.close_snapshot(number);
+                Ok(Vec::new(alloc))
+            }
         }
     }
 }

@@ -1,10 +1,12 @@
 -- Causes for which a node stops, by the causes of its engine.
 use Rattle.std.proofs.Common.{◌≡◌, ◌↔◌, ℕ, ◌<◌, ◌≤◌, inl}
 use Rattle.std.proofs.Common.{inr}
-use Rattle.std.proofs.Common.{arith, refl, sym, ap, subst}
+use Rattle.std.proofs.Common.{arith, refl, sym, ap, subst, true, ◌∙◌}
 use Rattle.std.specs.Prelude.{◌⊎◌, Result, Ok, Err, IfErr, IsErrAnd, MatchResult, OnOk}
 use Rattle.engine.specs.{FailsDevice, IsEngineExternal}
-use Rattle.engine.specs.{LookUps, IsReadableAnswer}
+use Rattle.engine.specs.{IsCloseAnswer, IsOpenAnswer, IsReadableAnswer, LookUps, MayOpen}
+use Rattle.chain_model.specs.Machine.{is_open}
+use Rattle.std.proofs.lemmas.Bool.{true≢false}
 use Rattle.engine.specs.EngineError.TheVariants as engine
 use Rattle.kv_types.specs.declared.bounds.TheConstants.{MAX_NUMBER}
 use Rattle.engine.specs.EngineError.{EngineError}
@@ -45,6 +47,8 @@ stop_passed called engine.NotCreated (Err s) is told = (λ f. cc, λ f. cc)
 stop_passed called engine.Failed (Err s) is told = (λ f. cc, λ f. cc)
 stop_passed called engine.TooOld (Err s) is told = (λ f. cc, λ f. cc)
 stop_passed called engine.NotCommitted (Err s) is told = (λ f. cc, λ f. cc)
+stop_passed called engine.NoSuchSnapshot (Err s) is told = (λ f. cc, λ f. cc)
+stop_passed called engine.TooManySnapshots (Err s) is told = (λ f. cc, λ f. cc)
 stop_passed called engine.Exhausted (Err s) is told = (λ f. cc, λ f. cc)
 
 -- a stop is passed on
@@ -63,6 +67,8 @@ device_told engine.NotCreated s told = (λ f. cc, λ f. cc)
 device_told engine.Failed s told = (λ f. cc, λ f. cc)
 device_told engine.TooOld s told = (λ f. cc, λ f. cc)
 device_told engine.NotCommitted s told = (λ f. cc, λ f. cc)
+device_told engine.NoSuchSnapshot s told = (λ f. cc, λ f. cc)
+device_told engine.TooManySnapshots s told = (λ f. cc, λ f. cc)
 device_told engine.Exhausted s told = (λ f. cc, λ f. cc)
 
 -- what holds of the cause holds of the refusal that tells it
@@ -94,7 +100,28 @@ read_env T told at engine.TooOld tells whole works above known =
     absurd (omega (arith, tells, above))
 read_env T told at engine.NotCommitted tells whole works above known =
     absurd (omega (arith, tells, known))
+read_env T told at engine.NoSuchSnapshot tells whole works above known = absurd tells
+read_env T told at engine.TooManySnapshots tells whole works above known = absurd tells
 read_env T told at engine.Exhausted tells whole works above known = absurd tells
+
+-- an opening of a snapshot that the engine may open is refused for want of memory alone
+pub open_memory : (T : Type 0) (told : LookUps) (at : ℕ) (e : EngineError) →
+    IsOpenAnswer {T = T} told at (Err e) → (e ≡ engine.Failed → ⊥) → MayOpen told at →
+    e ≡ engine.Memory
+open_memory T told at engine.Memory tells works may = refl
+open_memory T told at engine.Failed tells works may = absurd (works refl)
+open_memory T told at engine.TooOld tells works may = absurd (omega (arith, tells, may.0.0))
+open_memory T told at engine.NotCommitted tells works may = absurd (omega (arith, tells, may.0.1))
+open_memory T told at engine.TooManySnapshots tells works may =
+    absurd (omega (arith, tells.1, may.1))
+open_memory T told at _ tells works may = absurd tells
+
+-- a closing of an open snapshot is not refused
+pub close_refuses : (T : Type 0) (told : LookUps) (number : ℕ) (e : EngineError) →
+    IsCloseAnswer {T = T} told number (Err e) → (e ≡ engine.Failed → ⊥) →
+    is_open number told.snapshots ≡ true → ⊥
+close_refuses T told number e (inl none) works is = true≢false (sym is ∙ none.1)
+close_refuses T told number e (inr ended) works is = works ended
 
 -- an append is refused for such a cause, where a number is left
 pub append_env : (e : EngineError) (count : ℕ) → IsEngineExternal e ⊎ ((e ≡ engine.Exhausted)

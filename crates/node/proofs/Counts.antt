@@ -7,13 +7,14 @@ use Rattle.std.proofs.Common.{replicate, length-append}
 use Rattle.std.proofs.lemmas.List.{length-replicate}
 use Rattle.kv_types.specs.{BatchContent}
 use Rattle.engine.specs.{Facts}
-use Rattle.chain_model.specs.{place, Answer, ack, forward, is_tail}
+use Rattle.chain_model.specs.{place, Answer, Response, ack, forward, is_tail}
 use Rattle.chain_core.specs.declared.Done.{Done}
 use Rattle.chain_core.specs.declared.Done.TheVariants as done
 use Rattle.chain_core.specs.declared.PendingSubmit.{PendingSubmit}
 use Rattle.chain_core.specs.{Machine, Core, CoreRefines, waiting, done_of, StepLeaves}
-use Rattle.chain_core.specs.{StepsLeave, StandsLast, list_after}
-use Rattle.chain_core.specs.{frames_after, ids_after, kept_after}
+use Rattle.chain_core.specs.{StepsLeave, StandsLast, list_after, snapshots_after}
+use Rattle.chain_core.specs.{floor_after, frames_after, ids_after, kept_after}
+use Rattle.chain_core.specs.{committed_responses, responses_after}
 use Rattle.chain_core.specs as core
 use Rattle.node.specs.Steps.{facts_for}
 use Rattle.node.specs.Outputs.{HasAppended, acks_after}
@@ -51,54 +52,103 @@ pub appended_list : (n : Machine) (batch : BatchContent) (d : Done) → HasAppen
     list_after n batch d ≡ n.list ++ batch ∷ []
 appended_list n batch (done.Accepted request) has = refl
 appended_list n batch done.Appended has = refl
-appended_list n batch (done.Acked committed have) has = absurd has
+appended_list n batch _ has = absurd has
+
+-- the replies after an append are those to the requests that are due
+pub responses_due : (d : Done) (due : List PendingSubmit) → HasAppended d →
+    responses_after d due ≡ committed_responses due
+responses_due (done.Accepted request) due has = refl
+responses_due done.Appended due has = refl
+responses_due _ due has = absurd has
+
+-- the new numbers are those of each machine after the store's part, which has these replies
+abbrev pub FollowsDone : Core → Core → Done → List (Response BatchContent) → Type 0
+FollowsDone old new d replies = (n : Machine) (batch : BatchContent) → CoreRefines old n →
+    core.CoreFollows new (done_of old.id n batch d) replies
 
 -- the count after the store's part
-counted : StepsLeave → (old new : Core) (batch : BatchContent) (d : Done) (due : List PendingSubmit)
-    →
-    ((n : Machine) (batch : BatchContent) → CoreRefines old n →
-    core.CoreFollows new (done_of old.id n batch d) due) →
+pub counted : StepsLeave → (old new : Core) (batch : BatchContent) (d : Done)
+    (replies : List (Response BatchContent)) → FollowsDone old new d replies →
     new.count ≡ length (list_after (machine_with old) batch d)
-counted law old new batch d due after =
+counted law old new batch d replies after =
     let n = machine_with old in
     sym (after n batch (has_numbers old)).is.count ∙ ap length (law old.id n batch d).list
 
 -- one batch more is counted where one was appended
-pub counts_appended : StepsLeave → (old new : Core) (d : Done) (due : List PendingSubmit) →
-    HasAppended d →
-    ((n : Machine) (batch : BatchContent) → CoreRefines old n →
-    core.CoreFollows new (done_of old.id n batch d) due) → new.count ≡ old.count + 1
-counts_appended law old new d due has after =
+pub counts_appended : StepsLeave → (old new : Core) (d : Done)
+    (replies : List (Response BatchContent)) → HasAppended d → FollowsDone old new d replies →
+    new.count ≡ old.count + 1
+counts_appended law old new d replies has after =
     let n = machine_with old in
-    counted law old new [] d due after ∙ ap length (appended_list n [] d has)
+    counted law old new [] d replies after ∙ ap length (appended_list n [] d has)
     ∙ length-append n.list ([] ∷ []) ∙ ap (λ k. k + 1) (length-replicate old.count [])
 
--- as many batches as before are counted after a report of the successor
-pub counts_told : StepsLeave → (old new : Core) (committed have : ℕ) (due : List PendingSubmit) →
-    ((n : Machine) (batch : BatchContent) → CoreRefines old n →
-    core.CoreFollows new (done_of old.id n batch (done.Acked committed have)) due) →
+-- as many batches as before are counted where the list stays
+pub counts_same : StepsLeave → (old new : Core) (d : Done) (replies : List (Response BatchContent))
+    → ((n : Machine) → list_after n [] d ≡ n.list) → FollowsDone old new d replies →
     new.count ≡ old.count
-counts_told law old new committed have due after =
-    counted law old new [] (done.Acked committed have) due after ∙ length-replicate old.count []
+counts_same law old new d replies stays after =
+    counted law old new [] d replies after ∙ ap length (stays (machine_with old))
+    ∙ length-replicate old.count []
 
 same_kept : (n : Machine) (d : Done) → kept_after n d ≡ n.kept
 same_kept n (done.Accepted request) = refl
 same_kept n done.Appended = refl
 same_kept n (done.Acked committed have) = refl
+same_kept n (done.Opened request number) = refl
+same_kept n (done.Closed request number) = refl
+
+same_floor : (n : Machine) (d : Done) → floor_after n d ≡ n.floor
+same_floor n (done.Accepted request) = refl
+same_floor n done.Appended = refl
+same_floor n (done.Acked committed have) = refl
+same_floor n (done.Opened request number) = refl
+same_floor n (done.Closed request number) = refl
+
+-- an append leaves the snapshots
+pub appended_snapshots : (n : Machine) (d : Done) → HasAppended d →
+    snapshots_after n d ≡ n.snapshots
+appended_snapshots n (done.Accepted request) has = refl
+appended_snapshots n done.Appended has = refl
+appended_snapshots n _ has = absurd has
 
 -- a step leaves the configuration
 pub same_ids : (n : Machine) (d : Done) → ids_after n d ≡ n.ids
 same_ids n (done.Accepted request) = refl
 same_ids n done.Appended = refl
 same_ids n (done.Acked committed have) = refl
+same_ids n (done.Opened request number) = refl
+same_ids n (done.Closed request number) = refl
 
 -- no batch was given up
-pub keeps_kept : StepsLeave → (old new : Core) (d : Done) (due : List PendingSubmit) →
-    ((n : Machine) (batch : BatchContent) → CoreRefines old n →
-    core.CoreFollows new (done_of old.id n batch d) due) → new.kept ≡ old.kept
-keeps_kept law old new d due after =
+pub keeps_kept : StepsLeave → (old new : Core) (d : Done) (replies : List (Response BatchContent)) →
+    FollowsDone old new d replies → new.kept ≡ old.kept
+keeps_kept law old new d replies after =
     let n = machine_with old in
     sym (after n [] (has_numbers old)).is.kept ∙ (law old.id n [] d).kept ∙ same_kept n d
+
+-- so does the committed number, where the rule leaves it
+pub keeps_committed : (old new : Core) (d : Done) (replies : List (Response BatchContent)) →
+    ((n : Machine) → (done_of old.id n [] d).node.committed ≡ n.committed) →
+    FollowsDone old new d replies → new.committed ≡ old.committed
+keeps_committed old new d replies stays after =
+    let n = machine_with old in
+    sym (after n [] (has_numbers old)).is.committed ∙ stays n
+
+-- the floor stays
+pub keeps_floor : StepsLeave → (old new : Core) (d : Done) (replies : List (Response BatchContent))
+    → FollowsDone old new d replies → new.floor ≡ old.floor
+keeps_floor law old new d replies after =
+    let n = machine_with old in
+    sym (after n [] (has_numbers old)).is.floor ∙ (law old.id n [] d).floor ∙ same_floor n d
+
+-- the snapshots after the store's part
+pub snapshots_left : StepsLeave → (old new : Core) (d : Done)
+    (replies : List (Response BatchContent)) → FollowsDone old new d replies →
+    new.snapshots ≡ snapshots_after (machine_with old) d
+snapshots_left law old new d replies after =
+    let n = machine_with old in
+    sym (after n [] (has_numbers old)).is.snapshots ∙ (law old.id n [] d).snapshots
 
 abbrev facts_with : (x e : ℕ) → List ℕ → (f k : ℕ) → Facts
 facts_with x e ids f k = record { id = x; epoch = e; ids = ids; floor = f; kept = k }
@@ -119,6 +169,12 @@ same_facts x n batch done.Appended a leaves =
     facts_as x a.node.epoch n.epoch a.node.floor n.floor a.node.kept n.kept a.node.ids n.ids
     leaves.epoch leaves.ids leaves.floor leaves.kept
 same_facts x n batch (done.Acked committed have) a leaves =
+    facts_as x a.node.epoch n.epoch a.node.floor n.floor a.node.kept n.kept a.node.ids n.ids
+    leaves.epoch leaves.ids leaves.floor leaves.kept
+same_facts x n batch (done.Opened request number) a leaves =
+    facts_as x a.node.epoch n.epoch a.node.floor n.floor a.node.kept n.kept a.node.ids n.ids
+    leaves.epoch leaves.ids leaves.floor leaves.kept
+same_facts x n batch (done.Closed request number) a leaves =
     facts_as x a.node.epoch n.epoch a.node.floor n.floor a.node.kept n.kept a.node.ids n.ids
     leaves.epoch leaves.ids leaves.floor leaves.kept
 
@@ -155,4 +211,4 @@ pub frames_of : (x : ℕ) (old new : Machine) (d : Done) (acks : Bool) → HasAp
 frames_of x old new (done.Accepted request) acks has is =
     rw is (append-nil (forward x new (suc (length old.list))))
 frames_of x old new done.Appended acks has is = rw is refl
-frames_of x old new (done.Acked committed have) acks has is = absurd has
+frames_of x old new _ acks has is = absurd has

@@ -4,3 +4,5 @@ pub mod Counts
 pub mod Running
 pub mod Starts
 pub mod Ends
+pub mod ReadSteps
+pub mod SnapshotSteps

@@ -7,7 +7,7 @@ use Rattle.std.specs.Prelude.{SomeIff, IfOk, nat_lt}
 use Rattle.std.specs.Ordering.{is_gt, nat_cmp}
 use Rattle.std.proofs.lemmas.Bool.Decides.{nat_tests}
 use Rattle.std.proofs.lemmas.List.{map-append, map_push}
-use Rattle.kv_types.specs.{BatchContent}
+use Rattle.kv_types.specs.{BatchContent, Span}
 use Rattle.chain_model.specs.{Message, Answer, reply_read}
 use Rattle.chain_core.specs.declared.Done.{Done}
 use Rattle.chain_core.specs.declared.Input.{Input}
@@ -87,16 +87,28 @@ tells_read n (asked.Get other asked_key number) request at key result read tells
     subst (λ (k : List ℕ). IfOk result
     (OutputRefines (asked.Get request k number) (reply_read n request at)))
     read.0 (tells number)
-tells_read n (asked.Submit other batch) request at key result read tells = absurd read
-tells_read n (asked.Forward epoch from number batch) request at key result read tells = absurd read
-tells_read n (asked.Ack epoch from committed have) request at key result read tells = absurd read
-tells_read n asked.Tick request at key result read tells = absurd read
+tells_read n _ request at key result read tells = absurd read
+
+-- so is the output of a read of rows
+pub tells_rows : (n : Machine) (input : Input) (request at : ℕ) (range : Span)
+    (result : Result Output Stop) → IsReadOf n input (decision.ReadRows request range at) →
+    ((number : Option ℕ) →
+    IfOk result (OutputRefines (asked.Rows request range number) (reply_read n request at))) →
+    IfOk result (OutputRefines input (reply_read n request at))
+tells_rows n (asked.Rows other asked_range number) request at range result read tells =
+    subst (λ (it : Span). IfOk result
+    (OutputRefines (asked.Rows request it number) (reply_read n request at)))
+    read.0 (tells number)
+tells_rows n _ request at range result read tells = absurd read
 
 -- a read is at a number from the floor to the committed number
 pub readable : (n : Machine) (input : Input) (request at : ℕ) (key : List ℕ) →
     IsReadOf n input (decision.Read request key at) → (n.floor ≤ at) × (at ≤ n.committed)
 readable n (asked.Get other asked_key number) request at key read = (read.1, read.2)
-readable n (asked.Submit other batch) request at key read = absurd read
-readable n (asked.Forward epoch from number batch) request at key read = absurd read
-readable n (asked.Ack epoch from committed have) request at key read = absurd read
-readable n asked.Tick request at key read = absurd read
+readable n _ request at key read = absurd read
+
+-- so is a read of rows
+pub rows_readable : (n : Machine) (input : Input) (request at : ℕ) (range : Span) →
+    IsReadOf n input (decision.ReadRows request range at) → (n.floor ≤ at) × (at ≤ n.committed)
+rows_readable n (asked.Rows other asked_range number) request at range read = (read.1, read.2)
+rows_readable n _ request at range read = absurd read

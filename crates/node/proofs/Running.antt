@@ -166,10 +166,14 @@ module _ {D : Type 0} (g : Ghosts D) where
     works = works;
     count = ap (λ (k : Core). k.count) same ∙ ready.count
         ∙ sym (ap (λ (l : LookUps). l.count) told);
+    floor = ap (λ (k : Core). k.floor) same ∙ ready.floor
+        ∙ sym (ap (λ (l : LookUps). l.facts.floor) told);
     kept = ap (λ (k : Core). k.kept) same ∙ ready.kept
         ∙ sym (ap (λ (l : LookUps). l.facts.kept) told);
     committed = ap (λ (k : Core). k.committed) same ∙ ready.committed
         ∙ sym (ap (λ (l : LookUps). l.committed) told);
+    snapshots = ap (λ (k : Core). k.snapshots) same ∙ ready.snapshots
+        ∙ sym (ap (λ (l : LookUps). l.snapshots) told);
   }
   ready_after old new (Err e) ready told same works = tt
 

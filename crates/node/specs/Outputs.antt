@@ -42,13 +42,12 @@ OutputRefines input a = OutputHas a.dropped a.frames (replies_of input a.replies
 abbrev pub HasAppended : Done → Type 0
 HasAppended (done.Accepted request) = Unit {0}
 HasAppended done.Appended = Unit {0}
-HasAppended (done.Acked committed have) = ⊥
+HasAppended _ = ⊥
 
 -- whether a node acknowledges to its predecessor after the store's part, where it is the tail
 abbrev pub acks_after : Done → Bool → Bool
-acks_after (done.Accepted request) tail = false
 acks_after done.Appended tail = tail
-acks_after (done.Acked committed have) tail = false
+acks_after _ tail = false
 
 -- a crash at any moment since the call began leaves the disk of machine n or of machine m
 abbrev pub AlwaysRefines : {D : Type 0} → Ghosts D → (old new : D) → ℕ → Machine → Machine → Type 0

@@ -1,5 +1,5 @@
 -- The answers of the calls that receive a disk: a node, or a refusal.
-use Rattle.std.specs.Prelude.{◌≡◌, ◌≤◌, ℕ, List, Result, Ok, Err, IsErrAnd, MatchResult}
+use Rattle.std.specs.Prelude.{◌≡◌, ◌≤◌, ℕ, List, [], Result, Ok, Err, IsErrAnd, MatchResult}
 use Rattle.disk.specs.{Contents, KeepsDisk}
 use Rattle.disk.specs.declared.Disk.{Ghosts}
 use Rattle.chain_model.specs.{started}
@@ -26,14 +26,16 @@ StartRefusal stop.Damaged left = IsDamaged left
 StartRefusal stop.Memory left = Unit {0}
 StartRefusal stop.NotCreated left = IsNotCreated left
 
--- The state that a node starts with has the numbers of its store, and refines, as started, each
--- machine that has them and this configuration.
+-- The state that a node starts with has the numbers of its store and no snapshots. It refines, as
+-- started, each machine that has these numbers and this configuration.
 pub record CoreStartsFrom (told : LookUps) (ids : List ℕ) (core : Core) : Type 0 where
   pub id : core.id ≡ told.facts.id
   pub is : (n : Machine) → HasNumbersOf told n → n.ids ≡ ids →
       CoreRefines core (started told.facts.id n)
   pub count : core.count ≡ told.count
+  pub floor : core.floor ≡ told.facts.floor
   pub kept : core.kept ≡ told.facts.kept
+  pub snapshots : core.snapshots ≡ []
   pub rises : told.facts.floor ≤ core.committed
 
 -- A node that began with an opened engine has its facts, count and limits, and is ready. It refines

@@ -4,6 +4,7 @@ use Rattle.std.specs.Prelude.{◌≡◌, ◌⊎◌, ℕ, List, [], ◌∷◌, le
 use Rattle.std.specs.List.{flat_map}
 use Rattle.kv_types.specs.declared.Limits.{Limits}
 use Rattle.kv_types.specs.{BatchContent, map_of}
+use Rattle.kv_types.specs.Pages.{page_of}
 use Rattle.disk.specs.declared.Disk.{Ghosts}
 use Rattle.disk.specs.{State, Contents, IsCrashOutcome}
 use Rattle.chain_model.specs.{Response}
@@ -80,32 +81,39 @@ abbrev pub IfRefines : {D : Type 0} {g : Ghosts D} → Node D g → (ℕ → Mac
 IfRefines {g = g} node P =
     (x : ℕ) (n : Machine) → NodeRefines g.is_honest g.state node x n → P x n
 
--- the engine works and has the numbers of the state
+-- the engine works and has the numbers and the open snapshots of the state
 pub record AreInStep {D : Type 0} {g : Ghosts D} (core : Core) (engine : Engine D g) : Type 0 where
   pub works : HasEnded engine → ⊥
   pub count : core.count ≡ (look_ups engine).count
+  pub floor : core.floor ≡ (look_ups engine).facts.floor
   pub kept : core.kept ≡ (look_ups engine).facts.kept
   pub committed : core.committed ≡ (look_ups engine).committed
+  pub snapshots : core.snapshots ≡ (look_ups engine).snapshots
 
 -- its engine works and has the numbers of the node's state, so another step can follow
 abbrev pub IsReady : {D : Type 0} {g : Ghosts D} → Node D g → Type 0
 IsReady node = AreInStep node.core node.engine
 
--- the reply to a client's read: the value of its key in the map of these batches
-abbrev pub value_for : Input → ℕ → ℕ → List BatchContent → List Reply
-value_for (input.Get request key at) i s batches =
+-- the reply to a client's read: the value of its key, or the page of its range, in the map of these
+-- batches
+abbrev pub shown_for : Input → ℕ → ℕ → List BatchContent → List Reply
+shown_for (input.Get request key at) i s batches =
     reply.Value i s (map_of batches key) ∷ []
-value_for (input.Submit request batch) i s batches = []
-value_for (input.Forward epoch from number batch) i s batches = []
-value_for (input.Ack epoch from committed have) i s batches = []
-value_for input.Tick i s batches = []
+shown_for (input.Rows request range at) i s batches =
+    reply.Rows i s (page_of batches range) ∷ []
+shown_for (input.Submit request batch) i s batches = []
+shown_for (input.Open request at) i s batches = []
+shown_for (input.Close request number) i s batches = []
+shown_for (input.Forward epoch from number batch) i s batches = []
+shown_for (input.Ack epoch from committed have) i s batches = []
+shown_for input.Tick i s batches = []
 
--- the reply to a client for a reply of the machine (no input requests the other replies yet)
+-- the reply to a client for a reply of the machine
 abbrev pub replies_to_response : Input → model.Response BatchContent → List Reply
 replies_to_response input (Response.Committed i k) = reply.Committed i k ∷ []
-replies_to_response input (Response.Shows i s batches) = value_for input i s batches
-replies_to_response input (Response.Opened i s) = []
-replies_to_response input (Response.Closed i s) = []
+replies_to_response input (Response.Shows i s batches) = shown_for input i s batches
+replies_to_response input (Response.Opened i s) = reply.Opened i s ∷ []
+replies_to_response input (Response.Closed i s) = reply.Closed i s ∷ []
 replies_to_response input (Response.Refused i why) = reply.Refused i why ∷ []
 
 -- the replies to clients for those of the machine, in order

@@ -5,7 +5,7 @@ use Rattle.engine.specs.EngineError.TheVariants as engine
 use Rattle.node.specs.declared.stop.Stop.{Stop}
 use Rattle.node.specs.declared.stop.Stop.TheVariants as stop
 
--- a node asks its engine only for what that has, so the last four are not met
+-- a node asks its engine only for what that has, so the last six are not met
 abbrev pub engine_stop : EngineError → Stop
 engine_stop engine.Disk = stop.Disk
 engine_stop engine.Damaged = stop.Damaged
@@ -14,6 +14,8 @@ engine_stop engine.NotCreated = stop.NotCreated
 engine_stop engine.Failed = stop.Damaged
 engine_stop engine.TooOld = stop.Damaged
 engine_stop engine.NotCommitted = stop.Damaged
+engine_stop engine.NoSuchSnapshot = stop.Damaged
+engine_stop engine.TooManySnapshots = stop.Damaged
 engine_stop engine.Exhausted = stop.Damaged
 
 -- the call stops the node because of the disk

@@ -1,6 +1,6 @@
 // The outputs of a step: frames for other nodes, replies for clients.
 use chain_core::{DropReason, Sent};
-use kv_types::{Number, Value};
+use kv_types::{Number, Page, Value};
 use link_messages::Refusal;
 
 /// A reply to a client's request.
@@ -16,6 +16,22 @@ pub enum Reply {
         request: Number,
         number: Number,
         value: Option<Value>,
+    },
+    /// The page of the range at this number.
+    Rows {
+        request: Number,
+        number: Number,
+        page: Page,
+    },
+    /// A snapshot at this number is open.
+    Opened {
+        request: Number,
+        number: Number,
+    },
+    /// A snapshot at this number was closed.
+    Closed {
+        request: Number,
+        number: Number,
     },
     Refused {
         request: Number,

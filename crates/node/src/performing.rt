@@ -1,23 +1,25 @@
 // The execution of a decision: what a node does by each rule of a step.
-ghost use Rattle.std.specs.Prelude.{◌≡◌, ◌<◌, ◌≤◌, IfErr, MatchResult};
+ghost use Rattle.std.specs.Prelude.{◌≡◌, ◌<◌, IfErr, IsTrue, MatchResult};
 ghost use Rattle.kv_types.specs.declared.bounds.TheConstants.{MAX_NUMBER};
 ghost use Rattle.chain_model.specs.{forwards};
-ghost use Rattle.chain_core.specs.{AreFrames, CoreRefines, DecisionFitsCount, Machine, done_of};
+ghost use Rattle.chain_model.specs.Machine.{is_open};
+ghost use Rattle.chain_core.specs.{AreFrames, CoreRefines, DecisionFits, HasRoomAt, IsReport};
+ghost use Rattle.chain_core.specs.{Machine, done_of};
 ghost use Rattle.engine.specs.{EngineHolds};
 ghost use Rattle.node.specs.Outputs.{ExecutesDecision, FollowsRule, HasAppended, IsOnlyRead};
 ghost use Rattle.node.specs.Steps.{AreInStep, IsReady, disk_of};
 ghost use Rattle.node.specs.Stops.{IsEnvironmental};
 
 use crate::replying::{
-    ack_duplicate, acks_after, output_of, output_of_append, output_of_drop, push_some, refuse,
-    value_output,
+    ack_duplicate, acks_after, output_of, output_of_append, output_of_drop, page_output, push_some,
+    refuse, replying, value_output,
 };
-use crate::{Node, Output, Stop};
+use crate::{Node, Output, Reply, Stop};
 use chain_core::laws::{one_by_one, stands_last, steps_leave};
 use chain_core::{CoreState, Decision, Done, Sent};
 use disk::Disk;
 use engine::Engine;
-use kv_types::{Batch, Key, Number};
+use kv_types::{Batch, Key, Number, Range};
 use std::alloc::Global;
 
 // The batches that a tick sends again, for the successor.
@@ -67,7 +69,7 @@ impl<D: Disk + Drop> Node<D> {
     // Applies the successor's report, and reports to the predecessor if more is committed.
     fn on_ack(&mut self, alloc: Global, committed: Number, have: Number) -> Result<Output, Stop>
         requires may { IsReady self.old }
-        requires there { (committed ≤ have) × (have ≤ self.old.core.count) }
+        requires there { IsReport self.old.core committed have }
         ensures disk { disk_of self.new ≡ disk_of self.old }
         ensures memory { IfErr result (λ e. e ≡ Stop.Memory) }
         ensures followed { ExecutesDecision D.Disk self.old self.new
@@ -98,10 +100,51 @@ impl<D: Disk + Drop> Node<D> {
         value_output(alloc, request, at, value)
     }
 
+    // Answers the client with the page of a range at a number.
+    fn read_rows(
+        &mut self,
+        alloc: Global,
+        request: Number,
+        range: Range,
+        at: Number,
+    ) -> Result<Output, Stop>
+        requires { IsReady self.old }
+        ensures { ExecutesDecision D.Disk self.old self.new
+            (Decision.ReadRows request range at) result }
+    {
+        let page = self.engine.rows(alloc, at, &range)?;
+        page_output(alloc, request, at, page)
+    }
+
+    // Opens one more snapshot at a number, in the store and in the node's state.
+    fn open(&mut self, alloc: Global, request: Number, number: Number) -> Result<Output, Stop>
+        requires may { IsReady self.old }
+        requires room { HasRoomAt self.old.core number }
+        ensures { ExecutesDecision D.Disk self.old self.new (Decision.Open request number) result }
+    {
+        steps_leave(); // law: what a step leaves of the machine
+        self.engine.open_snapshot(number)?;
+        self.core.after(alloc, Done::Opened { request, number })?;
+        replying(alloc, Reply::Opened { request, number })
+    }
+
+    // Closes one snapshot at a number, in the store and in the node's state.
+    fn close(&mut self, alloc: Global, request: Number, number: Number) -> Result<Output, Stop>
+        requires may { IsReady self.old }
+        requires open { IsTrue (is_open number self.old.core.snapshots) }
+        ensures { ExecutesDecision D.Disk self.old self.new
+            (Decision.Close request number) result }
+    {
+        steps_leave(); // law: what a step leaves of the machine
+        self.engine.close_snapshot(number)?;
+        self.core.after(alloc, Done::Closed { request, number })?;
+        replying(alloc, Reply::Closed { request, number })
+    }
+
     // Executes a decision.
     pub(crate) fn perform(&mut self, alloc: Global, decision: Decision) -> Result<Output, Stop>
         requires may { IsReady self.old }
-        requires room { DecisionFitsCount self.old.core.count decision }
+        requires room { DecisionFits self.old.core decision }
         ensures { ExecutesDecision D.Disk self.old self.new decision result }
     {
         match decision {
@@ -112,6 +155,9 @@ impl<D: Disk + Drop> Node<D> {
             Decision::AckDuplicate => ack_duplicate(alloc, &self.core),
             Decision::OnAck { committed, have } => self.on_ack(alloc, committed, have),
             Decision::Read { request, key, at } => self.read(alloc, request, key, at),
+            Decision::ReadRows { request, range, at } => self.read_rows(alloc, request, range, at),
+            Decision::Open { request, number } => self.open(alloc, request, number),
+            Decision::Close { request, number } => self.close(alloc, request, number),
             Decision::Resend => self.resend(alloc),
             Decision::Refuse { request, refusal } => refuse(alloc, request, refusal),
             Decision::Drop(reason) => Ok(output_of_drop(alloc, reason)),

@@ -1,7 +1,8 @@
 // The output of a step, from a node's numbers and the results of its store.
 ghost use Rattle.std.specs.Prelude.{◌≡◌, ℕ, [], ◌∷◌, ◌++◌, List, map, take, Option};
 ghost use Rattle.std.specs.Prelude.{IfOk, IfErr, OnOk, option_to_list, if◌then◌else◌, Some};
-ghost use Rattle.kv_types.specs.{BatchContent, map_of};
+ghost use Rattle.kv_types.specs.{BatchContent, Span, map_of};
+ghost use Rattle.kv_types.specs.Pages.{page_of};
 ghost use Rattle.chain_model.specs.{Message, place, dropped_for, refused, ack, forward, is_tail};
 ghost use Rattle.chain_model.specs.{reply_read, ack_duplicate};
 ghost use Rattle.chain_core.specs.{Machine, CoreRefines, AreFrames};
@@ -9,7 +10,7 @@ ghost use Rattle.node.specs.Outputs.{OutputHas, OutputRefines, acks_after, commi
 
 use crate::{Output, Reply, Stop};
 use chain_core::{CoreState, Done, DropReason, Input, PendingSubmit, Sent};
-use kv_types::{Batch, Number, Value};
+use kv_types::{Batch, Number, Page, Value};
 use link_messages::Refusal;
 use std::alloc::{AllocError, Global};
 
@@ -43,7 +44,8 @@ fn replies_to(alloc: Global, due: &[PendingSubmit]) -> Result<Vec<Reply>, AllocE
     Ok(replies)
 }
 
-fn replying(alloc: Global, reply: Reply) -> Result<Output, Stop>
+/// The output with this reply alone.
+pub(crate) fn replying(alloc: Global, reply: Reply) -> Result<Output, Stop>
     ensures said { IfOk result (OutputHas None [] (reply ∷ [])) }
     ensures refused { IfErr result (λ e. e ≡ Stop.Memory) }
 {
@@ -84,10 +86,7 @@ pub(crate) fn output_of(
 pub(crate) fn acks_after(core: &CoreState, done: &Done) -> bool
     ensures { result ≡ acks_after done.now (is_tail core.now.ids core.now.id) }
 {
-    match done {
-        Done::Appended => core.is_tail(),
-        Done::Accepted { .. } | Done::Acked { .. } => false,
-    }
+    matches!(done, Done::Appended) && core.is_tail()
 }
 
 /// The output after an append: the batch is forwarded.
@@ -143,6 +142,29 @@ pub(crate) fn value_output(
             request,
             number,
             value,
+        },
+    )
+}
+
+/// The output of a read: the page of the range at this number.
+pub(crate) fn page_output(
+    alloc: Global,
+    request: Number,
+    number: Number,
+    page: Page,
+) -> Result<Output, Stop>
+    ensures tells { (n : Machine) (range : Span) (asked : Option ℕ) →
+        page ≡ page_of (take number n.list) range →
+        IfOk result (OutputRefines (Input.Rows request range asked)
+        (reply_read n request number)) }
+    ensures memory { IfErr result (λ e. e ≡ Stop.Memory) }
+{
+    replying(
+        alloc,
+        Reply::Rows {
+            request,
+            number,
+            page,
         },
     )
 }

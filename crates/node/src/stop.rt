@@ -26,7 +26,7 @@ pub enum Stop {
 impl From<EngineError> for Stop {
     ghost from_gives = { λ cause e. e ≡ engine_stop cause };
 
-    // A node asks its engine for what it has alone, so the last four are not met.
+    // A node asks its engine for what it has alone, so the last six are not met.
     fn from(e: EngineError) -> Stop {
         match e {
             EngineError::Disk => Stop::Disk,
@@ -36,6 +36,8 @@ impl From<EngineError> for Stop {
             EngineError::Failed
             | EngineError::TooOld
             | EngineError::NotCommitted
+            | EngineError::NoSuchSnapshot
+            | EngineError::TooManySnapshots
             | EngineError::Exhausted => Stop::Damaged,
         }
     }

@@ -13,6 +13,8 @@ enum Comes {
     // A client's batch, with this request number.
     Submit(u64),
     Get(Option<u64>),
+    Open(Option<u64>),
+    Close(u64),
     // A Forward with this epoch, sender and number.
     Forward(u32, u16, u64),
     // An Ack with this epoch, sender, committed number and number of batches.
@@ -28,6 +30,9 @@ enum Gives {
     TellAgain,
     PassOn,
     Show(u64),
+    ShowRows(u64),
+    Open(u64),
+    Close(u64),
     Resend,
     Refuse(Refusal),
     Drop(DropReason),
@@ -47,6 +52,14 @@ fn input(rt: &impl Abort, alloc: Global, comes: Comes) -> Input {
             request: number(9),
             key: key_of(rt, alloc, b"a"),
             at: at.map(number),
+        },
+        Comes::Open(at) => Input::Open {
+            request: number(9),
+            at: at.map(number),
+        },
+        Comes::Close(n) => Input::Close {
+            request: number(9),
+            number: number(n),
         },
         Comes::Forward(epoch, from, n) => {
             let (epoch, from) = origin(rt, epoch, from);
@@ -77,6 +90,9 @@ fn given(decision: &Decision) -> Gives {
         Decision::OnAck { .. } => Gives::PassOn,
         Decision::AckDuplicate => Gives::TellAgain,
         Decision::Read { at, .. } => Gives::Show(at.get()),
+        Decision::ReadRows { at, .. } => Gives::ShowRows(at.get()),
+        Decision::Open { number, .. } => Gives::Open(number.get()),
+        Decision::Close { number, .. } => Gives::Close(number.get()),
         Decision::Resend => Gives::Resend,
         Decision::Refuse { refusal, .. } => Gives::Refuse(*refusal),
         Decision::Drop(reason) => Gives::Drop(*reason),
@@ -92,6 +108,14 @@ fn step(rt: &impl Abort, alloc: Global, state: &mut CoreState, comes: Comes) -> 
         Decision::OnAck { committed, have } => Some(Done::Acked {
             committed: *committed,
             have: *have,
+        }),
+        Decision::Open { request, number } => Some(Done::Opened {
+            request: *request,
+            number: *number,
+        }),
+        Decision::Close { request, number } => Some(Done::Closed {
+            request: *request,
+            number: *number,
         }),
         _ => None,
     };
@@ -110,7 +134,7 @@ fn created(rt: &impl Abort, alloc: Global, id: u16) -> CoreState {
 }
 
 // The inputs of a head in turn, its decisions, and the numbers of answered requests.
-static HEAD: [(Comes, Gives, usize); 14] = [
+static HEAD: [(Comes, Gives, usize); 20] = [
     (Comes::Get(None), Gives::Show(0), 0),
     (Comes::Submit(1), Gives::Accept, 0),
     (Comes::Submit(2), Gives::Accept, 0),
@@ -136,6 +160,16 @@ static HEAD: [(Comes, Gives, usize); 14] = [
     (Comes::Ack(0, 2, 2, 2), Gives::PassOn, 2),
     (Comes::Ack(0, 2, 1, 1), Gives::PassOn, 0),
     (Comes::Get(None), Gives::Show(2), 0),
+    (
+        Comes::Open(Some(3)),
+        Gives::Refuse(Refusal::NotCommitted),
+        0,
+    ),
+    (Comes::Open(None), Gives::Open(2), 0),
+    (Comes::Open(Some(2)), Gives::Open(2), 0),
+    (Comes::Close(2), Gives::Close(2), 0),
+    (Comes::Close(2), Gives::Close(2), 0),
+    (Comes::Close(2), Gives::Refuse(Refusal::NoSuchSnapshot), 0),
     (Comes::Tick, Gives::Resend, 0),
 ];
 

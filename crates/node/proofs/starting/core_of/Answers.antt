@@ -38,6 +38,8 @@ returns g c =
       id = search rules;
       is = search rules;
       count = sym is.count ∙ size ∙ c.count.ensures.count;
+      floor = sym is.floor ∙ c.floor.ensures;
       kept = sym is.kept ∙ c.kept.ensures;
+      snapshots = sym is.snapshots;
       rises = omega (arith, is.committed, c.floor.ensures, known);
     }

@@ -26,8 +26,11 @@ returns-clause-opened g c =
       works = record {
         works = λ ended. c.requires.works (c.set_committed.ensures.ended.0 ended);
         count = c.core_of-core.ensures.count ∙ sym (ap (λ (l : LookUps). l.count) told);
+        floor = c.core_of-core.ensures.floor ∙ sym (ap (λ (l : LookUps). l.facts.floor) told);
         kept = c.core_of-core.ensures.kept ∙ sym (ap (λ (l : LookUps). l.facts.kept) told);
         committed = sym c.committed.ensures.same
             ∙ sym (ap (λ (l : LookUps). l.committed) told);
+        snapshots = c.core_of-core.ensures.snapshots ∙ sym c.requires.snapshots
+            ∙ sym (ap (λ (l : LookUps). l.snapshots) told);
       };
     }

@@ -3,7 +3,7 @@ use Rattle.std.proofs.Common.{arith, rules}
 use Rattle.std.specs.Prelude.{if◌then◌else◌}
 use Rattle.chain_model.specs.{is_tail, accept}
 use Rattle.chain_core.specs.declared.pending_submit.PendingSubmit.{PendingSubmit}
-use Rattle.chain_core.specs.States.{Core, IsInOrder}
+use Rattle.chain_core.specs.States.{Core, IsInOrder, committed_responses}
 use Rattle.chain_core.specs.Queues.{front, behind}
 use Rattle.chain_core.specs.Decisions.{CoreFollows}
 use Rattle.chain_core.proofs.Queues.{behind_in_order, push_in_order, front_few, front_push}
@@ -81,7 +81,8 @@ returns c = record {
         committed = committed;
         pending = pending;
       } in
-      subst (λ (v : Core). CoreFollows v (accept now.id n i batch) due) (sym (ap new same))
+      let replies = committed_responses due in
+      subst (λ (v : Core). CoreFollows v (accept now.id n i batch) replies) (sym (ap new same))
       (follows_accept now n is i batch number committed next ordered
       c.committed_with-committed.ensures pending due left out);
   rises = search rules;

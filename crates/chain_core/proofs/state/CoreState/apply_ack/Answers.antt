@@ -1,7 +1,7 @@
 use Rattle.std.proofs.Common.{◌≡◌, ◌≤◌, ◌++◌, List, sym, ap, subst, ◌∙◌, max, arith, rules}
 use Rattle.chain_model.specs.{on_ack}
 use Rattle.chain_core.specs.declared.pending_submit.PendingSubmit.{PendingSubmit}
-use Rattle.chain_core.specs.States.{Core, IsInOrder}
+use Rattle.chain_core.specs.States.{Core, IsInOrder, committed_responses}
 use Rattle.chain_core.specs.Queues.{front, behind}
 use Rattle.chain_core.specs.Decisions.{CoreFollows}
 use Rattle.chain_core.proofs.Queues.{behind_in_order}
@@ -18,10 +18,10 @@ invariant_of-self c =
     let waits : IsInOrder 0 inside.count pending = rw c.move_due.ensures.pending
     (behind_in_order 0 inside.count committed inside.pending.items c.self.invariant.pending) in
     let there : c.args.have ≤ inside.count =
-    omega (arith, c.requires.1, ap (λ (v : Core). v.count) c.self.view_is) in
+    omega (arith, c.requires.there, ap (λ (v : Core). v.count) c.self.view_is) in
     ordered_told (core_value inside) c.self.invariant c.args.committed c.args.have committed
     c.greater-self-inside.result pending c.greater-committed.ensures c.greater-self-inside.ensures
-    c.requires.0 there waits
+    c.requires.has there waits
 
 pub returns : goal.returns
 returns c = record {
@@ -48,7 +48,8 @@ returns c = record {
         successor_has = has;
         pending = pending;
       } in
-      subst (λ (v : Core). CoreFollows v (on_ack now.id n told have) due) (sym (ap new same))
+      let replies = committed_responses due in
+      subst (λ (v : Core). CoreFollows v (on_ack now.id n told have) replies) (sym (ap new same))
       (follows_told now n is told have more has pending due
       (c.greater-committed.ensures ∙ ap (λ (v : Core). max v.committed told) same)
       (c.greater-self-inside.ensures ∙ ap (λ (v : Core). max v.successor_has have) same)

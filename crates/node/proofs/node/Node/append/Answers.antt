@@ -4,7 +4,7 @@ use Rattle.std.proofs.lemmas.Result.{err_from_is_err_and}
 use Rattle.kv_types.specs.{BatchContent}
 use Rattle.chain_model.specs.{Message, ack, forward, is_tail}
 use Rattle.chain_core.specs as core
-use Rattle.chain_core.specs.{done_of}
+use Rattle.chain_core.specs.{done_of, responses_after}
 use Rattle.engine.specs.KeepingLemmas.{answered, kept_as, kept_but, neither}
 use Rattle.engine.specs.{LookUps, engine_disk, look_ups}
 use Rattle.node.specs.Outputs.{AlwaysRefines, acks_after}
@@ -13,8 +13,8 @@ use Rattle.node.specs.Stops.{IsEnvironmental}
 use Rattle.node.proofs.Causes.{append_env, env_of, memory_told, on_ok}
 use Rattle.node.proofs.Causes.{only_memory, still_works, stop_passed}
 use Rattle.node.proofs.Counts.{counts_appended, frames_of, keeps_kept, number_taken, same_ids}
-use Rattle.node.proofs.Counts.{taken_stands}
-use Rattle.node.proofs.Counts.{taken_stands}
+use Rattle.node.proofs.Counts.{appended_snapshots, keeps_floor, machine_with, responses_due}
+use Rattle.node.proofs.Counts.{snapshots_left, taken_stands}
 use Rattle.node.proofs.Ends.{ends_rule, ends_stopped}
 use Rattle.node.proofs.Running.{appends, goes_on, kept_on, list_after_is}
 use Rattle.node.proofs.node.Node.append.Goals as goal
@@ -82,7 +82,7 @@ set_committed-requires g c =
     let known = ap (λ (l : LookUps). l.committed) told in
     let more = ap (λ (l : LookUps). l.count) told in
     let count = counts_appended c.steps_leave.ensures old c.after.new.self c.args.done
-    c.in_ok-due.due.items c.requires.done c.in_ok-due.ensures.after in
+    (responses_after c.args.done c.in_ok-due.due.items) c.requires.done c.in_ok-due.ensures.after in
     let ordered = c.committed.ensures.ordered.committed in (
       omega (arith, known, may.committed, c.in_ok-due.ensures.rises, c.committed.ensures.same),
       omega (arith, more, ordered, c.committed.ensures.same, count, may.count),
@@ -99,6 +99,10 @@ returns g c =
     let told = c.in_ok-append.ensures.told.0 in
     let known = c.set_committed.ensures.told in
     let result = c.output_of_append.result in
+    let replies = responses_after d due in
+    let law = c.steps_leave.ensures in
+    let new = c.after.new.self in
+    let after = c.in_ok-due.ensures.after in
     record {
       kept = record {
         disk = kept_on g.D.Disk (sym c.set_committed.ensures.disk)
@@ -109,26 +113,30 @@ returns g c =
         works = on_ok result (record {
           works = λ ended. still_works c.in_ok-append.ensures.keeps.ends may.works
               (c.set_committed.ensures.ended.0 ended);
-          count = counts_appended c.steps_leave.ensures old.core c.after.new.self d due
-              c.requires.done c.in_ok-due.ensures.after
+          count = counts_appended law old.core new d replies c.requires.done after
               ∙ ap (λ (k : ℕ). k + 1) may.count ∙ sym (ap (λ (l : LookUps). l.count) told)
               ∙ sym (ap (λ (l : LookUps). l.count) known);
-          kept = keeps_kept c.steps_leave.ensures old.core c.after.new.self d due
-              c.in_ok-due.ensures.after
+          floor = keeps_floor law old.core new d replies after
+              ∙ may.floor ∙ sym (ap (λ (l : LookUps). l.facts.floor) told)
+              ∙ sym (ap (λ (l : LookUps). l.facts.floor) known);
+          kept = keeps_kept law old.core new d replies after
               ∙ may.kept ∙ sym (ap (λ (l : LookUps). l.facts.kept) told)
               ∙ sym (ap (λ (l : LookUps). l.facts.kept) known);
           committed = sym c.committed.ensures.same
               ∙ sym (ap (λ (l : LookUps). l.committed) known);
+          snapshots = snapshots_left law old.core new d replies after
+              ∙ appended_snapshots (machine_with old.core) d c.requires.done ∙ may.snapshots
+              ∙ sym (ap (λ (l : LookUps). l.snapshots) told)
+              ∙ sym (ap (λ (l : LookUps). l.snapshots) known);
         });
         limits = ap (λ (l : LookUps). l.limits) known ∙ ap (λ (l : LookUps). l.limits) told;
       };
       ends = λ x n input any r.
           let a = done_of x n batch d in
           let has = c.requires.done in
-          let new = c.after.new.self in
           let leaves = c.steps_leave.ensures x n batch d in
-          let follows = subst (λ (y : ℕ). core.CoreFollows new (done_of y n batch d) due) r.id
-          (c.in_ok-due.ensures.after n batch r.core) in
+          let follows = subst (λ (y : ℕ). core.CoreFollows new (done_of y n batch d) replies) r.id
+          (after n batch r.core) in
           let holds = (c.in_ok-append.ensures.appended n.list).holds r.store in
           let facts = ap (λ (l : LookUps). l.facts) known ∙ ap (λ (l : LookUps). l.facts) told in
           let runs = goes_on g.D.Disk old _ x n batch d a leaves r
@@ -153,7 +161,7 @@ returns g c =
           let frames = ap (λ k. forward x a.node k ++ (if acks then ack x a.node else [])) number
           ∙ frames_of x n a.node d acks has tail in
           ends_rule g.D.Disk old _ x n input batch d a due c.deref.result.now sent result moments
-          leaves runs follows.replied c.deref.ensures.value frames
+          leaves runs (follows.replied ∙ responses_due d due has) c.deref.ensures.value frames
           (c.output_of_append.ensures.says a.node follows.is there)
           c.output_of_append.ensures.memory;
     }

@@ -5,13 +5,13 @@ use Rattle.kv_types.specs.{BatchContent}
 use Rattle.chain_model.specs.{Message, ack, on_ack}
 use Rattle.chain_core.specs.declared.Done.TheVariants as done
 use Rattle.chain_core.specs as core
-use Rattle.chain_core.specs.{AreFrames, done_of}
+use Rattle.chain_core.specs.{AreFrames, committed_responses, done_of}
 use Rattle.engine.specs.{LookUps}
 use Rattle.node.specs.Outputs.{AlwaysRefines}
 use Rattle.node.specs.Steps.{disk_of}
 use Rattle.node.proofs.Outputs.{greater}
 use Rattle.node.proofs.Causes.{memory_told, on_ok, only_memory}
-use Rattle.node.proofs.Counts.{counts_told, keeps_kept}
+use Rattle.node.proofs.Counts.{counts_same, keeps_floor, keeps_kept, snapshots_left}
 use Rattle.node.proofs.Ends.{ends_rule, ends_stopped}
 use Rattle.node.proofs.Running.{at_rest, goes_on, keeps_same}
 use Rattle.node.proofs.node.Node.on_ack.Goals as goal
@@ -21,8 +21,9 @@ pub set_committed-requires : goal.set_committed-requires
 set_committed-requires g c =
     let may = c.requires.may in
     let old = c.args.self.now.core in
-    let count = counts_told c.steps_leave.ensures old c.after.new.self c.args.committed c.args.have
-    c.in_ok-due.due.items c.in_ok-due.ensures.after in
+    let count = counts_same c.steps_leave.ensures old c.after.new.self
+    (done.Acked c.args.committed c.args.have) (committed_responses c.in_ok-due.due.items)
+    (λ n. refl) c.in_ok-due.ensures.after in
     let ordered = c.committed-2.ensures.ordered.committed in (
       omega (arith, may.committed, c.in_ok-due.ensures.rises, c.committed-2.ensures.same),
       omega (arith, ordered, c.committed-2.ensures.same, count, may.count),
@@ -56,17 +57,23 @@ returns-clause-followed g c = record {
     works =
         let may = c.requires.may in
         let old = c.args.self.now.core in
-        let due = c.in_ok-due.due.items in
-        let count = counts_told c.steps_leave.ensures old c.after.new.self c.args.committed
-        c.args.have due c.in_ok-due.ensures.after in
-        let kept = keeps_kept c.steps_leave.ensures old c.after.new.self
-        (done.Acked c.args.committed c.args.have) due c.in_ok-due.ensures.after in
+        let d = done.Acked c.args.committed c.args.have in
+        let replies = committed_responses c.in_ok-due.due.items in
+        let law = c.steps_leave.ensures in
+        let new = c.after.new.self in
+        let after = c.in_ok-due.ensures.after in
+        let count = counts_same law old new d replies (λ n. refl) after in
+        let floor = keeps_floor law old new d replies after in
+        let kept = keeps_kept law old new d replies after in
+        let snapshots = snapshots_left law old new d replies after in
         let told = c.set_committed.ensures.told in
         on_ok c.output_of.result (record {
           works = λ ended. may.works (c.set_committed.ensures.ended.0 ended);
           count = count ∙ may.count ∙ sym (ap (λ (l : LookUps). l.count) told);
+          floor = floor ∙ may.floor ∙ sym (ap (λ (l : LookUps). l.facts.floor) told);
           kept = kept ∙ may.kept ∙ sym (ap (λ (l : LookUps). l.facts.kept) told);
           committed = sym c.committed-2.ensures.same ∙ sym (ap (λ (l : LookUps). l.committed) told);
+          snapshots = snapshots ∙ may.snapshots ∙ sym (ap (λ (l : LookUps). l.snapshots) told);
         });
     limits = ap (λ (l : LookUps). l.limits) c.set_committed.ensures.told;
   };
@@ -76,7 +83,8 @@ returns-clause-followed g c = record {
       let a = on_ack x n c.args.committed c.args.have in
       let leaves = c.steps_leave.ensures x n [] d in
       let due = c.in_ok-due.due.items in
-      let follows = subst (λ (y : ℕ). core.CoreFollows c.after.new.self (done_of y n [] d) due) r.id
+      let follows = subst (λ (y : ℕ).
+      core.CoreFollows c.after.new.self (done_of y n [] d) (committed_responses due)) r.id
       (c.in_ok-due.ensures.after n [] r.core) in
       let runs = goes_on g.D.Disk old _ x n [] d a leaves r
       (c.set_committed.ensures.holds n.list r.store)

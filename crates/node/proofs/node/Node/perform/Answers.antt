@@ -30,6 +30,24 @@ returns-in-Read g c =
     executes_as g.D.Disk c.args.self.now c.read.new.self c.args.decision
     (decision.Read it.request it.key it.at) c.read.result it.is c.read.ensures
 
+pub returns-in-ReadRows : goal.returns-in-ReadRows
+returns-in-ReadRows g c =
+    let it = c.in-ReadRows in
+    executes_as g.D.Disk c.args.self.now c.read_rows.new.self c.args.decision
+    (decision.ReadRows it.request it.range it.at) c.read_rows.result it.is c.read_rows.ensures
+
+pub returns-in-Open : goal.returns-in-Open
+returns-in-Open g c =
+    let it = c.in-Open in
+    executes_as g.D.Disk c.args.self.now c.open.new.self c.args.decision
+    (decision.Open it.request it.number) c.open.result it.is c.open.ensures
+
+pub returns-in-Close : goal.returns-in-Close
+returns-in-Close g c =
+    let it = c.in-Close in
+    executes_as g.D.Disk c.args.self.now c.close.new.self c.args.decision
+    (decision.Close it.request it.number) c.close.result it.is c.close.ensures
+
 pub returns-in-Resend : goal.returns-in-Resend
 returns-in-Resend g c =
     executes_as g.D.Disk c.args.self.now c.resend.new.self c.args.decision decision.Resend

@@ -53,6 +53,8 @@ returns-clause-works g c =
     record {
       works = still_works c.in_ok-tend.ensures.keeps.ends may.works;
       count = may.count ∙ sym (ap (λ (l : LookUps). l.count) told);
+      floor = may.floor ∙ sym (ap (λ (l : LookUps). l.facts.floor) told);
       kept = may.kept ∙ sym (ap (λ (l : LookUps). l.facts.kept) told);
       committed = may.committed ∙ sym (ap (λ (l : LookUps). l.committed) told);
+      snapshots = may.snapshots ∙ sym (ap (λ (l : LookUps). l.snapshots) told);
     }
