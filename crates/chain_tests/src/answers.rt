@@ -1,5 +1,5 @@
 // What ends a test, and replies as text.
-use kv_types::Value;
+use kv_types::{Page, Value};
 use node::Reply;
 use std::alloc::AllocError;
 use std::process::Abort;
@@ -35,6 +35,18 @@ fn put_value(
     }
 }
 
+/// The rows of a page, and whether there are more.
+fn put_page(text: &mut String, number: u64, page: &Page) -> Result<(), AllocError> {
+    for row in page.rows() {
+        let key = std::str::from_utf8(row.key.as_bytes()).unwrap_or("no text");
+        write!(text, " {key}={}", shown(&row.value))?;
+    }
+    if page.has_more() {
+        text.push_str(" more")?;
+    }
+    write!(text, " at {number}")
+}
+
 pub fn put_reply(text: &mut String, reply: &Reply) -> Result<(), AllocError> {
     match reply {
         Reply::Committed { request, number } => {
@@ -50,5 +62,19 @@ pub fn put_reply(text: &mut String, reply: &Reply) -> Result<(), AllocError> {
             number,
             value,
         } => put_value(text, request.get(), number.get(), value),
+        Reply::Rows {
+            request,
+            number,
+            page,
+        } => {
+            write!(text, "{}: rows", request.get())?;
+            put_page(text, number.get(), page)
+        }
+        Reply::Opened { request, number } => {
+            write!(text, "{}: opened {}", request.get(), number.get())
+        }
+        Reply::Closed { request, number } => {
+            write!(text, "{}: closed {}", request.get(), number.get())
+        }
     }
 }

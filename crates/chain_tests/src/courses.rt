@@ -1,6 +1,6 @@
 // Runs as scripts of events, and the trace of each event.
 use crate::answers::{is_text, put_reply};
-use crate::items::{Change, batch_of, config_of, id_of, key_of, number};
+use crate::items::{Change, Walk, batch_of, config_of, id_of, key_of, number, range_of};
 use configurations::{Configs, NodeId};
 use disk::{Fault, Junk, JunkBytes};
 use kv_types::Limits;
@@ -9,11 +9,14 @@ use node::Stop;
 use std::alloc::{AllocError, Global};
 use std::process::Abort;
 
-/// An event. Reads are of the key `a`.
+/// An event. Reads of a key are of the key `a`.
 #[derive(Clone, Copy)]
 pub enum Step {
     Submit(u16, &'static [Change]),
     Get(u16, Option<u64>),
+    Rows(u16, Walk, Option<u64>),
+    Open(u16, Option<u64>),
+    Close(u16, u64),
     Deliver(u64),
     Tick(u16),
     Tend(u16),
@@ -25,6 +28,28 @@ pub enum Step {
 /// Junk of these bytes.
 pub fn junk_of(rt: &impl Abort, alloc: Global, bytes: &[u8]) -> Junk {
     Junk::Bytes(JunkBytes::new(bytes.to_vec(alloc).expect(rt, "memory")))
+}
+
+fn rows_at(rt: &impl Abort, alloc: Global, node: NodeId, walk: Walk, at: Option<u64>) -> EventKind {
+    EventKind::Rows {
+        node,
+        range: range_of(rt, alloc, walk),
+        at: at.map(number),
+    }
+}
+
+fn open_at(node: NodeId, at: Option<u64>) -> EventKind {
+    EventKind::Open {
+        node,
+        at: at.map(number),
+    }
+}
+
+fn close_at(node: NodeId, at: u64) -> EventKind {
+    EventKind::Close {
+        node,
+        number: number(at),
+    }
 }
 
 fn kind_of(rt: &impl Abort, alloc: Global, step: &Step) -> EventKind {
@@ -39,6 +64,9 @@ fn kind_of(rt: &impl Abort, alloc: Global, step: &Step) -> EventKind {
             key: key_of(rt, alloc, "a"),
             at: at.map(number),
         },
+        Step::Rows(node, walk, at) => rows_at(rt, alloc, id_of(rt, node), walk, at),
+        Step::Open(node, at) => open_at(id_of(rt, node), at),
+        Step::Close(node, at) => close_at(id_of(rt, node), at),
         Step::Stop(node, junk) => EventKind::Stop {
             node: id_of(rt, node),
             junk: junk_of(rt, alloc, junk),

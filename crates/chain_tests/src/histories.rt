@@ -2,7 +2,7 @@
 use crate::courses::Step;
 use crate::items::Change;
 use disk::MemDisk;
-use kv_types::{Batch, Edit, Key, Value, value_at};
+use kv_types::{Batch, Edit, Key, Page, Value, value_at};
 use lab::{Line, Lines, NodeReport};
 use manifest::Manifest;
 use node::Reply;
@@ -135,7 +135,24 @@ impl History<'_> {
                 None => false,
             },
             Reply::Value { number, value, .. } => self.has_value(number.get(), value),
+            Reply::Rows { number, page, .. } => self.has_rows(number.get(), page),
+            Reply::Opened { number, .. } | Reply::Closed { number, .. } => {
+                number.get() <= self.list.len() as u64
+            }
         }
+    }
+
+    // Whether the map at this number has these rows.
+    fn has_rows(&self, number: u64, page: &Page) -> bool {
+        let Some(first) = self.list.get(..number as usize) else {
+            return false;
+        };
+        for row in page.rows() {
+            if !is_value(value_at(first, &row.key), Some(row.value.as_bytes())) {
+                return false;
+            }
+        }
+        true
     }
 
     // Whether the key has this value at this number.

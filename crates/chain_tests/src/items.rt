@@ -1,6 +1,6 @@
 // Keys, batches, ids and configurations, as the tests write them down.
 use configurations::{Config, NodeId};
-use kv_types::{Batch, Edit, Key, Number, Value};
+use kv_types::{Batch, Edit, Key, Number, Range, Value};
 use std::alloc::Global;
 use std::process::Abort;
 
@@ -13,6 +13,12 @@ pub const TWO: &[Change] = &[("a", Some("2"))];
 
 pub const NO_A: &[Change] = &[("a", None)];
 
+/// A range: its least key, the key that all of its keys are below, whether its walk goes backward,
+/// and how many rows an answer has at most.
+pub type Walk = (&'static str, Option<&'static str>, bool, u32);
+
+pub const ABC: &[Change] = &[("a", Some("1")), ("b", Some("2")), ("c", Some("3"))];
+
 pub const THREE: &[Change] = &[("a", Some("1")), ("a", None), ("a", Some("2"))];
 
 fn bytes_of(rt: &impl Abort, alloc: Global, text: &str) -> Vec<u8> {
@@ -21,6 +27,16 @@ fn bytes_of(rt: &impl Abort, alloc: Global, text: &str) -> Vec<u8> {
 
 pub fn key_of(rt: &impl Abort, alloc: Global, text: &str) -> Key {
     Key::new(bytes_of(rt, alloc, text)).expect(rt, "a key")
+}
+
+pub fn range_of(rt: &impl Abort, alloc: Global, walk: Walk) -> Range {
+    let to = match walk.1 {
+        Some(text) => Some(key_of(rt, alloc, text)),
+        None => None,
+    };
+    Range::new(key_of(rt, alloc, walk.0), to, walk.2, walk.3)
+        .ok()
+        .expect(rt, "a range")
 }
 
 fn value_of(rt: &impl Abort, alloc: Global, text: &str) -> Value {

@@ -23,6 +23,8 @@ mod one_node;
 #[cfg(test)]
 mod openings;
 #[cfg(test)]
+mod pages;
+#[cfg(test)]
 mod rewrites;
 #[cfg(test)]
 mod sweep;

@@ -2,7 +2,7 @@
 use Rattle.std.proofs.Common.{◌≡◌, ℕ, Bool, false, List, map, Option, Some, None, refl, sym}
 use Rattle.std.proofs.Common.{ap, subst, ◌∙◌}
 use Rattle.std.proofs.lemmas.Bool.{cond-true, cond-false, false≢true}
-use Rattle.kv_types.specs.{BatchContent}
+use Rattle.kv_types.specs.{BatchContent, Span}
 use Rattle.disk.specs.declared.Fault.{Fault}
 use Rattle.disk.specs.declared.Junk.{Junk}
 use Rattle.disk.specs.{Slots}
@@ -22,8 +22,8 @@ use Rattle.disk.specs.declared.Disk.{Ghosts}
 use Rattle.lab.specs.declared.input.NodeInput.{NodeInput}
 use Rattle.lab.specs.declared.input.StepOutcome.{StepOutcome}
 use Rattle.lab.specs.declared.event.EventKind.{EventKind}
-use Rattle.lab.specs.declared.event.EventKind.TheVariants.{Submit, Get, Deliver, Tick, Tend, Start}
-use Rattle.lab.specs.declared.event.EventKind.TheVariants.{Stop}
+use Rattle.lab.specs.declared.event.EventKind.TheVariants.{Submit, Get, Rows, Open, Close}
+use Rattle.lab.specs.declared.event.EventKind.TheVariants.{Deliver, Tick, Tend, Start, Stop}
 use Rattle.lab.specs.declared.node_state.NodeState.{NodeState}
 use Rattle.lab.specs.declared.report.Line.TheVariants as line
 use Rattle.lab.specs.Events.{modelled, reply_line, line_cause}
@@ -55,6 +55,28 @@ get_replies x i key at (Response.Shows j s l) = refl
 get_replies x i key at (Response.Opened j s) = refl
 get_replies x i key at (Response.Closed j s) = refl
 get_replies x i key at (Response.Refused j why) = refl
+
+rows_replies : (x i : ℕ) (range : Span) (at : Option ℕ) →
+    RepliesSo (Rows x range at) (input.Rows i range at)
+rows_replies x i range at (Response.Committed j k) = refl
+rows_replies x i range at (Response.Shows j s l) = refl
+rows_replies x i range at (Response.Opened j s) = refl
+rows_replies x i range at (Response.Closed j s) = refl
+rows_replies x i range at (Response.Refused j why) = refl
+
+open_replies : (x i : ℕ) (at : Option ℕ) → RepliesSo (Open x at) (input.Open i at)
+open_replies x i at (Response.Committed j k) = refl
+open_replies x i at (Response.Shows j s l) = refl
+open_replies x i at (Response.Opened j s) = refl
+open_replies x i at (Response.Closed j s) = refl
+open_replies x i at (Response.Refused j why) = refl
+
+close_replies : (x i number : ℕ) → RepliesSo (Close x number) (input.Close i number)
+close_replies x i number (Response.Committed j k) = refl
+close_replies x i number (Response.Shows j s l) = refl
+close_replies x i number (Response.Opened j s) = refl
+close_replies x i number (Response.Closed j s) = refl
+close_replies x i number (Response.Refused j why) = refl
 
 forward_replies : (p epoch from number : ℕ) (batch : BatchContent) →
     RepliesSo (Deliver p) (input.Forward epoch from number batch)
@@ -226,6 +248,24 @@ module _ {g : Ghosts Slots} (cs : Configurations) (w : SystemState BatchContent)
         (λ choice. refl) (λ choice o. refl) (get_replies x i key at)
         (subst (λ (k : NodeInput). OutcomeRefines is_honest state it struck x
         (w.nodes x) k old new did) brings.1 was))
+    refined (Rows node range at) node_input brings was =
+        subst (λ (y : ℕ). IsOutcome cs w i x (Rows y range at) it struck new did) brings.0
+        (given cs w i x (Rows x range at) it struck (input.Rows i range at) new did
+        (λ choice. refl) (λ choice. refl) (λ choice o. refl) (rows_replies x i range at)
+        (subst (λ (k : NodeInput). OutcomeRefines is_honest state it struck x
+        (w.nodes x) k old new did) brings.1 was))
+    refined (Open node at) node_input brings was =
+        subst (λ (y : ℕ). IsOutcome cs w i x (Open y at) it struck new did) brings.0
+        (given cs w i x (Open x at) it struck (input.Open i at) new did (λ choice. refl)
+        (λ choice. refl) (λ choice o. refl) (open_replies x i at)
+        (subst (λ (k : NodeInput). OutcomeRefines is_honest state it struck x
+        (w.nodes x) k old new did) brings.1 was))
+    refined (Close node number) node_input brings was =
+        subst (λ (y : ℕ). IsOutcome cs w i x (Close y number) it struck new did) brings.0
+        (given cs w i x (Close x number) it struck (input.Close i number) new did (λ choice. refl)
+        (λ choice. refl) (λ choice o. refl) (close_replies x i number)
+        (subst (λ (k : NodeInput). OutcomeRefines is_honest state it struck x
+        (w.nodes x) k old new did) brings.1 was))
     refined (Deliver p) node_input brings was =
         deliver p brings.it brings.frame brings.there brings.same
         (subst (λ (k : NodeInput). OutcomeRefines is_honest state it struck x
@@ -264,6 +304,9 @@ pub junk_same : (frames : List (ModelFrame BatchContent)) (i x : ℕ) (kind : Ev
     IsDeliveryOf frames i kind x node_input → input_junk node_input ≡ junk_of kind
 junk_same frames i x (Submit node batch) node_input brings = ap input_junk brings.1
 junk_same frames i x (Get node key at) node_input brings = ap input_junk brings.1
+junk_same frames i x (Rows node range at) node_input brings = ap input_junk brings.1
+junk_same frames i x (Open node at) node_input brings = ap input_junk brings.1
+junk_same frames i x (Close node number) node_input brings = ap input_junk brings.1
 junk_same frames i x (Deliver p) node_input brings = ap input_junk brings.is ∙ none_with brings.it
   where
     none_with : (it : Frame) → input_junk (input_of it) ≡ None

@@ -21,7 +21,6 @@ use Rattle.lab.specs.declared.input.StepOutcome.{StepOutcome}
 use Rattle.lab.specs.declared.input.StepOutcome.TheVariants as done
 use Rattle.lab.specs.declared.event.Event.{Event}
 use Rattle.lab.specs.declared.event.EventKind.{EventKind}
-use Rattle.lab.specs.declared.event.EventKind.TheVariants.{Submit, Get, Deliver, Tick, Tend, Start}
 use Rattle.lab.specs.declared.event.EventKind.TheVariants.{Stop}
 use Rattle.lab.specs.declared.node_state.NodeState.{NodeState}
 use Rattle.lab.specs.declared.node_state.NodeState.TheVariants.{Up, Down}
@@ -141,17 +140,7 @@ module _ {g : Ghosts Slots} (old : Slots) (new : NodeState Slots g) (may : MayRi
   stop_of (Stop x junk) it choice traced is device left why = crash_of junk old new
       (subst (λ (c : Option Cause). DiskFits state failures past_states (Some junk) it choice.struck
       (done.Stopped c) old new) (sym is) left)
-  stop_of (Submit x batch) it choice traced is device left why =
-      ended_by it choice traced is device left why
-  stop_of (Get x key at) it choice traced is device left why =
-      ended_by it choice traced is device left why
-  stop_of (Deliver p) it choice traced is device left why =
-      ended_by it choice traced is device left why
-  stop_of (Tick x) it choice traced is device left why =
-      ended_by it choice traced is device left why
-  stop_of (Tend x) it choice traced is device left why =
-      ended_by it choice traced is device left why
-  stop_of (Start x) it choice traced is device left why =
+  stop_of kind it choice traced is device left why =
       ended_by it choice traced is device left why
 
   -- a state that refines a machine which does not run is down

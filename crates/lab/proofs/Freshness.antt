@@ -1,6 +1,6 @@
 -- Reads at the last tail are fresh, by the model's theorem and the lines of each event.
 use Rattle.std.proofs.Common.{◌≡◌, ℕ, suc, ◌≤◌, List, [], ◌∷◌, ◌++◌, length, take, None, true}
-use Rattle.std.proofs.Common.{refl, sym, ap, subst, ◌∙◌, arith}
+use Rattle.std.proofs.Common.{inl, inr, refl, sym, ap, subst, ◌∙◌, arith}
 use Rattle.std.specs.Prelude.{All}
 use Rattle.std.specs.List.{AllByRecursion}
 use Rattle.std.proofs.lemmas.Bool.{cond_both, cond-true}
@@ -8,6 +8,7 @@ use Rattle.std.proofs.lemmas.List.Elements.{All-from_recursion, recursion_from_A
 use Rattle.kv_types.specs.{BatchContent}
 use Rattle.chain_model.specs.{Configurations, Lawful, Request, Response, Committed, Shows, Opened}
 use Rattle.chain_model.specs.{Closed, Refused, SystemEvent as ModelEvent, SystemState, Outcome}
+use Rattle.chain_model.specs.System.{Ask}
 use Rattle.chain_model.specs.{StepResult, Answered, StoppedBefore, StoppedAfter, Answer, answers}
 use Rattle.chain_model.specs.{as_completed, ask, first_state, outcome, reached, refused, run}
 use Rattle.chain_model.specs.{state_after}
@@ -17,12 +18,11 @@ use Rattle.chain_model.specs.Freshness.{IsAtMost, ReadsFresh}
 use Rattle.chain_model.specs.Retention.{KeepsEnough}
 use Rattle.lab.specs.declared.event.Event.{Event}
 use Rattle.lab.specs.declared.event.EventKind.{EventKind}
-use Rattle.lab.specs.declared.event.EventKind.TheVariants.{Submit, Get, Deliver, Tick, Tend, Start}
-use Rattle.lab.specs.declared.event.EventKind.TheVariants.{Stop}
+use Rattle.lab.specs.declared.event.EventKind.TheVariants.{Get, Rows}
 use Rattle.lab.specs.declared.report.Line.{Line}
 use Rattle.lab.specs.Events.{modelled, lines_of_event, reply_line, reply_lines}
 use Rattle.lab.specs.Freshness.{AreFresh, IsTailRead, NodesKeepEnough, LineIsAtMost, LineIsFresh}
-use Rattle.lab.specs.Freshness.{ReadsAreFresh}
+use Rattle.lab.specs.Freshness.{AreAtMost, ReadsAreFresh, ReadsLatest}
 use Rattle.lab.specs.SimNodes.{Choice}
 use Rattle.lab.specs.Traces.{IsTrace, lines_from, modelled_from}
 use Rattle.lab.proofs.TraceLines.{IsQuiet, back, both, front, lines_have}
@@ -44,21 +44,17 @@ quiet_below s = record {
 -- a read's line has the number of the model's reply
 shown_below : (s : ℕ) (kind : EventKind) (i n : ℕ) (l : List BatchContent) → n ≤ s →
     AllByRecursion (LineIsAtMost s) (reply_line kind (Shows i n l))
-shown_below s (Submit x batch) i n l below = tt
 shown_below s (Get x key at) i n l below = (below, tt)
-shown_below s (Deliver p) i n l below = tt
-shown_below s (Tick x) i n l below = tt
-shown_below s (Tend x) i n l below = tt
-shown_below s (Start x) i n l below = tt
-shown_below s (Stop x junk) i n l below = tt
+shown_below s (Rows x range at) i n l below = (below, tt)
+shown_below s kind i n l below = tt
 
 -- so has that of any reply
 reply_below : (s : ℕ) (kind : EventKind) (r : Response BatchContent) → IsAtMost s r →
     AllByRecursion (LineIsAtMost s) (reply_line kind r)
 reply_below s kind (Committed i n) below = (below, tt)
 reply_below s kind (Shows i n l) below = shown_below s kind i n l below
-reply_below s kind (Opened i n) below = tt
-reply_below s kind (Closed i n) below = tt
+reply_below s kind (Opened i n) below = (below, tt)
+reply_below s kind (Closed i n) below = (tt, tt)
 reply_below s kind (Refused i why) below = (tt, tt)
 
 replies_below : (s : ℕ) (kind : EventKind) (replies : List (Response BatchContent)) →
@@ -91,7 +87,7 @@ bounded_more cs w i event ch earlier bounded = λ s below.
 
 -- ---- a read at the last tail
 
--- a line that is no reply shows no value
+-- a line that is no reply shows nothing
 quiet_fresh : (earlier : List (List Line)) → IsQuiet (LineIsFresh earlier)
 quiet_fresh earlier = record {
   nothing = tt;
@@ -103,10 +99,26 @@ quiet_fresh earlier = record {
   tended = λ did. tt;
 }
 
--- the replies to a read of this key show what is fresh
-abbrev HasFresh : List (List Line) → ℕ → List ℕ → Outcome BatchContent → Type 0
-HasFresh earlier t key o =
-    AllByRecursion (LineIsFresh earlier) (reply_lines (Get t key None) o.replies)
+-- the replies of an outcome to this event show what is fresh
+abbrev HasFresh : List (List Line) → EventKind → Outcome BatchContent → Type 0
+HasFresh earlier kind o = AllByRecursion (LineIsFresh earlier) (reply_lines kind o.replies)
+
+-- a read without a number at node t has this line
+shows_fresh : (earlier : List (List Line)) (kind : EventKind) (t i n : ℕ) (l : List BatchContent) →
+    ReadsLatest kind t → AreAtMost n earlier →
+    AllByRecursion (LineIsFresh earlier) (reply_lines kind (Shows i n l ∷ []))
+shows_fresh earlier kind t i n l (inl get) below =
+    subst (λ (k : EventKind). AllByRecursion (LineIsFresh earlier)
+    (reply_lines k (Shows i n l ∷ []))) (sym get.1) (below, tt)
+shows_fresh earlier kind t i n l (inr rows) below =
+    subst (λ (k : EventKind). AllByRecursion (LineIsFresh earlier)
+    (reply_lines k (Shows i n l ∷ []))) (sym rows.1) (below, tt)
+
+-- it is a read without a number in the model
+asks_latest : (i : ℕ) (kind : EventKind) (t : ℕ) (ch : Choice) → ReadsLatest kind t →
+    modelled i kind ch ≡ Ask t i (Request.Read None) ch.went
+asks_latest i kind t ch (inl get) = ap (λ (k : EventKind). modelled i k ch) get.1
+asks_latest i kind t ch (inr rows) = ap (λ (k : EventKind). modelled i k ch) rows.1
 
 -- the answer of a node to the read
 abbrev read_by : ℕ → ℕ → Machine → Answer BatchContent
@@ -114,14 +126,14 @@ read_by t i n = ask t n i (Request.Read None)
 
 module _ (cs : Configurations) (law : (es : List (ModelEvent BatchContent))
     → ReadsFresh cs es) where
-  -- where the tail runs, its value is of the whole list
-  ended : (es : List (ModelEvent BatchContent)) (t i : ℕ) (key : List ℕ)
+  -- where the tail runs, what it shows is of the whole list
+  ended : (es : List (ModelEvent BatchContent)) (kind : EventKind) (t i : ℕ)
       (earlier : List (List Line)) → IsBounded (reached cs es) earlier →
-      IsTailRead cs (reached cs es) (Get t key None) t → (went : StepResult) →
+      IsTailRead cs (reached cs es) kind t → (went : StepResult) →
       ((reached cs es).nodes t).running ≡ true →
-      HasFresh earlier t key (as_completed t ((reached cs es).nodes t)
+      HasFresh earlier kind (as_completed t ((reached cs es).nodes t)
       (read_by t i ((reached cs es).nodes t)) went)
-  ended es t i key earlier bounded read Answered up =
+  ended es kind t i earlier bounded read Answered up =
       let n = (reached cs es).nodes t in
       let sees = law es t read.tail read.epoch up in
       let is = sym (ap (λ (o : Outcome BatchContent). o.replies) (cond-true n.running
@@ -130,24 +142,26 @@ module _ (cs : Configurations) (law : (es : List (ModelEvent BatchContent))
       let below = bounded (length n.list)
       (recursion_from_All (IsAtMost (length n.list)) (reached cs es).replies sees.before) in
       subst (λ (l : List (Response BatchContent)). AllByRecursion (LineIsFresh earlier)
-      (reply_lines (Get t key None) l)) (sym is) (
-        All-from_recursion (λ (lines : List Line). All (LineIsAtMost (length n.list)) lines) earlier
-            below,
-        tt,
-      )
-  ended es t i key earlier bounded read StoppedBefore up = tt
-  ended es t i key earlier bounded read StoppedAfter up = tt
+      (reply_lines kind l)) (sym is)
+      (shows_fresh earlier kind t i (length n.list) n.list read.reads
+      (All-from_recursion (λ (lines : List Line). All (LineIsAtMost (length n.list)) lines) earlier
+      below))
+  ended es kind t i earlier bounded read StoppedBefore up = tt
+  ended es kind t i earlier bounded read StoppedAfter up = tt
 
   -- the replies to the read, of a tail that is down too
-  tail_replies : (es : List (ModelEvent BatchContent)) (t i : ℕ) (key : List ℕ) (ch : Choice)
+  tail_replies : (es : List (ModelEvent BatchContent)) (kind : EventKind) (t i : ℕ) (ch : Choice)
       (earlier : List (List Line)) → IsBounded (reached cs es) earlier →
-      IsTailRead cs (reached cs es) (Get t key None) t →
-      HasFresh earlier t key (outcome (reached cs es) cs (modelled i (Get t key None) ch))
-  tail_replies es t i key ch earlier bounded read =
+      IsTailRead cs (reached cs es) kind t →
+      HasFresh earlier kind (outcome (reached cs es) cs (modelled i kind ch))
+  tail_replies es kind t i ch earlier bounded read =
       let n = (reached cs es).nodes t in
-      cond_both n.running (as_completed t n (read_by t i n) ch.went)
-      (answers t (refused n i NotRunning)) (HasFresh earlier t key)
-      (ended es t i key earlier bounded read ch.went) (λ down. (tt, tt))
+      let asks = asks_latest i kind t ch read.reads in
+      subst (λ (e : ModelEvent BatchContent).
+      HasFresh earlier kind (outcome (reached cs es) cs e)) (sym asks)
+      (cond_both n.running (as_completed t n (read_by t i n) ch.went)
+      (answers t (refused n i NotRunning)) (HasFresh earlier kind)
+      (ended es kind t i earlier bounded read ch.went) (λ down. (tt, tt)))
 
   -- the lines of the read
   tail_lines : (es : List (ModelEvent BatchContent)) (i : ℕ) (event : Event) (ch : Choice)
@@ -158,18 +172,10 @@ module _ (cs : Configurations) (law : (es : List (ModelEvent BatchContent))
   tail_lines es i event ch earlier bounded t read =
       let w = reached cs es in
       let o = outcome w cs (modelled i event.kind ch) in
-      let replies = subst (λ (kind : EventKind). AllByRecursion (LineIsFresh earlier)
-      (reply_lines kind (outcome w cs (modelled i kind ch)).replies)) (sym read.reads)
-      (tail_replies es t i read.key ch earlier bounded (record {
-        key = read.key;
-        reads = refl;
-        tail = read.tail;
-        epoch = read.epoch;
-      })) in
       All-from_recursion (LineIsFresh earlier) (lines_of_event (length w.frames) event ch o)
       (lines_have (LineIsFresh earlier) (quiet_fresh earlier) o.acted_on
       (length w.frames) event ch o
-      replies)
+      (tail_replies es event.kind t i ch earlier bounded read))
 
   -- a run of one event more
   run_one : (es : List (ModelEvent BatchContent)) (e : ModelEvent BatchContent)

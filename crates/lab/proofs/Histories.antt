@@ -1,17 +1,17 @@
 -- From the model's one list of batches to what the lines of a report say.
 use Rattle.std.proofs.Common.{◌≡◌, ℕ, suc, List, [], ◌∷◌, length}
-use Rattle.std.proofs.Common.{refl, ap, arith}
+use Rattle.std.proofs.Common.{refl, ap, subst, arith}
 use Rattle.std.specs.List.{All, AllZip, AllByRecursion, flat_map}
 use Rattle.std.proofs.lemmas.List.Elements.{All-from_recursion}
 use Rattle.kv_types.specs.{BatchContent, map_of}
+use Rattle.kv_types.specs.Pages.{IsPage, PagesAgree, page_of}
 use Rattle.chain_model.specs.{Configurations, ResponseAgrees, numbered}
 use Rattle.chain_model.specs.{submitted, Response, Committed, Shows, Opened, Closed, Refused}
 use Rattle.chain_model.specs.{SystemEvent as ModelEvent, SystemState, Outcome, outcome, outcomes}
 use Rattle.chain_model.specs.{state_after}
 use Rattle.lab.specs.declared.event.Event.{Event}
 use Rattle.lab.specs.declared.event.EventKind.{EventKind}
-use Rattle.lab.specs.declared.event.EventKind.TheVariants.{Submit, Get, Deliver, Tick, Tend, Start}
-use Rattle.lab.specs.declared.event.EventKind.TheVariants.{Stop}
+use Rattle.lab.specs.declared.event.EventKind.TheVariants.{Submit, Get, Rows}
 use Rattle.lab.specs.declared.report.Line.{Line}
 use Rattle.lab.specs.Events.{modelled, lines_of_event, reply_line, reply_lines}
 use Rattle.lab.specs.SimNodes.{Choice}
@@ -35,18 +35,7 @@ numbered_same i (event ∷ events) (ch ∷ chs) = one event.kind (numbered_same 
         ch ∷ modelled_from (suc i) events chs
     one (Submit x batch) later
         = ap (λ (l : List (ModelEvent BatchContent)). modelled i (Submit x batch) ch ∷ l) later
-    one (Get x key at) later
-        = ap (λ (l : List (ModelEvent BatchContent)). modelled i (Get x key at) ch ∷ l) later
-    one (Deliver p) later
-        = ap (λ (l : List (ModelEvent BatchContent)). modelled i (Deliver p) ch ∷ l) later
-    one (Tick x) later
-        = ap (λ (l : List (ModelEvent BatchContent)). modelled i (Tick x) ch ∷ l) later
-    one (Tend x) later
-        = ap (λ (l : List (ModelEvent BatchContent)). modelled i (Tend x) ch ∷ l) later
-    one (Start x) later
-        = ap (λ (l : List (ModelEvent BatchContent)). modelled i (Start x) ch ∷ l) later
-    one (Stop x junk) later
-        = ap (λ (l : List (ModelEvent BatchContent)). modelled i (Stop x junk) ch ∷ l) later
+    one kind later = ap (λ (l : List (ModelEvent BatchContent)). modelled i kind ch ∷ l) later
 
 -- the model's events submit what the events submit
 pub submitted_same : (i : ℕ) (events : List Event) (chs : List Choice) →
@@ -62,12 +51,7 @@ submitted_same i (event ∷ events) (ch ∷ chs) same = one event.kind
         → submitted i (modelled i kind ch ∷ modelled_from (suc i) events chs) ≡ submitted_from i
         (record { kind = kind; fault = event.fault } ∷ events)
     one (Submit x batch) later = ap (λ (l : List Placed). (i, batch) ∷ l) later
-    one (Get x key at) later = later
-    one (Deliver p) later = later
-    one (Tick x) later = later
-    one (Tend x) later = later
-    one (Start x) later = later
-    one (Stop x junk) later = later
+    one kind later = later
 
 -- ---- lines
 
@@ -87,52 +71,57 @@ quiet B kind = record {
   tended = λ did. tt;
 }
 
--- a read's reply agrees with B where the model's does
-shown : (B : List Placed) (kind : EventKind) (i s : ℕ) (l : List BatchContent) →
-    ResponseAgrees B (Shows i s l) → Each B kind (reply_line kind (Shows i s l))
-shown B (Submit x batch) i s l agrees = tt
-shown B (Get x key at) i s l agrees =
-    ((agrees.0, ap (λ (m : List BatchContent). map_of m key) agrees.1), tt)
-shown B (Deliver p) i s l agrees = tt
-shown B (Tick x) i s l agrees = tt
-shown B (Tend x) i s l agrees = tt
-shown B (Start x) i s l agrees = tt
-shown B (Stop x junk) i s l agrees = tt
+-- pages are those of the function, by its law
+module _ (pages : PagesAgree) where
+  -- a read's reply agrees with B where the model's does
+  shown : (B : List Placed) (kind : EventKind) (i s : ℕ) (l : List BatchContent) →
+      ResponseAgrees B (Shows i s l) → Each B kind (reply_line kind (Shows i s l))
+  shown B (Get x key at) i s l agrees =
+      ((agrees.0, ap (λ (m : List BatchContent). map_of m key) agrees.1), tt)
+  shown B (Rows x range at) i s l agrees = (
+    (
+      agrees.0,
+      subst (λ (m : List BatchContent). IsPage (map_of m) range (page_of l range)) agrees.1
+          (pages l range),
+    ),
+    tt,
+  )
+  shown B kind i s l agrees = tt
 
--- a reply agrees with B where the model's does
-agrees_by : (B : List Placed) (kind : EventKind) (r : Response BatchContent) → ResponseAgrees B r →
-    Each B kind (reply_line kind r)
-agrees_by B kind (Committed i n) agrees = (agrees, tt)
-agrees_by B kind (Shows i s l) agrees = shown B kind i s l agrees
-agrees_by B kind (Opened i s) agrees = tt
-agrees_by B kind (Closed i s) agrees = tt
-agrees_by B kind (Refused i why) agrees = (tt, tt)
+  -- a reply agrees with B where the model's does
+  agrees_by : (B : List Placed) (kind : EventKind) (r : Response BatchContent) →
+      ResponseAgrees B r → Each B kind (reply_line kind r)
+  agrees_by B kind (Committed i n) agrees = (agrees, tt)
+  agrees_by B kind (Shows i s l) agrees = shown B kind i s l agrees
+  agrees_by B kind (Opened i s) agrees = (tt, tt)
+  agrees_by B kind (Closed i s) agrees = (tt, tt)
+  agrees_by B kind (Refused i why) agrees = (tt, tt)
 
-replied : (B : List Placed) (kind : EventKind) (replies : List (Response BatchContent)) →
-    AllByRecursion (ResponseAgrees B) replies → Each B kind (reply_lines kind replies)
-replied B kind [] agree = tt
-replied B kind (r ∷ replies) agree =
-    both (LineAgrees B kind) (reply_line kind r) (reply_lines kind replies)
-    (agrees_by B kind r agree.0) (replied B kind replies agree.1)
+  replied : (B : List Placed) (kind : EventKind) (replies : List (Response BatchContent)) →
+      AllByRecursion (ResponseAgrees B) replies → Each B kind (reply_lines kind replies)
+  replied B kind [] agree = tt
+  replied B kind (r ∷ replies) agree =
+      both (LineAgrees B kind) (reply_line kind r) (reply_lines kind replies)
+      (agrees_by B kind r agree.0) (replied B kind replies agree.1)
 
--- the lines of all events agree with B where the replies of their outcomes do
-pub all_agree : (B : List Placed) (cs : Configurations) (i : ℕ) (events : List Event)
-    (chs : List Choice) (w : SystemState BatchContent) → length chs ≡ length events
-    → AllByRecursion (ResponseAgrees B) (flat_map (λ (o : Outcome BatchContent). o.replies)
-    (outcomes cs (modelled_from i events chs) w))
-    → AllZip (λ event lines. All (LineAgrees B event.kind) lines) events
-    (lines_from cs i events chs w)
-all_agree B cs i [] chs w same agree = tt
-all_agree B cs i (event ∷ events) [] w same agree = absurd (omega arith)
-all_agree B cs i (event ∷ events) (ch ∷ chs) w same agree =
-    let e = modelled i event.kind ch in
-    let o = outcome w cs e in
-    let n = length w.frames in
-    let later = flat_map (λ (p : Outcome BatchContent). p.replies)
-    (outcomes cs (modelled_from (suc i) events chs) (state_after cs w e)) in (
-      All-from_recursion (LineAgrees B event.kind) (lines_of_event n event ch o)
-          (lines_have (LineAgrees B event.kind) (quiet B event.kind) o.acted_on n event ch o
-          (replied B event.kind o.replies (front (ResponseAgrees B) o.replies later agree))),
-      all_agree B cs (suc i) events chs (state_after cs w e) (omega arith)
-          (back (ResponseAgrees B) o.replies later agree),
-    )
+  -- the lines of all events agree with B where the replies of their outcomes do
+  pub all_agree : (B : List Placed) (cs : Configurations) (i : ℕ) (events : List Event)
+      (chs : List Choice) (w : SystemState BatchContent) → length chs ≡ length events
+      → AllByRecursion (ResponseAgrees B) (flat_map (λ (o : Outcome BatchContent). o.replies)
+      (outcomes cs (modelled_from i events chs) w))
+      → AllZip (λ event lines. All (LineAgrees B event.kind) lines) events
+      (lines_from cs i events chs w)
+  all_agree B cs i [] chs w same agree = tt
+  all_agree B cs i (event ∷ events) [] w same agree = absurd (omega arith)
+  all_agree B cs i (event ∷ events) (ch ∷ chs) w same agree =
+      let e = modelled i event.kind ch in
+      let o = outcome w cs e in
+      let n = length w.frames in
+      let later = flat_map (λ (p : Outcome BatchContent). p.replies)
+      (outcomes cs (modelled_from (suc i) events chs) (state_after cs w e)) in (
+        All-from_recursion (LineAgrees B event.kind) (lines_of_event n event ch o)
+            (lines_have (LineAgrees B event.kind) (quiet B event.kind) o.acted_on n event ch o
+            (replied B event.kind o.replies (front (ResponseAgrees B) o.replies later agree))),
+        all_agree B cs (suc i) events chs (state_after cs w e) (omega arith)
+            (back (ResponseAgrees B) o.replies later agree),
+      )

@@ -370,6 +370,9 @@ module _ {g : Ghosts Slots} (cs : Configurations) (w : SystemState BatchContent)
       rests_same : (inp : Input) → (down_answer (w.nodes x) inp).node ≡ w.nodes x
       rests_same (input.Submit request batch) = refl
       rests_same (input.Get request key at) = refl
+      rests_same (input.Rows request range at) = refl
+      rests_same (input.Open request at) = refl
+      rests_same (input.Close request number) = refl
       rests_same (input.Forward epoch from number batch) = refl
       rests_same (input.Ack epoch from committed have) = refl
       rests_same input.Tick = refl

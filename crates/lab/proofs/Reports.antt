@@ -5,6 +5,7 @@ use Rattle.std.specs.List.{AllZip, flat_map}
 use Rattle.std.proofs.lemmas.List.Elements.{All-weaker, recursion_from_All}
 use Rattle.kv_types.specs.declared.Limits.{Limits}
 use Rattle.kv_types.specs.{BatchContent}
+use Rattle.kv_types.specs.Pages.{PagesAgree}
 use Rattle.disk.specs.{Marks, Slots, State}
 use Rattle.chain_model.specs.{Configurations, has, last_of, ResponseAgrees, OneList, batches, Part}
 use Rattle.chain_model.specs.{IsPrefix, RunIsOutcomes, Response, Outcome, SystemEvent as ModelEvent}
@@ -43,9 +44,9 @@ pub one_of : {D N : Type 0} (state : D → State) (failures : D → ℕ) (past :
     (nodes : List N) → IsTrace cs events choices steps →
     HaveDisks state failures past marks id disk cs events choices nodes →
     OneList cs (modelled_from 1 events choices) →
-    RunIsOutcomes cs (modelled_from 1 events choices) →
+    RunIsOutcomes cs (modelled_from 1 events choices) → PagesAgree →
     IsHistory state id disk cs events steps nodes
-one_of state failures past marks id disk cs events choices steps nodes trace disks one made =
+one_of state failures past marks id disk cs events choices steps nodes trace disks one made pages =
     let es = modelled_from 1 events choices in
     let same = numbered_same 1 events choices in
     let agrees = subst (λ (l : List (ModelEvent BatchContent)). All (ResponseAgrees one.B)
@@ -68,7 +69,7 @@ one_of state failures past marks id disk cs events choices steps nodes trace dis
         agrees = subst (λ (l : List (List Line)).
             AllZip (λ event lines. All (LineAgrees one.B event.kind) lines) events l)
             (sym trace.traced)
-            (all_agree one.B cs 1 events choices (first_state cs) trace.one_each replies);
+            (all_agree pages one.B cs 1 events choices (first_state cs) trace.one_each replies);
       };
       disks = All-weaker
           (λ node. IsDiskOf state (id node) (node_of cs es (id node)) (disk node)

@@ -5,8 +5,7 @@ use Rattle.kv_types.specs.OrderLemmas.{Among, All-among, AllPairs-rises, Rises}
 use Rattle.chain_model.specs.{Part, place}
 use Rattle.lab.specs.declared.event.Event.{Event}
 use Rattle.lab.specs.declared.event.EventKind.{EventKind}
-use Rattle.lab.specs.declared.event.EventKind.TheVariants.{Submit, Get, Deliver, Tick, Tend, Start}
-use Rattle.lab.specs.declared.event.EventKind.TheVariants.{Stop}
+use Rattle.lab.specs.declared.event.EventKind.TheVariants.{Submit}
 use Rattle.lab.specs.History.{IsSubmitted, Placed}
 
 -- ---- parts of a list
@@ -34,12 +33,7 @@ part_rises R (y ∷ l) (z ∷ m) (inr later) rises = part_rises R (y ∷ l) m la
 -- the batches that events submit, the first event being in place i
 abbrev pub with_batch : ℕ → EventKind → List Placed → List Placed
 with_batch i (Submit node batch) later = (i, batch) ∷ later
-with_batch i (Get node key at) later = later
-with_batch i (Deliver place) later = later
-with_batch i (Tick node) later = later
-with_batch i (Tend node) later = later
-with_batch i (Start node) later = later
-with_batch i (Stop node junk) later = later
+with_batch i kind later = later
 
 -- the batches that these events submit, each with the place of its event
 abbrev pub submitted_from : ℕ → List Event → List Placed
@@ -73,12 +67,7 @@ from_event i (event ∷ events) placed a =
         let at : suc i ≡ placed.0 = ap (λ (p : Placed). p.0) e in
         (0, omega (arith, at), x, event, refl, is ∙ ap (λ (p : Placed). Submit x p.1) e)
     one (Submit x batch) is later (inr a) = behind (later a)
-    one (Get x key at) is later a = behind (later a)
-    one (Deliver p) is later a = behind (later a)
-    one (Tick x) is later a = behind (later a)
-    one (Tend x) is later a = behind (later a)
-    one (Start x) is later a = behind (later a)
-    one (Stop x junk) is later a = behind (later a)
+    one kind is later a = behind (later a)
 
 -- an earlier place
 abbrev Precedes : Placed → Placed → Type 0
@@ -96,12 +85,7 @@ in_places i (event ∷ events) = one event.kind (in_places (suc i) events)
           let at : suc i + suc it.0 ≡ y.0 = it.1 in omega (arith, at),
       later,
     )
-    one (Get x key at) later = later
-    one (Deliver p) later = later
-    one (Tick x) later = later
-    one (Tend x) later = later
-    one (Start x) later = later
-    one (Stop x junk) later = later
+    one kind later = later
 
 -- ---- a part of them
 

@@ -10,8 +10,7 @@ use Rattle.engine.specs.Tended.{Tended}
 use Rattle.node.specs.declared.Stop.{Stop as Cause}
 use Rattle.lab.specs.declared.event.Event.{Event}
 use Rattle.lab.specs.declared.event.EventKind.{EventKind}
-use Rattle.lab.specs.declared.event.EventKind.TheVariants.{Submit, Get, Deliver, Tick, Tend, Start}
-use Rattle.lab.specs.declared.event.EventKind.TheVariants.{Stop}
+use Rattle.lab.specs.declared.event.EventKind.TheVariants.{Tend, Start}
 use Rattle.lab.specs.declared.report.Line.{Line}
 use Rattle.lab.specs.declared.report.Line.TheVariants as line
 use Rattle.lab.specs.Events.{lines_at, lines_if, dropped_lines, if_started, if_tended}
@@ -72,13 +71,9 @@ module _ (Of : Line → Type 0) (quiet : IsQuiet Of) where
 
   turns : (kind : EventKind) (choice : Choice) (o : Outcome BatchContent) →
       Each (turn_trace kind choice o)
-  turns (Submit x batch) choice o = tt
-  turns (Get x key at) choice o = tt
-  turns (Deliver p) choice o = tt
-  turns (Tick x) choice o = tt
   turns (Tend x) choice o = if_tend o.dropped choice.tended
   turns (Start x) choice o = if_start o.dropped o.acted_on
-  turns (Stop x junk) choice o = tt
+  turns kind choice o = tt
 
   -- the lines of an event at a node
   lines_have_at : (x n : ℕ) (event : Event) (choice : Choice) (o : Outcome BatchContent) →

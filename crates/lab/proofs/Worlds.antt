@@ -23,8 +23,8 @@ use Rattle.chain_core.specs.{Machine}
 use Rattle.lab.specs.declared.input.NodeInput.{NodeInput}
 use Rattle.lab.specs.declared.event.Event.{Event}
 use Rattle.lab.specs.declared.event.EventKind.{EventKind}
-use Rattle.lab.specs.declared.event.EventKind.TheVariants.{Submit, Get, Deliver, Tick, Tend, Start}
-use Rattle.lab.specs.declared.event.EventKind.TheVariants.{Stop}
+use Rattle.lab.specs.declared.event.EventKind.TheVariants.{Submit, Get, Rows, Open, Close}
+use Rattle.lab.specs.declared.event.EventKind.TheVariants.{Deliver, Tick, Tend, Start, Stop}
 use Rattle.engine.specs.Tended.TheVariants as tended
 use Rattle.lab.specs.declared.delivery.Posted.{Posted}
 use Rattle.lab.specs.declared.report.Line.{Line}
@@ -101,21 +101,11 @@ module _ (in_order : AlwaysInOrder) (past : WorldRun) (sims : List SimNode) (pos
     where
       has_it : (kind : EventKind) → NamesNode cs kind → IsDeliveryOf w.frames i kind x node_input →
           has (at_epoch cs 0) x ≡ true
-      has_it (Submit node batch) names brings =
-          subst (λ (y : ℕ). has (at_epoch cs 0) y ≡ true) (sym brings.0) names
-      has_it (Get node key at) names brings =
-          subst (λ (y : ℕ). has (at_epoch cs 0) y ≡ true) (sym brings.0) names
       has_it (Deliver p) names brings =
           let es = modelled_from 1 events choices in
           addressed cs es (in_order cs es made.lawful) p x brings.it brings.frame
           brings.there brings.same
-      has_it (Tick node) names brings =
-          subst (λ (y : ℕ). has (at_epoch cs 0) y ≡ true) (sym brings.0) names
-      has_it (Tend node) names brings =
-          subst (λ (y : ℕ). has (at_epoch cs 0) y ≡ true) (sym brings.0) names
-      has_it (Start node) names brings =
-          subst (λ (y : ℕ). has (at_epoch cs 0) y ≡ true) (sym brings.0) names
-      has_it (Stop node junk) names brings =
+      has_it kind names brings =
           subst (λ (y : ℕ). has (at_epoch cs 0) y ≡ true) (sym brings.0) names
 
   -- nodes, frames and lines refine one event more, in which something was chosen, and the nodes
@@ -281,6 +271,9 @@ module _ (in_order : AlwaysInOrder) (past : WorldRun) (sims : List SimNode) (pos
       named : (kind : EventKind) → IsDeliveryOf w.frames i kind x node_input → NamesNode cs kind
       named (Submit node batch) brings = has_it node brings.0
       named (Get node key at) brings = has_it node brings.0
+      named (Rows node range at) brings = has_it node brings.0
+      named (Open node at) brings = has_it node brings.0
+      named (Close node number) brings = has_it node brings.0
       named (Deliver p) brings = tt
       named (Tick node) brings = has_it node brings.0
       named (Tend node) brings = has_it node brings.0

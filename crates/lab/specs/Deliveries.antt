@@ -11,8 +11,8 @@ use Rattle.chain_core.specs.{frame_as}
 use Rattle.lab.specs.declared.input.NodeInput.{NodeInput}
 use Rattle.lab.specs.declared.input.NodeInput.TheVariants as to_node
 use Rattle.lab.specs.declared.event.EventKind.{EventKind}
-use Rattle.lab.specs.declared.event.EventKind.TheVariants.{Submit, Get, Deliver, Tick, Tend, Start}
-use Rattle.lab.specs.declared.event.EventKind.TheVariants.{Stop}
+use Rattle.lab.specs.declared.event.EventKind.TheVariants.{Submit, Get, Rows, Open, Close}
+use Rattle.lab.specs.declared.event.EventKind.TheVariants.{Deliver, Tick, Tend, Start, Stop}
 use Rattle.lab.specs.declared.delivery.Posted.{Posted}
 
 -- the input that a frame is to its addressee
@@ -47,6 +47,12 @@ IsDeliveryOf frames i (Submit node batch) x node_input =
     (x ≡ node) × (node_input ≡ to_node.Step (input.Submit i batch))
 IsDeliveryOf frames i (Get node key at) x node_input =
     (x ≡ node) × (node_input ≡ to_node.Step (input.Get i key at))
+IsDeliveryOf frames i (Rows node range at) x node_input =
+    (x ≡ node) × (node_input ≡ to_node.Step (input.Rows i range at))
+IsDeliveryOf frames i (Open node at) x node_input =
+    (x ≡ node) × (node_input ≡ to_node.Step (input.Open i at))
+IsDeliveryOf frames i (Close node number) x node_input =
+    (x ≡ node) × (node_input ≡ to_node.Step (input.Close i number))
 IsDeliveryOf frames i (Deliver p) x node_input = IsDelivered frames p x node_input
 IsDeliveryOf frames i (Tick node) x node_input = (x ≡ node) × (node_input ≡ to_node.Step input.Tick)
 IsDeliveryOf frames i (Tend node) x node_input = (x ≡ node) × (node_input ≡ to_node.Tend)

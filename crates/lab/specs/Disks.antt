@@ -15,7 +15,6 @@ use Rattle.node.specs.declared.Stop.TheVariants.{Disk}
 use Rattle.node.specs.{DiskAlwaysRefines, HasLongFile}
 use Rattle.lab.specs.declared.event.Event.{Event}
 use Rattle.lab.specs.declared.event.EventKind.{EventKind}
-use Rattle.lab.specs.declared.event.EventKind.TheVariants.{Submit, Get, Deliver, Tick, Tend, Start}
 use Rattle.lab.specs.declared.event.EventKind.TheVariants.{Stop}
 use Rattle.lab.specs.Events.{modelled}
 use Rattle.lab.specs.SimNodes.{Choice}
@@ -24,12 +23,7 @@ use Rattle.lab.specs.Traces.{modelled_from}
 -- the junk of a stop event
 abbrev pub junk_of : EventKind → Option Junk
 junk_of (Stop node junk) = Some junk
-junk_of (Submit node batch) = None
-junk_of (Get node key at) = None
-junk_of (Deliver place) = None
-junk_of (Tick node) = None
-junk_of (Tend node) = None
-junk_of (Start node) = None
+junk_of kind = None
 
 -- a disk that had so many calls before, and has so many now, has had the call of this number since
 abbrev pub has_reached : Option ℕ → ℕ → ℕ → Bool

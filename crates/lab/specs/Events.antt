@@ -3,6 +3,7 @@ use Rattle.std.specs.Prelude.{◌≡◌, ℕ, suc, List, [], ◌∷◌, ◌++◌
 use Rattle.std.specs.Prelude.{Bool, IfSome, true, false, if◌then◌else◌, All}
 use Rattle.std.specs.List.{flat_map}
 use Rattle.kv_types.specs.{BatchContent, map_of}
+use Rattle.kv_types.specs.Pages.{page_of}
 use Rattle.disk.specs.declared.Fault.{Fault}
 use Rattle.disk.specs.declared.Fault.TheVariants as fault
 use Rattle.chain_model.specs.{Configurations, has, at_epoch, Message, Request, Response}
@@ -17,8 +18,8 @@ use Rattle.node.specs.declared.Reply.TheVariants as reply
 use Rattle.node.specs.{IsEnvironmental}
 use Rattle.lab.specs.declared.event.Event.{Event}
 use Rattle.lab.specs.declared.event.EventKind.{EventKind}
-use Rattle.lab.specs.declared.event.EventKind.TheVariants.{Submit, Get, Deliver, Tick, Tend, Start}
-use Rattle.lab.specs.declared.event.EventKind.TheVariants.{Stop}
+use Rattle.lab.specs.declared.event.EventKind.TheVariants.{Submit, Get, Rows, Open, Close}
+use Rattle.lab.specs.declared.event.EventKind.TheVariants.{Deliver, Tick, Tend, Start, Stop}
 use Rattle.lab.specs.declared.report.Line.{Line}
 use Rattle.lab.specs.declared.report.Line.TheVariants as line
 use Rattle.lab.specs.SimNodes.{Choice}
@@ -27,6 +28,9 @@ use Rattle.lab.specs.SimNodes.{Choice}
 abbrev pub node_in : EventKind → Option ℕ
 node_in (Submit node batch) = Some node
 node_in (Get node key at) = Some node
+node_in (Rows node range at) = Some node
+node_in (Open node at) = Some node
+node_in (Close node number) = Some node
 node_in (Deliver place) = None
 node_in (Tick node) = Some node
 node_in (Tend node) = Some node
@@ -46,6 +50,9 @@ abbrev pub modelled : ℕ → EventKind → Choice → model_frame.SystemEvent B
 modelled i (Submit node batch) choice =
     SystemEvent.Ask node i (Request.Submit batch) choice.went
 modelled i (Get node key at) choice = SystemEvent.Ask node i (Request.Read at) choice.went
+modelled i (Rows node range at) choice = SystemEvent.Ask node i (Request.Read at) choice.went
+modelled i (Open node at) choice = SystemEvent.Ask node i (Request.Open at) choice.went
+modelled i (Close node number) choice = SystemEvent.Ask node i (Request.Close number) choice.went
 modelled i (Deliver place) choice = SystemEvent.Deliver place choice.went
 modelled i (Tick node) choice = SystemEvent.Tick node choice.went
 modelled i (Tend node) choice = SystemEvent.Tend node choice.rises choice.gives_up choice.went
@@ -76,11 +83,7 @@ if_tended (Some why) did = []
 abbrev pub turn_trace : EventKind → Choice → model_frame.Outcome BatchContent → List Line
 turn_trace (Start node) choice o = if_started o.dropped o.acted_on
 turn_trace (Tend node) choice o = if_tended o.dropped choice.tended
-turn_trace (Submit node batch) choice o = []
-turn_trace (Get node key at) choice o = []
-turn_trace (Deliver place) choice o = []
-turn_trace (Tick node) choice o = []
-turn_trace (Stop node junk) choice o = []
+turn_trace kind choice o = []
 
 -- a frame that is sent has a line with its place among all, from 1
 abbrev pub frame_line : ℕ → model_frame.Message BatchContent → Line
@@ -94,23 +97,21 @@ abbrev pub frame_lines : ℕ → List (model_frame.Message BatchContent) → Lis
 frame_lines sent [] = []
 frame_lines sent (frame ∷ frames) = frame_line (suc sent) frame ∷ frame_lines (suc sent) frames
 
--- the line of a read has what its key has in the map of the batches that it shows
+-- the line of a read has what its key has in the map of the batches that it shows, or the page of
+-- its range
 abbrev pub value_lines : EventKind → ℕ → ℕ → List BatchContent → List Line
 value_lines (Get node key at) i s batches =
     line.Replied (reply.Value i s (map_of batches key)) ∷ []
-value_lines (Submit node batch) i s batches = []
-value_lines (Deliver place) i s batches = []
-value_lines (Tick node) i s batches = []
-value_lines (Tend node) i s batches = []
-value_lines (Start node) i s batches = []
-value_lines (Stop node junk) i s batches = []
+value_lines (Rows node range at) i s batches =
+    line.Replied (reply.Rows i s (page_of batches range)) ∷ []
+value_lines kind i s batches = []
 
 -- the line of a reply
 abbrev pub reply_line : EventKind → model_frame.Response BatchContent → List Line
 reply_line kind (Response.Committed i k) = line.Replied (reply.Committed i k) ∷ []
 reply_line kind (Response.Shows i s batches) = value_lines kind i s batches
-reply_line kind (Response.Opened i s) = []
-reply_line kind (Response.Closed i s) = []
+reply_line kind (Response.Opened i s) = line.Replied (reply.Opened i s) ∷ []
+reply_line kind (Response.Closed i s) = line.Replied (reply.Closed i s) ∷ []
 reply_line kind (Response.Refused i why) =
     line.Replied (reply.Refused i why) ∷ []
 
@@ -128,12 +129,7 @@ line_cause fault.None struck cause = Some cause
 -- what is reported of a node that stopped in an event with this fault
 abbrev pub reported_cause : EventKind → Fault → Choice → Option Cause
 reported_cause (Stop node junk) fault choice = None
-reported_cause (Submit node batch) fault choice = line_cause fault choice.struck choice.cause
-reported_cause (Get node key at) fault choice = line_cause fault choice.struck choice.cause
-reported_cause (Deliver place) fault choice = line_cause fault choice.struck choice.cause
-reported_cause (Tick node) fault choice = line_cause fault choice.struck choice.cause
-reported_cause (Tend node) fault choice = line_cause fault choice.struck choice.cause
-reported_cause (Start node) fault choice = line_cause fault choice.struck choice.cause
+reported_cause kind fault choice = line_cause fault choice.struck choice.cause
 
 -- the lines of an event at node x: why it was dropped, then a start or a tend, then frames, then
 -- replies

@@ -1,70 +1,67 @@
 -- Fresh reads: what the last configuration's tail shows, beside all lines before it.
-use Rattle.std.specs.Prelude.{◌≡◌, ℕ, suc, ◌≤◌, List, [], ◌∷◌, ◌++◌, length, take, None, true, All}
-use Rattle.kv_types.specs.{BatchContent}
+use Rattle.std.specs.Prelude.{◌≡◌, ◌⊎◌, ℕ, suc, ◌≤◌, List, [], ◌∷◌, ◌++◌, length, take, None}
+use Rattle.std.specs.Prelude.{true, All}
+use Rattle.kv_types.specs.{BatchContent, Span}
 use Rattle.chain_model.specs.{Configurations, is_tail, last_of}
 use Rattle.chain_model.specs as model
 use Rattle.chain_model.specs.Freshness.{ReadsFresh}
 use Rattle.chain_model.specs.Retention.{KeepsEnough}
 use Rattle.node.specs.declared.Reply.{Reply}
-use Rattle.node.specs.declared.Reply.TheVariants.{Committed, Value, Refused}
+use Rattle.node.specs.declared.Reply.TheVariants.{Committed, Value, Opened}
+use Rattle.node.specs.declared.Reply.TheVariants as reply
 use Rattle.lab.specs.declared.event.Event.{Event}
 use Rattle.lab.specs.declared.event.EventKind.{EventKind}
-use Rattle.lab.specs.declared.event.EventKind.TheVariants.{Get}
+use Rattle.lab.specs.declared.event.EventKind.TheVariants.{Get, Rows}
 use Rattle.lab.specs.declared.report.Line.{Line}
 use Rattle.lab.specs.declared.report.Line.TheVariants as line
 use Rattle.lab.specs.Events.{modelled}
 use Rattle.lab.specs.SimNodes.{Choice}
 use Rattle.lab.specs.Traces.{modelled_from}
 
--- the number that a reply acknowledges or reads at is at most s
+-- the number that a reply acknowledges, reads at or opens is at most s
 abbrev pub ReplyIsAtMost : ℕ → Reply → Type 0
 ReplyIsAtMost s (Committed i n) = n ≤ s
 ReplyIsAtMost s (Value i n value) = n ≤ s
-ReplyIsAtMost s (Refused i refusal) = Unit {0}
+ReplyIsAtMost s (reply.Rows i n page) = n ≤ s
+ReplyIsAtMost s (Opened i n) = n ≤ s
+ReplyIsAtMost s other = Unit {0}
 
--- a line that acknowledges a number, or shows a value at one, has one that is at most s
+-- a line that acknowledges a number, shows a value or a page at one, or opens a snapshot at one,
+-- has one that is at most s
 abbrev pub LineIsAtMost : ℕ → Line → Type 0
-LineIsAtMost s (line.Replied reply) = ReplyIsAtMost s reply
-LineIsAtMost s line.Nothing = Unit {0}
-LineIsAtMost s (line.Dropped reason) = Unit {0}
-LineIsAtMost s (line.Started node epoch count committed) = Unit {0}
-LineIsAtMost s (line.Forwarded place from to epoch number) = Unit {0}
-LineIsAtMost s (line.Acknowledged place from to epoch committed have) = Unit {0}
-LineIsAtMost s (line.Stopped node cause) = Unit {0}
-LineIsAtMost s (line.Tended did) = Unit {0}
+LineIsAtMost s (line.Replied answer) = ReplyIsAtMost s answer
+LineIsAtMost s other = Unit {0}
 
 -- no line of these events has a greater number than s
 abbrev pub AreAtMost : ℕ → List (List Line) → Type 0
 AreAtMost s steps = All (λ lines. All (LineIsAtMost s) lines) steps
 
--- where a reply shows a value, no earlier line has a greater number
+-- where a reply shows a value or a page, no earlier line has a greater number
 abbrev pub ReplyIsFresh : List (List Line) → Reply → Type 0
 ReplyIsFresh earlier (Value i s value) = AreAtMost s earlier
-ReplyIsFresh earlier (Committed i n) = Unit {0}
-ReplyIsFresh earlier (Refused i refusal) = Unit {0}
+ReplyIsFresh earlier (reply.Rows i s page) = AreAtMost s earlier
+ReplyIsFresh earlier other = Unit {0}
 
 -- a line of a reply is fresh after these lines
 abbrev pub LineIsFresh : List (List Line) → Line → Type 0
-LineIsFresh earlier (line.Replied reply) = ReplyIsFresh earlier reply
-LineIsFresh earlier line.Nothing = Unit {0}
-LineIsFresh earlier (line.Dropped reason) = Unit {0}
-LineIsFresh earlier (line.Started node epoch count committed) = Unit {0}
-LineIsFresh earlier (line.Forwarded place from to epoch number) = Unit {0}
-LineIsFresh earlier (line.Acknowledged place from to epoch committed have) = Unit {0}
-LineIsFresh earlier (line.Stopped node cause) = Unit {0}
-LineIsFresh earlier (line.Tended did) = Unit {0}
+LineIsFresh earlier (line.Replied answer) = ReplyIsFresh earlier answer
+LineIsFresh earlier other = Unit {0}
 
--- In this state of the model an event reads a key without a number at node t, which is the tail of
--- the last configuration, and its machine is at that epoch.
+-- the event reads a key or a range at node t, without a number
+abbrev pub ReadsLatest : EventKind → ℕ → Type 0
+ReadsLatest kind t =
+    ((key : List ℕ) × (kind ≡ Get t key None)) ⊎ ((range : Span) × (kind ≡ Rows t range None))
+
+-- In this state of the model an event reads without a number at node t, which is the tail of the
+-- last configuration, and its machine is at that epoch.
 pub record IsTailRead (cs : Configurations) (w : model.SystemState BatchContent) (kind : EventKind)
     (t : ℕ) : Type 0 where
-  pub key : List ℕ
-  pub reads : kind ≡ Get t key None
+  pub reads : ReadsLatest kind t
   pub tail : is_tail (last_of cs) t ≡ true
   pub epoch : suc (w.nodes t).epoch ≡ length cs
 
--- The values that such reads show are fresh: those of the events from place i on, which have these
--- lines, behind the lines of the events before.
+-- The values and pages that such reads show are fresh: those of the events from place i on, which
+-- have these lines, behind the lines of the events before.
 abbrev pub AreFresh : Configurations → ℕ → List Event → List Choice → model.SystemState BatchContent
     → (earlier steps : List (List Line)) → Type 0
 AreFresh cs i [] choices w earlier steps = Unit {0}

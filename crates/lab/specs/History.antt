@@ -2,6 +2,7 @@
 use Rattle.std.specs.Prelude.{◌≡◌, ℕ, ◌<◌, ◌≤◌, List, length, take, Some, true, All}
 use Rattle.std.specs.List.{AllPairs, AllZip}
 use Rattle.kv_types.specs.{BatchContent, map_of}
+use Rattle.kv_types.specs.Pages.{IsPage}
 use Rattle.disk.specs.{State, Contents, IsCrashOutcome}
 use Rattle.chain_model.specs.{IsPrefix, place, Configurations, has, last_of, batches}
 use Rattle.node.specs.{DiskRepresents}
@@ -28,13 +29,17 @@ IsSubmitted events placed =
     × (event.kind ≡ kind.Submit node placed.1)
 
 -- An acknowledgement of n to request i says that place n of B is the batch of event i. A read at s
--- shows what its key has in the map of B's first s batches. No other line speaks of B.
+-- shows what its key has in the map of B's first s batches, or the page of its range in this map.
+-- No other line speaks of B.
 abbrev pub LineAgrees : List Placed → EventKind → Line → Type 0
 LineAgrees B asked (line.Replied (reply.Committed i n)) =
     (batch : BatchContent) × (place B n ≡ Some (i, batch))
 LineAgrees B (kind.Get node key at) (line.Replied (reply.Value i s value)) =
     (s ≤ length B) × (value ≡ map_of (take s (batches B)) key)
+LineAgrees B (kind.Rows node range at) (line.Replied (reply.Rows i s page)) =
+    (s ≤ length B) × IsPage (map_of (take s (batches B))) range page
 LineAgrees B asked (line.Replied (reply.Value i s value)) = ⊥
+LineAgrees B asked (line.Replied (reply.Rows i s page)) = ⊥
 LineAgrees B asked other = Unit {0}
 
 -- The list B is a history of what clients see of these events, by the lines of each.

@@ -44,6 +44,9 @@ use Rattle.lab.specs.SimNodes.{disk_in}
 abbrev pub down_answer : Machine → Input → Answer BatchContent
 down_answer n (input.Submit i batch) = refused n i refusal.NotRunning
 down_answer n (input.Get i key at) = refused n i refusal.NotRunning
+down_answer n (input.Rows i range at) = refused n i refusal.NotRunning
+down_answer n (input.Open i at) = refused n i refusal.NotRunning
+down_answer n (input.Close i number) = refused n i refusal.NotRunning
 down_answer n (input.Forward epoch from number batch) = dropped_for n reason.NotRunning
 down_answer n (input.Ack epoch from committed have) = dropped_for n reason.NotRunning
 down_answer n input.Tick = dropped_for n reason.NotRunning

@@ -138,6 +138,18 @@ pub fn delivery_of(
             let (key, at) = (key.clone()?, *at);
             (*node, NodeInput::Step(Input::Get { request, key, at }))
         }
+        EventKind::Rows { node, range, at } => {
+            let (range, at) = (range.clone()?, *at);
+            (*node, NodeInput::Step(Input::Rows { request, range, at }))
+        }
+        EventKind::Open { node, at } => {
+            let at = *at;
+            (*node, NodeInput::Step(Input::Open { request, at }))
+        }
+        EventKind::Close { node, number } => {
+            let number = *number;
+            (*node, NodeInput::Step(Input::Close { request, number }))
+        }
         EventKind::Deliver { place } => return delivered(alloc, posted, *place),
         EventKind::Tick { node } => (*node, NodeInput::Step(Input::Tick)),
         EventKind::Tend { node } => (*node, NodeInput::Tend),

@@ -4,7 +4,7 @@ ghost use Rattle.lab.specs.Events.{node_in, NamesNode, NamesNodes};
 
 use configurations::{Configs, NodeId};
 use disk::{Fault, Junk};
-use kv_types::{Batch, Key, Number};
+use kv_types::{Batch, Key, Number, Range};
 use std::alloc::AllocError;
 
 /// One step of one node. A request has the number of its event's place, from 1.
@@ -44,6 +44,22 @@ pub enum EventKind {
         key: Key,
         at: Option<Number>,
     },
+    /// A read of the first rows of a range at a number, or else at the committed number.
+    Rows {
+        node: NodeId,
+        range: Range,
+        at: Option<Number>,
+    },
+    /// A snapshot is opened at a number, or else at the committed number.
+    Open {
+        node: NodeId,
+        at: Option<Number>,
+    },
+    /// A snapshot at this number is closed.
+    Close {
+        node: NodeId,
+        number: Number,
+    },
     /// The frame in this place, from 1 among all that were ever sent, goes to its addressee. It may
     /// have gone there before, and may go there again.
     Deliver {
@@ -76,6 +92,9 @@ impl EventKind {
         match self {
             EventKind::Submit { node, .. }
             | EventKind::Get { node, .. }
+            | EventKind::Rows { node, .. }
+            | EventKind::Open { node, .. }
+            | EventKind::Close { node, .. }
             | EventKind::Tick { node }
             | EventKind::Tend { node }
             | EventKind::Start { node }
@@ -98,6 +117,18 @@ impl EventKind {
                 key: key.clone()?,
                 at: *at,
             },
+            EventKind::Rows { node, range, at } => {
+                let (node, range, at) = (*node, range.clone()?, *at);
+                EventKind::Rows { node, range, at }
+            }
+            EventKind::Open { node, at } => {
+                let (node, at) = (*node, *at);
+                EventKind::Open { node, at }
+            }
+            EventKind::Close { node, number } => {
+                let (node, number) = (*node, *number);
+                EventKind::Close { node, number }
+            }
             EventKind::Deliver { place } => EventKind::Deliver { place: *place },
             EventKind::Tick { node } => EventKind::Tick { node: *node },
             EventKind::Tend { node } => EventKind::Tend { node: *node },

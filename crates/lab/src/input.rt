@@ -69,7 +69,11 @@ fn output_down(alloc: Global, input: &Input) -> Result<Output, AllocError>
     ensures { (n : Machine) → IfOk result (IsAnswer input.now (down_answer n input.now)) }
 {
     match input {
-        Input::Submit { request, .. } | Input::Get { request, .. } => refused(alloc, *request),
+        Input::Submit { request, .. }
+        | Input::Get { request, .. }
+        | Input::Rows { request, .. }
+        | Input::Open { request, .. }
+        | Input::Close { request, .. } => refused(alloc, *request),
         Input::Forward { .. } | Input::Ack { .. } | Input::Tick => {
             Ok(dropped(alloc, DropReason::NotRunning))
         }

@@ -21,7 +21,7 @@ pub use disk::{Fault, Junk, JunkBytes, MemDisk};
 pub use engine::Tended;
 pub use error::LabError;
 pub use event::{Event, EventKind, names_node, names_nodes};
-pub use kv_types::{Batch, Key, Limits, Number, Value};
+pub use kv_types::{Batch, Key, Limits, Number, Page, Range, Row, Value};
 pub use link_messages::Refusal;
 pub use node::{DropReason, Reply, Stop};
 pub use report::{Line, Lines, NodeReport, Numbers, Report};

@@ -25,6 +25,7 @@ use crate::{Event, LabError};
 use chain_model::{in_order, keeps_enough, one_history, reads_fresh, run_is_outcomes};
 use configurations::{Config, Configs, NodeId};
 use disk::{Fault, MemDisk};
+use kv_types::laws::pages_agree;
 use kv_types::{Batch, Limits, Number};
 use node::laws::disks_represent;
 use node::{Node, Stop};
@@ -279,6 +280,8 @@ impl World {
         // laws: a run of the model has one history, and is made of its outcomes
         one_history::<Batch>();
         run_is_outcomes::<Batch>();
+        // law: the page as a function is the page of a map
+        pages_agree();
         // law: the disk of a running node represents it
         disks_represent::<MemDisk>();
         &self.steps
@@ -322,6 +325,8 @@ impl World {
         // laws: a run of the model has one history, and is made of its outcomes
         one_history::<Batch>();
         run_is_outcomes::<Batch>();
+        // law: the page as a function is the page of a map
+        pages_agree();
         Ok(Report { steps, nodes })
     }
 

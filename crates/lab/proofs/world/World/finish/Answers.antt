@@ -31,4 +31,4 @@ returns-clause-history c = λ past run.
     (λ (node : NodeReport). node.disk)
     past.configs past.events past.choices report.steps.items report.nodes.items is.trace is.disks
     (c.one_history.ensures past.configs es made.lawful)
-    (c.run_is_outcomes.ensures past.configs es)
+    (c.run_is_outcomes.ensures past.configs es) c.pages_agree.ensures.agree

@@ -32,4 +32,4 @@ returns-clause-history c = λ past run.
     (disks_so_far self.nodes.items self.frames.items past made
     (λ sim. disk_represents c.disks_represent.ensures sim.state))
     (c.one_history.ensures past.configs es made.lawful)
-    (c.run_is_outcomes.ensures past.configs es)
+    (c.run_is_outcomes.ensures past.configs es) c.pages_agree.ensures.agree
