@@ -30,13 +30,7 @@ pub fn junk_of(rt: &impl Abort, alloc: Global, bytes: &[u8]) -> Junk {
     Junk::Bytes(JunkBytes::new(bytes.to_vec(alloc).expect(rt, "memory")))
 }
 
-fn rows_at(
-    rt: &impl Abort,
-    alloc: Global,
-    node: NodeId,
-    walk: Walk,
-    at: Option<u64>,
-) -> EventKind {
+fn rows_at(rt: &impl Abort, alloc: Global, node: NodeId, walk: Walk, at: Option<u64>) -> EventKind {
     EventKind::Rows {
         node,
         range: range_of(rt, alloc, walk),

@@ -11,8 +11,7 @@ use Rattle.chain_model.specs.{SystemEvent as ModelEvent, SystemState, Outcome, o
 use Rattle.chain_model.specs.{state_after}
 use Rattle.lab.specs.declared.event.Event.{Event}
 use Rattle.lab.specs.declared.event.EventKind.{EventKind}
-use Rattle.lab.specs.declared.event.EventKind.TheVariants.{Submit, Get, Rows, Open, Close}
-use Rattle.lab.specs.declared.event.EventKind.TheVariants.{Deliver, Tick, Tend, Start, Stop}
+use Rattle.lab.specs.declared.event.EventKind.TheVariants.{Submit, Get, Rows}
 use Rattle.lab.specs.declared.report.Line.{Line}
 use Rattle.lab.specs.Events.{modelled, lines_of_event, reply_line, reply_lines}
 use Rattle.lab.specs.SimNodes.{Choice}

@@ -5,8 +5,7 @@ use Rattle.kv_types.specs.OrderLemmas.{Among, All-among, AllPairs-rises, Rises}
 use Rattle.chain_model.specs.{Part, place}
 use Rattle.lab.specs.declared.event.Event.{Event}
 use Rattle.lab.specs.declared.event.EventKind.{EventKind}
-use Rattle.lab.specs.declared.event.EventKind.TheVariants.{Submit, Get, Rows, Open, Close}
-use Rattle.lab.specs.declared.event.EventKind.TheVariants.{Deliver, Tick, Tend, Start, Stop}
+use Rattle.lab.specs.declared.event.EventKind.TheVariants.{Submit}
 use Rattle.lab.specs.History.{IsSubmitted, Placed}
 
 -- ---- parts of a list
