@@ -48,10 +48,10 @@ fn files_over<D: Disk + Drop>(
 }
 
 impl<D: Disk + Drop> Engine<D> {
-    ghost use Rattle.std.specs.Prelude.{◌≡◌, ◌⊎◌, ◌↔◌, ℕ, ◌<◌, ◌≤◌, [], ◌∷◌, ◌++◌, List, take};
+    ghost use Rattle.std.specs.Prelude.{◌≡◌, ◌⊎◌, ◌↔◌, ℕ, ◌<◌, ◌≤◌, [], ◌∷◌, ◌++◌, List};
     ghost use Rattle.std.specs.Prelude.{IfOk, IfErr, IsErrOf, OnOk, MatchResult, slice_index, Some};
     ghost use Rattle.kv_types.specs.declared.bounds.TheConstants.{MAX_NUMBER};
-    ghost use Rattle.kv_types.specs.{BatchContent, map_of};
+    ghost use Rattle.kv_types.specs.{BatchContent};
     ghost use Rattle.disk.specs.{contents, IsSameBut, IsStill};
     ghost use Rattle.chain_model.specs.{place};
     ghost use Rattle.engine.specs.Calls.{ChangesList, ExplainsRefusal, IsAdrift, IsJustOpened};

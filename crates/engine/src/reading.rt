@@ -11,7 +11,7 @@ use store_files::laws::held_files_are_left;
 
 impl<D: Disk + Drop> Engine<D> {
     ghost use Rattle.std.specs.Prelude.{◌≡◌, ◌⊎◌, ◌↔◌, List, take};
-    ghost use Rattle.std.specs.Prelude.{IfErr, IfOk, IsErrOf, MatchResult, OnOk};
+    ghost use Rattle.std.specs.Prelude.{IfErr, IfOk, IsErrOf, OnOk};
     ghost use Rattle.kv_types.specs.{BatchContent, map_of};
     ghost use Rattle.kv_types.specs.Pages.{page_of};
     ghost use Rattle.engine.specs.Calls.{ChangesSnapshots, IsCloseAnswer, IsNoDamage};

@@ -1,15 +1,13 @@
 // The manifest of a store.
-ghost use Rattle.std.specs.Prelude.{◌≡◌, ◌⊎◌, ◌↔◌, ◌+◌, ◌<◌, ◌≤◌, ◌^◌, length, IfOk, MatchResult};
+ghost use Rattle.std.specs.Prelude.{◌≡◌, ◌↔◌, ◌+◌, ◌<◌, ◌^◌, IfOk, MatchResult};
 ghost use Rattle.std.specs.Prelude.{IsTrue, OnOk};
 ghost use Rattle.kv_types.specs.declared.bounds.TheConstants.{MAX_NUMBER};
-ghost use Rattle.record_log.specs.declared.log.TheConstants.{MAX_RECORD};
 ghost use Rattle.disk.specs.{KeepsDisk, State, contents};
 ghost use Rattle.manifest.specs.Changes.{ChangesManifest, IfNoSlots, IsBeforeOrAfter};
 ghost use Rattle.manifest.specs.Reads.{SlotsAreRead};
 ghost use Rattle.manifest.specs.Errors.{ManifestFailsDevice, IsManifestExternal};
 ghost use Rattle.version_edits.specs.{NodeVersion, IsFit, first_version, node_version_after};
-ghost use Rattle.version_edits.specs.{IsChange, change_text};
-ghost use Rattle.version_edits.specs.{IsFullEdit, full_change};
+ghost use Rattle.version_edits.specs.{IsChange};
 ghost use Rattle.manifest.specs.Slots.{ManifestRepresents};
 ghost use Rattle.manifest.specs.Holds.{SparesOthers};
 ghost use Rattle.manifest.specs.Manifests.{ManifestHolds, ManifestHasFailed, ManifestHasNoRoom};

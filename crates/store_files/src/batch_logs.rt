@@ -1,12 +1,12 @@
 //! The logs of a store's batches, in order: the newest takes appends, and a batch is read from the
 //! log that has its number.
-ghost use Rattle.std.specs.Prelude.{◌≡◌, ◌≢◌, ℕ, ◌+◌, ◌-◌, ◌<◌, ◌≤◌, ◌^◌, ◌∷◌, [], ◌++◌, List};
-ghost use Rattle.std.specs.Prelude.{All, Contains, IfErr, MatchResult, Some, slice_get, ◌⊎◌};
+ghost use Rattle.std.specs.Prelude.{◌≡◌, ◌≢◌, ℕ, ◌+◌, ◌-◌, ◌<◌, ◌≤◌, ◌∷◌, [], ◌++◌, List};
+ghost use Rattle.std.specs.Prelude.{All, Contains, MatchResult, Some, ◌⊎◌};
 ghost use Rattle.kv_types.specs.declared.bounds.TheConstants.{MAX_NUMBER};
 ghost use Rattle.kv_types.specs.{BatchContent, IsBatch};
-ghost use Rattle.disk.specs.{AlwaysLeaves, IsLeftAt, IsSame, IsSameBut, IsStill, KeepsDisk, State};
+ghost use Rattle.disk.specs.{AlwaysLeaves, IsLeftAt, IsSame, IsSameBut, KeepsDisk, State};
 ghost use Rattle.disk.specs.{seen};
-ghost use Rattle.record_log.specs.{EndsInRange, LogHolds, file_of};
+ghost use Rattle.record_log.specs.{EndsInRange, LogHolds};
 ghost use Rattle.store_files.specs.BatchLogs.{AreBeside, AreJoined, AreLeftWith, AreUsable};
 ghost use Rattle.store_files.specs.BatchLogs.{HasFullLog, IfLogsHold, IsBatchAnswer};
 ghost use Rattle.store_files.specs.BatchLogs.{IsWorking, LogsHold, first_number, oldest_first};

@@ -1,19 +1,17 @@
 // A flush: the entries in memory become a table of level 0, and a new log takes the next batches.
-ghost use Rattle.std.specs.Prelude.{◌≡◌, ◌↔◌, ◌≤◌, List, IfErr, IfOk, IsTrue, MatchOption};
+ghost use Rattle.std.specs.Prelude.{◌≡◌, ◌↔◌, ◌≤◌, IfErr, IfOk, IsTrue, MatchOption};
 ghost use Rattle.std.specs.Prelude.{MatchResult};
-ghost use Rattle.kv_types.specs.{BatchContent};
 ghost use Rattle.disk.specs.{IsSameBut, KeepsDisk};
 ghost use Rattle.manifest.specs.{HasFullSlot, IsChange, IsFit};
 ghost use Rattle.memtable.specs.{HasFailedAdd};
 ghost use Rattle.store_tables.specs.Errors.{FailsDevice, IsEnd};
-ghost use Rattle.store_files.specs.Lists.{ListFollowsOn};
 ghost use Rattle.store_files.specs.OpenFiles.{AreUsableFiles, FilesHold};
 ghost use Rattle.store_tables.specs.TableWriting.{HasEntry, IsTooLarge};
-ghost use Rattle.store_files.specs.OpenFiles.{WereMeantToHold, known_facts, known_version};
+ghost use Rattle.store_files.specs.OpenFiles.{WereMeantToHold, known_version};
 ghost use Rattle.store_files.specs.StoreFiles.{FilesRepresent, WereMeant, flush_change};
 ghost use Rattle.store_tables.specs.TableWriting.{IsNewLine};
 ghost use Rattle.store_files.specs.TendKeeps.{TendKeeps};
-ghost use Rattle.store_files.specs.Tending.{HasSpilled, HeldAndSpilled, IsFlushedBy, IsNewTable};
+ghost use Rattle.store_files.specs.Tending.{HeldAndSpilled, IsFlushedBy, IsNewTable};
 ghost use Rattle.store_files.specs.Tending.{LacksPlace, ListIsSpilled, MeantAndSpilled};
 ghost use Rattle.store_files.specs.Tending.{TendMayFail};
 

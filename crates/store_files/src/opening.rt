@@ -1,26 +1,22 @@
 //! Creating and opening the files of a store.
-ghost use Rattle.std.specs.Prelude.{◌≡◌, ◌↔◌, ◌+◌, ◌-◌, [], IsTrue, ℕ, List, length, IfOk, OnOk};
+ghost use Rattle.std.specs.Prelude.{◌≡◌, ◌↔◌, ◌-◌, [], IsTrue, List, IfOk, OnOk};
 ghost use Rattle.std.specs.Prelude.{IfErr, MatchResult};
 ghost use Rattle.kv_types.specs.{BatchContent};
-ghost use Rattle.disk.specs.{IsStill, KeepsDisk, State, contents};
-ghost use Rattle.store_tables.specs.Errors.{FailsDevice, IsEnd, IsEngineExternal};
-ghost use Rattle.store_files.specs.Files.{Facts, IsOwned, first_facts};
+ghost use Rattle.disk.specs.{IsStill, KeepsDisk, contents};
+ghost use Rattle.store_tables.specs.Errors.{FailsDevice, IsEngineExternal};
+ghost use Rattle.store_files.specs.Files.{Facts, IsOwned};
 ghost use Rattle.store_files.specs.StoreFiles.{StillLeavesOneOf, before_newest};
-ghost use Rattle.store_files.specs.OpenFiles.{AreBatchesOf, AreUsableFiles};
 ghost use Rattle.store_files.specs.StoreFiles.{AreOrderedNumbers, HasFirstFiles};
 ghost use Rattle.store_files.specs.OpenFiles.{AreNewFiles, FilesAreRead, FilesHold, OpensStore};
-ghost use Rattle.store_files.specs.OpenFiles.{batch_count, known_facts, known_version};
+ghost use Rattle.store_files.specs.OpenFiles.{known_version};
 ghost use Rattle.store_files.specs.Openings.{AreParts, HasParts, PartsHold, PartsWereMeant};
 ghost use Rattle.store_files.specs.Openings.{IfMeantParts, IfParts, WereParts};
 ghost use Rattle.store_files.specs.Reads.{OnlyReads};
 ghost use Rattle.store_files.specs.Openings.{kept_files};
-ghost use Rattle.store_tables.specs.LevelTables.{AreTablesOf, IsTableAsMeant};
-ghost use Rattle.store_files.specs.OpenFiles.{OpensFor, WereMeantToHold, WereMeantToRead};
+ghost use Rattle.store_files.specs.OpenFiles.{WereMeantToHold, WereMeantToRead};
 ghost use Rattle.std.specs.Prelude.{All};
-ghost use Rattle.store_files.specs.StoreFiles.{durably};
 ghost use Rattle.store_files.specs.Settling.{AreSwept, IsReadAlike};
 ghost use Rattle.manifest.specs.{ManifestHolds, version_of};
-ghost use Rattle.store_model.specs.{LevelTable};
 
 use crate::EngineError;
 use crate::batch_logs::{BatchLog, BatchLogs};

@@ -3,10 +3,10 @@ ghost use Rattle.std.specs.Prelude.{◌≡◌, ◌⊎◌, ℕ, suc, ◌+◌, ◌
 ghost use Rattle.std.specs.Prelude.{IfOk, IfErr, MatchResult};
 ghost use Rattle.kv_types.specs.declared.bounds.TheConstants.{MAX_NUMBER};
 ghost use Rattle.kv_types.specs.{BatchContent, IsBatch};
-ghost use Rattle.disk.specs.{AddsNoOutcome, IsStill, KeepsDisk, contents, seen};
+ghost use Rattle.disk.specs.{AddsNoOutcome, contents, seen};
 ghost use Rattle.record_log.specs.{HasRead, count_of};
 ghost use Rattle.store_files.specs.BatchLogs.{HaveBatches, LogsHold};
-ghost use Rattle.store_tables.specs.Errors.{FailsDevice, IsEnd, IsEngineExternal};
+ghost use Rattle.store_tables.specs.Errors.{IsEngineExternal};
 ghost use Rattle.store_files.specs.Files.{IsLog};
 ghost use Rattle.store_files.specs.Layout.{batch_record, records_from};
 ghost use Rattle.store_files.specs.OpenFiles.{AreBatchesOf, AreOpenLogs, AreReplayed, HasReplayed};

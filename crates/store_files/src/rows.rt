@@ -1,12 +1,12 @@
 //! Reads of rows, through cursors over memory and tables.
-ghost use Rattle.std.specs.Prelude.{◌≡◌, ℕ, ◌≤◌, List, take, All, IfErr, IfOk};
+ghost use Rattle.std.specs.Prelude.{◌≡◌, ◌≤◌, List, take, All, IfErr, IfOk};
 ghost use Rattle.kv_types.specs.Pages.{page_of};
 ghost use Rattle.kv_types.specs.{BatchContent, map_of};
-ghost use Rattle.disk.specs.{IsSame, IsStill, KeepsDisk, State};
+ghost use Rattle.disk.specs.{IsSame, State};
 ghost use Rattle.row_pages.specs.{HasRowsOf};
-ghost use Rattle.store_tables.specs.Errors.{FailsDevice, IsEnd, IsEngineExternal};
+ghost use Rattle.store_tables.specs.Errors.{IsEngineExternal};
 ghost use Rattle.store_tables.specs.LevelTables.{HasMeantBlocks};
-ghost use Rattle.store_files.specs.OpenFiles.{AreUsableFiles, FilesHold, WereMeantToHold};
+ghost use Rattle.store_files.specs.OpenFiles.{AreUsableFiles, FilesHold};
 ghost use Rattle.store_files.specs.OpenFiles.{IfHeld, IfMeant, batch_count, known_facts};
 ghost use Rattle.store_files.specs.Reads.{OnlyReads};
 

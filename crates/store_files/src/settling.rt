@@ -1,6 +1,6 @@
 // What an opening does to the files of a store: it syncs tables, and removes what nothing names.
-ghost use Rattle.std.specs.Prelude.{◌≡◌, IfErr, OnOk, MatchResult};
-ghost use Rattle.disk.specs.{AlwaysLeaves, IsStill, KeepsDisk};
+ghost use Rattle.std.specs.Prelude.{IfErr, OnOk, MatchResult};
+ghost use Rattle.disk.specs.{AlwaysLeaves, KeepsDisk};
 ghost use Rattle.store_tables.specs.Errors.{FailsDevice, IsEnd, IsEngineExternal};
 ghost use Rattle.store_files.specs.Reads.{OnlyReads};
 ghost use Rattle.store_files.specs.Settling.{AddsNothing, AreAlone, AreLeftOf, AreSynced, AreThere};

@@ -1,10 +1,10 @@
 //! The open files of a store: manifest, logs and tables, and the entries that no table has yet.
-ghost use Rattle.std.specs.Prelude.{◌≡◌, ℕ, ◌+◌, ◌<◌, ◌≤◌, List, [], ◌∷◌, ◌++◌, take, Some};
+ghost use Rattle.std.specs.Prelude.{◌≡◌, ◌+◌, ◌<◌, ◌≤◌, take, Some};
 ghost use Rattle.std.specs.Prelude.{length, IfErr, IfOk, IsSomeAnd, MatchResult};
 ghost use Rattle.std.specs.Option.{option_flatten};
 ghost use Rattle.kv_types.specs.declared.bounds.TheConstants.{MAX_VALUE};
-ghost use Rattle.kv_types.specs.{BatchContent, map_of};
-ghost use Rattle.disk.specs.{IsSame, IsSameBut, IsStill, KeepsDisk};
+ghost use Rattle.kv_types.specs.{map_of};
+ghost use Rattle.disk.specs.{IsSame, IsSameBut, KeepsDisk};
 ghost use Rattle.chain_model.specs.{place};
 ghost use Rattle.store_files.specs.BatchLogs.{HasFullLog, newest_file};
 ghost use Rattle.store_tables.specs.Errors.{FailsDevice, IsEnd, IsEngineExternal};
@@ -13,7 +13,6 @@ ghost use Rattle.store_files.specs.OpenFiles.{IfHeld, IfMeant, ListGrows, WereMe
 ghost use Rattle.store_files.specs.OpenFiles.{trimmed_count};
 ghost use Rattle.memtable.specs.{HasFailedAdd, TableHolds};
 ghost use Rattle.store_tables.specs.LevelTables.{EntriesHave, found_value};
-ghost use Rattle.store_files.specs.Lists.{ListFollowsOn};
 ghost use Rattle.store_files.specs.Reads.{OnlyReads};
 ghost use Rattle.store_files.specs.StoreFiles.{FilesRepresent, WereMeant};
 

@@ -1,6 +1,5 @@
 // A tend of a store's files: a rewrite of the manifest, or a flush.
-ghost use Rattle.std.specs.Prelude.{IfOk, List};
-ghost use Rattle.kv_types.specs.{BatchContent};
+ghost use Rattle.std.specs.Prelude.{IfOk};
 ghost use Rattle.store_files.specs.OpenFiles.{AreUsableFiles, IfMeant};
 ghost use Rattle.store_tables.specs.TableWriting.{HasEntry};
 ghost use Rattle.store_files.specs.TendKeeps.{FilesAreTended};
