@@ -1,0 +1,7 @@
+mod Lists
+mod Orders
+mod Dropping
+mod Cutting
+mod OutputOrder
+mod JointRanges
+mod Planning
