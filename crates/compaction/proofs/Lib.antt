@@ -5,3 +5,6 @@ mod Cutting
 mod OutputOrder
 mod JointRanges
 mod Planning
+mod Calls
+mod Finished
+mod Writing

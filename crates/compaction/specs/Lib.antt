@@ -2,6 +2,8 @@ pub mod Turns
 pub mod Picks
 pub mod Survivors
 pub mod WrittenTables
+pub mod Errors
+pub mod Outputs
 pub mod Plans
 pub mod Inputs
 pub mod Examples

@@ -1,13 +1,18 @@
-//! Merges of tables: which one is due, what it leaves, and where its tables are cut. Nothing here
-//! calls a disk.
+//! Merges of tables: which one is due, and a merge in bounded steps.
 #![tactic(auto)]
 
+mod error;
+mod finishing;
 mod inputs;
 pub mod laws;
+mod open_output;
 mod picking;
 mod plan;
+mod ranges;
 mod turn;
+mod writer;
 
+pub use error::MergeError;
 pub use inputs::LentRange;
 pub use picking::pick;
 pub use plan::Plan;
