@@ -8,3 +8,6 @@ mod Planning
 mod Calls
 mod Finished
 mod Writing
+mod Walks
+mod Steps
+mod Advances

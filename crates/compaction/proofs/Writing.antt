@@ -129,6 +129,15 @@ closed_kept old new writer next_file output it is w spares =
     (λ line differs. spares line.file (λ same. differs (sym same))) writer.closed.items apart)
     w.closed
 
+-- where nothing was written to the open table, its builder counts none
+pub none_added : (writer : OutputWriter) (output : OpenOutput) (slots : State) (next_file : ℕ)
+    (it : Written) (count : ℕ) → writer.current ≡ Some output → WriterHolds slots next_file writer it
+    → ((slot : Slot) (entries : List Entry) → Builds slot output.builder entries
+    → count ≡ length entries) → it.opened ≡ [] → count ≡ 0
+none_added writer output slots next_file it count is w counts none =
+    counts (slots output.file) it.opened
+    (open_builds slots writer.current output it.opened is w.current) ∙ ap length none
+
 -- a builder that builds nothing is not that of a writer
 pub lost : (writer : OutputWriter) (output : OpenOutput) (disk : State) (next_file : ℕ)
     (it : Written) → writer.current ≡ Some output → BuildsNothing output.builder

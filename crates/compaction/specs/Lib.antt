@@ -4,6 +4,7 @@ pub mod Survivors
 pub mod WrittenTables
 pub mod Errors
 pub mod Outputs
+pub mod Walks
 pub mod Plans
 pub mod Inputs
 pub mod Examples

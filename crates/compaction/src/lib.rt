@@ -10,6 +10,7 @@ mod picking;
 mod plan;
 mod ranges;
 mod turn;
+mod walking;
 mod writer;
 
 pub use error::MergeError;

@@ -37,7 +37,7 @@ impl OutputWriter {
     ghost use Rattle.std.specs.Prelude.{◌≡◌, ◌⊎◌, ◌≤◌, ◌<◌, ◌++◌, ◌∷◌, [], ℕ, List, IfErr, IfOk};
     ghost use Rattle.std.specs.Prelude.{IsSome, MatchResult, None, OnErr, OnOk, Option, Some};
     ghost use Rattle.std.specs.Prelude.{bytes_eq};
-    ghost use Rattle.std.specs.Prelude.{length};
+    ghost use Rattle.std.specs.Prelude.{IsOkAnd, length};
     ghost use Rattle.disk.specs.{State};
     ghost use Rattle.kv_types.specs.{Entry, lent_key};
     ghost use Rattle.version_edits.specs.declared.line.TheConstants.{MAX_LINES};
@@ -144,11 +144,17 @@ impl OutputWriter {
             WriterHolds (D.state disk.old) next_file self.old it → 0 < length it.opened →
             MatchResult result (λ _. WriterHolds (D.state disk.new) next_file self.new
             (record it { closed = it.closed ++ it.opened ∷ []; opened = [] })) IsMergeExternal }
+        ensures empty { (slots : State) (next_file : ℕ) (it : Written) →
+            WriterHolds slots next_file self.old it → it.opened ≡ [] → (disk.new ≡ disk.old)
+            × IsOkAnd result (λ _. WriterHolds slots next_file self.new it) }
         ensures place { IfErr result (λ e. e ≡ MergeError.Full → ⊥) }
     {
         let Some(output) = self.current.take() else {
             return Ok(());
         };
+        if output.builder.len() == 0 {
+            return Ok(());
+        }
         let line = finish_output(alloc, disk, self.level, output)?;
         self.closed.push(line)?;
         Ok(())

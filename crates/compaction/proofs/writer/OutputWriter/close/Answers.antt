@@ -10,6 +10,8 @@ use Rattle.compaction.specs.declared.open_output.OpenOutput.{OpenOutput}
 use Rattle.compaction.specs.Outputs.{IsOpenFile, HoldsOpen, IsOutput}
 use Rattle.compaction.proofs.Calls.{answered, done, memory_told, passed_on, writes_as, writes_done}
 use Rattle.compaction.proofs.Calls.{writes_nothing}
+use Rattle.std.proofs.Common.{arith}
+use Rattle.compaction.proofs.Writing.{none_added}
 use Rattle.compaction.proofs.Writing.{closed_kept, ok_told, open_builds, open_numbered}
 use Rattle.compaction.proofs.Writing.{writes_own, zip_push}
 use Rattle.compaction.proofs.writer.OutputWriter.close.Goals as goal
@@ -77,3 +79,68 @@ returns-clause-closed g c = λ next_file it honest w some.
             (sym c.in-Some.ensures.after) tt;
       };
     }
+
+-- ---- nothing was written to the open table
+
+pub returns-then-len-eq0-clause-writes : goal.returns-then-len-eq0-clause-writes
+returns-then-len-eq0-clause-writes g c = λ next_file.
+    writes_nothing g.D.Disk (IsOpenFile c.args.self.now) c.args.disk.now done
+
+pub returns-then-len-eq0-clause-closed : goal.returns-then-len-eq0-clause-closed
+returns-then-len-eq0-clause-closed g c = λ next_file it honest w some.
+    let old = g.D.Disk.state c.args.disk.now in
+    let output = c.in-Some.output in
+    let builds = open_builds old c.args.self.now.current output it.opened
+    (sym c.in-Some.ensures.value) w.current in
+    let count = c.len.ensures.added (old output.file) it.opened builds in
+    let none = c.if-len-eq0.true in
+    absurd (omega (arith, count, none, some))
+
+pub returns-then-len-eq0-clause-empty : goal.returns-then-len-eq0-clause-empty
+returns-then-len-eq0-clause-empty g c = λ slots next_file it w none. (
+  refl,
+  record {
+    before = w.before;
+    closed = w.closed;
+    current = subst (λ (o : Option OpenOutput). HoldsOpen slots o it.opened)
+        (sym c.in-Some.ensures.after) none;
+    numbered = record {
+      closed = w.numbered.closed;
+      current = subst (λ (o : Option OpenOutput). IfSome (option_map (λ one. one.file) o)
+          (λ file. (file < next_file) × All (λ line. line.file ≢ file)
+          c.args.self.now.closed.items)) (sym c.in-Some.ensures.after) tt;
+    };
+  },
+)
+
+pub returns-in_default-clause-empty : goal.returns-in_default-clause-empty
+returns-in_default-clause-empty g c = λ slots next_file it w none. (
+  refl,
+  record {
+    before = w.before;
+    closed = w.closed;
+    current = subst (λ (o : Option OpenOutput). HoldsOpen slots o it.opened)
+        (sym c.in_default.ensures.after) none;
+    numbered = record {
+      closed = w.numbered.closed;
+      current = subst (λ (o : Option OpenOutput). IfSome (option_map (λ one. one.file) o)
+          (λ file. (file < next_file) × All (λ line. line.file ≢ file)
+          c.args.self.now.closed.items)) (sym c.in_default.ensures.after) tt;
+    };
+  },
+)
+
+pub returns-in_err-line-clause-empty : goal.returns-in_err-line-clause-empty
+returns-in_err-line-clause-empty g c = λ slots next_file it w none.
+    absurd (c.if-len-eq0.false (none_added c.args.self.now c.in-Some.output slots next_file it
+    c.len.result (sym c.in-Some.ensures.value) w c.len.ensures.added none))
+
+pub returns-in_err-push-clause-empty : goal.returns-in_err-push-clause-empty
+returns-in_err-push-clause-empty g c = λ slots next_file it w none.
+    absurd (c.if-len-eq0.false (none_added c.args.self.now c.in-Some.output slots next_file it
+    c.len.result (sym c.in-Some.ensures.value) w c.len.ensures.added none))
+
+pub returns-clause-empty : goal.returns-clause-empty
+returns-clause-empty g c = λ slots next_file it w none.
+    absurd (c.if-len-eq0.false (none_added c.args.self.now c.in-Some.output slots next_file it
+    c.len.result (sym c.in-Some.ensures.value) w c.len.ensures.added none))
