@@ -1,5 +1,6 @@
 -- Steps of a merge, one behind another.
-use Rattle.std.proofs.Common.{◌≡◌, ◌+◌, ℕ, List, length, Result, Ok, Err, refl, sym, ap, subst, ◌∙◌, arith}
+use Rattle.std.proofs.Common.{◌≡◌, ◌+◌, ℕ, List, length, Result, Ok, Err, refl, sym, ap, subst, ◌∙◌}
+use Rattle.std.proofs.Common.{arith}
 use Rattle.std.specs.Prelude.{IsErrAnd, MatchResult, OnOk}
 use Rattle.disk.specs.declared.Disk.{Ghosts}
 use Rattle.merge_iter.specs.declared.Cursor.{Ghosts as CursorGhosts}
@@ -30,7 +31,8 @@ module _ {U F : Type 0} (u : CursorGhosts U F) (d : Ghosts F) (tables : ℕ) whe
       (called result : Result (Unit {0}) MergeError) → called ≡ result
       → AdvancesWalk u d tables steps a n x w b m y v called
       → AdvancesWalk u d tables steps a n x w b m y v result
-  advances_as {steps = steps} {a = a} {b = b} {n = n} {m = m} {x = x} {y = y} {w = w} {v = v} called result is it =
+  advances_as {steps = steps} {a = a} {b = b} {n = n} {m = m} {x = x} {y = y} {w = w} {v = v}
+      called result is it =
       subst (λ r. AdvancesWalk u d tables steps a n x w b m y v r) is it
 
   -- the same number of steps, written otherwise

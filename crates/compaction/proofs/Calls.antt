@@ -4,6 +4,8 @@ use Rattle.std.specs.Prelude.{IsErrAnd, MatchResult}
 use Rattle.disk.specs.declared.Disk.{Ghosts}
 use Rattle.disk.specs.{AlwaysLeaves, IsFileOutcome, IsLeftAt, IsSameBut, KeepsDisk}
 use Rattle.disk.specs.{RisesByOne, Slot}
+use Rattle.disk.specs.BesideLemmas.{at_more, at_start}
+use Rattle.disk.specs.{Passes}
 use Rattle.disk.specs.MomentsLemmas.{join, none_yet, weaker}
 use Rattle.compaction.specs.declared.error.MergeError.{MergeError}
 use Rattle.compaction.specs.declared.error.MergeError.TheVariants as merge
@@ -140,11 +142,28 @@ writes_one g file {old = old} {new = new} kept moments = record {
       (g.past new) (λ left at one apart. at.others one (λ is. apart (sym is))) (moments honest);
 }
 
+-- one call on a file
+pub writes_call : {D : Type 0} (g : Ghosts D) (file : ℕ) {old new : D} {told : Type 0}
+    → KeepsDisk g old new told ⊥ (IsSameBut file)
+    → (g.is_honest old → Passes (g.past old) (g.state old) (g.past new) (g.state new))
+    → WritesOnly g (λ one. file ≡ one) old new told ⊥
+writes_call g file {old = old} {new = new} kept passes =
+    writes_one g file kept (λ honest. at_more (λ left. Unit {0}) file
+    (g.state old) (g.state old) (g.state new) (g.past old) (g.past old) (g.past new)
+    (at_start (λ left. Unit {0}) file (g.state old) (g.past old) (λ left now. tt))
+    (passes honest) (kept.files honest) (λ left now. tt))
+
 -- ---- what is told of a failure
 
 -- an answer is none
 pub done : {U : Type 0} {x : U} → MergeFailsDevice (Ok x) → ⊥
 done fails = cc
+
+-- an answer reports no failure, whatever follows from one
+pub ok_fails : {T P : Type 0} (result : Result T MergeError) (x : T) → result ≡ Ok x
+    → MergeFailsDevice result → P
+ok_fails (Ok y) x ok fails = absurd cc
+ok_fails (Err e) x ok fails = absurd cc
 
 -- a refusal is passed on
 pub passed_on : {T U : Type 0} (called : Result T MergeError) (e : MergeError)

@@ -11,3 +11,6 @@ mod Writing
 mod Walks
 mod Steps
 mod Advances
+mod Merging
+mod Lasting
+mod Leaving

@@ -131,7 +131,8 @@ closed_kept old new writer next_file output it is w spares =
 
 -- where nothing was written to the open table, its builder counts none
 pub none_added : (writer : OutputWriter) (output : OpenOutput) (slots : State) (next_file : ℕ)
-    (it : Written) (count : ℕ) → writer.current ≡ Some output → WriterHolds slots next_file writer it
+    (it : Written) (count : ℕ) → writer.current ≡ Some output
+    → WriterHolds slots next_file writer it
     → ((slot : Slot) (entries : List Entry) → Builds slot output.builder entries
     → count ≡ length entries) → it.opened ≡ [] → count ≡ 0
 none_added writer output slots next_file it count is w counts none =

@@ -5,6 +5,8 @@ pub mod WrittenTables
 pub mod Errors
 pub mod Outputs
 pub mod Walks
+pub mod Leftovers
+pub mod Merges
 pub mod Plans
 pub mod Inputs
 pub mod Examples

@@ -126,6 +126,7 @@ module _ {U F : Type 0} (u : CursorGhosts U F) (d : Ghosts F) where
         (was : IsWalking u d meant old next_old union_old writer_old inputs) →
         MatchResult result
         (λ _. (now : IsWalking u d meant new next_new union_new writer_new inputs)
-        × (length now.met ≡ length was.met + steps) × (IsIntactOn u d (table_files inputs) union_old old →
+        × (length now.met ≡ length was.met + steps)
+        × (IsIntactOn u d (table_files inputs) union_old old →
         IsIntactOn u d (table_files inputs) union_new new))
         (StepRefusal (IsIntactOn u d (table_files inputs) union_old old) tables writer_old inputs)

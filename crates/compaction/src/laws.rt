@@ -1,9 +1,16 @@
 //! Laws of the definitions that contracts use. The functions do nothing: their clauses are the
 //! laws.
 ghost use Rattle.compaction.specs.Examples.{InputExamples, PickExamples, SurvivorExamples};
+ghost use Rattle.compaction.specs.Merges.{MergesOutliveCalls};
 ghost use Rattle.compaction.specs.Plans.{PicksArePlanned};
 ghost use Rattle.compaction.specs.Survivors.{SurvivorsAreLeft};
 ghost use Rattle.compaction.specs.WrittenTables.{WrittenAreMerged, WrittenAreSurvivors};
+
+use crate::walking::are_lawful;
+use disk::Disk;
+use merge_iter::{Cursor, Merged};
+use sorted_table::TableCursor;
+use table_files::Files;
 
 /// Of the sorted union of its inputs a merge leaves exactly the entries that the two rules do not
 /// drop.
@@ -35,6 +42,14 @@ pub fn written_are_merged()
 pub fn picks_are_planned()
     ensures { PicksArePlanned }
 {}
+
+/// A merge under way stays so while other calls leave its inputs and its outputs as they were.
+// law: of `IsMerging`
+pub fn merges_outlive_calls<D: Disk + Drop>()
+    ensures { MergesOutliveCalls ⟦<Merged<TableCursor<D>> as Cursor>⟧ ⟦<Files<D> as Disk>⟧ }
+{
+    are_lawful::<Merged<TableCursor<D>>>(); // law: what suits a union leaves it sound
+}
 
 /// Small versions with the merges that are due in them, and entries with those that a merge leaves.
 // law: of `picked`, `range_of` and `survivors`

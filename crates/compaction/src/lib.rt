@@ -5,6 +5,8 @@ mod error;
 mod finishing;
 mod inputs;
 pub mod laws;
+mod leftovers;
+mod merge;
 mod open_output;
 mod picking;
 mod plan;
@@ -15,6 +17,7 @@ mod writer;
 
 pub use error::MergeError;
 pub use inputs::LentRange;
+pub use merge::Merge;
 pub use picking::pick;
 pub use plan::Plan;
 pub use turn::Turn;

@@ -17,7 +17,7 @@ use version_edits::MAX_LINES;
 
 // What all cursors of a kind have in common.
 // law: of `Cursor`
-fn are_lawful<C: Cursor>()
+pub(crate) fn are_lawful<C: Cursor>()
     ensures { AreCursorLaws C.as_is C.is_intact C.holds C.is_sound C.suits C.keeps C.makes C.left
         C.most }
 {}

@@ -10,6 +10,7 @@ use disk::Disk;
 use kv_types::bounds::MAX_NUMBER;
 use kv_types::{KeyBuffer, LentKey};
 use std::alloc::{AllocError, Global};
+use std::mem::replace;
 use table_builder::Builder;
 use table_format::LentEntry;
 use version_edits::{MAX_LINES, TableLine};
@@ -305,5 +306,11 @@ impl OutputWriter {
         self.write(alloc, disk, entry, tables, next_file)?;
         self.remember(entry)?;
         Ok(())
+    }
+    /// The lines of the complete tables, which the writer gives up.
+    pub(crate) fn drain(&mut self, alloc: Global) -> Vec<TableLine>
+        ensures { result ≡ self.old.closed }
+    {
+        replace(&mut self.closed, Vec::new(alloc))
     }
 }

@@ -32,7 +32,8 @@ loop-left-preserved g c =
     let some = c.loop-left-test.true in
     record {
       few = omega (arith, few);
-      advances = advances_steps _ _ c.args.tables ((c.args.count - c.loop-left.left) + 1) _ (omega (arith, few, some))
+      advances = advances_steps _ _ c.args.tables ((c.args.count - c.loop-left.left) + 1) _
+          (omega (arith, few, some))
           (advances_then _ _ c.args.tables c.args.files.now c.args.next_file.now c.args.union.now
           c.args.writer.now c.loop-left.files c.loop-left.next_file c.loop-left.union
           c.loop-left.writer c.write_next.new.files c.write_next.new.next_file
