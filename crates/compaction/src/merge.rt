@@ -191,7 +191,7 @@ impl<D: Disk + Drop> Merge<D> {
         Ok(edit_of(alloc, version, next_file, gone, added)?)
     }
 
-    /// Ends the merge without an edit: removes the files that were written since it began, with numbers up to
+    /// Ends the merge without an edit: removes the files that were written since it began, up to
     /// the next one, but for those that the version names.
     pub fn abandon(
         self,
