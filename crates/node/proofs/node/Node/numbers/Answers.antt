@@ -1,7 +1,7 @@
-use Rattle.lab.proofs.world.numbers_of.Goals as goal
+use Rattle.node.proofs.node.Node.numbers.Goals as goal
 
 pub returns-clause-refines : goal.returns-clause-refines
-returns-clause-refines c = λ x n r. record {
+returns-clause-refines g c = λ x n r. record {
   epoch = c.epoch.ensures x n r;
   count = c.count.ensures x n r;
   committed = c.committed.ensures x n r;
