@@ -122,16 +122,13 @@ not_external : IsEngineExternal engine.Damaged → ⊥
 not_external (inl is) = cc
 not_external (inr is) = cc
 
--- an answer is as told, and a refusal is no damage
-pub answers_or_machine : {T : Type 0} (result : Result T EngineError) (P : T → Type 0) →
-    MatchResult result P IsEngineExternal → IfOk result P × IsNoDamage result
-answers_or_machine (Ok x) P told = (told, λ damaged. cc)
-answers_or_machine (Err e) P told = (
-  tt,
-  λ damaged.
-      let is : e ≡ engine.Damaged = cc in
-      not_external (subst IsEngineExternal is told),
-)
+-- a refusal that is external is no damage
+pub no_damage : {T : Type 0} (result : Result T EngineError) → IfErr result IsEngineExternal →
+    IsNoDamage result
+no_damage (Ok x) why = λ damaged. cc
+no_damage (Err e) why = λ damaged.
+    let is : e ≡ engine.Damaged = cc in
+    not_external (subst IsEngineExternal is why)
 
 -- an answer and a refusal
 pub match_of : {T : Type 0} (result : Result T EngineError) (P : T → Type 0) →
@@ -308,10 +305,10 @@ one_left facts list more disk past only =
 pub only_exhausted : {T : Type 0} {M : Type 0} (result : Result T EngineError) (e : EngineError) →
     IsErrAnd result (λ s. s ≡ e) → (e ≡ engine.Failed → ⊥) →
     (e ≡ engine.Failed) ⊎ ((e ≡ engine.Exhausted) × M) →
-    IfErr result (λ s. IsEngineExternal s ⊎ (s ≡ engine.Exhausted))
+    IfErr result (λ s. IsEngineExternal s ⊎ ((s ≡ engine.Exhausted) × M))
 only_exhausted (Ok x) e told works only = absurd told
 only_exhausted (Err s) e told works (inl failed) = absurd (works failed)
-only_exhausted (Err s) e told works (inr last) = inr (told ∙ last.0)
+only_exhausted (Err s) e told works (inr last) = inr (told ∙ last.0, last.1)
 
 -- a refusal that returns the disk as it was leaves what it left
 pub still_refused : {D : Type 0} (g : Ghosts D) (P : Contents → Type 0) (disk : D)

@@ -5,7 +5,7 @@ use Rattle.chain_model.specs.Machine.{is_open}
 use Rattle.kv_types.specs.declared.Limits.{Limits}
 use Rattle.kv_types.specs.{BatchContent}
 use Rattle.disk.specs.declared.Disk.{Ghosts}
-use Rattle.disk.specs.{AlwaysLeaves, Contents, KeepsDisk, State}
+use Rattle.disk.specs.{AlwaysLeaves, Contents, IsSame, IsStill, KeepsDisk, State}
 use Rattle.engine.specs.declared.engine.Engine.{Engine}
 use Rattle.store_tables.specs.declared.error.EngineError.{EngineError}
 use Rattle.store_tables.specs.declared.error.EngineError.TheVariants as engine
@@ -18,9 +18,9 @@ use Rattle.store_files.specs.declared.tended.Tended.{Tended}
 use Rattle.store_tables.specs.Errors.{EndsEngine, FailsDevice, IsEnd, IsEngineExternal}
 use Rattle.store_files.specs.Tending.{IsTend, IsWorkAnswer}
 use Rattle.manifest.specs.{IsNotCreated}
-use Rattle.store_files.specs.Files.{Facts, first_facts}
+use Rattle.store_files.specs.Files.{Facts, IsOwned, first_facts}
 use Rattle.store_files.specs.StoreFiles.{FilesRepresent, HasFirstFiles, IsDamaged, IsOneOf, OpensAs}
-use Rattle.store_files.specs.StoreFiles.{WereMeant}
+use Rattle.store_files.specs.StoreFiles.{WereMeant, WereOneOf}
 
 -- ---- which reads are refused
 
@@ -97,6 +97,59 @@ abbrev pub IsOldOrNewSince : {D : Type 0} → Ghosts D → D → D → Facts →
 IsOldOrNewSince g old new facts list facts' list' =
     AlwaysLeaves g old new (IsOneOf facts list facts' list')
 
+-- what a read of an engine promises
+pub record ReadsEngine {D T : Type 0} (g : Ghosts D) (old new : Engine D g)
+    (result : Result T EngineError) : Type 0 where
+  -- no file changes, and a device that works never fails
+  pub keeps : KeepsEngine g old new result ⊥ IsSame
+  -- what the engine tells stays
+  pub told : look_ups new ≡ look_ups old
+  -- and so does its list
+  pub kept : (list : List BatchContent) → ListFollows g old new list list result
+  -- a crash at any moment leaves what it might have left before
+  pub still : IsStill g (engine_disk old) (engine_disk new)
+
+-- what a call promises that changes the open snapshots of an engine
+pub record ChangesSnapshots {D : Type 0} (g : Ghosts D) (old new : Engine D g)
+    (after : LookUps → LookUps) (result : Result (Unit {0}) EngineError) : Type 0 where
+  -- no file changes, and the device never fails
+  pub keeps : KeepsEngine g old new result ⊥ IsSame
+  -- what the engine tells changes so, or stays where the call is refused
+  pub told : MatchResult result (λ _. look_ups new ≡ after (look_ups old))
+      (λ _. look_ups new ≡ look_ups old)
+  -- its list stays
+  pub kept : (list : List BatchContent) → ListFollows g old new list list result
+  -- and its disk is the same
+  pub disk : engine_disk new ≡ engine_disk old
+
+-- what a call promises that writes to the disk of an engine, whose list it makes this one
+pub record ChangesList {D T : Type 0} (g : Ghosts D) (old new : Engine D g)
+    (result : Result T EngineError) (cause : Type 0) (IsKept : State → State → Type 0)
+    (facts : Facts) (after : List BatchContent → List BatchContent) : Type 0 where
+  -- a device that works fails only for this cause, and its files change only so
+  pub keeps : KeepsEngine g old new result cause IsKept
+  -- behind an answer the engine has the new list, where it had the old one
+  pub list : (list : List BatchContent) → ListFollows g old new list (after list) result
+  -- a crash at any moment, whatever the call answers, leaves files of the old list, or of the new
+  -- one and these facts
+  pub any_moment : (list : List BatchContent) → EngineHolds g old list → IsOldOrNewSince g
+      (engine_disk old) (engine_disk new) (facts_of old) list facts (after list)
+  -- where they were meant to be of the old list, it leaves files that were meant to be of either
+  pub meant : (list : List BatchContent) → EngineWasMeant g old list → AlwaysLeaves g
+      (engine_disk old) (engine_disk new) (WereOneOf (facts_of old) list facts (after list))
+
+-- an engine has ended if it had, and reads and holds each list that it did
+pub record StaysAsItWas {D : Type 0} (g : Ghosts D) (old new : Engine D g) : Type 0 where
+  pub ended : HasEnded new ↔ HasEnded old
+  pub reads : (list : List BatchContent) → EngineReads g old list → EngineReads g new list
+  pub holds : (list : List BatchContent) → EngineHolds g old list → EngineHolds g new list
+
+-- this is said of each list that the engine reads, and of each that it was meant to
+pub record OfEachList {D : Type 0} (g : Ghosts D) (engine : Engine D g)
+    (IsSaid : List BatchContent → Type 0) : Type 0 where
+  pub reads : (list : List BatchContent) → EngineReads g engine list → IsSaid list
+  pub meant : (list : List BatchContent) → EngineWasMeant g engine list → IsSaid list
+
 -- ---- a tend
 
 -- the disk reads as no files of the engine
@@ -128,6 +181,13 @@ disk_after (Err refused) = refused.1
 abbrev pub RefusedByDevice : {D : Type 0} {g : Ghosts D} → Result (Engine D g) (EngineError × D) →
     Type 0
 RefusedByDevice result = IsErrAnd result (λ refused. refused.0 ≡ engine.Disk)
+
+-- The disk that such a call has handed on, or back, is the device that it was; any of its files may
+-- have changed.
+abbrev pub KeepsOwnedDisk : {D : Type 0} (g : Ghosts D) → D →
+    Result (Engine D g) (EngineError × D) → Type 0
+KeepsOwnedDisk g disk result =
+    KeepsDisk g disk (disk_after result) (RefusedByDevice result) ⊥ IsOwned
 
 -- a store without batches, of node x in the first configuration, with these limits; its disk has
 -- the files of a new store, and no other

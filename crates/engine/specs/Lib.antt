@@ -7,6 +7,8 @@ pub use Rattle.engine.specs.Calls.{IsMeantEngineOf, KeepsEngine, ListFollows, Ex
 pub use Rattle.engine.specs.Calls.{IsTendOf, OpensEngineFor, RefusedByDevice}
 pub use Rattle.engine.specs.Calls.{IsAdrift, IsReadableAnswer, IsTendAnswer, TendsAlike, disk_after}
 pub use Rattle.engine.specs.Calls.{IsCloseAnswer, IsOpenAnswer, MayOpen}
+pub use Rattle.engine.specs.Calls.{ChangesList, ChangesSnapshots, OfEachList, ReadsEngine}
+pub use Rattle.engine.specs.Calls.{KeepsOwnedDisk, StaysAsItWas}
 pub use Rattle.engine.specs.Engines.{AreOrdered, HasEnded, HasLongFile, HasOnlyFiles, EngineHolds}
 pub use Rattle.engine.specs.Engines.{HasNearlyFullLog, IsNearlyFull}
 pub use Rattle.engine.specs.Snapshots.{AreReadable, IsReadable}

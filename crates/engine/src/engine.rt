@@ -48,26 +48,25 @@ fn files_over<D: Disk + Drop>(
 }
 
 impl<D: Disk + Drop> Engine<D> {
-    ghost use Rattle.std.specs.Prelude.{◌≡◌, ◌⊎◌, ◌↔◌, ℕ, ◌<◌, ◌≤◌, [], ◌∷◌, ◌++◌, List, take};
+    ghost use Rattle.std.specs.Prelude.{◌≡◌, ◌⊎◌, ◌↔◌, ℕ, ◌<◌, ◌≤◌, [], ◌∷◌, ◌++◌, List};
     ghost use Rattle.std.specs.Prelude.{IfOk, IfErr, IsErrOf, OnOk, MatchResult, slice_index, Some};
     ghost use Rattle.kv_types.specs.declared.bounds.TheConstants.{MAX_NUMBER};
-    ghost use Rattle.kv_types.specs.{BatchContent, map_of};
-    ghost use Rattle.disk.specs.{AlwaysLeaves, contents, IsSame, IsSameBut, IsStill, KeepsDisk};
+    ghost use Rattle.kv_types.specs.{BatchContent};
+    ghost use Rattle.disk.specs.{contents, IsSameBut, IsStill};
     ghost use Rattle.chain_model.specs.{place};
-    ghost use Rattle.engine.specs.Calls.{ExplainsRefusal, ListFollows, IsJustOpened};
-    ghost use Rattle.engine.specs.Calls.{IsNewEngine, IsNoDamage, IsOldOrNewSince, IsOpened};
-    ghost use Rattle.engine.specs.Calls.{IsTendOf, OpensEngineFor};
-    ghost use Rattle.engine.specs.Calls.{IsAdrift, KeepsEngine, RefusedByDevice, IsReadableAnswer};
-    ghost use Rattle.engine.specs.Calls.{IsTendAnswer, disk_after};
-    ghost use Rattle.engine.specs.Engines.{AreOrdered, EngineHolds, EngineReads, HasEnded};
-    ghost use Rattle.engine.specs.Engines.{EngineWasMeant, HasNearlyFullLog, IsNearlyFull};
+    ghost use Rattle.engine.specs.Calls.{ChangesList, ExplainsRefusal, IsAdrift, IsJustOpened};
+    ghost use Rattle.engine.specs.Calls.{IsNewEngine, IsOpened, IsTendAnswer, IsTendOf};
+    ghost use Rattle.engine.specs.Calls.{KeepsOwnedDisk, OfEachList, OpensEngineFor, ReadsEngine};
+    ghost use Rattle.engine.specs.Calls.{StaysAsItWas, disk_after};
+    ghost use Rattle.engine.specs.Engines.{AreOrdered, EngineHolds, HasEnded};
+    ghost use Rattle.engine.specs.Engines.{HasNearlyFullLog, IsNearlyFull};
     ghost use Rattle.engine.specs.Engines.{engine_disk, engine_files, facts_of, files_of_tend};
     ghost use Rattle.engine.specs.Engines.{look_ups, newest_log_file, raised_facts};
     ghost use Rattle.engine.specs.Engines.{table_count, with_one_more, with_committed};
     ghost use Rattle.store_tables.specs.Errors.{IsEngineExternal};
-    ghost use Rattle.store_files.specs.Files.{Facts, IsOwned};
+    ghost use Rattle.store_files.specs.Files.{Facts};
     ghost use Rattle.store_files.specs.Settling.{AreReadAlike};
-    ghost use Rattle.store_files.specs.StoreFiles.{StillLeavesOneOf, WereOneOf};
+    ghost use Rattle.store_files.specs.StoreFiles.{StillLeavesOneOf};
     ghost use Rattle.store_files.specs.Tending.{IsSameBeside};
 
     /// Creates a store without batches on a disk, whose files are all removed first. A refusal
@@ -79,8 +78,7 @@ impl<D: Disk + Drop> Engine<D> {
         config: &Config,
         limits: &Limits,
     ) -> Result<Engine<D>, (EngineError, D)>
-        ensures kept { KeepsDisk D.Disk disk (disk_after result)
-            (RefusedByDevice result) ⊥ IsOwned }
+        ensures kept { KeepsOwnedDisk D.Disk disk result }
         ensures created { D.is_honest disk →
             MatchResult result (λ engine. EngineHolds D.Disk engine [])
             (λ refused. IsEngineExternal refused.0) }
@@ -105,8 +103,7 @@ impl<D: Disk + Drop> Engine<D> {
     /// of which memory gets the entries that no table has, and the other files are removed. A
     /// refusal returns the disk.
     pub fn open(alloc: Global, disk: D, limits: &Limits) -> Result<Engine<D>, (EngineError, D)>
-        ensures kept { KeepsDisk D.Disk disk (disk_after result)
-            (RefusedByDevice result) ⊥ IsOwned }
+        ensures kept { KeepsOwnedDisk D.Disk disk result }
         ensures opened { (facts : Facts) (list : List BatchContent) → D.is_honest disk →
             OpensEngineFor D.Disk facts list (contents (D.state disk)) result }
         ensures told { D.is_honest disk →
@@ -162,27 +159,15 @@ impl<D: Disk + Drop> Engine<D> {
     /// Appends a batch, and returns its number. It needs four device calls: after them the batch is
     /// durable.
     pub fn append(&mut self, alloc: Global, batch: &Batch) -> Result<Number, EngineError>
-        ensures keeps { KeepsEngine D.Disk self.old self.new result (HasNearlyFullLog self.old)
-            (IsSameBut (newest_log_file self.old)) }
+        ensures changes { ChangesList D.Disk self.old self.new result (HasNearlyFullLog self.old)
+            (IsSameBut (newest_log_file self.old)) (facts_of self.old)
+            (λ list. list ++ batch.now ∷ []) }
         ensures told { MatchResult result
             (λ n. (look_ups self.new ≡ with_one_more (look_ups self.old))
             × (n ≡ (look_ups self.new).count))
             (λ _. look_ups self.new ≡ look_ups self.old) }
-        ensures appended { (list : List BatchContent) →
-            ListFollows D.Disk self.old self.new list (list ++ batch.now ∷ []) result }
-        ensures met { (list : List BatchContent) → EngineReads D.Disk self.old list →
-            IfErr result (λ e. IsEngineExternal e
-            ⊎ ((e ≡ EngineError.Exhausted) × (MAX_NUMBER ≤ (look_ups self.old).count))) }
-        ensures meant { (list : List BatchContent) → EngineWasMeant D.Disk self.old list →
-            IfErr result (λ e. IsEngineExternal e ⊎ (e ≡ EngineError.Exhausted))
-            × AlwaysLeaves D.Disk (engine_disk self.old) (engine_disk self.new)
-            (WereOneOf (facts_of self.old) list (facts_of self.old) (list ++ batch.now ∷ [])) }
-
-        // A crash at any moment since the call began, whatever it answers, leaves the old batches,
-        // with or without the new one.
-        ensures any_moment { (list : List BatchContent) → EngineHolds D.Disk self.old list →
-            IsOldOrNewSince D.Disk (engine_disk self.old) (engine_disk self.new)
-            (facts_of self.old) list (facts_of self.old) (list ++ batch.now ∷ []) }
+        ensures met { OfEachList D.Disk self.old (λ list. IfErr result (λ e. IsEngineExternal e
+            ⊎ ((e ≡ EngineError.Exhausted) × (MAX_NUMBER ≤ (look_ups self.old).count)))) }
     {
         held_files_are_left(); // law: what the disk of open files reads as, and leaves
         let number = self.next_number()?;
@@ -196,15 +181,9 @@ impl<D: Disk + Drop> Engine<D> {
     pub fn batch(&mut self, alloc: Global, number: Number) -> Result<Batch, EngineError>
         requires { ((look_ups self.old).facts.kept < number)
             × (number ≤ (look_ups self.old).count) }
-        ensures keeps { KeepsEngine D.Disk self.old self.new result ⊥ IsSame }
-        ensures told { look_ups self.new ≡ look_ups self.old }
-        ensures found { (list : List BatchContent) → EngineReads D.Disk self.old list →
-            MatchResult result (λ batch. place list number ≡ Some batch) IsEngineExternal }
-        ensures meant { (list : List BatchContent) → EngineWasMeant D.Disk self.old list →
-            MatchResult result (λ batch. place list number ≡ Some batch) IsEngineExternal }
-        ensures kept { (list : List BatchContent) →
-            ListFollows D.Disk self.old self.new list list result }
-        ensures still { IsStill D.Disk (engine_disk self.old) (engine_disk self.new) }
+        ensures reads { ReadsEngine D.Disk self.old self.new result }
+        ensures found { OfEachList D.Disk self.old (λ list.
+            MatchResult result (λ batch. place list number ≡ Some batch) IsEngineExternal) }
     {
         held_files_are_left(); // law: what the disk of open files reads as, and leaves
         if self.has_ended {
@@ -219,26 +198,13 @@ impl<D: Disk + Drop> Engine<D> {
     /// its first edit and 65,536 bytes; or a flush, where the newest log is longer than the limit
     /// and entries are in memory. `Full` where that has no place.
     pub fn tend(&mut self, alloc: Global) -> Result<Tended, EngineError>
-        ensures keeps { KeepsEngine D.Disk self.old self.new result
+        ensures changes { ChangesList D.Disk self.old self.new result
             (IsNearlyFull self.old ⊎ IsAdrift D.Disk self.old)
-            (IsSameBeside (files_of_tend self.old)) }
+            (IsSameBeside (files_of_tend self.old)) (raised_facts self.old) (λ list. list) }
         ensures told { look_ups self.new ≡ look_ups self.old }
-        ensures tended { (list : List BatchContent) →
-            ListFollows D.Disk self.old self.new list list result }
-        ensures work { (list : List BatchContent) → EngineReads D.Disk self.old list →
-            MatchResult result (IsTendAnswer self.old self.new) IsEngineExternal }
+        ensures work { OfEachList D.Disk self.old (λ list.
+            MatchResult result (IsTendAnswer self.old self.new) IsEngineExternal) }
         ensures did { IfOk result (IsTendOf self.old self.new) }
-
-        // A crash at any moment since the call began leaves files of the same list.
-        ensures any_moment { (list : List BatchContent) → EngineHolds D.Disk self.old list →
-            IsOldOrNewSince D.Disk (engine_disk self.old) (engine_disk self.new)
-            (facts_of self.old) list (raised_facts self.old) list }
-
-        // So does one of files that were meant to represent it.
-        ensures meant { (list : List BatchContent) → EngineWasMeant D.Disk self.old list →
-            AlwaysLeaves D.Disk (engine_disk self.old) (engine_disk self.new)
-            (WereOneOf (facts_of self.old) list (raised_facts self.old) list)
-            × MatchResult result (IsTendAnswer self.old self.new) IsEngineExternal }
     {
         held_files_are_left(); // law: what the disk of open files reads as, and leaves
         if self.has_ended {
@@ -255,13 +221,8 @@ impl<D: Disk + Drop> Engine<D> {
             × (number ≤ (look_ups self.old).count) }
         ensures told { look_ups self.new ≡ with_committed (look_ups self.old) number }
         ensures disk { engine_disk self.new ≡ engine_disk self.old }
-        ensures ended { HasEnded self.new ↔ HasEnded self.old }
-        ensures reads { (list : List BatchContent) → EngineReads D.Disk self.old list →
-            EngineReads D.Disk self.new list }
-        ensures holds { (list : List BatchContent) → EngineHolds D.Disk self.old list →
-            EngineHolds D.Disk self.new list }
+        ensures stays { StaysAsItWas D.Disk self.old self.new }
     {
-        held_files_are_left(); // law: what the disk of open files reads as, and leaves
         self.committed = number;
     }
 
@@ -334,21 +295,16 @@ impl<D: Crash + Drop> Engine<D> {
     ghost use Rattle.std.specs.Prelude.{◌≡◌, ◌↔◌, List};
     ghost use Rattle.kv_types.specs.{BatchContent};
     ghost use Rattle.disk.specs.{IsArmed};
-    ghost use Rattle.engine.specs.Calls.{TendsAlike};
-    ghost use Rattle.engine.specs.Engines.{EngineHolds, EngineReads, HasEnded, IsNearlyFull};
-    ghost use Rattle.engine.specs.Engines.{engine_disk, look_ups};
+    ghost use Rattle.engine.specs.Calls.{StaysAsItWas, TendsAlike};
+    ghost use Rattle.engine.specs.Engines.{IsNearlyFull, engine_disk, look_ups};
 
     /// Arms the disk with a fault at one of its next calls, or with none.
     pub fn arm(&mut self, fault: &Fault)
         ensures armed { IsArmed D.Disk fault.now (engine_disk self.old) (engine_disk self.new) }
         ensures told { look_ups self.new ≡ look_ups self.old }
-        ensures ended { HasEnded self.new ↔ HasEnded self.old }
         ensures full { IsNearlyFull self.new ↔ IsNearlyFull self.old }
         ensures tends { TendsAlike self.old self.new }
-        ensures reads { (list : List BatchContent) → EngineReads D.Disk self.old list →
-            EngineReads D.Disk self.new list }
-        ensures holds { (list : List BatchContent) → EngineHolds D.Disk self.old list →
-            EngineHolds D.Disk self.new list }
+        ensures stays { StaysAsItWas D.Disk self.old self.new }
     {
         held_files_are_left(); // law: what the disk of open files reads as, and leaves
         self.files.arm(fault);

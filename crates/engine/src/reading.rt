@@ -11,13 +11,12 @@ use store_files::laws::held_files_are_left;
 
 impl<D: Disk + Drop> Engine<D> {
     ghost use Rattle.std.specs.Prelude.{◌≡◌, ◌⊎◌, ◌↔◌, List, take};
-    ghost use Rattle.std.specs.Prelude.{IfErr, IfOk, IsErrOf, MatchResult, OnOk};
+    ghost use Rattle.std.specs.Prelude.{IfErr, IfOk, IsErrOf, OnOk};
     ghost use Rattle.kv_types.specs.{BatchContent, map_of};
     ghost use Rattle.kv_types.specs.Pages.{page_of};
-    ghost use Rattle.disk.specs.{IsSame, IsStill};
-    ghost use Rattle.engine.specs.Calls.{IsCloseAnswer, IsNoDamage, IsOpenAnswer};
-    ghost use Rattle.engine.specs.Calls.{IsReadableAnswer, KeepsEngine, ListFollows};
-    ghost use Rattle.engine.specs.Engines.{EngineReads, EngineWasMeant, HasEnded, engine_disk};
+    ghost use Rattle.engine.specs.Calls.{ChangesSnapshots, IsCloseAnswer, IsNoDamage};
+    ghost use Rattle.engine.specs.Calls.{IsOpenAnswer, IsReadableAnswer, OfEachList, ReadsEngine};
+    ghost use Rattle.engine.specs.Engines.{EngineReads, HasEnded};
     ghost use Rattle.engine.specs.Engines.{look_ups, with_closed, with_opened};
 
     // Whether a read at the number may be answered.
@@ -47,18 +46,14 @@ impl<D: Disk + Drop> Engine<D> {
         at: Number,
         key: &Key,
     ) -> Result<Option<Value>, EngineError>
-        ensures keeps { KeepsEngine D.Disk self.old self.new result ⊥ IsSame }
-        ensures told { look_ups self.new ≡ look_ups self.old }
+        ensures reads { ReadsEngine D.Disk self.old self.new result }
         ensures readable { IsReadableAnswer (look_ups self.old) at result }
-        ensures found { (list : List BatchContent) → EngineReads D.Disk self.old list →
-            IfOk result (λ value. value ≡ map_of (take at list) key.now) × IsNoDamage result }
 
-        // A damaged block of a table is never passed over.
-        ensures meant { (list : List BatchContent) → EngineWasMeant D.Disk self.old list →
-            IfOk result (λ value. value ≡ map_of (take at list) key.now) }
-        ensures kept { (list : List BatchContent) →
-            ListFollows D.Disk self.old self.new list list result }
-        ensures still { IsStill D.Disk (engine_disk self.old) (engine_disk self.new) }
+        // A damaged block of a table is never passed over, and refused only where there is one.
+        ensures found { OfEachList D.Disk self.old (λ list.
+            IfOk result (λ value. value ≡ map_of (take at list) key.now)) }
+        ensures intact { (list : List BatchContent) → EngineReads D.Disk self.old list →
+            IsNoDamage result }
     {
         held_files_are_left(); // law: what the disk of open files reads as, and leaves
         self.may_read(at)?;
@@ -70,18 +65,14 @@ impl<D: Disk + Drop> Engine<D> {
     /// The rows of a range in the map of the first `at` batches: the longest beginning of its walk
     /// that keeps both limits, and whether more are left.
     pub fn rows(&mut self, alloc: Global, at: Number, range: &Range) -> Result<Page, EngineError>
-        ensures keeps { KeepsEngine D.Disk self.old self.new result ⊥ IsSame }
-        ensures told { look_ups self.new ≡ look_ups self.old }
+        ensures reads { ReadsEngine D.Disk self.old self.new result }
         ensures readable { IsReadableAnswer (look_ups self.old) at result }
-        ensures found { (list : List BatchContent) → EngineReads D.Disk self.old list →
-            IfOk result (λ page. page ≡ page_of (take at list) range.now) × IsNoDamage result }
 
-        // A damaged block of a table is never passed over.
-        ensures meant { (list : List BatchContent) → EngineWasMeant D.Disk self.old list →
-            IfOk result (λ page. page ≡ page_of (take at list) range.now) }
-        ensures kept { (list : List BatchContent) →
-            ListFollows D.Disk self.old self.new list list result }
-        ensures still { IsStill D.Disk (engine_disk self.old) (engine_disk self.new) }
+        // A damaged block of a table is never passed over, and refused only where there is one.
+        ensures found { OfEachList D.Disk self.old (λ list.
+            IfOk result (λ page. page ≡ page_of (take at list) range.now)) }
+        ensures intact { (list : List BatchContent) → EngineReads D.Disk self.old list →
+            IsNoDamage result }
     {
         held_files_are_left(); // law: what the disk of open files reads as, and leaves
         self.may_read(at)?;
@@ -92,14 +83,9 @@ impl<D: Disk + Drop> Engine<D> {
 
     /// Opens a snapshot at a number that can be read. While it is open, the number stays readable.
     pub fn open_snapshot(&mut self, at: Number) -> Result<(), EngineError>
-        ensures keeps { KeepsEngine D.Disk self.old self.new result ⊥ IsSame }
-        ensures told { MatchResult result
-            (λ _. look_ups self.new ≡ with_opened (look_ups self.old) at)
-            (λ _. look_ups self.new ≡ look_ups self.old) }
+        ensures changes { ChangesSnapshots D.Disk self.old self.new
+            (λ told. with_opened told at) result }
         ensures opened { IsOpenAnswer (look_ups self.old) at result }
-        ensures kept { (list : List BatchContent) →
-            ListFollows D.Disk self.old self.new list list result }
-        ensures disk { engine_disk self.new ≡ engine_disk self.old }
     {
         held_files_are_left(); // law: what the disk of open files reads as, and leaves
         self.may_read(at)?;
@@ -117,14 +103,9 @@ impl<D: Disk + Drop> Engine<D> {
 
     /// Closes the snapshot of this number that was opened last. It takes no memory.
     pub fn close_snapshot(&mut self, number: Number) -> Result<(), EngineError>
-        ensures keeps { KeepsEngine D.Disk self.old self.new result ⊥ IsSame }
-        ensures told { MatchResult result
-            (λ _. look_ups self.new ≡ with_closed (look_ups self.old) number)
-            (λ _. look_ups self.new ≡ look_ups self.old) }
+        ensures changes { ChangesSnapshots D.Disk self.old self.new
+            (λ told. with_closed told number) result }
         ensures closed { IsCloseAnswer (look_ups self.old) number result }
-        ensures kept { (list : List BatchContent) →
-            ListFollows D.Disk self.old self.new list list result }
-        ensures disk { engine_disk self.new ≡ engine_disk self.old }
     {
         held_files_are_left(); // law: what the disk of open files reads as, and leaves
         if self.has_ended {

@@ -17,6 +17,7 @@ pub use Rattle.chain_model.specs.declared.drop_reason.DropReason
 pub use Rattle.disk.specs.declared.fault.Fault
 pub use Rattle.disk.specs.declared.junk.Junk
 pub use Rattle.chain_model.specs.declared.refusal.Refusal
+pub use Rattle.node.specs.declared.numbers.Numbers
 pub use Rattle.node.specs.declared.output.Reply
 pub use Rattle.node.specs.declared.stop.Stop
 pub use Rattle.engine.specs.Tended

@@ -1,25 +1,18 @@
 -- The report of a run, and the run of the model that it refines.
-use Rattle.std.specs.Prelude.{◌≡◌, ℕ, List, length, Option, Some, None, true, false, All}
+use Rattle.std.specs.Prelude.{◌≡◌, ℕ, List, Option, Some, None, true, false, All}
 use Rattle.chain_model.specs.{Configurations}
 use Rattle.disk.specs.{past_states}
 use Rattle.chain_model.specs as model
 use Rattle.chain_core.specs.{Machine}
+use Rattle.node.specs.declared.Numbers.{Numbers}
+use Rattle.node.specs.{NumbersRefine}
 use Rattle.lab.specs.declared.event.Event.{Event}
-use Rattle.lab.specs.declared.report.Numbers.{Numbers}
 use Rattle.lab.specs.declared.report.NodeReport.{NodeReport}
 use Rattle.lab.specs.declared.report.Report.{Report}
 use Rattle.lab.specs.Disks.{HaveDisks}
 use Rattle.lab.specs.Freshness.{NodesKeepEnough, ReadsAreFresh}
 use Rattle.lab.specs.SimNodes.{Choice, IsUnarmed, state, failures, marks}
 use Rattle.lab.specs.Traces.{modelled_from, IsTrace}
-
--- the numbers are the machine's; how many tables a node has is its store's, and no matter of a run
-pub record NumbersRefine (n : Machine) (numbers : Numbers) : Type 0 where
-  pub epoch : numbers.epoch ≡ n.epoch
-  pub count : numbers.count ≡ length n.list
-  pub committed : numbers.committed ≡ n.committed
-  pub floor : numbers.floor ≡ n.floor
-  pub kept : numbers.kept ≡ n.kept
 
 -- a running machine has its numbers in a report, and one that is down has none
 abbrev pub RunningRefines : Option Numbers → Machine → Type 0

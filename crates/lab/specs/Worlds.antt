@@ -28,7 +28,7 @@ use Rattle.lab.specs.declared.report.Line.{Line}
 use Rattle.lab.specs.declared.report.Line.TheVariants as line
 use Rattle.lab.specs.declared.delivery.Posted.{Posted}
 use Rattle.lab.specs.declared.report.NodeReport.{NodeReport}
-use Rattle.lab.specs.declared.report.Numbers.{Numbers}
+use Rattle.node.specs.declared.Numbers.{Numbers}
 use Rattle.lab.specs.declared.sim_node.SimNode.{SimNode}
 use Rattle.lab.specs.declared.world.World.{World}
 use Rattle.lab.specs.SimNodes.{Choice, StateRefines, disk_in, is_honest, state, failures, marks}
@@ -118,14 +118,10 @@ pub record IsLeft (n : Machine) (own : Slots) (left : NodeReport) : Type 0 where
   pub disk : IsDiskOf state left.id n left.disk own
   pub numbers : RunningRefines left.running n
 
--- the numbers say how many tables each level of a running node's store has
-abbrev pub HasTablesOf : {D : Type 0} {g : Ghosts D} → Node D g → Numbers → Type 0
-HasTablesOf node numbers = (level : ℕ) → level < 7 →
-    slice_index numbers.tables level ≡ table_count (engine_of node) level
-
--- .. of a node that is up
+-- the node is up, and the numbers say how many tables each level of its store has
 abbrev pub HasTablesIn : {D : Type 0} {g : Ghosts D} → NodeState D g → Numbers → Type 0
-HasTablesIn (Up node) numbers = HasTablesOf node numbers
+HasTablesIn (Up node) numbers = (level : ℕ) → level < 7 →
+    slice_index numbers.tables level ≡ table_count (engine_of node) level
 HasTablesIn (Down disk) numbers = ⊥
 
 -- the report of this node has its id and its very disk, and numbers where it is up: they say how

@@ -5,7 +5,7 @@ use configurations::{Epoch, NodeId};
 use disk::MemDisk;
 use engine::Tended;
 use kv_types::Number;
-use node::{DropReason, Reply, Stop};
+use node::{DropReason, Numbers, Reply, Stop};
 use std::marker::Model;
 
 /// One line of the trace of an event.
@@ -75,18 +75,6 @@ impl Lines {
     {
         &self.lines
     }
-}
-
-/// The numbers of a running node.
-#[derive(Clone, Copy)]
-pub struct Numbers {
-    pub epoch: Epoch,
-    pub count: Number,
-    pub committed: Number,
-    pub floor: Number,
-    pub kept: Number,
-    /// How many tables each level has.
-    pub tables: [u64; 7],
 }
 
 /// A node at the end of a run.

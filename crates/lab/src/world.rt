@@ -5,12 +5,11 @@ ghost use Rattle.std.specs.List.{AllZip};
 ghost use Rattle.chain_model.specs.{at_epoch, has};
 ghost use Rattle.chain_core.specs.{Machine};
 ghost use Rattle.disk.specs.{Slots};
-ghost use Rattle.node.specs.{NodeRefines};
 ghost use Rattle.lab.specs.SimNodes.{StateHasLimits, StateRefines, disk_in, is_honest, state};
-ghost use Rattle.lab.specs.Runs.{AreNumbersOf, IsRun, NumbersRefine};
+ghost use Rattle.lab.specs.Runs.{AreNumbersOf, IsRun};
 ghost use Rattle.lab.specs.History.{OneHistory};
 ghost use Rattle.lab.specs.Worlds.{AreCreated, AreLeft, HasApplied, HasHistory, HasKept, HasNoNode};
-ghost use Rattle.lab.specs.Worlds.{HasRun, HasStepped, HasTablesOf, IsCreated, IsIndexOf, IsLeft};
+ghost use Rattle.lab.specs.Worlds.{HasRun, HasStepped, IsCreated, IsIndexOf, IsLeft};
 ghost use Rattle.lab.specs.Worlds.{IsReportOf, IsRunSoFar, ShowsTables, WorldHasEnded};
 ghost use Rattle.lab.specs.Worlds.{WorldHasLimits, WorldKeepsLimits, WorldRun, empty_run};
 ghost use Rattle.lab.specs.Worlds.{frames_in_steps};
@@ -18,7 +17,7 @@ ghost use Rattle.lab.specs.Worlds.{frames_in_steps};
 use crate::delivery::{Posted, delivery_of};
 use crate::input::NodeInput;
 use crate::node_state::NodeState;
-use crate::report::{Line, Lines, NodeReport, Numbers, Report};
+use crate::report::{Line, Lines, NodeReport, Report};
 use crate::sim_node::SimNode;
 use crate::trace::{one_line, trace_of};
 use crate::{Event, LabError};
@@ -28,7 +27,7 @@ use disk::{Fault, MemDisk};
 use kv_types::laws::pages_agree;
 use kv_types::{Batch, Limits, Number};
 use node::laws::disks_represent;
-use node::{Node, Stop};
+use node::{Node, Numbers, Stop};
 use std::alloc::{AllocError, Global};
 use std::mem;
 
@@ -87,22 +86,6 @@ fn created_nodes(alloc: Global, config: &Config, limits: &Limits) -> Result<Vec<
     Ok(nodes)
 }
 
-// The numbers of a running node.
-fn numbers_of(node: &Node<MemDisk>) -> Numbers
-    ensures refines { (x : ℕ) (n : Machine) → NodeRefines is_honest state node.now x n →
-        NumbersRefine n result }
-    ensures tables { HasTablesOf node.now result }
-{
-    Numbers {
-        epoch: node.epoch(),
-        count: node.count(),
-        committed: node.committed(),
-        floor: node.floor(),
-        kept: node.kept(),
-        tables: node.tables(),
-    }
-}
-
 // The report of a node, at the end of a run.
 fn left_of(node: SimNode) -> NodeReport
     ensures left { (n : Machine) (disk : Slots) →
@@ -113,7 +96,7 @@ fn left_of(node: SimNode) -> NodeReport
     let SimNode { id, state } = node;
     match state {
         NodeState::Up(node) => {
-            let running = Some(numbers_of(&node));
+            let running = Some(node.numbers());
             let disk = node.into_disk();
             NodeReport { id, disk, running }
         }
@@ -263,7 +246,7 @@ impl World {
             return None;
         };
         match &self.nodes[index].state {
-            NodeState::Up(node) => Some(numbers_of(node)),
+            NodeState::Up(node) => Some(node.numbers()),
             NodeState::Down(_) => None,
         }
     }

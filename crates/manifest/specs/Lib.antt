@@ -1,8 +1,10 @@
 pub mod Errors
+pub mod Reads
 pub mod Replace
 pub mod Slots
 pub mod Holds
 pub mod Manifests
+pub mod Changes
 pub mod Heads
 pub mod Opening
 pub mod Laws
@@ -15,6 +17,7 @@ pub use Rattle.version_edits.specs.VersionsLemmas
 pub use Rattle.version_edits.specs.{Change, EditsKeepVersions, IsChange, IsFit, IsLogLine}
 pub use Rattle.version_edits.specs.{IsTableLine, IsVersion, NodeVersion, StoreVersion}
 pub use Rattle.version_edits.specs.{change_text, changed, first_version, node_version_after}
+pub use Rattle.manifest.specs.Changes.{IsBeforeOrAfter}
 pub use Rattle.manifest.specs.Errors.{IsManifestExternal, ManifestFailsDevice}
 pub use Rattle.manifest.specs.Laws.{HeldVersionIsLeft, HeldVersionStays, VersionIsOne}
 pub use Rattle.manifest.specs.Laws.{VersionsAreLawful}

@@ -1,13 +1,17 @@
 -- Slots that are opened.
-use Rattle.std.specs.Prelude.{◌≡◌, ℕ, List, Some, map}
+use Rattle.std.specs.Prelude.{◌≡◌, ℕ, List, MatchResult, Result, Some, map}
 use Rattle.chain_model.specs.{IsId}
 use Rattle.disk.specs.{State, Contents}
 use Rattle.record_log.specs.{IsDurableAs}
+use Rattle.manifest.specs.declared.error.ManifestError.{ManifestError}
+use Rattle.manifest.specs.declared.head.CountingSlot.{CountingSlot}
 use Rattle.manifest.specs.declared.slot_pair.SlotPair.{SlotPair}
+use Rattle.record_log.specs.declared.Log.{Log}
 use Rattle.version_edits.specs.{NodeVersion, Change, empty, after_all}
 use Rattle.version_edits.specs.{change_text}
 use Rattle.manifest.specs.Slots.{IsSlotFile, SlotsRead, SlotsRepresent}
 use Rattle.manifest.specs.Holds.{SlotsHold}
+use Rattle.manifest.specs.Manifests.{ManifestRefusal}
 use Rattle.version_edits.specs.{IsEditHistory}
 
 -- both slots read as these contents, and a crash leaves them so
@@ -26,3 +30,18 @@ pub record AreOpened (left : Contents) (new : State) (slots : SlotPair) (named :
   pub had : SlotsRepresent named.id (map change_text changes) left
   pub holds : SlotsHold new slots named.id (map change_text changes)
   pub read : SlotsRead new left
+
+-- the slots of which this one counts, with its log
+abbrev pub slots_of : CountingSlot → Log → SlotPair
+slots_of it log = record {
+  slot = it.slot;
+  generation = it.generation;
+  id = it.id;
+  other_is_open = it.other_is_open;
+  log = log;
+}
+
+-- the slots of these contents are opened, or the refusal has its reason in them
+abbrev pub OpensSlots : Contents → State → Result (SlotPair × NodeVersion) ManifestError → Type 0
+OpensSlots left new result =
+    MatchResult result (λ it. AreOpened left new it.0 it.1) (λ e. ManifestRefusal e left)

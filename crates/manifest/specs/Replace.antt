@@ -1,8 +1,11 @@
 -- A file that is written anew behind its gate, and its gate then opened.
 use Rattle.std.specs.Prelude.{◌≡◌, ◌⊎◌, ℕ, ◌<◌, List, ◌∷◌, ◌++◌, length, Bool, true, false}
-use Rattle.disk.specs.{State}
-use Rattle.record_log.specs.{IsClosed}
-use Rattle.record_log.specs.{IsDurableAs}
+use Rattle.std.specs.Prelude.{◌+◌, ◌^◌, IsErrOf, IsSomeAnd, MatchResult, Result}
+use Rattle.disk.specs.declared.Disk.{Ghosts}
+use Rattle.disk.specs.declared.DiskError.{DiskError}
+use Rattle.disk.specs.declared.DiskError.TheVariants as device
+use Rattle.disk.specs.{AlwaysLeaves, EndsOutOfRange, IsLeftAt, IsSameBut, KeepsDisk, State}
+use Rattle.record_log.specs.{IsClosed, IsDiskExternal, IsDurableAs}
 
 -- a file whose gate is as is said: open, with bytes behind it, or closed
 abbrev pub HasGate : Bool → List ℕ → Type 0
@@ -20,3 +23,30 @@ pub record IsClosedFile (disk : State) (file : ℕ) : Type 0 where
   pub bytes : List ℕ
   pub sure : IsDurableAs disk file bytes
   pub closed : IsClosed bytes
+
+-- if an honest disk durably has bytes in the file, with such a gate, this is said of them
+abbrev pub IfGated : {D : Type 0} → Ghosts D → D → ℕ → Bool → (List ℕ → Type 0) → Type 0
+IfGated g disk file is_open IsSaid = (was : List ℕ) → g.is_honest disk →
+    IsDurableAs (g.state disk) file was → HasGate is_open was → IsSaid was
+
+-- a crash at any moment since the call began leaves the file on the way from its bytes to these
+-- ones, and of other files what it might have left before
+abbrev pub LeavesReplaced : {D : Type 0} → Ghosts D → (disk later : D) → ℕ → (was behind : List ℕ) →
+    Type 0
+LeavesReplaced g disk later file was behind = AlwaysLeaves g disk later
+    (IsLeftAt (g.state disk) file (λ left. IsSomeAnd left (IsReplaced was behind)))
+
+-- what a call promises that makes a file these bytes behind an open gate, where it was so
+pub record ReplacesFile {D : Type 0} (g : Ghosts D) (disk later : D) (file : ℕ) (behind : List ℕ)
+    (WasSo : List ℕ → State → Type 0) (result : Result (Unit {0}) DiskError) : Type 0 where
+  -- a device that works fails only where the bytes would end past the greatest place, and no other
+  -- file changes
+  pub kept : KeepsDisk g disk later (IsErrOf result device.Failed)
+      (EndsOutOfRange 1 (length behind)) (IsSameBut file)
+  -- the file durably has the bytes then, or the refusal is external
+  pub done : (was : List ℕ) → g.is_honest disk → WasSo was (g.state disk) → MatchResult result
+      (λ _. IsDurableAs (g.state later) file (1 ∷ behind) × (1 + length behind < 2 ^ 63))
+      IsDiskExternal
+  -- a crash at any moment leaves the file on the way to them
+  pub any_moment : (was : List ℕ) → g.is_honest disk → WasSo was (g.state disk) →
+      LeavesReplaced g disk later file was behind

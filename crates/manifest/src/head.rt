@@ -1,11 +1,12 @@
 // The heads of the slots, and which slot counts.
 ghost use Rattle.std.specs.Prelude.{◌≡◌, ◌⊎◌, ◌<◌, ◌≤◌, length, IfOk, IfErr};
 ghost use Rattle.std.specs.Prelude.{MatchResult, MatchOption};
-ghost use Rattle.disk.specs.{Contents, IsSame, IsStill, KeepsDisk, seen};
+ghost use Rattle.disk.specs.{Contents, IsSame, seen};
 ghost use Rattle.record_log.specs.{IsClosed};
 ghost use Rattle.kv_types.specs.declared.bounds.TheConstants.{MAX_NUMBER};
-ghost use Rattle.manifest.specs.Errors.{IsManifestExternal, ManifestFailsDevice};
+ghost use Rattle.manifest.specs.Errors.{IsManifestExternal};
 ghost use Rattle.manifest.specs.Heads.{HeadIs, IsFilled, NoneCounts, SlotCounts};
+ghost use Rattle.manifest.specs.Reads.{SlotsAreRead};
 ghost use Rattle.manifest.specs.Slots.{IsSlotFile, SlotsRead, slot_head};
 
 use crate::ManifestError;
@@ -34,12 +35,11 @@ pub struct CountingSlot {
 
 // Whether the file has as many bytes as the buffer, which then holds the first ones.
 fn fills<D: Disk>(disk: &mut D, file: u64, into: &mut [u8]) -> Result<bool, ManifestError>
-    ensures kept { KeepsDisk D.Disk disk.old disk.new (ManifestFailsDevice result) ⊥ IsSame }
+    ensures reads { SlotsAreRead D.Disk disk.old disk.new IsSame result }
     ensures filled { D.is_honest disk.old →
         IfOk result (λ full. IsFilled full (seen (D.state disk.old file)) into.new) }
     ensures only { IfErr result IsManifestExternal }
     ensures len { length into.new ≡ length into.old }
-    ensures still { IsStill D.Disk disk.old disk.new }
 {
     match disk.read(file, 0, into) {
         Ok(()) => Ok(true),
@@ -65,11 +65,10 @@ fn open_head(bytes: &[u8]) -> Option<(u64, u16)>
 
 // The head of a slot. At most two reads.
 fn head_of<D: Disk>(disk: &mut D, file: u64) -> Result<Head, ManifestError>
-    ensures kept { KeepsDisk D.Disk disk.old disk.new (ManifestFailsDevice result) ⊥ IsSame }
+    ensures reads { SlotsAreRead D.Disk disk.old disk.new IsSame result }
     ensures is { D.is_honest disk.old →
         IfOk result (λ head. HeadIs head (seen (D.state disk.old file))) }
     ensures only { IfErr result IsManifestExternal }
-    ensures still { IsStill D.Disk disk.old disk.new }
 {
     let mut bytes = [0; 11];
     if fills(disk, file, &mut bytes)? {
@@ -144,12 +143,11 @@ fn counting(first: Head, second: Head) -> Result<CountingSlot, ManifestError>
 
 /// The slot that counts, as reads give both slots. At most four reads.
 pub fn counting_slot<D: Disk>(disk: &mut D) -> Result<CountingSlot, ManifestError>
-    ensures kept { KeepsDisk D.Disk disk.old disk.new (ManifestFailsDevice result) ⊥ IsSame }
+    ensures reads { SlotsAreRead D.Disk disk.old disk.new IsSame result }
     ensures one { IfOk result (λ it. IsSlotFile it.slot) }
     ensures counts { (left : Contents) → D.is_honest disk.old → SlotsRead (D.state disk.old) left →
         MatchResult result (λ it. SlotCounts it left)
         (λ e. IsManifestExternal e ⊎ NoneCounts e left) }
-    ensures still { IsStill D.Disk disk.old disk.new }
 {
     let first = head_of(disk, 1)?;
     let second = head_of(disk, 2)?;

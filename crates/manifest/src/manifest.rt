@@ -1,14 +1,14 @@
 // The manifest of a store.
-ghost use Rattle.std.specs.Prelude.{◌≡◌, ◌⊎◌, ◌↔◌, ◌+◌, ◌<◌, ◌≤◌, ◌^◌, length, IfOk, MatchResult};
-ghost use Rattle.std.specs.Prelude.{IsErrOf, IsNone, IsTrue, OnOk};
+ghost use Rattle.std.specs.Prelude.{◌≡◌, ◌↔◌, ◌+◌, ◌<◌, ◌^◌, IfOk, MatchResult};
+ghost use Rattle.std.specs.Prelude.{IsTrue, OnOk};
 ghost use Rattle.kv_types.specs.declared.bounds.TheConstants.{MAX_NUMBER};
-ghost use Rattle.record_log.specs.declared.log.TheConstants.{MAX_RECORD};
-ghost use Rattle.disk.specs.{AlwaysLeaves, IsSameBut, IsStill, KeepsDisk, State, contents, seen};
+ghost use Rattle.disk.specs.{KeepsDisk, State, contents};
+ghost use Rattle.manifest.specs.Changes.{ChangesManifest, IfNoSlots, IsBeforeOrAfter};
+ghost use Rattle.manifest.specs.Reads.{SlotsAreRead};
 ghost use Rattle.manifest.specs.Errors.{ManifestFailsDevice, IsManifestExternal};
 ghost use Rattle.version_edits.specs.{NodeVersion, IsFit, first_version, node_version_after};
-ghost use Rattle.version_edits.specs.{IsChange, change_text};
-ghost use Rattle.version_edits.specs.{IsFullEdit, full_change};
-ghost use Rattle.manifest.specs.Slots.{SlotsAreLeft, ManifestRepresents};
+ghost use Rattle.version_edits.specs.{IsChange};
+ghost use Rattle.manifest.specs.Slots.{ManifestRepresents};
 ghost use Rattle.manifest.specs.Holds.{SparesOthers};
 ghost use Rattle.manifest.specs.Manifests.{ManifestHolds, ManifestHasFailed, ManifestHasNoRoom};
 ghost use Rattle.manifest.specs.Manifests.{HasLongSlot, HasSameSlots, IsNewManifest};
@@ -73,9 +73,8 @@ impl Manifest {
     ) -> Result<Manifest, ManifestError>
         ensures kept { KeepsDisk D.Disk disk.old disk.new (ManifestFailsDevice result) ⊥
             SparesOthers }
-        ensures created { D.is_honest disk.old → IsNone (seen (D.state disk.old 1)) →
-            IsNone (seen (D.state disk.old 2)) → MatchResult result
-            (IsNewManifest (D.state disk.new) id config.now) IsManifestExternal }
+        ensures created { IfNoSlots D.Disk disk.old (MatchResult result
+            (IsNewManifest (D.state disk.new) id config.now) IsManifestExternal) }
         ensures works { IfOk result (λ manifest. (version_of manifest ≡ first_version id config.now)
             × (ManifestHasFailed manifest → ⊥)) }
         ensures first { IfOk result (λ manifest. generation_of manifest ≡ 1) }
@@ -92,8 +91,7 @@ impl Manifest {
 
     /// Opens the manifest that the files represent. Both slots are synced before they are read.
     pub fn open<D: Disk>(alloc: Global, disk: &mut D) -> Result<Manifest, ManifestError>
-        ensures kept { KeepsDisk D.Disk disk.old disk.new (ManifestFailsDevice result) ⊥
-            SparesOthers }
+        ensures reads { SlotsAreRead D.Disk disk.old disk.new SparesOthers result }
         ensures told { D.is_honest disk.old → MatchResult result
             (IsOpenedManifest (contents (D.state disk.old)) (D.state disk.new))
             (λ e. ManifestRefusal e (contents (D.state disk.old))) }
@@ -101,7 +99,6 @@ impl Manifest {
             ManifestRepresents named (contents (D.state disk.old)) → MatchResult result
             (λ manifest. ManifestHolds (D.state disk.new) manifest named) IsManifestExternal }
         ensures works { IfOk result (λ manifest. ManifestHasFailed manifest → ⊥) }
-        ensures still { IsStill D.Disk disk.old disk.new }
     {
         version_is_one(); // law: files represent one version at most
         let (slots, version) = open_slots(alloc, disk)?;
@@ -120,25 +117,15 @@ impl Manifest {
         edit: &VersionEdit,
     ) -> Result<(), ManifestError>
         requires fit { IsFit (version_of self.old).version edit.now × IsChange edit.now }
-        ensures kept { KeepsDisk D.Disk disk.old disk.new (ManifestFailsDevice result)
-            (ManifestHasNoRoom self.old edit.now) (IsSameBut (counting_file self.old)) }
         ensures told { MatchResult result
             (λ _. (version_of self.new ≡ node_version_after (version_of self.old) edit.now)
             × (ManifestHasFailed self.new → ⊥))
             (λ _. (version_of self.new ≡ version_of self.old) × ManifestHasFailed self.new) }
         ensures slots { HasSameSlots self.old self.new }
-        ensures failed { ManifestHasFailed self.old → IsErrOf result ManifestError.Failed }
-        ensures recorded { (named : NodeVersion) → D.is_honest disk.old →
-            ManifestHolds (D.state disk.old) self.old named → MatchResult result
-            (λ _. ManifestHolds (D.state disk.new) self.new (node_version_after named edit.now))
-            IsManifestExternal }
-
-        // A crash at any moment since the call began leaves the old version or the new one.
-        ensures any_moment { (named : NodeVersion) → D.is_honest disk.old →
-            ManifestHolds (D.state disk.old) self.old named →
-            AlwaysLeaves D.Disk disk.old disk.new (SlotsAreLeft (D.state disk.old)
-            (λ left. ManifestRepresents named left
-            ⊎ ManifestRepresents (node_version_after named edit.now) left)) }
+        ensures changes { ChangesManifest D.Disk disk.old disk.new self.old
+            (ManifestHasNoRoom self.old edit.now) (counting_file self.old)
+            (λ named state. ManifestHolds state self.new (node_version_after named edit.now))
+            (IsBeforeOrAfter edit.now) result }
     {
         if self.has_failed {
             return Err(ManifestError::Failed);
@@ -157,23 +144,13 @@ impl Manifest {
     /// It needs six device calls, and one more where that slot's gate is open.
     pub fn rewrite<D: Disk>(&mut self, alloc: Global, disk: &mut D) -> Result<(), ManifestError>
         requires room { generation_of self.old < MAX_NUMBER }
-        ensures kept { KeepsDisk D.Disk disk.old disk.new (ManifestFailsDevice result) ⊥
-            (IsSameBut (spare_file self.old)) }
         ensures told { (version_of self.new ≡ version_of self.old) × MatchResult result
             (λ _. (generation_of self.new ≡ generation_of self.old + 1)
             × (HasLongSlot self.new → ⊥) × (ManifestHasFailed self.new → ⊥))
             (λ _. ManifestHasFailed self.new) }
         ensures slots { OnOk result (counting_file self.new ≡ spare_file self.old) }
-        ensures failed { ManifestHasFailed self.old → IsErrOf result ManifestError.Failed }
-        ensures rewritten { (named : NodeVersion) → D.is_honest disk.old →
-            ManifestHolds (D.state disk.old) self.old named → MatchResult result
-            (λ _. IsRewritten (D.state disk.new) self.new named) IsManifestExternal }
-
-        // A crash at any moment since the call began leaves the same version.
-        ensures any_moment { (named : NodeVersion) → D.is_honest disk.old →
-            ManifestHolds (D.state disk.old) self.old named →
-            AlwaysLeaves D.Disk disk.old disk.new
-            (SlotsAreLeft (D.state disk.old) (ManifestRepresents named)) }
+        ensures changes { ChangesManifest D.Disk disk.old disk.new self.old ⊥ (spare_file self.old)
+            (λ named state. IsRewritten state self.new named) ManifestRepresents result }
     {
         if self.has_failed {
             return Err(ManifestError::Failed);

@@ -1,9 +1,9 @@
 // A file written anew, so that at each moment it is closed, or as it was, or whole.
-ghost use Rattle.std.specs.Prelude.{◌≡◌, ℕ, ◌+◌, ◌<◌, ◌^◌, List, ◌∷◌, length, OnOk, IfErr};
-ghost use Rattle.std.specs.Prelude.{IsErrOf, IsSomeAnd, MatchResult};
-ghost use Rattle.disk.specs.{AlwaysLeaves, EndsOutOfRange, IsLeftAt, IsSameBut, KeepsDisk};
+ghost use Rattle.std.specs.Prelude.{ℕ, ◌<◌, List, length, IfErr, IsErrOf, OnOk};
+ghost use Rattle.disk.specs.{IsSameBut, KeepsDisk};
 ghost use Rattle.record_log.specs.{IsDiskExternal, IsDurableAs};
-ghost use Rattle.manifest.specs.Replace.{HasGate, IsReplaced, IsClosedFile};
+ghost use Rattle.manifest.specs.Replace.{HasGate, IfGated, IsClosedFile, LeavesReplaced};
+ghost use Rattle.manifest.specs.Replace.{ReplacesFile};
 
 use disk::{Disk, DiskError};
 use record_log::write_gated;
@@ -13,15 +13,12 @@ use record_log::write_gated;
 fn shut<D: Disk>(disk: &mut D, file: u64, is_open: bool) -> Result<(), DiskError>
     ensures kept { KeepsDisk D.Disk disk.old disk.new (IsErrOf result DiskError.Failed)
         ⊥ (IsSameBut file) }
-    ensures done { (was : List ℕ) → D.is_honest disk.old →
-        IsDurableAs (D.state disk.old) file was → HasGate is_open was →
-        OnOk result (IsClosedFile (D.state disk.new) file) }
+    ensures done { IfGated D.Disk disk.old file is_open (λ was.
+        OnOk result (IsClosedFile (D.state disk.new) file)) }
     ensures refused { (was : List ℕ) → D.is_honest disk.old →
         IsDurableAs (D.state disk.old) file was → IfErr result IsDiskExternal }
-    ensures any_moment { (was behind : List ℕ) → D.is_honest disk.old →
-        IsDurableAs (D.state disk.old) file was → HasGate is_open was →
-        AlwaysLeaves D.Disk disk.old disk.new (IsLeftAt (D.state disk.old) file
-        (λ left. IsSomeAnd left (IsReplaced was behind))) }
+    ensures any_moment { IfGated D.Disk disk.old file is_open (λ was.
+        (behind : List ℕ) → LeavesReplaced D.Disk disk.old disk.new file was behind) }
 {
     if !is_open {
         return disk.sync(file);
@@ -33,15 +30,8 @@ fn shut<D: Disk>(disk: &mut D, file: u64, is_open: bool) -> Result<(), DiskError
 /// Writes a file anew behind its closed gate, and opens it.
 fn fill<D: Disk>(disk: &mut D, file: u64, behind: &[u8]) -> Result<(), DiskError>
     requires some { 0 < length behind.now }
-    ensures kept { KeepsDisk D.Disk disk.old disk.new (IsErrOf result DiskError.Failed)
-        (EndsOutOfRange 1 (length behind.now)) (IsSameBut file) }
-    ensures done { D.is_honest disk.old → IsClosedFile (D.state disk.old) file →
-        MatchResult result (λ _. IsDurableAs (D.state disk.new) file (1 ∷ behind.now)
-        × (1 + length behind.now < 2 ^ 63)) IsDiskExternal }
-    ensures any_moment { (was : List ℕ) → D.is_honest disk.old →
-        IsClosedFile (D.state disk.old) file →
-        AlwaysLeaves D.Disk disk.old disk.new (IsLeftAt (D.state disk.old) file
-        (λ left. IsSomeAnd left (IsReplaced was behind.now))) }
+    ensures { ReplacesFile D.Disk disk.old disk.new file behind.now
+        (λ was state. IsClosedFile state file) result }
 {
     disk.cut(file, 1)?;
     write_gated(disk, file, 0, 1, behind)
@@ -55,18 +45,8 @@ pub fn replace<D: Disk>(
     behind: &[u8],
 ) -> Result<(), DiskError>
     requires some { 0 < length behind.now }
-    ensures kept { KeepsDisk D.Disk disk.old disk.new (IsErrOf result DiskError.Failed)
-        (EndsOutOfRange 1 (length behind.now)) (IsSameBut file) }
-    ensures done { (was : List ℕ) → D.is_honest disk.old →
-        IsDurableAs (D.state disk.old) file was → HasGate is_open was →
-        MatchResult result (λ _. IsDurableAs (D.state disk.new) file (1 ∷ behind.now)
-        × (1 + length behind.now < 2 ^ 63)) IsDiskExternal }
-
-    // A crash at any moment since the call began.
-    ensures any_moment { (was : List ℕ) → D.is_honest disk.old →
-        IsDurableAs (D.state disk.old) file was → HasGate is_open was →
-        AlwaysLeaves D.Disk disk.old disk.new (IsLeftAt (D.state disk.old) file
-        (λ left. IsSomeAnd left (IsReplaced was behind.now))) }
+    ensures { ReplacesFile D.Disk disk.old disk.new file behind.now
+        (λ was state. IsDurableAs state file was × HasGate is_open was) result }
 {
     shut(disk, file, is_open)?;
     fill(disk, file, behind)

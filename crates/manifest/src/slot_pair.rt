@@ -1,16 +1,18 @@
 // The two slots of a store, as files of records.
-ghost use Rattle.std.specs.Prelude.{◌≡◌, ◌⊎◌, ◌↔◌, ℕ, ◌+◌, ◌<◌, ◌≤◌, ◌^◌, List, [], ◌∷◌};
+ghost use Rattle.std.specs.Prelude.{◌≡◌, ◌↔◌, ℕ, ◌+◌, ◌<◌, ◌≤◌, ◌^◌, List, [], ◌∷◌};
 ghost use Rattle.std.specs.Prelude.{◌++◌, IsTrue, length};
-ghost use Rattle.std.specs.Prelude.{IfOk, IfErr, OnOk, MatchResult, IsNone};
+ghost use Rattle.std.specs.Prelude.{IfOk, IfErr, OnOk, MatchResult};
 ghost use Rattle.std.specs.Int.{w16, w32, w64, to_be_bytes};
 ghost use Rattle.kv_types.specs.declared.bounds.TheConstants.{MAX_NUMBER};
-ghost use Rattle.disk.specs.{AlwaysLeaves, IsSameBut, KeepsDisk, State, seen};
+ghost use Rattle.disk.specs.{IsSameBut, KeepsDisk, State};
 ghost use Rattle.record_log.specs.declared.log.TheConstants.{MAX_RECORD};
 ghost use Rattle.record_log.specs.{DeviceFailed, HasNoRoom};
 ghost use Rattle.record_log.specs.{IsExpected, IsExternal, file_of, gate_of};
-ghost use Rattle.manifest.specs.Slots.{SlotsAreLeft, SlotsRepresent, other_slot};
+ghost use Rattle.manifest.specs.Changes.{ChangesSlots, IfNoSlots, IfSlotsHold};
+ghost use Rattle.manifest.specs.Slots.{other_slot};
 ghost use Rattle.manifest.specs.Holds.{AreNewSlots, IsLongLog, SlotsHold, SparesOthers};
 ghost use Rattle.manifest.specs.Holds.{closed_slot};
+ghost use Rattle.manifest.specs.Opening.{slots_of};
 
 use crate::head::CountingSlot;
 use crate::replace::replace;
@@ -80,9 +82,8 @@ impl SlotPair {
     ) -> Result<SlotPair, LogError>
         requires short { length one.now ≤ MAX_RECORD }
         ensures kept { KeepsDisk D.Disk disk.old disk.new (DeviceFailed result) ⊥ SparesOthers }
-        ensures created { D.is_honest disk.old → IsNone (seen (D.state disk.old 1)) →
-            IsNone (seen (D.state disk.old 2)) → MatchResult result
-            (AreNewSlots (D.state disk.new) id one.now) IsExternal }
+        ensures created { IfNoSlots D.Disk disk.old
+            (MatchResult result (AreNewSlots (D.state disk.new) id one.now) IsExternal) }
         ensures first { IfOk result (λ slots. slots.generation ≡ 1) }
     {
         let closed = bytes_of_slot(alloc, 1, id, one)?;
@@ -100,13 +101,7 @@ impl SlotPair {
 
     /// The slots of which this one counts, with its log.
     pub fn opened(it: CountingSlot, log: Log) -> SlotPair
-        ensures { result ≡ record {
-          slot = it.slot;
-          generation = it.generation;
-          id = it.id;
-          other_is_open = it.other_is_open;
-          log = log;
-        } }
+        ensures { result ≡ slots_of it log }
     {
         SlotPair {
             slot: it.slot,
@@ -145,19 +140,10 @@ impl SlotPair {
     ) -> Result<(), LogError>
         ensures kept { KeepsDisk D.Disk disk.old disk.new (DeviceFailed result)
             (HasNoRoom self.old.log one.now) (IsSameBut (file_of self.old.log)) }
-        ensures recorded { (id : ℕ) (records : List (List ℕ)) → D.is_honest disk.old →
-            SlotsHold (D.state disk.old) self.old id records → MatchResult result
-            (λ _. SlotsHold (D.state disk.new) self.new id (records ++ one.now ∷ [])) IsExpected }
-
-        // A crash at any moment since the call began leaves the old records or the new ones.
-        ensures any_moment { (id : ℕ) (records : List (List ℕ)) → D.is_honest disk.old →
-            SlotsHold (D.state disk.old) self.old id records →
-            AlwaysLeaves D.Disk disk.old disk.new (SlotsAreLeft (D.state disk.old)
-            (λ left. SlotsRepresent id records left
-            ⊎ SlotsRepresent id (records ++ one.now ∷ []) left)) }
-        ensures met { (id : ℕ) (records : List (List ℕ)) → D.is_honest disk.old →
-            SlotsHold (D.state disk.old) self.old id records → length one.now ≤ MAX_RECORD →
-            IfErr result IsExternal }
+        ensures changes { ChangesSlots D.Disk disk.old disk.new self.old self.new
+            (λ records. records ++ one.now ∷ []) IsExpected result }
+        ensures met { IfSlotsHold D.Disk disk.old self.old (λ id records.
+            length one.now ≤ MAX_RECORD → IfErr result IsExternal) }
         ensures stays { (self.new.slot ≡ self.old.slot)
             × (self.new.generation ≡ self.old.generation)
             × (file_of self.new.log ≡ file_of self.old.log) }
@@ -176,15 +162,8 @@ impl SlotPair {
         requires room { self.old.generation < MAX_NUMBER }
         ensures kept { KeepsDisk D.Disk disk.old disk.new (DeviceFailed result) ⊥
             (IsSameBut (other_slot self.old.slot)) }
-
-        // A crash at any moment since the call began leaves the old records or the new one alone.
-        ensures any_moment { (id : ℕ) (records : List (List ℕ)) → D.is_honest disk.old →
-            SlotsHold (D.state disk.old) self.old id records →
-            AlwaysLeaves D.Disk disk.old disk.new (SlotsAreLeft (D.state disk.old)
-            (λ left. SlotsRepresent id records left ⊎ SlotsRepresent id (one.now ∷ []) left)) }
-        ensures rewritten { (id : ℕ) (records : List (List ℕ)) → D.is_honest disk.old →
-            SlotsHold (D.state disk.old) self.old id records → MatchResult result
-            (λ _. SlotsHold (D.state disk.new) self.new id (one.now ∷ [])) IsExternal }
+        ensures changes { ChangesSlots D.Disk disk.old disk.new self.old self.new
+            (λ records. one.now ∷ []) IsExternal result }
         ensures next { OnOk result ((file_of self.new.log ≡ other_slot self.old.slot)
             × (self.new.generation ≡ self.old.generation + 1)
             × (IsLongLog self.new.log → ⊥)) }

@@ -16,6 +16,7 @@ use Rattle.engine.specs.declared.Engine.{Engine}
 use Rattle.engine.specs.{EngineHolds, Facts, FilesRepresent, HasEnded, LookUps, engine_disk}
 use Rattle.engine.specs.{facts_of, look_ups}
 use Rattle.node.specs.declared.node.Node.{Node}
+use Rattle.node.specs.declared.numbers.Numbers.{Numbers}
 use Rattle.node.specs.declared.output.Output.{Output}
 use Rattle.node.specs.declared.output.Reply.{Reply}
 use Rattle.node.specs.declared.output.Reply.TheVariants as reply
@@ -80,6 +81,14 @@ pub record NodeRefines {D : Type 0} {g : Ghosts D} (is_honest : D → Type 0) (s
 abbrev pub IfRefines : {D : Type 0} {g : Ghosts D} → Node D g → (ℕ → Machine → Type 0) → Type 0
 IfRefines {g = g} node P =
     (x : ℕ) (n : Machine) → NodeRefines g.is_honest g.state node x n → P x n
+
+-- the numbers are the machine's; how many tables a node has is its store's, and no matter of a run
+pub record NumbersRefine (n : Machine) (numbers : Numbers) : Type 0 where
+  pub epoch : numbers.epoch ≡ n.epoch
+  pub count : numbers.count ≡ length n.list
+  pub committed : numbers.committed ≡ n.committed
+  pub floor : numbers.floor ≡ n.floor
+  pub kept : numbers.kept ≡ n.kept
 
 -- the engine works and has the numbers and the open snapshots of the state
 pub record AreInStep {D : Type 0} {g : Ghosts D} (core : Core) (engine : Engine D g) : Type 0 where

@@ -3,6 +3,7 @@
 
 pub mod laws;
 mod node;
+mod numbers;
 mod output;
 mod performing;
 mod replying;
@@ -12,5 +13,6 @@ mod stop;
 pub use chain_core::{DropReason, Input, Sent};
 pub use engine::Tended;
 pub use node::Node;
+pub use numbers::Numbers;
 pub use output::{Output, Reply};
 pub use stop::Stop;

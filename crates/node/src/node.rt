@@ -6,12 +6,12 @@ ghost use Rattle.chain_model.specs.Rules.{tend};
 ghost use Rattle.chain_core.specs.{Machine, answer_to};
 ghost use Rattle.engine.specs.{IsAdrift, IsNearlyFull, IsOwned, IsTendAnswer, TendsAlike};
 ghost use Rattle.engine.specs.{table_count};
-ghost use Rattle.node.specs.Steps.{DiskAlwaysRefines, IfRefines, IsReady, NodeRefines, disk_of};
-ghost use Rattle.node.specs.Steps.{engine_of, node_limits};
+ghost use Rattle.node.specs.Steps.{DiskAlwaysRefines, IfRefines, IsReady, NodeRefines};
+ghost use Rattle.node.specs.Steps.{NumbersRefine, disk_of, engine_of, node_limits};
 ghost use Rattle.node.specs.Outputs.{CallRefines, KeepsNode, StepEnds};
 ghost use Rattle.node.specs.Stops.{IsDeviceStop};
 
-use crate::{Output, Stop};
+use crate::{Numbers, Output, Stop};
 use chain_core::{CoreState, Input, decide};
 use configurations::{Config, Epoch, NodeId};
 use disk::{Crash, Disk, Fault};
@@ -111,6 +111,22 @@ impl<D: Disk + Drop> Node<D> {
             slice_index result level ≡ table_count (engine_of self.now) level }
     {
         self.engine.tables()
+    }
+
+    /// Its numbers, as one value.
+    pub fn numbers(&self) -> Numbers
+        ensures refines { IfRefines self.now (λ x n. NumbersRefine n result) }
+        ensures tables { (level : ℕ) → level < 7 →
+            slice_index result.tables level ≡ table_count (engine_of self.now) level }
+    {
+        Numbers {
+            epoch: self.epoch(),
+            count: self.count(),
+            committed: self.committed(),
+            floor: self.floor(),
+            kept: self.kept(),
+            tables: self.tables(),
+        }
     }
 
     /// Ends the node, and returns its disk.

@@ -2,7 +2,8 @@
 use Rattle.std.proofs.Common.{◌≡◌, ◌+◌, ◌-◌, ℕ, List, [], ◌∷◌, ◌++◌, length, refl, sym, ap, ap₂}
 use Rattle.std.proofs.Common.{subst, ◌∙◌, arith, append-nil, Option, Some, None, Bool, true, false}
 use Rattle.std.proofs.Common.{if◌then◌else◌, replicate}
-use Rattle.std.specs.Prelude.{IfSome}
+use Rattle.std.proofs.lemmas.Result.{on_ok_weaker}
+use Rattle.std.specs.Prelude.{IfSome, OnOk, Result}
 use Rattle.lab.specs.Machine.{without}
 use Rattle.lab.specs.declared.Event as lab
 use Rattle.lab.specs.declared.EventKind.{EventKind}
@@ -10,7 +11,7 @@ use Rattle.lab.specs.declared.EventKind.TheVariants.{Submit, Get, Deliver, Tick,
 use Rattle.lab.specs.declared.EventKind.TheVariants.{Rows, Open, Close}
 use Rattle.lab.specs.declared.Line.{Line}
 use Rattle.lab.specs.declared.World.{World}
-use Rattle.lab.specs.declared.Numbers.{Numbers}
+use Rattle.lab.specs.Numbers.{Numbers}
 use Rattle.lab.specs.{AreNumbersOf, Choice, ShowsTables, frames_in_steps, frames_of_step}
 use Rattle.program.specs.declared.script.setup.Setup.{Setup}
 use Rattle.program.specs.declared.script_run.ScriptRun.{ScriptRun}
@@ -64,6 +65,15 @@ never_shown : (world : World) (setup : Setup) (past : Stretch) (left : List ℕ)
     HasShownNumbers world setup.configs past (busy left)
 never_shown world setup past [] = tt
 never_shown world setup past (place ∷ places) = tt
+
+-- what a statement did is kept behind the results of those before it
+pub kept : {T E : Type 0} (r : Result T E) (setup : Setup) (past : Stretch) (it : Statement)
+    (old new : ScriptRun) (before after : List StatementResult) (turn : StatementResult) →
+    HasTurned setup past it turn old new → OnOk r (after ≡ before ++ turn ∷ []) →
+    OnOk r ((own : StatementResult) × (after ≡ before ++ own ∷ [])
+    × HasTurned setup past it own old new)
+kept r setup past it old new before after turn turned is =
+    on_ok_weaker r (λ e. (turn, e, turned)) is
 
 -- what statements have done, by their results
 module _ (setup : Setup) (past : Stretch) (it : Statement) (old new : ScriptRun) where

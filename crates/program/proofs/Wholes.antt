@@ -2,39 +2,30 @@
 use Rattle.std.proofs.Common.{◌≡◌, ℕ, List, [], ◌∷◌, Option, None, Some, refl, sym, ap, subst, inl}
 use Rattle.std.proofs.Common.{inr}
 use Rattle.std.proofs.Common.{length, take}
-use Rattle.std.specs.Prelude.{Result, Ok, Err, OnErr, IfOk, IfErr, IfSome, MatchResult}
+use Rattle.std.specs.Prelude.{Result, Ok, Err, OnErr, IfOk, IfSome, MatchResult}
 use Rattle.std.specs.Io.KnownBytes.{Appends}
 use Rattle.program.specs.declared.failure.Failure.{Failure}
 use Rattle.program.specs.declared.failure.Failure.TheVariants.{Unreadable, Script, Output}
 use Rattle.program.specs.declared.failure.Failure.TheVariants as failure
-use Rattle.program.specs.declared.run_error.RunError.{RunError}
-use Rattle.program.specs.declared.run_error.RunError.TheVariants.{Write, Memory}
 use Rattle.program.specs.declared.script.setup.Setup.{Setup}
 use Rattle.program.specs.declared.script.statement.Statement.{Statement}
 use Rattle.program.specs.Scripts.{script_lines, IsScript}
 use Rattle.program.specs.Faults.{script_fault, start}
-use Rattle.program.specs.Failures.{failure_line, failure_of, IsFailureOf, IsOfReading}
+use Rattle.program.specs.Failures.{failure_line, IsFailureOf, IsOfReading}
 use Rattle.program.specs.Runs.{IsRunOf, IsRunOfText, AppendsPart, FailureIsReported, RunHasFailed}
 use Rattle.program.specs.Runs.{RunEnds, RunEndsAs}
-
--- what holds also holds of an error
-pub also_err : {T E : Type 0} (P : Type 0) (Q : E → Type 0) (r : Result T E) → P
-    → IfErr r (λ e. Q e → P)
-also_err P Q (Ok x) p = tt
-also_err P Q (Err e) p = λ _. p
 
 -- nothing is said of what was read
 any_text : (text : Option (List ℕ)) → IfSome text (λ t. Unit {0})
 any_text None = tt
 any_text (Some t) = tt
 
--- a run that ended early
-pub failed_run : (text old new : Option (List ℕ)) (setup : Setup) (statements : List Statement)
-    (e : RunError) → IfSome text (λ t. IsScript 1 (script_lines t) setup statements)
-    → IfSome text (λ t. script_fault start 1 (script_lines t) ≡ None) → (e ≡ Memory → new ≡ old)
-    → (e ≡ Write → IsRunOf setup statements (AppendsPart old new))
-    → RunHasFailed text old new (failure_of e)
-failed_run text old new setup statements Write spelled fault untouched part = record {
+-- a run of which the output took a beginning of the text
+pub failed_output : (text old new : Option (List ℕ)) (setup : Setup) (statements : List Statement)
+    → IfSome text (λ t. IsScript 1 (script_lines t) setup statements)
+    → IfSome text (λ t. script_fault start 1 (script_lines t) ≡ None)
+    → IsRunOf setup statements (AppendsPart old new) → RunHasFailed text old new Output
+failed_output text old new setup statements spelled fault part = record {
   cause = any_text text;
   untouched = λ other. absurd (other refl);
   part = λ _. record {
@@ -42,13 +33,8 @@ failed_run text old new setup statements Write spelled fault untouched part = re
     statements = statements;
     spelled = spelled;
     fault = fault;
-    run = part refl;
+    run = part;
   };
-}
-failed_run text old new setup statements Memory spelled fault untouched part = record {
-  cause = any_text text;
-  untouched = λ _. untouched refl;
-  part = λ h. absurd (cc);
 }
 
 -- a script that was not read
@@ -70,6 +56,10 @@ failed_reading text out failure.Memory is cause = record {
   untouched = λ _. refl;
   part = λ h. absurd (cc);
 }
+
+-- .. for want of memory
+pub failed_memory : (text out : Option (List ℕ)) → RunHasFailed text out out failure.Memory
+failed_memory text out = failed_reading text out failure.Memory tt (any_text text)
 
 -- nothing is said of what was read
 any_run : (text : Option (List ℕ)) (done : List ℕ → Type 0) → IsRunOfText text done

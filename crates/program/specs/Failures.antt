@@ -4,16 +4,9 @@ use Rattle.std.specs.Fmt.{decimal}
 use Rattle.program.specs.declared.failure.Failure.{Failure}
 use Rattle.program.specs.declared.failure.Failure.TheVariants.{Unreadable, Script, Output}
 use Rattle.program.specs.declared.failure.Failure.TheVariants.{Memory}
-use Rattle.program.specs.declared.run_error.RunError.{RunError}
-use Rattle.program.specs.declared.run_error.RunError.TheVariants as run
 use Rattle.program.specs.Scripts.{script_lines}
 use Rattle.program.specs.Faults.{IsReported}
 use Rattle.program.specs.Text.{fault_text}
-
--- the failure of the program that an early end of its run is
-abbrev pub failure_of : RunError → Failure
-failure_of run.Write = Output
-failure_of run.Memory = Memory
 
 -- why a run ended early
 abbrev pub failure_text : Failure → List ℕ

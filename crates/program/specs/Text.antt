@@ -20,7 +20,7 @@ use Rattle.lab.specs.Tended.TheVariants as tended
 use Rattle.lab.specs.DropReason.{DropReason}
 use Rattle.lab.specs.DropReason.TheVariants as reason
 use Rattle.lab.specs.declared.Line.{Line}
-use Rattle.lab.specs.declared.Numbers.{Numbers}
+use Rattle.lab.specs.Numbers.{Numbers}
 use Rattle.lab.specs.declared.Line.TheVariants as line
 use Rattle.program.specs.declared.statement_result.StatementResult.{StatementResult}
 use Rattle.program.specs.declared.statement_result.Note.{Note}
@@ -205,8 +205,8 @@ event_lines turns = flat_map (λ turn. replicate turn.events turn.line) turns
 
 -- the line of a request, which has the number of its event, from 1; one of no event stands here
 abbrev pub line_of_request : List ℕ → ℕ → ℕ → ℕ
-line_of_request events here request =
-    option_map_or (λ n. n) (slice_get events (request - 1)) here
+line_of_request places here request =
+    option_map_or (λ n. n) (slice_get places (request - 1)) here
 
 -- the number of the request that a reply answers
 abbrev pub request_of : Reply → ℕ
@@ -219,23 +219,23 @@ request_of (Refused request refusal) = request
 
 -- a reply is told at its request's line, all else here
 abbrev pub reply_place : List ℕ → ℕ → Line → ℕ
-reply_place events here (line.Replied reply) = line_of_request events here (request_of reply)
-reply_place events here line.Nothing = here
-reply_place events here (line.Dropped reason) = here
-reply_place events here (line.Started node epoch count committed) = here
-reply_place events here (line.Forwarded place from to epoch number) = here
-reply_place events here (line.Acknowledged place from to epoch committed have) = here
-reply_place events here (line.Stopped node cause) = here
-reply_place events here (line.Tended did) = here
+reply_place places here (line.Replied reply) = line_of_request places here (request_of reply)
+reply_place places here line.Nothing = here
+reply_place places here (line.Dropped reason) = here
+reply_place places here (line.Started node epoch count committed) = here
+reply_place places here (line.Forwarded place from to epoch number) = here
+reply_place places here (line.Acknowledged place from to epoch committed have) = here
+reply_place places here (line.Stopped node cause) = here
+reply_place places here (line.Tended did) = here
 
 -- what is printed for a line of a report
 abbrev pub line_output : List ℕ → ℕ → Line → List ℕ
-line_output events here line =
-    flat_map (numbered_line (reply_place events here line)) (line_texts line)
+line_output places here line =
+    flat_map (numbered_line (reply_place places here line)) (line_texts line)
 
 -- what is printed for the lines of a step
 abbrev pub step_text : List ℕ → ℕ → List Line → List ℕ
-step_text events here step = flat_map (line_output events here) step
+step_text places here step = flat_map (line_output places here) step
 
 -- what is said of a statement besides
 abbrev pub note_text : ℕ → Note → List ℕ
@@ -248,15 +248,15 @@ note_text here (note.Down node) = numbered_line here (stopped_text node None)
 -- what is printed at a statement: the lines of its steps, but of the silent first ones, then what
 -- is said of it
 abbrev pub result_text : List ℕ → StatementResult → List (List Line) → List ℕ
-result_text events turn steps =
-    flat_map (step_text events turn.line) (drop turn.silent (take turn.events steps))
+result_text places turn steps =
+    flat_map (step_text places turn.line) (drop turn.silent (take turn.events steps))
     ++ note_text turn.line turn.note
 
 -- what is printed for statements in order, of which each takes the steps of its events
 abbrev pub results_text : List ℕ → List StatementResult → List (List Line) → List ℕ
-results_text events [] steps = []
-results_text events (turn ∷ turns) steps =
-    result_text events turn steps ++ results_text events turns (drop turn.events steps)
+results_text places [] steps = []
+results_text places (turn ∷ turns) steps =
+    result_text places turn steps ++ results_text places turns (drop turn.events steps)
 
 -- the text of a run of statements, each event of which had a step
 abbrev pub run_text : List StatementResult → List (List Line) → List ℕ

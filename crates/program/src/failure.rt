@@ -1,11 +1,11 @@
 //! Why a run ended early, and the line that says so.
 ghost use Rattle.std.specs.Prelude.{◌≡◌, Some};
-ghost use Rattle.program.specs.Failures.{failure_of, failure_text};
+ghost use Rattle.program.specs.Failures.{failure_text};
 ghost use Rattle.program.specs.declared.failure.Failure.TheVariants.{Memory};
 
-use crate::run_error::RunError;
 use crate::script::ScriptFault;
 use crate::text::fault_name;
+use lab::LabError;
 use std::alloc::AllocError;
 use std::fmt;
 
@@ -34,14 +34,11 @@ impl fmt::Display for Failure {
     }
 }
 
-impl From<RunError> for Failure {
-    ghost from_gives = { λ e failure. failure ≡ failure_of e };
+impl From<LabError> for Failure {
+    ghost from_gives = { λ _ failure. failure ≡ Memory };
 
-    fn from(e: RunError) -> Failure {
-        match e {
-            RunError::Write => Failure::Output,
-            RunError::Memory => Failure::Memory,
-        }
+    fn from(_e: LabError) -> Failure {
+        Failure::Memory
     }
 }
 

@@ -5,7 +5,6 @@ mod failure;
 mod invocation;
 mod plain;
 mod reading;
-mod run_error;
 mod run_input;
 mod script;
 mod script_run;

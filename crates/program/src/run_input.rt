@@ -6,20 +6,17 @@ ghost use Rattle.program.specs.Scripts.{script_lines, IsScript, Names};
 ghost use Rattle.program.specs.Faults.{script_fault, start};
 ghost use Rattle.program.specs.Text.{event_lines, run_text};
 ghost use Rattle.program.specs.Failures.{IsOfReading, IsFailureOf};
-ghost use Rattle.program.specs.Runs.{HasRunStatements, IsRunOf, IsRunOfText};
-ghost use Rattle.program.specs.Runs.{RunHasFailed, AppendsPart};
-ghost use Rattle.program.specs.declared.run_error.RunError.TheVariants as error;
+ghost use Rattle.program.specs.Runs.{HasRunStatements, IsRunOfText, RunHasFailed};
 
 use crate::failure::Failure;
 use crate::reading;
-use crate::run_error::RunError;
 use crate::script::{Script, Setup, Statement, read_script};
 use crate::script_run::ScriptRun;
 use crate::statement_result::StatementResult;
 use crate::text::{event_places, print_run};
 use crate::writing::print;
 use lab::{LabError, Lines, Report};
-use std::alloc::Global;
+use std::alloc::{AllocError, Global};
 use std::io::{Read, Write};
 
 /// Runs the statements one after another, each in its turn.
@@ -34,7 +31,7 @@ fn run_statements(
     let mut script_run = ScriptRun::new(alloc, setup)?;
     let mut turns = Vec::new(alloc);
     for statement in statements {
-        match script_run.run_next(alloc, statement, &mut turns) {
+        match script_run.run(alloc, statement, &mut turns) {
             Ok(()) => {}
             Err(e) => {
                 script_run.world.close();
@@ -51,35 +48,16 @@ fn text_of_run(
     alloc: Global,
     turns: &[StatementResult],
     steps: &[Lines],
-) -> Result<Vec<u8>, RunError>
-    ensures text { IfOk result (λ text. text.items ≡ run_text turns.now steps.now) }
-    ensures cause { IfErr result (λ e. e ≡ error.Memory) }
+) -> Result<Vec<u8>, AllocError>
+    ensures { IfOk result (λ text. text.items ≡ run_text turns.now steps.now) }
 {
     let places = event_places(alloc, turns)?;
     let mut text = Vec::new(alloc);
     match print_run(&places, turns, steps, &mut text) {
         Ok(()) => Ok(text),
         // Bytes that are kept need nothing but memory.
-        Err(_) => Err(RunError::Memory),
+        Err(_) => Err(AllocError),
     }
-}
-
-/// Runs a script at the nodes of its first configuration, and writes what happened.
-fn run_script<W: Write>(alloc: Global, script: &Script, out: &mut W) -> Result<(), RunError>
-    requires { All (λ it. Names script.now.setup.configs it.action) script.now.statements.items }
-    ensures run { OnOk result (IsRunOf script.now.setup script.now.statements.items
-        (Appends (W.contents out.old) (W.contents out.new))) }
-    ensures untouched { IfErr result (λ e. e ≡ error.Memory →
-        W.contents out.new ≡ W.contents out.old) }
-    ensures part { IfErr result (λ e. e ≡ error.Write →
-        IsRunOf script.now.setup script.now.statements.items
-        (AppendsPart (W.contents out.old) (W.contents out.new))) }
-{
-    let (turns, report) = run_statements(alloc, &script.setup, &script.statements)?;
-    let steps = report.into_steps();
-    let text = text_of_run(alloc, &turns, &steps)?;
-    print(&text, out)?;
-    Ok(())
 }
 
 /// The script that is read.
@@ -101,7 +79,7 @@ fn input_script<R: Read>(alloc: Global, input: &mut R) -> Result<Script, Failure
     }
 }
 
-/// Reads a script whole, runs it, and writes what happened.
+/// Reads a script whole, runs it at the nodes of its first configuration, and writes what happened.
 pub fn run_input<R: Read, W: Write>(
     alloc: Global,
     input: &mut R,
@@ -113,7 +91,13 @@ pub fn run_input<R: Read, W: Write>(
         (RunHasFailed (R.remaining input.old) (W.contents out.old) (W.contents out.new)) }
 {
     let script = input_script(alloc, input)?;
-    let done = run_script(alloc, &script, out);
+    let ran = run_statements(alloc, &script.setup, &script.statements);
     drop(script);
-    Ok(done?)
+    let (turns, report) = ran?;
+    let steps = report.into_steps();
+    let text = text_of_run(alloc, &turns, &steps)?;
+    match print(&text, out) {
+        Ok(()) => Ok(()),
+        Err(_) => Err(Failure::Output),
+    }
 }

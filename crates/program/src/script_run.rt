@@ -45,13 +45,15 @@ fn add_places(left: &mut VecDeque<u64>, before: u64, now: u64) -> Result<(), All
     Ok(())
 }
 
-// A place that is there is left out. The places rise, so it is found by halving.
-fn remove_place(left: &mut VecDeque<u64>, place: u64)
+// A frame that an event delivers is no longer left. The places rise, so it is found by halving.
+fn remove_delivered(left: &mut VecDeque<u64>, kind: &EventKind)
     ensures { (low high : ℕ) → IsRising low high left.old.items →
-        left.new.items ≡ without place left.old.items }
+        left.new.items ≡ left_after_event kind.now left.old.items }
 {
-    if let Ok(index) = left.binary_search(&place) {
-        left.remove(index);
+    if let EventKind::Deliver { place } = kind {
+        if let Ok(index) = left.binary_search(place) {
+            left.remove(index);
+        }
     }
 }
 
@@ -86,37 +88,44 @@ fn shown(node: NodeId, numbers: Option<Numbers>) -> Note
     }
 }
 
-// The result of a statement that prints all its lines.
-fn result_of(line: u32, events: usize, note: Note) -> StatementResult
-    ensures { result ≡ record { line = line; events = events; silent = 0; note = note } }
+// Keeps what a statement did behind the results of those before it.
+fn keep(
+    results: &mut Vec<StatementResult>,
+    line: u32,
+    events: usize,
+    silent: usize,
+    note: Note,
+) -> Result<(), LabError>
+    ensures { OnOk result (results.new.items ≡ results.old.items
+        ++ record { line = line; events = events; silent = silent; note = note } ∷ []) }
 {
-    StatementResult {
+    results.push(StatementResult {
         line,
         events,
-        silent: 0,
+        silent,
         note,
-    }
+    })?;
+    Ok(())
 }
 
-// The result of a settle, which prints its last tend, or that there is more to do.
-fn settled(line: u32, tends: usize, more: bool) -> StatementResult
-    ensures { result ≡ record {
+// Keeps what a settle did. It prints its last tend, or that there is more to do.
+fn keep_settled(
+    results: &mut Vec<StatementResult>,
+    line: u32,
+    tends: usize,
+    more: bool,
+) -> Result<(), LabError>
+    ensures { OnOk result (results.new.items ≡ results.old.items ++ record {
       line = line;
       events = tends;
       silent = (if more then tends else tends - 1);
       note = (if more then note.Busy else note.Nothing);
-    } }
+    } ∷ []) }
 {
-    let (silent, note) = if more {
-        (tends, Note::Busy)
+    if more {
+        keep(results, line, tends, tends, Note::Busy)
     } else {
-        (tends.saturating_sub(1), Note::Nothing)
-    };
-    StatementResult {
-        line,
-        events: tends,
-        silent,
-        note,
+        keep(results, line, tends, tends.saturating_sub(1), Note::Nothing)
     }
 }
 
@@ -143,23 +152,6 @@ impl ScriptRun {
         let before = self.world.sent();
         self.world.step(alloc, event)?;
         add_places(&mut self.left, before, self.world.sent())?;
-        Ok(())
-    }
-
-    // A statement's event happens. A frame that it delivers is no longer left.
-    fn event(&mut self, alloc: Global, event: &Event) -> Result<(), LabError>
-        ensures { (setup : Setup) (past : Stretch) → HasRunTo self.old.world setup past →
-            NamesNode setup.configs event.now.kind →
-            IsRising 0 (frames_in_steps past.steps) self.old.left.items →
-            OnOk result ((choice : Choice) × (lines : List Line)
-            × HasRunTo self.new.world setup (followed_by past (one_step event.now choice lines))
-            × (self.new.left.items ≡ left_after_event event.now.kind (self.old.left.items
-            ++ places_after (frames_in_steps past.steps) (frames_of_step lines)))) }
-    {
-        self.step(alloc, event)?;
-        if let EventKind::Deliver { place } = event.kind {
-            remove_place(&mut self.left, place);
-        }
         Ok(())
     }
 
@@ -235,37 +227,8 @@ impl ScriptRun {
         Ok(count)
     }
 
-    // Runs a statement.
-    fn run(&mut self, alloc: Global, statement: &Statement) -> Result<StatementResult, LabError>
-        ensures { (setup : Setup) (past : Stretch) → HasRunTo self.old.world setup past →
-            Names setup.configs statement.now.action →
-            IsRising 0 (frames_in_steps past.steps) self.old.left.items →
-            IfOk result (λ turn. HasTurned setup past statement.now turn self.old self.new) }
-    {
-        let line = statement.line;
-        match &statement.action {
-            Action::Event(event) => {
-                self.event(alloc, event)?;
-                Ok(result_of(line, 1, Note::Nothing))
-            }
-            Action::Invalid(error) => Ok(result_of(line, 0, Note::Invalid(*error))),
-            Action::Flow => {
-                let events = self.flow(alloc)?;
-                Ok(result_of(line, events, busy(&self.left)))
-            }
-            Action::Settle(node) => {
-                let tends = self.settle(alloc, *node)?;
-                Ok(settled(line, tends, self.has_worked()))
-            }
-            Action::Show(node) => {
-                let note = shown(*node, self.world.numbers(*node));
-                Ok(result_of(line, 0, note))
-            }
-        }
-    }
-
     /// Runs a statement, and keeps what it did behind the results of those before it.
-    pub fn run_next(
+    pub fn run(
         &mut self,
         alloc: Global,
         statement: &Statement,
@@ -278,18 +241,26 @@ impl ScriptRun {
             × (results.new.items ≡ results.old.items ++ turn ∷ [])
             × HasTurned setup past statement.now turn self.old self.new) }
     {
-        let StatementResult {
-            line,
-            events,
-            silent,
-            note,
-        } = self.run(alloc, statement)?;
-        results.push(StatementResult {
-            line,
-            events,
-            silent,
-            note,
-        })?;
-        Ok(())
+        let line = statement.line;
+        match &statement.action {
+            Action::Event(event) => {
+                self.step(alloc, event)?;
+                remove_delivered(&mut self.left, &event.kind);
+                keep(results, line, 1, 0, Note::Nothing)
+            }
+            Action::Invalid(error) => keep(results, line, 0, 0, Note::Invalid(*error)),
+            Action::Flow => {
+                let events = self.flow(alloc)?;
+                keep(results, line, events, 0, busy(&self.left))
+            }
+            Action::Settle(node) => {
+                let tends = self.settle(alloc, *node)?;
+                keep_settled(results, line, tends, self.has_worked())
+            }
+            Action::Show(node) => {
+                let note = shown(*node, self.world.numbers(*node));
+                keep(results, line, 0, 0, note)
+            }
+        }
     }
 }

@@ -48,25 +48,12 @@ pub fn serve<F: Files + Alloc<A = Global>, R: Read, O: Write, E: Write>(
 {
     match invocation_of(rt.alloc(), words) {
         Ok(Invocation::Input) => end(serve_script(rt.alloc(), input, out, err)),
-        Ok(Invocation::Script(path)) => serve_path(rt, path, out, err),
+        Ok(Invocation::Script(path)) => match OpenOptions::new().read(true).open(rt, path) {
+            Ok(mut file) => end(serve_script(rt.alloc(), &mut file, out, err)),
+            Err(_) => report(err, Failure::Unreadable),
+        },
         Err(WordsError::Memory) => report(err, Failure::Memory),
         Err(WordsError::Usage) => refuse(err),
-    }
-}
-
-/// Runs the script at a path.
-fn serve_path<F: Files + Alloc<A = Global>, O: Write, E: Write>(
-    rt: &F,
-    path: &str,
-    out: &mut O,
-    err: &mut E,
-) -> u8
-    ensures { RunEndsAs None (O.contents out.old) (O.contents out.new)
-        (E.contents err.old) (E.contents err.new) result }
-{
-    match OpenOptions::new().read(true).open(rt, path) {
-        Ok(mut file) => end(serve_script(rt.alloc(), &mut file, out, err)),
-        Err(_) => report(err, Failure::Unreadable),
     }
 }
 
@@ -76,7 +63,7 @@ pub fn refuse<E: Write>(err: &mut E) -> u8
     ensures status { result ≡ 2 }
     ensures text { AppendsPart (E.contents err.old) (E.contents err.new) usage_line }
 {
-    let _ = write_usage(err);
+    let _ = print(USAGE.as_bytes(), err);
     2
 }
 
@@ -97,14 +84,6 @@ fn end(status: io::Result<u8>) -> u8
         Ok(status) => status,
         Err(_) => 1,
     }
-}
-
-/// Says what words the program knows.
-fn write_usage<E: Write>(err: &mut E) -> io::Result<()>
-    ensures text { OnOk result (Appends (E.contents err.old) (E.contents err.new) usage_line) }
-    ensures part { AppendsPart (E.contents err.old) (E.contents err.new) usage_line }
-{
-    print(USAGE.as_bytes(), err)
 }
 
 /// Says why a run ended early, and answers its status.

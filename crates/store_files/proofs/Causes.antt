@@ -1,7 +1,7 @@
 -- Causes of a refusal, by the errors of the layers below.
 use Rattle.std.proofs.Common.{◌≡◌, ◌⊎◌, ℕ, ◌≤◌, List, length, Result, Ok, Err, inl, inr, ap, arith}
 use Rattle.std.proofs.Common.{subst, sym}
-use Rattle.std.specs.Prelude.{IfErr, IfOk, IsErrAnd, MatchResult, OnOk, IsErrOf}
+use Rattle.std.specs.Prelude.{IfErr, IsErrOf}
 use Rattle.disk.specs.declared.DiskError.TheVariants as disk
 use Rattle.record_log.specs.declared.LogError.{LogError}
 use Rattle.record_log.specs.declared.LogError.TheVariants as log

@@ -12,7 +12,7 @@ use Rattle.std.proofs.lemmas.List.Elements.{All-weaker}
 use Rattle.std.proofs.lemmas.List.Folds.{list_all-append, list_any-append, list_any_none}
 use Rattle.kv_types.specs.declared.bounds.TheConstants.{MAX_NUMBER}
 use Rattle.chain_model.specs.{is_part}
-use Rattle.version_edits.specs.declared.line.TheConstants.{MAX_NEXT}
+use Rattle.version_edits.specs.declared.line.TheConstants.{MAX_LINES, MAX_NEXT}
 use Rattle.manifest.specs.declared.LogLine.{LogLine}
 use Rattle.manifest.specs.declared.TableLine.{TableLine}
 use Rattle.manifest.specs.Lawful.{IsAllocated, IsVersion}
@@ -160,14 +160,14 @@ module _ (version : StoreVersion) (is : IsVersion version) (free : ℕ)
   abbrev after : StoreVersion
   after = changed version (flush_change version free count line)
 
-  few_tables : length version.tables < 4096
+  few_tables : length version.tables < MAX_LINES
   few_tables =
-      let no : (4096 ≤ length version.tables) → ⊥ = λ le. place (inl (inl le)) in
+      let no : (MAX_LINES ≤ length version.tables) → ⊥ = λ le. place (inl (inl le)) in
       omega (arith, no)
 
-  few_logs : length version.logs < 4096
+  few_logs : length version.logs < MAX_LINES
   few_logs =
-      let no : (4096 ≤ length version.logs) → ⊥ = λ le. place (inl (inr le)) in
+      let no : (MAX_LINES ≤ length version.logs) → ⊥ = λ le. place (inl (inr le)) in
       omega (arith, no)
 
   free_few : free + 2 ≤ MAX_NEXT

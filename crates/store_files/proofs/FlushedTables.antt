@@ -1,8 +1,7 @@
 -- A table of level 0 more, behind the others of level 0: its line, and the tables.
-use Rattle.std.proofs.Common.{◌≡◌, ◌⊎◌, suc, ◌+◌, ◌<◌, List, [], ◌∷◌, map, All, Contains}
+use Rattle.std.proofs.Common.{◌≡◌, ◌⊎◌, ◌<◌, List, [], ◌∷◌, All, Contains}
 use Rattle.std.proofs.Common.{◌∙◌, arith, refl, ap, subst, inl, inr, true, false}
 use Rattle.std.specs.Prelude.{◌==◌}
-use Rattle.std.specs.List.{insert, prefix_len}
 use Rattle.std.proofs.lemmas.Bool.{eqb-true, eqb-false, lt-ltb, le-ltb}
 use Rattle.std.proofs.lemmas.List.Elements.{All-cons, All-head, All-nil, All-tail}
 use Rattle.disk.specs.{Contents}
@@ -11,8 +10,7 @@ use Rattle.store_model.specs.PlacesLemmas.{contains_cases, contains_head, contai
 use Rattle.store_model.specs.PlacesLemmas.{contains_none}
 use Rattle.manifest.specs.declared.TableLine.{TableLine}
 use Rattle.manifest.specs.Versions.{table_is_before, with_table}
-use Rattle.store_tables.specs.declared.levels.OpenTable.{OpenTable}
-use Rattle.store_tables.specs.LevelTables.{AreTablesOf, IsTableOf, is_flushed, with_flushed}
+use Rattle.store_tables.specs.LevelTables.{AreTablesOf, IsTableOf, with_flushed}
 use Rattle.store_tables.specs.LevelTables.{with_flushed_line}
 use Rattle.store_files.proofs.Records.{either}
 

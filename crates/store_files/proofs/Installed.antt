@@ -30,7 +30,7 @@ use Rattle.store_files.specs.OpenFiles.{AreUsableFiles, FilesHold, batch_count}
 use Rattle.store_files.specs.OpenFiles.{known_facts, known_store, known_version, trimmed_count}
 use Rattle.store_files.specs.StoreFiles.{FilesRepresent, flush_change}
 use Rattle.store_files.specs.StoreFiles.{store_of_version}
-use Rattle.store_files.specs.Tending.{HeldAndSpilled, IsNextTable, LacksPlace}
+use Rattle.store_files.specs.Tending.{HeldAndSpilled, IsNextTable}
 use Rattle.store_files.proofs.BegunFiles.{absent_ends}
 use Rattle.store_files.proofs.FlushedTables.{all_flushed, flushed_edited}
 use Rattle.store_files.proofs.FlushedTables.{flushed_read}

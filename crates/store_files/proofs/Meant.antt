@@ -1,7 +1,7 @@
 -- Open files that were meant to hold a list, on a disk with damaged blocks of tables.
-use Rattle.std.proofs.Common.{◌≡◌, ◌≢◌, ◌⊎◌, ℕ, List, [], ◌∷◌, ◌++◌, refl, sym, ◌∙◌, subst, drop}
+use Rattle.std.proofs.Common.{◌≡◌, ◌≢◌, ℕ, List, [], ◌∷◌, ◌++◌, refl, sym, ◌∙◌, subst, drop}
 use Rattle.std.proofs.Common.{Result, Ok, Err, inl, inr, suc, ◌↔◌, ◌+◌}
-use Rattle.std.specs.Prelude.{All, Contains, IfErr, IfOk, MatchResult, OnOk, ◌==◌, if◌then◌else◌}
+use Rattle.std.specs.Prelude.{All, Contains, MatchResult, ◌==◌, if◌then◌else◌}
 use Rattle.std.specs.List.{AllZip}
 use Rattle.std.proofs.lemmas.Bool.Decides.{eqb_tells}
 use Rattle.std.proofs.lemmas.List.Elements.{All-contains, All-contains_itself, All-head, All-nil}

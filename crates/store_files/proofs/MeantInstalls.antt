@@ -30,7 +30,7 @@ use Rattle.store_tables.specs.TableWriting.{IsWrittenTable}
 use Rattle.store_files.specs.OpenFiles.{WereMeantToHold, batch_count, known_facts, known_version}
 use Rattle.store_files.specs.OpenFiles.{trimmed_count}
 use Rattle.store_files.specs.StoreFiles.{WereMeant, flush_change}
-use Rattle.store_files.specs.Tending.{HeldAndSpilled, IsNextTable, LacksPlace}
+use Rattle.store_files.specs.Tending.{HeldAndSpilled, IsNextTable}
 use Rattle.store_files.specs.Tending.{MeantAndSpilled}
 use Rattle.store_files.proofs.FlushedTables.{all_flushed}
 use Rattle.store_files.proofs.Installed.{installed_holds}

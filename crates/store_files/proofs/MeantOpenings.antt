@@ -1,6 +1,6 @@
 -- An opening of files that were meant to represent a list, of which blocks of tables are damaged.
 use Rattle.std.proofs.Common.{◌≡◌, ◌≢◌, ◌⊎◌, ℕ, List, [], ◌∷◌, Option, Some, None, refl, sym, ◌∙◌}
-use Rattle.std.proofs.Common.{ap, subst, drop, suc, inl, inr, arith, ◌-◌}
+use Rattle.std.proofs.Common.{ap, subst, drop, suc, inl, inr, arith}
 use Rattle.std.specs.Prelude.{All, Contains, IsNone, ◌==◌, if◌then◌else◌}
 use Rattle.std.specs.List.{AllZip}
 use Rattle.std.proofs.lemmas.Bool.Decides.{eqb_tells}

@@ -24,7 +24,7 @@ use Rattle.store_files.proofs.Meant.{as_meant_stays}
 use Rattle.store_files.proofs.MeantFiles.{TablesAsMeant, follow_but, manifest_is_meant}
 use Rattle.store_files.proofs.MeantFiles.{named_were_left, tables_of_meant, unnamed_beside}
 use Rattle.store_files.proofs.MeantFiles.{unnamed_is_left}
-use Rattle.store_files.proofs.MeantMoments.{CrashLaws, meant_now}
+use Rattle.store_files.proofs.MeantMoments.{meant_now}
 use Rattle.store_files.proofs.MeantOpenings.{mended, mended_at, mended_beside, slot_beside}
 use Rattle.store_files.proofs.Spills.{held_again, next_is_fresh}
 use Rattle.store_files.proofs.Tends.{held_rewritten}

@@ -1,6 +1,6 @@
 -- Cursors over the tables and the memory of a store have its entries in a range.
-use Rattle.std.proofs.Common.{◌≡◌, ◌↔◌, inl, inr, ℕ, List, [], ◌∷◌, ◌++◌, Contains, arith}
-use Rattle.std.proofs.Common.{Bool, true, false, sym, subst}
+use Rattle.std.proofs.Common.{◌↔◌, inl, inr, List, [], ◌∷◌, ◌++◌, Contains, arith}
+use Rattle.std.proofs.Common.{Bool, subst}
 use Rattle.std.specs.List.{filter}
 use Rattle.kv_types.specs.Pages.{IsWithin}
 use Rattle.kv_types.specs.{BatchContent, Entry, Span}

@@ -1,5 +1,5 @@
 -- The entries of a store in a range show the rows of its map there.
-use Rattle.std.proofs.Common.{◌≡◌, ◌↔◌, ◌≤◌, ℕ, List, length, Option, None, Some, inl, inr}
+use Rattle.std.proofs.Common.{◌≡◌, ◌≤◌, ℕ, List, length, Option, None, Some, inl, inr}
 use Rattle.std.proofs.Common.{arith, ap, refl, subst, sym, ◌∙◌}
 use Rattle.std.specs.Prelude.{take}
 use Rattle.kv_types.specs.declared.Row.{Row}

@@ -19,7 +19,6 @@ use Rattle.manifest.specs.Holds.{SparesOthers}
 use Rattle.manifest.specs.Lawful.{IsAllocated}
 use Rattle.manifest.specs.{HeldVersionStays, IsSlotFile, IsVersion, ManifestHolds, NodeVersion}
 use Rattle.manifest.specs.{StoreVersion}
-use Rattle.manifest.specs.declared.ManifestError.TheVariants as manifest
 use Rattle.manifest.specs.{SlotsRead, other_slot, version_of}
 use Rattle.store_tables.specs.declared.error.EngineError.TheVariants as engine
 use Rattle.store_tables.specs.Errors.{IsEngineExternal}

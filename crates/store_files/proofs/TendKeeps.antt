@@ -18,7 +18,6 @@ use Rattle.store_files.specs.StoreFiles.{FilesRepresent, WereMeant}
 use Rattle.store_files.specs.Lists.{ListFollowsOn}
 use Rattle.store_files.specs.TendKeeps.{FilesAreTended, TendKeeps}
 use Rattle.store_files.specs.Tending.{HasSpilled, HeldAndSpilled, MeantAndSpilled, TendMayFail}
-use Rattle.store_files.specs.Tending.{tended_files}
 use Rattle.store_tables.specs.RefusalLemmas.{on_ok, refuses}
 use Rattle.store_files.proofs.MeantTends.{not_called}
 use Rattle.store_files.proofs.TendedFiles.{beside_both, table_alone}

@@ -1,6 +1,8 @@
 -- The logs of a store's batches: which batches their files have, and what open logs hold.
-use Rattle.std.specs.Prelude.{◌≡◌, ◌≢◌, ◌⊎◌, ℕ, ◌+◌, List, [], ◌∷◌, ◌++◌, length, map, All}
+use Rattle.std.specs.Prelude.{◌≡◌, ◌≢◌, ◌⊎◌, ℕ, ◌+◌, ◌-◌, List, [], ◌∷◌, ◌++◌, length, map, All}
+use Rattle.std.specs.Prelude.{MatchResult, Result, Some, slice_get}
 use Rattle.kv_types.specs.{BatchContent}
+use Rattle.disk.specs.declared.Disk.{Ghosts}
 use Rattle.disk.specs.{Contents, EndsOutOfRange, IsFileOutcome, State}
 use Rattle.record_log.specs.declared.log.TheConstants.{MAX_RECORD}
 use Rattle.record_log.specs.{HasFailed, LogHolds, count_of, file_of, gate_of, start_of}
@@ -9,6 +11,8 @@ use Rattle.store_files.specs.declared.batch_logs.BatchLog.{BatchLog}
 use Rattle.store_files.specs.declared.batch_logs.BatchLogs.{BatchLogs}
 use Rattle.store_files.specs.Files.{IsLog}
 use Rattle.store_files.specs.Layout.{records_from}
+use Rattle.store_tables.specs.declared.error.EngineError.{EngineError}
+use Rattle.store_tables.specs.Errors.{IsEngineExternal}
 
 -- ---- the batches of files
 
@@ -117,3 +121,15 @@ pub record AreLeftWith (disk : State) (logs : BatchLogs) (first : ℕ) (batches 
   pub either : HaveBatches left first (lines_of logs) batches
       ⊎ HaveBatches left first (lines_of logs) (batches ++ one ∷ [])
   pub others : (other : ℕ) → other ≢ newest_file logs → IsFileOutcome (disk other) (left other)
+
+-- if the logs of an honest disk hold batches, numbered from a first one on, this is said of both
+abbrev pub IfLogsHold : {D : Type 0} → Ghosts D → D → BatchLogs →
+    (ℕ → List BatchContent → Type 0) → Type 0
+IfLogsHold g disk logs IsSaid = (first : ℕ) (batches : List BatchContent) → g.is_honest disk →
+    LogsHold (g.state disk) logs first batches → IsSaid first batches
+
+-- the answer is the batch of this number, of batches that are numbered from the first one on; a
+-- refusal is external
+abbrev pub IsBatchAnswer : ℕ → List BatchContent → ℕ → Result BatchContent EngineError → Type 0
+IsBatchAnswer first batches number result =
+    MatchResult result (λ batch. slice_get batches (number - first) ≡ Some batch) IsEngineExternal

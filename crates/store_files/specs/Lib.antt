@@ -1,5 +1,6 @@
 pub mod Layout
 pub mod Lists
+pub mod Reads
 pub mod Files
 pub mod BatchLogs
 pub mod StoreFiles

@@ -1,29 +1,31 @@
 -- The open files of a store with tables: what they hold in memory, and what their disk represents.
-use Rattle.std.specs.Prelude.{◌≡◌, ◌≢◌, ◌↔◌, ℕ, suc, ◌+◌, ◌-◌, ◌≤◌, List, length, drop}
-use Rattle.std.specs.Prelude.{All, Contains, IfOk, IsNone, MatchResult, Result}
+use Rattle.std.specs.Prelude.{◌≡◌, ◌≢◌, ◌⊎◌, ◌↔◌, ℕ, suc, ◌+◌, ◌-◌, ◌≤◌, List, [], ◌∷◌, ◌++◌}
+use Rattle.std.specs.Prelude.{length, drop}
+use Rattle.std.specs.Prelude.{All, IfOk, IsNone, MatchResult, Result}
 use Rattle.kv_types.specs.declared.bounds.TheConstants.{MAX_NUMBER}
 use Rattle.kv_types.specs.{BatchContent, Entry, IsBatch}
-use Rattle.disk.specs.{Contents, IsDurable, State, contents, seen}
+use Rattle.disk.specs.declared.Disk.{Ghosts}
+use Rattle.disk.specs.{Contents, IsDurable, KeepsDisk, State, contents, seen}
 use Rattle.memtable.specs.declared.Memtable.{Memtable}
 use Rattle.memtable.specs.{TableHolds}
-use Rattle.store_model.specs.{FitsRange, LevelTable, StoreRepresents, StoreState, memory_entries}
+use Rattle.store_model.specs.{LevelTable, StoreRepresents, StoreState, memory_entries}
 use Rattle.store_model.specs.{replayed_entries}
 use Rattle.manifest.specs.declared.LogLine.{LogLine}
-use Rattle.manifest.specs.declared.TableLine.{TableLine}
-use Rattle.manifest.specs.{IsNotCreated, IsTableLine, IsVersion, ManifestHasFailed, ManifestHolds}
+use Rattle.manifest.specs.{IsNotCreated, IsVersion, ManifestHasFailed, ManifestHolds}
 use Rattle.manifest.specs.{ManifestRepresents, NodeVersion, StoreVersion, version_of}
 use Rattle.store_files.specs.declared.batch_logs.BatchLogs.{BatchLogs}
 use Rattle.store_tables.specs.declared.error.EngineError.{EngineError}
 use Rattle.store_tables.specs.declared.error.EngineError.TheVariants as engine
 use Rattle.store_files.specs.declared.store_files.StoreFiles.{StoreFiles}
-use Rattle.store_files.specs.Files.{Facts}
+use Rattle.store_files.specs.Files.{Facts, IsOwned, first_facts}
 use Rattle.store_files.specs.BatchLogs.{AreUsable, HaveBatches, LogsHold, first_number, lines_of}
 use Rattle.store_files.specs.BatchLogs.{next_number}
 use Rattle.store_tables.specs.LevelTables.{AreServed, AreTablesOf, FileFits, HasMeantBlocks}
-use Rattle.store_tables.specs.LevelTables.{IsTableAsMeant, IsTableOf, table_lines}
+use Rattle.store_tables.specs.LevelTables.{IsTableAsMeant, table_lines}
 use Rattle.store_tables.specs.declared.levels.LevelTables.{LevelTables}
+use Rattle.store_files.specs.Lists.{ListFollowsOn}
 use Rattle.store_files.specs.Stores.{IsNumberedTo}
-use Rattle.store_tables.specs.Errors.{IsEngineExternal}
+use Rattle.store_tables.specs.Errors.{FailsDevice, IsEngineExternal}
 use Rattle.store_files.specs.StoreFiles.{AreOrderedNumbers, FilesRepresent, OpensAs, WereMeant}
 use Rattle.store_files.specs.StoreFiles.{store_of_version}
 
@@ -160,6 +162,32 @@ pub record WereMeantToHold (disk : State) (files : StoreFiles) (list : List Batc
     pub hold : FilesHold meant files list
     pub disk_is : IsAsMeant disk meant (known_version files).version files.tables
 
+-- ---- lists that are held
+
+-- if the files of an honest disk hold a list, this is said of it
+abbrev pub IfHeld : {D : Type 0} → Ghosts D → D → StoreFiles → (List BatchContent → Type 0) →
+    Type 0
+IfHeld g disk files IsSaid = (list : List BatchContent) → g.is_honest disk →
+    FilesHold (g.state disk) files list → IsSaid list
+
+-- if the files of an honest disk were meant to hold a list, this is said of it
+abbrev pub IfMeant : {D : Type 0} → Ghosts D → D → StoreFiles → (List BatchContent → Type 0) →
+    Type 0
+IfMeant g disk files IsSaid = (list : List BatchContent) → g.is_honest disk →
+    WereMeantToHold (g.state disk) files list → IsSaid list
+
+-- An append to files that hold a list in this sense: they hold it with the batch behind it then, or
+-- the refusal is external. A crash at any moment leaves files that represent it, without the batch
+-- or with it.
+abbrev pub ListGrows : {D : Type 0} → (State → StoreFiles → List BatchContent → Type 0) →
+    (Facts → List BatchContent → Contents → Type 0) → Ghosts D → BatchContent → (disk later : D) →
+    (old new : StoreFiles) → Result (Unit {0}) EngineError → Type 0
+ListGrows Hold Represent g batch disk later old new result =
+    (list : List BatchContent) → g.is_honest disk → Hold (g.state disk) old list → ListFollowsOn g
+    (λ _ state. Hold state new (list ++ batch ∷ []))
+    (λ left. Represent (known_facts old) list left
+    ⊎ Represent (known_facts old) (list ++ batch ∷ []) left) disk later result
+
 -- ---- what an opening tells
 
 -- The slots represent the version that the open files know, its logs have so many batches, and its
@@ -198,3 +226,26 @@ pub record OpensFor (facts : Facts) (list : List BatchContent) (left : Contents)
       (λ files. (known_facts files ≡ facts) × have files) IsEngineExternal
   pub meant : WereMeant facts list left → IfOk result
       (λ files. (known_facts files ≡ facts) × were_meant_to_have files)
+
+-- what an opening promises, of which open files hold a list in the first of these senses, or were
+-- meant to in the second
+pub record OpensStore {D : Type 0} (g : Ghosts D)
+    (Hold WereMeant : State → StoreFiles → List BatchContent → Type 0) (old new : D)
+    (result : Result StoreFiles EngineError) : Type 0 where
+  -- a device that works never fails; any file may change
+  pub kept : KeepsDisk g old new (FailsDevice result) ⊥ IsOwned
+  -- files that represent facts and a list, or were meant to, are opened as both
+  pub opened : (facts : Facts) (list : List BatchContent) → g.is_honest old →
+      OpensFor facts list (contents (g.state old)) (λ files. Hold (g.state new) files list)
+      (λ files. WereMeant (g.state new) files list) result
+  -- of any honest disk, what is opened is what its files say, and a refusal has its reason in them
+  pub told : g.is_honest old → MatchResult result (FilesOpenAs (contents (g.state old)))
+      (λ e. OpeningRefusal e (contents (g.state old)))
+  -- the open files are usable
+  pub usable : IfOk result AreUsableFiles
+
+-- the open files of a new store: its facts, no batch, and they are usable
+pub record AreNewFiles (id : ℕ) (ids : List ℕ) (files : StoreFiles) : Type 0 where
+  pub facts : known_facts files ≡ first_facts id ids
+  pub none : batch_count files ≡ 0
+  pub usable : AreUsableFiles files

@@ -2,6 +2,7 @@
 -- removed.
 use Rattle.std.specs.Prelude.{◌≡◌, ℕ, ◌+◌, ◌-◌, List, ◌∷◌, All, length}
 use Rattle.kv_types.specs.{BatchContent}
+use Rattle.disk.specs.declared.Disk.{Ghosts}
 use Rattle.disk.specs.{Contents, IsDurable, State, contents}
 use Rattle.store_model.specs.{LevelTable}
 use Rattle.manifest.specs.{IsVersion, StoreVersion}
@@ -13,7 +14,7 @@ use Rattle.store_tables.specs.LevelTables.{WereServed}
 use Rattle.store_tables.specs.LevelTables.{table_lines}
 use Rattle.store_files.specs.Settling.{SlotSettles}
 use Rattle.store_files.specs.OpenFiles.{AreBatchesOf, AreOpenLogs, AreReplayed, HasReplayed}
-use Rattle.store_files.specs.StoreFiles.{AreOrderedNumbers}
+use Rattle.store_files.specs.StoreFiles.{AreOrderedNumbers, durably}
 
 -- the slots, and the files that the version names
 abbrev pub kept_files : StoreVersion → List ℕ
@@ -62,3 +63,25 @@ pub record PartsWereMeant (disk meant : State) (version : StoreVersion) (first :
   pub served : WereServed disk meant parts.tables tables
   pub files : All (λ line. IsTableAsMeant (disk line.file) (meant line.file)) version.tables
   pub durable : All (λ line. IsDurable (disk line.file)) version.tables
+
+-- if an honest disk has batches and tables for the lines of the version, and its numbers are in
+-- order, this is said of them
+abbrev pub IfParts : {D : Type 0} → Ghosts D → D → StoreVersion →
+    (ℕ → List BatchContent → List LevelTable → Type 0) → Type 0
+IfParts g disk version IsSaid =
+    (first : ℕ) (batches : List BatchContent) (tables : List LevelTable) → g.is_honest disk →
+    AreBatchesOf (contents (g.state disk)) version.logs first batches →
+    AreTablesOf (contents (g.state disk)) version.tables tables →
+    AreOrderedNumbers version (first - 1) (first - 1 + length batches) →
+    IsSaid first batches tables
+
+-- if an honest disk has batches for the lines of the version, and was meant to have the tables of
+-- this state, this is said of them
+abbrev pub IfMeantParts : {D : Type 0} → Ghosts D → D → StoreVersion →
+    (State → ℕ → List BatchContent → List LevelTable → Type 0) → Type 0
+IfMeantParts g disk version IsSaid =
+    (meant : State) (first : ℕ) (batches : List BatchContent) (tables : List LevelTable) →
+    g.is_honest disk → AreBatchesOf (contents (g.state disk)) version.logs first batches →
+    AreTablesOf (contents meant) version.tables tables →
+    All (λ line. IsTableAsMeant (durably (contents (g.state disk)) line.file) (meant line.file))
+    version.tables → IsSaid meant first batches tables

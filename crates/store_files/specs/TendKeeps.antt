@@ -13,21 +13,27 @@ use Rattle.store_files.specs.OpenFiles.{known_facts}
 use Rattle.store_files.specs.StoreFiles.{FilesRepresent, WereMeant}
 use Rattle.store_files.specs.Tending.{IsSameBeside, tended_files}
 
--- What a call of a tend keeps: the device, each file but those of a tend, the number of batches and
--- the facts, and the list that the files held before it or were meant to. Where it answers, it did
--- this, and the open files are usable.
+-- what a call of a tend keeps, where files held a list before it in the first of these senses, or
+-- were meant to in the second
 pub record TendKeeps {D T : Type 0} (g : Ghosts D)
     (Held WereHeld : State → List BatchContent → Type 0) (cause : Type 0) (Did : T → Type 0)
     (disk later : D) (old new : StoreFiles) (result : Result T EngineError) : Type 0 where
+  -- a device that works fails only for this cause
   pub kept : KeepsDisk g disk later (FailsDevice result) cause IsOwned
+  -- each file but those of a tend is as it was
   pub touches : g.is_honest disk →
       IsSameBeside (tended_files old) (g.state disk) (g.state later)
+  -- so many batches and the facts stay
   pub numbers : (batch_count new ≡ batch_count old) × (known_facts new ≡ known_facts old)
+  -- where it answers, the open files are usable
   pub usable : OnOk result (AreUsableFiles new)
+  -- an answer says what it did, and it is refused for `Disk`, `Damaged` or `Memory` alone
   pub did : MatchResult result Did IsEnd
+  -- files that held a list hold it, and a crash at any moment leaves files that represent it
   pub tended : (list : List BatchContent) → g.is_honest disk → Held (g.state disk) list →
       ListFollowsOn g (λ _ state. FilesHold state new list) (FilesRepresent (known_facts old) list)
       disk later result
+  -- so it is with files that were meant to hold one
   pub meant : (list : List BatchContent) → g.is_honest disk → WereHeld (g.state disk) list →
       ListFollowsOn g (λ _ state. WereMeantToHold state new list) (WereMeant (known_facts old) list)
       disk later result

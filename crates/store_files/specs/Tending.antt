@@ -1,10 +1,11 @@
 -- A tend of a store's open files: what is due, and what the answers of a tend say.
 use Rattle.std.specs.Prelude.{◌≡◌, ◌⊎◌, ℕ, ◌+◌, ◌<◌, ◌≤◌, List, [], ◌∷◌, length, Contains}
+use Rattle.std.specs.Prelude.{MatchOption, Option, Result}
 use Rattle.kv_types.specs.declared.bounds.TheConstants.{MAX_NUMBER}
 use Rattle.kv_types.specs.{BatchContent}
 use Rattle.disk.specs.declared.Disk.{Ghosts}
-use Rattle.disk.specs.{IsSameBut, State}
-use Rattle.version_edits.specs.declared.line.TheConstants.{MAX_NEXT}
+use Rattle.disk.specs.{Contents, IsSameBut, State}
+use Rattle.version_edits.specs.declared.line.TheConstants.{MAX_LINES, MAX_NEXT}
 use Rattle.manifest.specs.declared.TableLine.{TableLine}
 use Rattle.manifest.specs.{HasFullSlot, HasLongSlot, HasSameSlots, StoreVersion, counting_file}
 use Rattle.manifest.specs.{generation_of, node_version_after, spare_file}
@@ -16,8 +17,11 @@ use Rattle.store_files.specs.declared.tended.Tended.TheVariants as tended
 use Rattle.store_tables.specs.LevelTables.{IsServed}
 use Rattle.store_files.specs.OpenFiles.{FilesHold}
 use Rattle.store_tables.specs.TableWriting.{HasEntry, IsTooLarge, IsWrittenTable}
-use Rattle.store_files.specs.OpenFiles.{batch_count}
+use Rattle.store_files.specs.OpenFiles.{batch_count, known_facts}
 use Rattle.store_files.specs.OpenFiles.{WereMeantToHold, known_version}
+use Rattle.store_files.specs.Files.{Facts}
+use Rattle.store_files.specs.Lists.{ListFollowsOn}
+use Rattle.store_tables.specs.declared.error.EngineError.{EngineError}
 use Rattle.store_files.specs.StoreFiles.{flush_change}
 use Rattle.store_tables.specs.TableWriting.{IsNewLine}
 
@@ -35,7 +39,7 @@ FlushIsDue limit files = (limit < newest_length files.logs) × HasEntry files.me
 -- than two numbers are left for its files, of which this is the first.
 abbrev pub LacksPlace : StoreVersion → ℕ → Type 0
 LacksPlace version free =
-    ((4096 ≤ length version.tables) ⊎ (4096 ≤ length version.logs))
+    ((MAX_LINES ≤ length version.tables) ⊎ (MAX_LINES ≤ length version.logs))
     ⊎ (MAX_NEXT < free + 2)
 
 -- the files that a tend may change: the slots of the manifest, the first free file, and the one
@@ -87,6 +91,18 @@ pub record MeantAndSpilled (disk : State) (files : StoreFiles) (list : List Batc
   pub before : State
   pub meant : WereMeantToHold before files list
   pub spilled : HasSpilled before disk files it
+
+-- A spill of files that hold a list in this sense: they still hold it where there is no table, and
+-- their entries are in the table where there is one, or the refusal is external. A crash at any
+-- moment leaves files that represent the list.
+abbrev pub ListIsSpilled : {D : Type 0} → (State → StoreFiles → List BatchContent → Type 0) →
+    (Facts → List BatchContent → Contents → Type 0) → Ghosts D → StoreFiles → (disk later : D) →
+    Result (Option Flushed) EngineError → Type 0
+ListIsSpilled Hold Represent g files disk later result =
+    (list : List BatchContent) → g.is_honest disk → Hold (g.state disk) files list →
+    ListFollowsOn g (λ made state. MatchOption made (Hold state files list)
+    (HasSpilled (g.state disk) state files)) (Represent (known_facts files) list) disk later
+    result
 
 -- ---- the answers of a tend
 

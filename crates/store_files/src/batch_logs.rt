@@ -1,14 +1,14 @@
 //! The logs of a store's batches, in order: the newest takes appends, and a batch is read from the
 //! log that has its number.
-ghost use Rattle.std.specs.Prelude.{◌≡◌, ◌≢◌, ℕ, ◌+◌, ◌-◌, ◌<◌, ◌≤◌, ◌^◌, ◌∷◌, [], ◌++◌, List};
-ghost use Rattle.std.specs.Prelude.{All, Contains, IfErr, MatchResult, Some, slice_get, ◌⊎◌};
+ghost use Rattle.std.specs.Prelude.{◌≡◌, ◌≢◌, ℕ, ◌+◌, ◌-◌, ◌<◌, ◌≤◌, ◌∷◌, [], ◌++◌, List};
+ghost use Rattle.std.specs.Prelude.{All, Contains, MatchResult, Some, ◌⊎◌};
 ghost use Rattle.kv_types.specs.declared.bounds.TheConstants.{MAX_NUMBER};
 ghost use Rattle.kv_types.specs.{BatchContent, IsBatch};
-ghost use Rattle.disk.specs.{AlwaysLeaves, IsLeftAt, IsSame, IsSameBut, IsStill, KeepsDisk, State};
+ghost use Rattle.disk.specs.{AlwaysLeaves, IsLeftAt, IsSame, IsSameBut, KeepsDisk, State};
 ghost use Rattle.disk.specs.{seen};
-ghost use Rattle.record_log.specs.{EndsInRange, LogHolds, file_of};
+ghost use Rattle.record_log.specs.{EndsInRange, LogHolds};
 ghost use Rattle.store_files.specs.BatchLogs.{AreBeside, AreJoined, AreLeftWith, AreUsable};
-ghost use Rattle.store_files.specs.BatchLogs.{HasFullLog};
+ghost use Rattle.store_files.specs.BatchLogs.{HasFullLog, IfLogsHold, IsBatchAnswer};
 ghost use Rattle.store_files.specs.BatchLogs.{IsWorking, LogsHold, first_number, oldest_first};
 ghost use Rattle.store_files.specs.BatchLogs.{line_of};
 ghost use Rattle.store_files.specs.BatchLogs.{lines_of, newest_file, newest_length, next_number};
@@ -16,6 +16,7 @@ ghost use Rattle.store_files.specs.BatchLogs.{end_of_log, with_line};
 ghost use Rattle.store_tables.specs.Errors.{FailsDevice, IsEnd, IsEngineExternal};
 ghost use Rattle.store_files.specs.Layout.{records_from};
 ghost use Rattle.store_files.specs.Lists.{ListFollowsOn};
+ghost use Rattle.store_files.specs.Reads.{OnlyReads};
 
 use crate::EngineError;
 use crate::layout::{batch_of, batch_record};
@@ -51,14 +52,10 @@ fn batch_in<D: Disk>(
 ) -> Result<Batch, EngineError>
     requires works { IsWorking one.now }
     requires within { (one.now.first ≤ number) × (number < end_of_log one.now) }
-    ensures kept { KeepsDisk D.Disk disk.old disk.new (FailsDevice result) ⊥ IsSame }
+    ensures reads { OnlyReads D.Disk disk.old disk.new IsSame result }
     ensures found { (here : List BatchContent) → D.is_honest disk.old →
         LogHolds (D.state disk.old) one.now.log (records_from one.now.first here) →
-        All IsBatch here →
-        MatchResult result (λ batch. slice_get here (number - one.now.first) ≡ Some batch)
-        IsEngineExternal }
-    ensures causes { IfErr result IsEnd }
-    ensures still { IsStill D.Disk disk.old disk.new }
+        All IsBatch here → IsBatchAnswer one.now.first here number result }
 {
     spellings_differ(); // law: no two batches have one spelling
     let index = (number.get() - one.first) as usize;
@@ -139,11 +136,10 @@ impl BatchLogs {
         requires next { number ≡ next_number self.old }
         ensures kept { KeepsDisk D.Disk disk.old disk.new (FailsDevice result) (HasFullLog self.old)
             (IsSameBut (newest_file self.old)) }
-        ensures appended { (first : ℕ) (batches : List BatchContent) → D.is_honest disk.old →
-            LogsHold (D.state disk.old) self.old first batches → ListFollowsOn D.Disk
-            (λ _ state. LogsHold state self.new first (batches ++ batch.now ∷ []))
+        ensures appended { IfLogsHold D.Disk disk.old self.old (λ first batches. ListFollowsOn
+            D.Disk (λ _ state. LogsHold state self.new first (batches ++ batch.now ∷ []))
             (AreLeftWith (D.state disk.old) self.old first batches batch.now)
-            disk.old disk.new result }
+            disk.old disk.new result) }
         ensures lines { lines_of self.new ≡ lines_of self.old }
         ensures room { next_number self.old ≤ MAX_NUMBER }
         ensures counts { MatchResult result
@@ -167,13 +163,9 @@ impl BatchLogs {
     ) -> Result<Batch, EngineError>
         requires usable { AreUsable self.now }
         requires there { (first_number self.now ≤ number) × (number < next_number self.now) }
-        ensures kept { KeepsDisk D.Disk disk.old disk.new (FailsDevice result) ⊥ IsSame }
-        ensures found { (first : ℕ) (batches : List BatchContent) → D.is_honest disk.old →
-            LogsHold (D.state disk.old) self.now first batches → All IsBatch batches →
-            MatchResult result (λ batch. slice_get batches (number - first) ≡ Some batch)
-            IsEngineExternal }
-        ensures causes { IfErr result IsEnd }
-        ensures still { IsStill D.Disk disk.old disk.new }
+        ensures reads { OnlyReads D.Disk disk.old disk.new IsSame result }
+        ensures found { IfLogsHold D.Disk disk.old self.now (λ first batches.
+            All IsBatch batches → IsBatchAnswer first batches number result) }
     {
         let one = log_with(&self.older, &self.newest, number.get());
         batch_in(alloc, disk, one, number)

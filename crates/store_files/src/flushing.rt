@@ -1,20 +1,19 @@
 // A flush: the entries in memory become a table of level 0, and a new log takes the next batches.
-ghost use Rattle.std.specs.Prelude.{◌≡◌, ◌↔◌, ◌≤◌, List, IfErr, IfOk, IsTrue, MatchOption};
+ghost use Rattle.std.specs.Prelude.{◌≡◌, ◌↔◌, ◌≤◌, IfErr, IfOk, IsTrue, MatchOption};
 ghost use Rattle.std.specs.Prelude.{MatchResult};
-ghost use Rattle.kv_types.specs.{BatchContent};
 ghost use Rattle.disk.specs.{IsSameBut, KeepsDisk};
 ghost use Rattle.manifest.specs.{HasFullSlot, IsChange, IsFit};
 ghost use Rattle.memtable.specs.{HasFailedAdd};
 ghost use Rattle.store_tables.specs.Errors.{FailsDevice, IsEnd};
-ghost use Rattle.store_files.specs.Lists.{ListFollowsOn};
 ghost use Rattle.store_files.specs.OpenFiles.{AreUsableFiles, FilesHold};
 ghost use Rattle.store_tables.specs.TableWriting.{HasEntry, IsTooLarge};
-ghost use Rattle.store_files.specs.OpenFiles.{WereMeantToHold, known_facts, known_version};
+ghost use Rattle.store_files.specs.OpenFiles.{WereMeantToHold, known_version};
 ghost use Rattle.store_files.specs.StoreFiles.{FilesRepresent, WereMeant, flush_change};
 ghost use Rattle.store_tables.specs.TableWriting.{IsNewLine};
 ghost use Rattle.store_files.specs.TendKeeps.{TendKeeps};
-ghost use Rattle.store_files.specs.Tending.{HasSpilled, HeldAndSpilled, IsFlushedBy, IsNewTable};
-ghost use Rattle.store_files.specs.Tending.{LacksPlace, MeantAndSpilled, TendMayFail};
+ghost use Rattle.store_files.specs.Tending.{HeldAndSpilled, IsFlushedBy, IsNewTable};
+ghost use Rattle.store_files.specs.Tending.{LacksPlace, ListIsSpilled, MeantAndSpilled};
+ghost use Rattle.store_files.specs.Tending.{TendMayFail};
 
 use crate::EngineError;
 use crate::store_files::StoreFiles;
@@ -24,7 +23,7 @@ use kv_types::Number;
 use manifest::laws::{
     edits_keep_versions, held_versions_are_left, manifest_has_slots, slots_reach_gates,
 };
-use manifest::{LogLine, MAX_NEXT, StoreVersion, TableLine, VersionEdit};
+use manifest::{LogLine, MAX_LINES, MAX_NEXT, StoreVersion, TableLine, VersionEdit};
 use memtable::Memtable;
 use merge_iter::Cursor;
 use std::alloc::{AllocError, Global};
@@ -54,7 +53,7 @@ pub(crate) fn has_entries(memtable: &Memtable) -> Result<bool, EngineError>
 pub(crate) fn lacks_place(version: &StoreVersion, free: u64) -> bool
     ensures { IsTrue result ↔ LacksPlace version.now.version free }
 {
-    version.tables.len() >= 4096 || version.logs.len() >= 4096 || free > MAX_NEXT - 2
+    version.tables.len() >= MAX_LINES || version.logs.len() >= MAX_LINES || free > MAX_NEXT - 2
 }
 
 // The edit of a flush, where this file is the first that is free and there are so many batches: a
@@ -106,16 +105,10 @@ impl StoreFiles {
         requires place { LacksPlace (known_version self.now).version self.now.free_file → ⊥ }
         ensures kept { KeepsDisk D.Disk disk.old disk.new (FailsDevice result)
             (TendMayFail D.Disk disk.old self.now) (IsSameBut self.now.free_file) }
-        ensures spilled { (list : List BatchContent) → D.is_honest disk.old →
-            FilesHold (D.state disk.old) self.now list → ListFollowsOn D.Disk
-            (λ made state. MatchOption made (FilesHold state self.now list)
-            (HasSpilled (D.state disk.old) state self.now))
-            (FilesRepresent (known_facts self.now) list) disk.old disk.new result }
-        ensures meant { (list : List BatchContent) → D.is_honest disk.old →
-            WereMeantToHold (D.state disk.old) self.now list → ListFollowsOn D.Disk
-            (λ made state. MatchOption made (WereMeantToHold state self.now list)
-            (HasSpilled (D.state disk.old) state self.now))
-            (WereMeant (known_facts self.now) list) disk.old disk.new result }
+        ensures spilled { ListIsSpilled FilesHold FilesRepresent D.Disk self.now disk.old disk.new
+            result }
+        ensures meant { ListIsSpilled WereMeantToHold WereMeant D.Disk self.now disk.old disk.new
+            result }
         ensures made { MatchResult result
             (λ made. MatchOption made (IsTooLarge self.now.memtable) (IsNewTable self.now)) IsEnd }
     {

@@ -1,25 +1,22 @@
 //! Creating and opening the files of a store.
-ghost use Rattle.std.specs.Prelude.{◌≡◌, ◌↔◌, ◌+◌, ◌-◌, [], IsTrue, ℕ, List, length, IfOk, OnOk};
+ghost use Rattle.std.specs.Prelude.{◌≡◌, ◌↔◌, ◌-◌, [], IsTrue, List, IfOk, OnOk};
 ghost use Rattle.std.specs.Prelude.{IfErr, MatchResult};
 ghost use Rattle.kv_types.specs.{BatchContent};
-ghost use Rattle.disk.specs.{IsStill, KeepsDisk, State, contents};
-ghost use Rattle.store_tables.specs.Errors.{FailsDevice, IsEnd, IsEngineExternal};
-ghost use Rattle.store_files.specs.Files.{Facts, IsOwned, first_facts};
+ghost use Rattle.disk.specs.{IsStill, KeepsDisk, contents};
+ghost use Rattle.store_tables.specs.Errors.{FailsDevice, IsEngineExternal};
+ghost use Rattle.store_files.specs.Files.{Facts, IsOwned};
 ghost use Rattle.store_files.specs.StoreFiles.{StillLeavesOneOf, before_newest};
-ghost use Rattle.store_files.specs.OpenFiles.{AreBatchesOf, AreUsableFiles};
 ghost use Rattle.store_files.specs.StoreFiles.{AreOrderedNumbers, HasFirstFiles};
-ghost use Rattle.store_files.specs.OpenFiles.{FilesAreRead, FilesHold, FilesOpenAs, OpeningRefusal};
-ghost use Rattle.store_files.specs.OpenFiles.{batch_count, known_facts, known_version};
+ghost use Rattle.store_files.specs.OpenFiles.{AreNewFiles, FilesAreRead, FilesHold, OpensStore};
+ghost use Rattle.store_files.specs.OpenFiles.{known_version};
 ghost use Rattle.store_files.specs.Openings.{AreParts, HasParts, PartsHold, PartsWereMeant};
-ghost use Rattle.store_files.specs.Openings.{WereParts};
+ghost use Rattle.store_files.specs.Openings.{IfMeantParts, IfParts, WereParts};
+ghost use Rattle.store_files.specs.Reads.{OnlyReads};
 ghost use Rattle.store_files.specs.Openings.{kept_files};
-ghost use Rattle.store_tables.specs.LevelTables.{AreTablesOf, IsTableAsMeant};
-ghost use Rattle.store_files.specs.OpenFiles.{OpensFor, WereMeantToHold, WereMeantToRead};
+ghost use Rattle.store_files.specs.OpenFiles.{WereMeantToHold, WereMeantToRead};
 ghost use Rattle.std.specs.Prelude.{All};
-ghost use Rattle.store_files.specs.StoreFiles.{durably};
 ghost use Rattle.store_files.specs.Settling.{AreSwept, IsReadAlike};
 ghost use Rattle.manifest.specs.{ManifestHolds, version_of};
-ghost use Rattle.store_model.specs.{LevelTable};
 
 use crate::EngineError;
 use crate::batch_logs::{BatchLog, BatchLogs};
@@ -99,27 +96,17 @@ fn read_parts<D: Disk>(
     disk: &mut D,
     version: &StoreVersion,
 ) -> Result<ReadParts, EngineError>
-    ensures kept { KeepsDisk D.Disk disk.old disk.new (FailsDevice result) ⊥ IsOwned }
-    ensures opened { (first : ℕ) (batches : List BatchContent) (tables : List LevelTable) →
-        D.is_honest disk.old →
-        AreBatchesOf (contents (D.state disk.old)) version.now.version.logs first batches →
-        AreTablesOf (contents (D.state disk.old)) version.now.version.tables tables →
-        AreOrderedNumbers version.now.version (first - 1) (first - 1 + length batches) →
-        MatchResult result
-        (PartsHold (D.state disk.new) version.now.version first batches tables) IsEngineExternal }
-    ensures meant { (meant : State) (first : ℕ) (batches : List BatchContent)
-        (tables : List LevelTable) → D.is_honest disk.old →
-        AreBatchesOf (contents (D.state disk.old)) version.now.version.logs first batches →
-        AreTablesOf (contents meant) version.now.version.tables tables →
-        All (λ line. IsTableAsMeant (durably (contents (D.state disk.old)) line.file)
-        (meant line.file)) version.now.version.tables → IfOk result
-        (PartsWereMeant (D.state disk.new) meant version.now.version first batches tables) }
+    ensures reads { OnlyReads D.Disk disk.old disk.new IsOwned result }
+    ensures opened { IfParts D.Disk disk.old version.now.version (λ first batches tables.
+        MatchResult result (PartsHold (D.state disk.new) version.now.version first batches tables)
+        IsEngineExternal) }
+    ensures meant { IfMeantParts D.Disk disk.old version.now.version
+        (λ meant first batches tables. IfOk result
+        (PartsWereMeant (D.state disk.new) meant version.now.version first batches tables)) }
     ensures told { D.is_honest disk.old → MatchResult result
         (WereParts (D.state disk.old) (D.state disk.new) version.now.version)
         (λ e. HasParts (contents (D.state disk.old)) version.now.version → IsEngineExternal e) }
     ensures usable { IfOk result (AreParts version.now.version) }
-    ensures causes { IfErr result IsEnd }
-    ensures still { IsStill D.Disk disk.old disk.new }
 {
     sync_tables(disk, &version.tables)?;
     let (logs, memtable) = open_logs(alloc, disk, version)?;
@@ -144,17 +131,9 @@ fn next_file_of(manifest: &Manifest) -> u64
 
 // Opens the store that the files represent, and removes none of them.
 fn read_files<D: Disk>(alloc: Global, disk: &mut D) -> Result<StoreFiles, EngineError>
-    ensures kept { KeepsDisk D.Disk disk.old disk.new (FailsDevice result) ⊥ IsOwned }
-    ensures opened { (facts : Facts) (list : List BatchContent) → D.is_honest disk.old →
-        OpensFor facts list (contents (D.state disk.old))
-        (λ files. FilesAreRead (D.state disk.new) files list)
-        (λ files. WereMeantToRead (D.state disk.new) files list) result }
-    ensures told { D.is_honest disk.old → MatchResult result
-        (FilesOpenAs (contents (D.state disk.old)))
-        (λ e. OpeningRefusal e (contents (D.state disk.old))) }
+    ensures opens { OpensStore D.Disk FilesAreRead WereMeantToRead disk.old disk.new result }
     ensures held { D.is_honest disk.old → IfOk result
         (λ files. ManifestHolds (D.state disk.new) files.manifest (known_version files)) }
-    ensures usable { IfOk result AreUsableFiles }
     ensures alike { D.is_honest disk.old →
         OnOk result (IsReadAlike (D.state disk.old) (D.state disk.new)) }
     ensures still { IsStill D.Disk disk.old disk.new }
@@ -186,9 +165,7 @@ impl StoreFiles {
         ensures kept { KeepsDisk D.Disk disk.old disk.new (FailsDevice result) ⊥ IsOwned }
         ensures created { D.is_honest disk.old → MatchResult result
             (λ files. FilesHold (D.state disk.new) files []) IsEngineExternal }
-        ensures facts { IfOk result (λ files. known_facts files ≡ first_facts id config.now) }
-        ensures none { IfOk result (λ files. batch_count files ≡ 0) }
-        ensures usable { IfOk result AreUsableFiles }
+        ensures begun { IfOk result (AreNewFiles id config.now) }
         ensures first { D.is_honest disk.old →
             OnOk result (HasFirstFiles (D.state disk.new) id config.now) }
     {
@@ -214,22 +191,12 @@ impl StoreFiles {
     /// Opens the store that the files represent. Both slots, the logs and the tables that they name
     /// are synced, the batches that no table has are replayed, and the other files are removed.
     pub fn open<D: Disk>(alloc: Global, disk: &mut D) -> Result<StoreFiles, EngineError>
-        ensures kept { KeepsDisk D.Disk disk.old disk.new (FailsDevice result) ⊥ IsOwned }
-        ensures opened { (facts : Facts) (list : List BatchContent) → D.is_honest disk.old →
-            OpensFor facts list (contents (D.state disk.old))
-            (λ files. FilesHold (D.state disk.new) files list)
-            (λ files. WereMeantToHold (D.state disk.new) files list) result }
-        ensures told { D.is_honest disk.old → MatchResult result
-            (FilesOpenAs (contents (D.state disk.old)))
-            (λ e. OpeningRefusal e (contents (D.state disk.old))) }
-
+        ensures opens { OpensStore D.Disk FilesHold WereMeantToHold disk.old disk.new result }
         ensures any_moment { (facts : Facts) (list : List BatchContent) (facts' : Facts)
             (list' : List BatchContent) → D.is_honest disk.old →
             StillLeavesOneOf D.Disk disk.old disk.new facts list facts' list' }
-        ensures usable { IfOk result AreUsableFiles }
-        ensures swept { D.is_honest disk.old → IfOk result (λ files.
-            AreSwept (kept_files (known_version files).version) (D.state disk.old)
-            (D.state disk.new)) }
+        ensures swept { D.is_honest disk.old → IfOk result (λ files. AreSwept
+            (kept_files (known_version files).version) (D.state disk.old) (D.state disk.new)) }
 
         // What is refused for its files is left as it was.
         ensures still { IfErr result (λ e. (IsEngineExternal e → ⊥) →

@@ -3,16 +3,17 @@ ghost use Rattle.std.specs.Prelude.{◌≡◌, ◌⊎◌, ℕ, suc, ◌+◌, ◌
 ghost use Rattle.std.specs.Prelude.{IfOk, IfErr, MatchResult};
 ghost use Rattle.kv_types.specs.declared.bounds.TheConstants.{MAX_NUMBER};
 ghost use Rattle.kv_types.specs.{BatchContent, IsBatch};
-ghost use Rattle.disk.specs.{AddsNoOutcome, IsStill, KeepsDisk, contents, seen};
+ghost use Rattle.disk.specs.{AddsNoOutcome, contents, seen};
 ghost use Rattle.record_log.specs.{HasRead, count_of};
 ghost use Rattle.store_files.specs.BatchLogs.{HaveBatches, LogsHold};
-ghost use Rattle.store_tables.specs.Errors.{FailsDevice, IsEnd, IsEngineExternal};
+ghost use Rattle.store_tables.specs.Errors.{IsEngineExternal};
 ghost use Rattle.store_files.specs.Files.{IsLog};
 ghost use Rattle.store_files.specs.Layout.{batch_record, records_from};
 ghost use Rattle.store_files.specs.OpenFiles.{AreBatchesOf, AreOpenLogs, AreReplayed, HasReplayed};
 ghost use Rattle.store_files.specs.Replaying.{AreInLine, AreOfDifferentFiles};
 ghost use Rattle.store_files.specs.Replaying.{AreReadLogs, AreBatchesAdded};
 ghost use Rattle.store_files.specs.Replaying.{IsOpenedBehind, IsReadLog, IsBatchAdded};
+ghost use Rattle.store_files.specs.Reads.{OnlyReads};
 ghost use Rattle.store_files.specs.Settling.{AddsNothing, LogsSettle, SparesAllBut};
 ghost use Rattle.store_files.specs.Stores.{IsNumberedTo};
 
@@ -93,14 +94,13 @@ fn open_log<D: Disk>(
 ) -> Result<BatchLog, EngineError>
     requires numbered { IsNumberedTo memtable.old before }
     requires few { before ≤ MAX_NUMBER }
-    ensures kept { KeepsDisk D.Disk disk.old disk.new (FailsDevice result) ⊥ (AddsNoOutcome file) }
+    ensures reads { OnlyReads D.Disk disk.old disk.new (AddsNoOutcome file) result }
     ensures opened { (batches : List BatchContent) → D.is_honest disk.old →
         IsLog (seen (D.state disk.old file)) (records_from (suc before) batches) →
         All IsBatch batches → before + length batches ≤ MAX_NUMBER → IfErr result IsEngineExternal }
     ensures read { D.is_honest disk.old → IfOk result (λ one. IsReadLog (D.state disk.old)
         (D.state disk.new) file before flushed one memtable.old memtable.new) }
-    ensures told { MatchResult result (λ one. IsOpenedBehind file before one memtable.new) IsEnd }
-    ensures still { IsStill D.Disk disk.old disk.new }
+    ensures told { IfOk result (λ one. IsOpenedBehind file before one memtable.new) }
 {
     let opened = Log::open(alloc, disk, file, 0)?;
     replay(alloc, &opened, before, flushed, memtable)?;
@@ -121,16 +121,15 @@ fn read_logs<D: Disk>(
 ) -> Result<(Vec<BatchLog>, Memtable), EngineError>
     requires apart { AreOfDifferentFiles lines.now }
     requires few { before ≤ MAX_NUMBER }
-    ensures kept { KeepsDisk D.Disk disk.old disk.new (FailsDevice result) ⊥ AddsNothing }
+    ensures reads { OnlyReads D.Disk disk.old disk.new AddsNothing result }
     ensures opened { (batches : List BatchContent) → D.is_honest disk.old →
         HaveBatches (contents (D.state disk.old)) (suc before) lines.now batches →
         All IsBatch batches → before + length batches ≤ MAX_NUMBER → IfErr result IsEngineExternal }
     ensures read { D.is_honest disk.old → IfOk result (λ it.
         SparesAllBut lines.now (D.state disk.old) (D.state disk.new) × (count : ℕ) × AreReadLogs
         (D.state disk.old) (D.state disk.new) lines.now before flushed count it.0.items it.1) }
-    ensures told { MatchResult result (λ it. (count : ℕ)
-        × AreInLine lines.now before count it.0.items it.1) IsEnd }
-    ensures still { IsStill D.Disk disk.old disk.new }
+    ensures told { IfOk result (λ it. (count : ℕ)
+        × AreInLine lines.now before count it.0.items it.1) }
 {
     // laws: bytes are those of one list of batches at most
     records_are_unique();
@@ -157,7 +156,7 @@ pub(crate) fn open_logs<D: Disk>(
     disk: &mut D,
     version: &StoreVersion,
 ) -> Result<(BatchLogs, Memtable), EngineError>
-    ensures kept { KeepsDisk D.Disk disk.old disk.new (FailsDevice result) ⊥ AddsNothing }
+    ensures reads { OnlyReads D.Disk disk.old disk.new AddsNothing result }
     ensures opened { (first : ℕ) (batches : List BatchContent) → D.is_honest disk.old →
         AreBatchesOf (contents (D.state disk.old)) version.now.version.logs first batches →
         MatchResult result (λ it. LogsHold (D.state disk.new) it.0 first batches
@@ -168,8 +167,6 @@ pub(crate) fn open_logs<D: Disk>(
     ensures usable { IfOk result (λ it. AreOpenLogs version.now.version.logs it.0 it.1) }
     ensures settled { D.is_honest disk.old → OnOk result
         (LogsSettle version.now.version.logs (D.state disk.old) (D.state disk.new)) }
-    ensures causes { IfErr result IsEnd }
-    ensures still { IsStill D.Disk disk.old disk.new }
 {
     // laws: bytes are those of one list of batches at most
     records_are_unique();

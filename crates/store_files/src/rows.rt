@@ -1,13 +1,14 @@
 //! Reads of rows, through cursors over memory and tables.
-ghost use Rattle.std.specs.Prelude.{◌≡◌, ℕ, ◌≤◌, List, take, All, IfErr, IfOk};
+ghost use Rattle.std.specs.Prelude.{◌≡◌, ◌≤◌, List, take, All, IfErr, IfOk};
 ghost use Rattle.kv_types.specs.Pages.{page_of};
 ghost use Rattle.kv_types.specs.{BatchContent, map_of};
-ghost use Rattle.disk.specs.{IsSame, IsStill, KeepsDisk, State};
+ghost use Rattle.disk.specs.{IsSame, State};
 ghost use Rattle.row_pages.specs.{HasRowsOf};
-ghost use Rattle.store_tables.specs.Errors.{FailsDevice, IsEnd, IsEngineExternal};
+ghost use Rattle.store_tables.specs.Errors.{IsEngineExternal};
 ghost use Rattle.store_tables.specs.LevelTables.{HasMeantBlocks};
-ghost use Rattle.store_files.specs.OpenFiles.{AreUsableFiles, FilesHold, WereMeantToHold};
-ghost use Rattle.store_files.specs.OpenFiles.{batch_count, known_facts};
+ghost use Rattle.store_files.specs.OpenFiles.{AreUsableFiles, FilesHold};
+ghost use Rattle.store_files.specs.OpenFiles.{IfHeld, IfMeant, batch_count, known_facts};
+ghost use Rattle.store_files.specs.Reads.{OnlyReads};
 
 use crate::{EngineError, StoreFiles};
 use disk::Disk;
@@ -56,18 +57,13 @@ impl StoreFiles {
         range: &Range,
     ) -> Result<Page, EngineError>
         requires usable { AreUsableFiles self.now }
-        ensures kept { KeepsDisk ⟦<Files<D> as Disk>⟧ files.old files.new (FailsDevice result) ⊥
-            IsSame }
-        ensures found { (list : List BatchContent) → ⟦<Files<D> as Disk>⟧.is_honest files.old →
-            WereMeantToHold (⟦<Files<D> as Disk>⟧.state files.old) self.now list →
+        ensures reads { OnlyReads ⟦<Files<D> as Disk>⟧ files.old files.new IsSame result }
+        ensures found { IfMeant ⟦<Files<D> as Disk>⟧ files.old self.now (λ list.
             (known_facts self.now).floor ≤ at → at ≤ batch_count self.now →
-            IfOk result (λ page. page ≡ page_of (take at list) range.now) }
-        ensures intact { (list : List BatchContent) → ⟦<Files<D> as Disk>⟧.is_honest files.old →
-            FilesHold (⟦<Files<D> as Disk>⟧.state files.old) self.now list →
+            IfOk result (λ page. page ≡ page_of (take at list) range.now)) }
+        ensures intact { IfHeld ⟦<Files<D> as Disk>⟧ files.old self.now (λ list.
             (known_facts self.now).floor ≤ at → at ≤ batch_count self.now →
-            IfErr result IsEngineExternal }
-        ensures causes { IfErr result IsEnd }
-        ensures still { IsStill ⟦<Files<D> as Disk>⟧ files.old files.new }
+            IfErr result IsEngineExternal) }
     {
         pages_agree(); // law: a map has one page in a range
         let mut rows = self.rows_in(alloc, at, range)?;

@@ -1,7 +1,8 @@
 // What an opening does to the files of a store: it syncs tables, and removes what nothing names.
-ghost use Rattle.std.specs.Prelude.{◌≡◌, IfErr, OnOk, MatchResult};
-ghost use Rattle.disk.specs.{AlwaysLeaves, IsStill, KeepsDisk};
+ghost use Rattle.std.specs.Prelude.{IfErr, OnOk, MatchResult};
+ghost use Rattle.disk.specs.{AlwaysLeaves, KeepsDisk};
 ghost use Rattle.store_tables.specs.Errors.{FailsDevice, IsEnd, IsEngineExternal};
+ghost use Rattle.store_files.specs.Reads.{OnlyReads};
 ghost use Rattle.store_files.specs.Settling.{AddsNothing, AreAlone, AreLeftOf, AreSynced, AreThere};
 ghost use Rattle.store_files.specs.Settling.{SparesFiles};
 
@@ -12,13 +13,11 @@ use std::alloc::Global;
 
 /// Makes the files of these tables durable. `Damaged` only where one is absent.
 pub(crate) fn sync_tables<D: Disk>(disk: &mut D, lines: &[TableLine]) -> Result<(), EngineError>
-    ensures kept { KeepsDisk D.Disk disk.old disk.new (FailsDevice result) ⊥ AddsNothing }
+    ensures reads { OnlyReads D.Disk disk.old disk.new AddsNothing result }
     ensures synced { D.is_honest disk.old →
         OnOk result (AreSynced (D.state disk.old) (D.state disk.new) lines.now) }
     ensures there { D.is_honest disk.old → AreThere (D.state disk.old) lines.now →
         IfErr result IsEngineExternal }
-    ensures causes { IfErr result IsEnd }
-    ensures still { IsStill D.Disk disk.old disk.new }
 {
     for line in lines {
         disk.sync(line.file)?;

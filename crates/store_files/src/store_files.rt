@@ -1,19 +1,20 @@
 //! The open files of a store: manifest, logs and tables, and the entries that no table has yet.
-ghost use Rattle.std.specs.Prelude.{◌≡◌, ℕ, ◌+◌, ◌<◌, ◌≤◌, List, [], ◌∷◌, ◌++◌, take, Some};
+ghost use Rattle.std.specs.Prelude.{◌≡◌, ◌+◌, ◌<◌, ◌≤◌, take, Some};
 ghost use Rattle.std.specs.Prelude.{length, IfErr, IfOk, IsSomeAnd, MatchResult};
 ghost use Rattle.std.specs.Option.{option_flatten};
 ghost use Rattle.kv_types.specs.declared.bounds.TheConstants.{MAX_VALUE};
-ghost use Rattle.kv_types.specs.{BatchContent, map_of};
-ghost use Rattle.disk.specs.{IsSame, IsSameBut, IsStill, KeepsDisk};
+ghost use Rattle.kv_types.specs.{map_of};
+ghost use Rattle.disk.specs.{IsSame, IsSameBut, KeepsDisk};
 ghost use Rattle.chain_model.specs.{place};
 ghost use Rattle.store_files.specs.BatchLogs.{HasFullLog, newest_file};
 ghost use Rattle.store_tables.specs.Errors.{FailsDevice, IsEnd, IsEngineExternal};
 ghost use Rattle.store_files.specs.OpenFiles.{AreUsableFiles, FilesHold, batch_count, known_facts};
-ghost use Rattle.store_files.specs.OpenFiles.{WereMeantToHold, trimmed_count};
+ghost use Rattle.store_files.specs.OpenFiles.{IfHeld, IfMeant, ListGrows, WereMeantToHold};
+ghost use Rattle.store_files.specs.OpenFiles.{trimmed_count};
 ghost use Rattle.memtable.specs.{HasFailedAdd, TableHolds};
 ghost use Rattle.store_tables.specs.LevelTables.{EntriesHave, found_value};
-ghost use Rattle.store_files.specs.Lists.{ListFollowsOn};
-ghost use Rattle.store_files.specs.StoreFiles.{IsOneOf, WereOneOf};
+ghost use Rattle.store_files.specs.Reads.{OnlyReads};
+ghost use Rattle.store_files.specs.StoreFiles.{FilesRepresent, WereMeant};
 
 use crate::EngineError;
 use crate::batch_logs::BatchLogs;
@@ -97,16 +98,10 @@ impl StoreFiles {
         requires next { number ≡ batch_count self.old + 1 }
         ensures kept { KeepsDisk D.Disk disk.old disk.new (FailsDevice result)
             (HasFullLog self.old.logs) (IsSameBut (newest_file self.old.logs)) }
-        ensures appended { (list : List BatchContent) → D.is_honest disk.old →
-            FilesHold (D.state disk.old) self.old list → ListFollowsOn D.Disk
-            (λ _ state. FilesHold state self.new (list ++ batch.now ∷ []))
-            (IsOneOf (known_facts self.old) list (known_facts self.old) (list ++ batch.now ∷ []))
-            disk.old disk.new result }
-        ensures meant { (list : List BatchContent) → D.is_honest disk.old →
-            WereMeantToHold (D.state disk.old) self.old list → ListFollowsOn D.Disk
-            (λ _ state. WereMeantToHold state self.new (list ++ batch.now ∷ []))
-            (WereOneOf (known_facts self.old) list (known_facts self.old) (list ++ batch.now ∷ []))
-            disk.old disk.new result }
+        ensures appended { ListGrows FilesHold FilesRepresent D.Disk batch.now disk.old disk.new
+            self.old self.new result }
+        ensures meant { ListGrows WereMeantToHold WereMeant D.Disk batch.now disk.old disk.new
+            self.old self.new result }
         ensures counts { MatchResult result
             (λ _. AreUsableFiles self.new × (batch_count self.new ≡ batch_count self.old + 1))
             (λ e. (batch_count self.new ≡ batch_count self.old) × IsEnd e) }
@@ -132,12 +127,9 @@ impl StoreFiles {
     ) -> Result<Batch, EngineError>
         requires usable { AreUsableFiles self.now }
         requires there { (trimmed_count self.now < number) × (number ≤ batch_count self.now) }
-        ensures kept { KeepsDisk D.Disk disk.old disk.new (FailsDevice result) ⊥ IsSame }
-        ensures found { (list : List BatchContent) → D.is_honest disk.old →
-            WereMeantToHold (D.state disk.old) self.now list →
-            MatchResult result (λ batch. place list number ≡ Some batch) IsEngineExternal }
-        ensures causes { IfErr result IsEnd }
-        ensures still { IsStill D.Disk disk.old disk.new }
+        ensures reads { OnlyReads D.Disk disk.old disk.new IsSame result }
+        ensures found { IfMeant D.Disk disk.old self.now (λ list.
+            MatchResult result (λ batch. place list number ≡ Some batch) IsEngineExternal) }
     {
         self.logs.batch(alloc, disk, number)
     }
@@ -152,17 +144,12 @@ impl StoreFiles {
         key: &Key,
     ) -> Result<Option<Value>, EngineError>
         requires usable { AreUsableFiles self.now }
-        ensures kept { KeepsDisk ⟦<Files<D> as Disk>⟧ files.old files.new (FailsDevice result) ⊥
-            IsSame }
-        ensures found { (list : List BatchContent) → ⟦<Files<D> as Disk>⟧.is_honest files.old →
-            WereMeantToHold (⟦<Files<D> as Disk>⟧.state files.old) self.now list →
+        ensures reads { OnlyReads ⟦<Files<D> as Disk>⟧ files.old files.new IsSame result }
+        ensures found { IfMeant ⟦<Files<D> as Disk>⟧ files.old self.now (λ list.
             (known_facts self.now).floor ≤ at → at ≤ batch_count self.now →
-            IfOk result (λ value. value ≡ map_of (take at list) key.now) }
-        ensures intact { (list : List BatchContent) → ⟦<Files<D> as Disk>⟧.is_honest files.old →
-            FilesHold (⟦<Files<D> as Disk>⟧.state files.old) self.now list →
-            IfErr result IsEngineExternal }
-        ensures causes { IfErr result IsEnd }
-        ensures still { IsStill ⟦<Files<D> as Disk>⟧ files.old files.new }
+            IfOk result (λ value. value ≡ map_of (take at list) key.now)) }
+        ensures intact { IfHeld ⟦<Files<D> as Disk>⟧ files.old self.now (λ list.
+            IfErr result IsEngineExternal) }
     {
         levels_rise(); // law: tables stand in order of level
         // laws: what memory or else the tables have of a key is what the map has

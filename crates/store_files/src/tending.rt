@@ -1,7 +1,6 @@
 // A tend of a store's files: a rewrite of the manifest, or a flush.
-ghost use Rattle.std.specs.Prelude.{IfOk, List};
-ghost use Rattle.kv_types.specs.{BatchContent};
-ghost use Rattle.store_files.specs.OpenFiles.{AreUsableFiles, WereMeantToHold};
+ghost use Rattle.std.specs.Prelude.{IfOk};
+ghost use Rattle.store_files.specs.OpenFiles.{AreUsableFiles, IfMeant};
 ghost use Rattle.store_tables.specs.TableWriting.{HasEntry};
 ghost use Rattle.store_files.specs.TendKeeps.{FilesAreTended};
 ghost use Rattle.store_files.specs.Tending.{IsFlushAnswer, IsRewriteAnswer, IsTend, IsWorkAnswer};
@@ -72,9 +71,8 @@ impl StoreFiles {
         requires { AreUsableFiles self.old }
         ensures tends { FilesAreTended D.Disk (TendMayFail D.Disk disk.old self.old)
             (IsTend self.old self.new) disk.old disk.new self.old self.new result }
-        ensures work { (list : List BatchContent) → D.is_honest disk.old →
-            WereMeantToHold (D.state disk.old) self.old list →
-            IfOk result (IsWorkAnswer limit self.old self.new) }
+        ensures work { IfMeant D.Disk disk.old self.old (λ list.
+            IfOk result (IsWorkAnswer limit self.old self.new)) }
     {
         // laws: what a crash leaves of the files that are named
         held_versions_are_left();

@@ -18,20 +18,20 @@ use std::io::{self, Write};
 
 /// The lines of the script where the events stand.
 pub fn event_places(alloc: Global, turns: &[StatementResult]) -> Result<Vec<u32>, AllocError>
-    ensures { IfOk result (λ events. events.items ≡ event_lines turns.now) }
+    ensures { IfOk result (λ places. places.items ≡ event_lines turns.now) }
 {
-    let mut events = Vec::new(alloc);
+    let mut places = Vec::new(alloc);
     for turn in turns {
-        add_places(&mut events, turn.line, turn.events)?;
+        add_places(&mut places, turn.line, turn.events)?;
     }
-    Ok(events)
+    Ok(places)
 }
 
-fn add_places(events: &mut Vec<u32>, line: u32, count: usize) -> Result<(), AllocError>
-    ensures { OnOk result (events.new.items ≡ events.old.items ++ replicate count line) }
+fn add_places(places: &mut Vec<u32>, line: u32, count: usize) -> Result<(), AllocError>
+    ensures { OnOk result (places.new.items ≡ places.old.items ++ replicate count line) }
 {
     for _ in 0..count {
-        events.push(line)?;
+        places.push(line)?;
     }
     Ok(())
 }
@@ -50,22 +50,22 @@ fn request(reply: &Reply) -> u64
 }
 
 /// The line of a request, which has the number of its event, from 1.
-fn line_of(events: &[u32], here: u32, request: u64) -> u32
-    ensures { result ≡ line_of_request events.now here request }
+fn line_of(places: &[u32], here: u32, request: u64) -> u32
+    ensures { result ≡ line_of_request places.now here request }
 {
     let place = request.saturating_sub(1);
-    match events.get(place as usize) {
+    match places.get(place as usize) {
         Some(line) => *line,
         None => here,
     }
 }
 
 /// Where a line of the report is told: a reply at its request, all else here.
-fn place_of(events: &[u32], here: u32, line: &Line) -> u32
-    ensures { result ≡ reply_place events.now here line.now }
+fn place_of(places: &[u32], here: u32, line: &Line) -> u32
+    ensures { result ≡ reply_place places.now here line.now }
 {
     match line {
-        Line::Replied(reply) => line_of(events, here, request(reply)),
+        Line::Replied(reply) => line_of(places, here, request(reply)),
         _ => here,
     }
 }
@@ -100,32 +100,32 @@ fn print_text<W: Write>(number: u32, line: &Line, out: &mut W) -> io::Result<()>
     writeln!(out, "{number}: {text}")
 }
 
-fn print_line<W: Write>(events: &[u32], here: u32, line: &Line, out: &mut W) -> io::Result<()>
+fn print_line<W: Write>(places: &[u32], here: u32, line: &Line, out: &mut W) -> io::Result<()>
     ensures { OnOk result (Appends (W.contents out.old) (W.contents out.new)
-        (line_output events.now here line.now)) }
+        (line_output places.now here line.now)) }
 {
-    let number = place_of(events, here, line);
+    let number = place_of(places, here, line);
     print_rows(number, rows_of(line), out)?;
     print_text(number, line, out)?;
     Ok(())
 }
 
-fn print_step<W: Write>(events: &[u32], here: u32, step: &[Line], out: &mut W) -> io::Result<()>
+fn print_step<W: Write>(places: &[u32], here: u32, step: &[Line], out: &mut W) -> io::Result<()>
     ensures { OnOk result (Appends (W.contents out.old) (W.contents out.new)
-        (step_text events.now here step.now)) }
+        (step_text places.now here step.now)) }
 {
     for line in step {
-        print_line(events, here, line, out)?;
+        print_line(places, here, line, out)?;
     }
     Ok(())
 }
 
-fn print_steps<W: Write>(events: &[u32], here: u32, steps: &[Lines], out: &mut W) -> io::Result<()>
+fn print_steps<W: Write>(places: &[u32], here: u32, steps: &[Lines], out: &mut W) -> io::Result<()>
     ensures { OnOk result (Appends (W.contents out.old) (W.contents out.new)
-        (flat_map (step_text events.now here) steps.now)) }
+        (flat_map (step_text places.now here) steps.now)) }
 {
     for step in steps {
-        print_step(events, here, step.as_slice(), out)?;
+        print_step(places, here, step.as_slice(), out)?;
     }
     Ok(())
 }
@@ -154,18 +154,18 @@ fn print_note<W: Write>(here: u32, note: &Note, out: &mut W) -> io::Result<()>
 
 /// Prints a statement's turn, and answers the steps of those behind it.
 fn print_result<'a, W: Write>(
-    events: &[u32],
+    places: &[u32],
     turn: &StatementResult,
     steps: &'a [Lines],
     out: &mut W,
 ) -> io::Result<&'a [Lines]>
     ensures text { OnOk result (Appends (W.contents out.old) (W.contents out.new)
-        (result_text events.now turn.now steps.now)) }
+        (result_text places.now turn.now steps.now)) }
     ensures behind { IfOk result (λ left. left.now ≡ drop turn.now.events steps.now) }
 {
     let (own, behind) = steps.split_at(turn.events.min(steps.len()));
     let (_silent, printed) = own.split_at(turn.silent.min(own.len()));
-    print_steps(events, turn.line, printed, out)?;
+    print_steps(places, turn.line, printed, out)?;
     print_note(turn.line, &turn.note, out)?;
     Ok(behind)
 }

@@ -17,7 +17,7 @@ returns-in-Up-clause-left c = λ n disk is own.
       };
       numbers = (
         r.core.running,
-        c.numbers_of.ensures.refines x n r,
+        c.numbers.ensures.refines x n r,
       );
     }
 
@@ -28,6 +28,6 @@ returns-in-Up-clause-own c =
     record {
       id = refl;
       disk = c.into_disk-disk.ensures.disk ∙ ap (λ (m : NodeState Slots _). disk_in m) up;
-      running = subst (λ (m : NodeState Slots _). HasTablesIn m c.numbers_of.result) up
-          c.numbers_of.ensures.tables;
+      running = subst (λ (m : NodeState Slots _). HasTablesIn m c.numbers.result) up
+          c.numbers.ensures.tables;
     }

@@ -1,4 +1,4 @@
-use Rattle.std.proofs.Common.{Option, List, ℕ, ap, inl, refl, subst, ◌∙◌, inr}
+use Rattle.std.proofs.Common.{Option, List, ℕ, ap, inl, refl, subst, ◌∙◌, inr, rules}
 use Rattle.disk.specs.{seen}
 use Rattle.disk.specs.StillLemmas.{still_more}
 use Rattle.manifest.specs.Heads.{HeadIs}
@@ -6,22 +6,28 @@ use Rattle.manifest.proofs.Heads.{or_else}
 use Rattle.manifest.proofs.head.counting_slot.Goals as goal
 
 -- reads leave nothing new
-pub returns-in_err-second-clause-still : goal.returns-in_err-second-clause-still
-returns-in_err-second-clause-still g c = λ honest.
-    still_more (c.head_of.ensures.still honest)
-    (c.head_of-2.ensures.still (c.head_of.ensures.kept.honest.1 honest))
+pub returns-in_err-second-clause-reads : goal.returns-in_err-second-clause-reads
+returns-in_err-second-clause-reads g c = record {
+  kept = search rules;
+  still = λ honest.
+      still_more (c.head_of.ensures.reads.still honest)
+      (c.head_of-2.ensures.reads.still (c.head_of.ensures.reads.kept.honest.1 honest));
+}
 
-pub returns-clause-still : goal.returns-clause-still
-returns-clause-still g c = λ honest.
-    still_more (c.head_of.ensures.still honest)
-    (c.head_of-2.ensures.still (c.head_of.ensures.kept.honest.1 honest))
+pub returns-clause-reads : goal.returns-clause-reads
+returns-clause-reads g c = record {
+  kept = search rules;
+  still = λ honest.
+      still_more (c.head_of.ensures.reads.still honest)
+      (c.head_of-2.ensures.reads.still (c.head_of.ensures.reads.kept.honest.1 honest));
+}
 
 -- the second head is that of the disk before the first was read
 pub returns-clause-counts : goal.returns-clause-counts
 returns-clause-counts g c = λ left honest read.
     let first = c.in_ok-first.ensures.is honest in
-    let second = c.in_ok-second.ensures.is (c.head_of.ensures.kept.honest.1 honest) in
-    let same = ap seen (c.head_of.ensures.kept.files honest 2) ∙ read 2 (inr refl) in
+    let second = c.in_ok-second.ensures.is (c.head_of.ensures.reads.kept.honest.1 honest) in
+    let same = ap seen (c.head_of.ensures.reads.kept.files honest 2) ∙ read 2 (inr refl) in
     or_else _ _ _ c.counting.result (c.counting.ensures.counts left
     (subst (λ (file : Option (List ℕ)). HeadIs c.in_ok-first.first file) (read 1 (inl refl)) first)
     (subst (λ (file : Option (List ℕ)). HeadIs c.in_ok-second.second file) same second))

@@ -1,3 +1,4 @@
+use Rattle.std.proofs.Common.{rules}
 use Rattle.std.proofs.lemmas.Result.{err_from_is_err_and}
 use Rattle.disk.specs.{contents}
 use Rattle.disk.specs.StillLemmas.{still_more}
@@ -5,17 +6,23 @@ use Rattle.manifest.proofs.Opened.{kept_so, none_refused}
 use Rattle.manifest.proofs.opening.open_slots.Goals as goal
 
 -- each part leaves nothing new
-pub returns-in_err-it-clause-still : goal.returns-in_err-it-clause-still
-returns-in_err-it-clause-still g c = λ honest.
-    still_more (c.sync_slots.ensures.still honest)
-    (c.counting_slot.ensures.still (c.sync_slots.ensures.kept.honest.1 honest))
+pub returns-in_err-it-clause-reads : goal.returns-in_err-it-clause-reads
+returns-in_err-it-clause-reads g c = record {
+  kept = search rules;
+  still = λ honest.
+      still_more (c.sync_slots.ensures.reads.still honest)
+      (c.counting_slot.ensures.reads.still (c.sync_slots.ensures.reads.kept.honest.1 honest));
+}
 
-pub returns-clause-still : goal.returns-clause-still
-returns-clause-still g c = λ honest.
-    let honest' = c.sync_slots.ensures.kept.honest.1 honest in
-    still_more (still_more (c.sync_slots.ensures.still honest)
-    (c.counting_slot.ensures.still honest'))
-    (c.opened_by.ensures.still (c.counting_slot.ensures.kept.honest.1 honest'))
+pub returns-clause-reads : goal.returns-clause-reads
+returns-clause-reads g c = record {
+  kept = search rules;
+  still = λ honest.
+      let honest' = c.sync_slots.ensures.reads.kept.honest.1 honest in
+      still_more (still_more (c.sync_slots.ensures.reads.still honest)
+      (c.counting_slot.ensures.reads.still honest'))
+      (c.opened_by.ensures.reads.still (c.counting_slot.ensures.reads.kept.honest.1 honest'));
+}
 
 -- no slot counts
 pub returns-in_err-it-clause-told : goal.returns-in_err-it-clause-told
@@ -26,14 +33,14 @@ returns-in_err-it-clause-told g c = λ honest.
     let left = contents (g.D.Disk.state c.args.disk.now) in
     let kept = c.in_ok-sync_slots.ensures.synced honest in
     rw (p.1, p.2) (none_refused e left
-    (c.in_err-it.ensures.counts left (c.sync_slots.ensures.kept.honest.1 honest) kept.read))
+    (c.in_err-it.ensures.counts left (c.sync_slots.ensures.reads.kept.honest.1 honest) kept.read))
 
 -- one counts, and reads kept both as they were
 pub returns-clause-told : goal.returns-clause-told
 returns-clause-told g c = λ honest.
     let left = contents (g.D.Disk.state c.args.disk.now) in
     let kept = c.in_ok-sync_slots.ensures.synced honest in
-    let honest' = c.sync_slots.ensures.kept.honest.1 honest in
-    let same = c.counting_slot.ensures.kept.files honest' in
-    c.opened_by.ensures.told left (c.counting_slot.ensures.kept.honest.1 honest')
+    let honest' = c.sync_slots.ensures.reads.kept.honest.1 honest in
+    let same = c.counting_slot.ensures.reads.kept.files honest' in
+    c.opened_by.ensures.told left (c.counting_slot.ensures.reads.kept.honest.1 honest')
     (kept_so _ _ left same kept) (c.in_ok-it.ensures.counts left honest' kept.read)

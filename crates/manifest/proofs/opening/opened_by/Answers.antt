@@ -1,4 +1,4 @@
-use Rattle.std.proofs.Common.{Err, List, Option, ℕ, ap, arith, map, subst}
+use Rattle.std.proofs.Common.{Err, List, Option, ℕ, ap, arith, map, subst, rules}
 use Rattle.std.proofs.lemmas.Result.{err_from_is_err_and}
 use Rattle.disk.specs.StillLemmas.{still}
 use Rattle.record_log.specs.{OpenRefusal}
@@ -8,9 +8,12 @@ use Rattle.manifest.proofs.Opened.{log_refused, opened_is, replay_refused, zero_
 use Rattle.manifest.proofs.opening.opened_by.Goals as goal
 
 -- no call was made
-pub returns-in_default-clause-still : goal.returns-in_default-clause-still
-returns-in_default-clause-still g c = λ honest.
-    still (g.D.Disk.state c.args.disk.now) (g.D.Disk.past c.args.disk.now)
+pub returns-in_default-clause-reads : goal.returns-in_default-clause-reads
+returns-in_default-clause-reads g c = record {
+  kept = search rules;
+  still = λ honest.
+      still (g.D.Disk.state c.args.disk.now) (g.D.Disk.past c.args.disk.now);
+}
 
 -- the id is 0
 pub returns-in_default-clause-told : goal.returns-in_default-clause-told

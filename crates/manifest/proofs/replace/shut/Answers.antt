@@ -3,7 +3,7 @@ use Rattle.manifest.proofs.replace.shut.Goals as goal
 
 -- the sync leaves nothing new
 pub returns-then-not-is_open-clause-any_moment : goal.returns-then-not-is_open-clause-any_moment
-returns-then-not-is_open-clause-any_moment g c = λ was behind honest sure gate.
+returns-then-not-is_open-clause-any_moment g c = λ was honest sure gate behind.
     shut_synced g.D.Disk.state g.D.Disk.past c.args.is_open was behind c.args.file
     c.args.disk.now sure gate
     c.sync.new.self c.sync.result (c.sync.ensures.syncs honest)
@@ -11,7 +11,7 @@ returns-then-not-is_open-clause-any_moment g c = λ was behind honest sure gate.
 
 -- while the gate is being closed
 pub returns-in_err-write_at-clause-any_moment : goal.returns-in_err-write_at-clause-any_moment
-returns-in_err-write_at-clause-any_moment g c = λ was behind honest sure gate.
+returns-in_err-write_at-clause-any_moment g c = λ was honest sure gate behind.
     shut_wrote g.D.Disk.state g.D.Disk.past c.args.is_open was behind c.args.file
     c.args.disk.now sure gate
     c.write_at.new.self c.write_at.result c.if-not-is_open.false
@@ -20,7 +20,7 @@ returns-in_err-write_at-clause-any_moment g c = λ was behind honest sure gate.
 
 -- and synced
 pub returns-clause-any_moment : goal.returns-clause-any_moment
-returns-clause-any_moment g c = λ was behind honest sure gate.
+returns-clause-any_moment g c = λ was honest sure gate behind.
     let honest1 = c.write_at.ensures.kept.disk.honest.1 honest in
     shut_done g.D.Disk.state g.D.Disk.past c.args.is_open was behind c.args.file
     c.args.disk.now sure gate

@@ -49,7 +49,7 @@ returns-in_err-batch-clause-sent g c = λ n is holds.
     let was = c.loop-number.invariant in
     refuses c.from_residual.result _ IsEnvironmental c.from_residual.ensures.1
     (env_of c.in_err-batch.field-0.0
-    (c.in_err-batch.ensures.found n.list (was.sent n is holds).0.reads))
+    (c.in_err-batch.ensures.found.reads n.list (was.sent n is holds).0.reads))
 
 pub returns-in_err-push_some-clause-sent : goal.returns-in_err-push_some-clause-sent
 returns-in_err-push_some-clause-sent g c = λ n is holds.
@@ -61,7 +61,8 @@ pub returns-in_err-batch-clause-read : goal.returns-in_err-batch-clause-read
 returns-in_err-batch-clause-read g c =
     let result = c.from_residual.result in
     read_more g.D.Disk c.args.engine.now c.loop-number.engine c.batch.new.self c.batch.result result
-    c.loop-number.invariant.read c.batch.ensures.keeps c.batch.ensures.told c.batch.ensures.still
+    c.loop-number.invariant.read c.batch.ensures.reads.keeps c.batch.ensures.reads.told
+    c.batch.ensures.reads.still
     (stop_passed c.batch.result c.in_err-batch.field-0.0 result c.in_err-batch.was
     c.from_residual.ensures.1) (rw (err_from_is_err_and result c.from_residual.ensures.1).1 tt)
 
@@ -70,7 +71,8 @@ returns-in_err-push_some-clause-read g c =
     let result = c.from_residual-in_err-push_some.result in
     let err = c.from_residual-in_err-push_some.ensures.1 in
     read_more g.D.Disk c.args.engine.now c.loop-number.engine c.batch.new.self c.batch.result result
-    c.loop-number.invariant.read c.batch.ensures.keeps c.batch.ensures.told c.batch.ensures.still
+    c.loop-number.invariant.read c.batch.ensures.reads.keeps c.batch.ensures.reads.told
+    c.batch.ensures.reads.still
     (neither (answered c.batch.result c.in_ok-batch.was) (memory_told result err))
     (rw (err_from_is_err_and result err).1 tt)
 
@@ -104,14 +106,15 @@ loop-number-preserved g c =
     record {
       reached = search rules;
       read = read_more g.D.Disk c.args.engine.now c.loop-number.engine c.batch.new.self
-          c.batch.result _ was.read c.batch.ensures.keeps c.batch.ensures.told
-          c.batch.ensures.still (neither (answered c.batch.result c.in_ok-batch.was) done_told)
-          (λ ended. still_works c.in_ok-batch.ensures.keeps.ends was.read.works ended);
+          c.batch.result _ was.read c.batch.ensures.reads.keeps c.batch.ensures.reads.told
+          c.batch.ensures.reads.still
+          (neither (answered c.batch.result c.in_ok-batch.was) done_told)
+          (λ ended. still_works c.in_ok-batch.ensures.reads.keeps.ends was.read.works ended);
       sent = λ n is holds.
           let before = was.sent n is holds in
           let made = made_of c.new.result _ at c.unwrap-number.result c.new.ensures
           c.unwrap-number.ensures in
-          let there = c.in_ok-batch.ensures.found n.list before.0.reads in
+          let there = c.in_ok-batch.ensures.found.reads n.list before.0.reads in
           let frame = option_to_list c.forward.result in
           let one = subst (λ i. AreFrames frame (forward x n i)) made
           (c.forward.ensures n is there) in
@@ -119,7 +122,7 @@ loop-number-preserved g c =
           = ap (forwards x n k) more ∙ c.one_by_one.ensures x n k m
           ∙ ap (λ i. forwards x n k m ++ forward x n i) (sym number) in
           let sent = both_sent _ _ _ _ before.1 one in (
-            (c.in_ok-batch.ensures.kept n.list).holds before.0,
+            (c.in_ok-batch.ensures.reads.kept n.list).holds before.0,
             rw (passed, c.in_ok-push_some.ensures) sent,
           );
     }

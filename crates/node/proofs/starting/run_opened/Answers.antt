@@ -17,14 +17,15 @@ returns-clause-opened g c =
           let is = c.core_of-core.ensures.is n (numbers_of g.D.Disk engine x n holds facts)
           (sym (ap (λ (f : Facts). f.ids) facts) ∙ sym config) in
           let id = ap (λ (f : Facts). f.id) facts in
-          runs_opened g.D.Disk _ x n (c.set_committed.ensures.holds n.list holds) (same ∙ facts)
+          runs_opened g.D.Disk _ x n (c.set_committed.ensures.stays.holds n.list holds)
+          (same ∙ facts)
           (subst (λ (y : ℕ). CoreRefines c.core_of-core.result (started y n)) id is)
           (c.core_of-core.ensures.id ∙ id);
       facts = ap (λ (l : LookUps). l.facts) told;
       count = ap (λ (l : LookUps). l.count) told;
       limits = ap (λ (l : LookUps). l.limits) told;
       works = record {
-        works = λ ended. c.requires.works (c.set_committed.ensures.ended.0 ended);
+        works = λ ended. c.requires.works (c.set_committed.ensures.stays.ended.0 ended);
         count = c.core_of-core.ensures.count ∙ sym (ap (λ (l : LookUps). l.count) told);
         floor = c.core_of-core.ensures.floor ∙ sym (ap (λ (l : LookUps). l.facts.floor) told);
         kept = c.core_of-core.ensures.kept ∙ sym (ap (λ (l : LookUps). l.facts.kept) told);

@@ -23,7 +23,7 @@ loop-statement-preserved c =
     let names = subst (λ (x : Statement). Names setup.configs x.action) (sym c.statement-item.is)
     (c.requires i _ c.loop-statement-test.true) in
     let took = c.in-Ok.ensures setup g.past g.run names g.rising in
-    rw (add-one, took.1) (goes_next c.loop-statement.script_run c.run_next.new.self setup all i _ it
+    rw (add-one, took.1) (goes_next c.loop-statement.script_run c.run.new.self setup all i _ it
     c.loop-statement.turns.items took.0 c.loop-statement-test.true c.statement-item.is g took.2)
 
 pub returns : goal.returns

@@ -1,5 +1,5 @@
-use Rattle.std.proofs.Common.{inl}
-use Rattle.program.specs.declared.failure.Failure.TheVariants.{Memory}
+use Rattle.std.proofs.Common.{inl, refl}
+use Rattle.program.specs.declared.failure.Failure.TheVariants.{Memory, Unreadable}
 use Rattle.program.proofs.Wholes.{answered, answered_any, reported}
 use Rattle.program.proofs.service.serve.Goals as goal
 
@@ -20,9 +20,39 @@ returns-in-Ok-Input-clause-ends g c = inl
 pub returns-in-Err-Memory-clause-ends : goal.returns-in-Err-Memory-clause-ends
 returns-in-Err-Memory-clause-ends g c = inl
     (reported Memory (g.O.Write.contents c.args.out.now) (g.E.Write.contents c.args.err.now)
-    (g.E.Write.contents c.report.new.err) c.report.result tt c.report.ensures.status
-    c.report.ensures.text)
+    (g.E.Write.contents c.report-in-Err-Memory.new.err) c.report-in-Err-Memory.result tt
+    c.report-in-Err-Memory.ensures.status c.report-in-Err-Memory.ensures.text)
 
 pub returns-in-Ok-Input-clause-path : goal.returns-in-Ok-Input-clause-path
 returns-in-Ok-Input-clause-path g c = λ path is other.
     absurd (rw c.in-Ok-Input.field-0-is at c.in-Ok-Input.ensures.path path is other)
+
+pub returns-in-Ok-clause-path : goal.returns-in-Ok-clause-path
+returns-in-Ok-clause-path g c = λ path is other. (
+  refl,
+  answered_any c.serve_script-in-Ok.result c.end-in-Ok.result _
+      (g.O.Write.contents c.args.out.now) (g.O.Write.contents c.serve_script-in-Ok.new.out)
+      (g.E.Write.contents c.args.err.now) (g.E.Write.contents c.serve_script-in-Ok.new.err)
+      c.end-in-Ok.ensures c.serve_script-in-Ok.ensures.ended c.serve_script-in-Ok.ensures.refused,
+)
+
+pub returns-in-Ok-clause-ends : goal.returns-in-Ok-clause-ends
+returns-in-Ok-clause-ends g c = inl
+    (answered_any c.serve_script-in-Ok.result c.end-in-Ok.result _
+    (g.O.Write.contents c.args.out.now) (g.O.Write.contents c.serve_script-in-Ok.new.out)
+    (g.E.Write.contents c.args.err.now) (g.E.Write.contents c.serve_script-in-Ok.new.err)
+    c.end-in-Ok.ensures c.serve_script-in-Ok.ensures.ended c.serve_script-in-Ok.ensures.refused)
+
+pub returns-in-Err-clause-path : goal.returns-in-Err-clause-path
+returns-in-Err-clause-path g c = λ path is other. (
+  refl,
+  reported Unreadable (g.O.Write.contents c.args.out.now) (g.E.Write.contents c.args.err.now)
+      (g.E.Write.contents c.report.new.err) c.report.result tt c.report.ensures.status
+      c.report.ensures.text,
+)
+
+pub returns-in-Err-clause-ends : goal.returns-in-Err-clause-ends
+returns-in-Err-clause-ends g c = inl
+    (reported Unreadable (g.O.Write.contents c.args.out.now) (g.E.Write.contents c.args.err.now)
+    (g.E.Write.contents c.report.new.err) c.report.result tt c.report.ensures.status
+    c.report.ensures.text)

@@ -1,4 +1,4 @@
-use Rattle.std.proofs.Common.{◌∙◌, ℕ, suc, drop, subst, sym, Ok}
+use Rattle.std.proofs.Common.{◌∙◌, ℕ, suc, drop, subst, sym, Ok, rules}
 use Rattle.disk.specs.{contents}
 use Rattle.disk.specs.StillLemmas.{still_more}
 use Rattle.manifest.specs.{NodeVersion, version_of}
@@ -18,93 +18,148 @@ use Rattle.store_files.proofs.ReadAnswers.{usable_of}
 use Rattle.store_files.proofs.opening.read_files.Goals as goal
 
 -- slots that represent a version are opened
-pub returns-in_err-manifest-clause-opened : goal.returns-in_err-manifest-clause-opened
-returns-in_err-manifest-clause-opened g c = λ facts list honest. record {
-  whole = λ h. refuses c.from_residual.result _ IsEngineExternal c.from_residual.ensures.1
-      (manifest_is_external c.in_err-manifest.field-0.0 (c.in_err-manifest.ensures.opened
-      (record { id = facts.id; version = h.version }) honest h.manifest));
-  meant = λ w. answers_nothing c.from_residual.result _ _ c.from_residual.ensures.1;
+pub returns-in_err-manifest-clause-opens : goal.returns-in_err-manifest-clause-opens
+returns-in_err-manifest-clause-opens g c = record {
+  kept = search rules;
+  opened = λ facts list honest. record {
+    whole = λ h. refuses c.from_residual.result _ IsEngineExternal c.from_residual.ensures.1
+        (manifest_is_external c.in_err-manifest.field-0.0 (c.in_err-manifest.ensures.opened
+        (record { id = facts.id; version = h.version }) honest h.manifest));
+    meant = λ w. answers_nothing c.from_residual.result _ _ c.from_residual.ensures.1;
+  };
+  told = λ honest.
+      let left = contents (g.D.Disk.state c.args.disk.now) in
+      refuses c.from_residual.result (FilesOpenAs left) (λ e. OpeningRefusal e left)
+      c.from_residual.ensures.1 (slots_explained c.in_err-manifest.field-0.0 left
+      (c.in_err-manifest.ensures.told honest));
+  usable = search rules;
 }
 
 -- and so are the files that the version names
-pub returns-in_err-parts-clause-opened : goal.returns-in_err-parts-clause-opened
-returns-in_err-parts-clause-opened g c = λ facts list honest. record {
-  whole = λ h.
+pub returns-in_err-parts-clause-opens : goal.returns-in_err-parts-clause-opens
+returns-in_err-parts-clause-opens g c = record {
+  kept = search rules;
+  opened = λ facts list honest. record {
+    whole = λ h.
+        let s0 = g.D.Disk.state c.args.disk.now in
+        let s1 = g.D.Disk.state c.open.new.disk in
+        let is = c.version_is_one.ensures.lawful (record { id = facts.id; version = h.version })
+        (contents s0) h.manifest in
+        let held = c.in_ok-manifest.ensures.opened (record { id = facts.id; version = h.version })
+        honest h.manifest in
+        let spares = c.open.ensures.reads.kept.files honest in
+        let ask = asked s0 s1 spares facts list h is c.state.result.now
+        (c.state.ensures ∙ held.knows) in
+        refuses c.from_residual-in_err-parts.result _ IsEngineExternal
+        c.from_residual-in_err-parts.ensures.1 (c.in_err-parts.ensures.opened (suc facts.kept)
+        (drop facts.kept list) h.tables (c.open.ensures.reads.kept.honest.1 honest) ask.0 ask.1
+        ask.2);
+    meant = λ w. answers_nothing c.from_residual-in_err-parts.result _ _
+        c.from_residual-in_err-parts.ensures.1;
+  };
+  told = λ honest.
       let s0 = g.D.Disk.state c.args.disk.now in
       let s1 = g.D.Disk.state c.open.new.disk in
-      let is = c.version_is_one.ensures.lawful (record { id = facts.id; version = h.version })
-      (contents s0) h.manifest in
-      let held = c.in_ok-manifest.ensures.opened (record { id = facts.id; version = h.version })
-      honest h.manifest in
-      let ask = asked s0 s1 (c.open.ensures.kept.files honest) facts list h is c.state.result.now
-      (c.state.ensures ∙ held.knows) in
-      refuses c.from_residual-in_err-parts.result _ IsEngineExternal
-      c.from_residual-in_err-parts.ensures.1 (c.in_err-parts.ensures.opened (suc facts.kept)
-      (drop facts.kept list) h.tables (c.open.ensures.kept.honest.1 honest) ask.0 ask.1 ask.2);
-  meant = λ w. answers_nothing c.from_residual-in_err-parts.result _ _
-      c.from_residual-in_err-parts.ensures.1;
+      let left = contents s0 in
+      let had = (c.in_ok-manifest.ensures.told honest).had in
+      refuses c.from_residual-in_err-parts.result (FilesOpenAs left) (λ e. OpeningRefusal e left)
+      c.from_residual-in_err-parts.ensures.1 (end_explained c.in_err-parts.field-0.0 left
+      c.in_err-parts.ensures.reads.causes (c.version_is_one.ensures.created _ left had)
+      (λ facts count opens.
+      let named : NodeVersion = record { id = facts.id; version = opens.version } in
+      let is = c.version_is_one.ensures.lawful named left opens.manifest in
+      let held = c.in_ok-manifest.ensures.opened named honest opens.manifest in
+      c.in_err-parts.ensures.told (c.open.ensures.reads.kept.honest.1 honest)
+      (subst (λ (n : NodeVersion). HasParts (contents s1) n.version)
+      (sym (c.state.ensures ∙ held.knows))
+      (parts_then s0 s1 (c.open.ensures.reads.kept.files honest) facts count opens is))));
+  usable = search rules;
 }
-
-pub returns-in_err-manifest-clause-told : goal.returns-in_err-manifest-clause-told
-returns-in_err-manifest-clause-told g c = λ honest.
-    let left = contents (g.D.Disk.state c.args.disk.now) in
-    refuses c.from_residual.result (FilesOpenAs left) (λ e. OpeningRefusal e left)
-    c.from_residual.ensures.1 (slots_explained c.in_err-manifest.field-0.0 left
-    (c.in_err-manifest.ensures.told honest))
-
-pub returns-in_err-parts-clause-told : goal.returns-in_err-parts-clause-told
-returns-in_err-parts-clause-told g c = λ honest.
-    let s0 = g.D.Disk.state c.args.disk.now in
-    let s1 = g.D.Disk.state c.open.new.disk in
-    let left = contents s0 in
-    let had = (c.in_ok-manifest.ensures.told honest).had in
-    refuses c.from_residual-in_err-parts.result (FilesOpenAs left) (λ e. OpeningRefusal e left)
-    c.from_residual-in_err-parts.ensures.1 (end_explained c.in_err-parts.field-0.0 left
-    c.in_err-parts.ensures.causes (c.version_is_one.ensures.created _ left had)
-    (λ facts count opens.
-    let named : NodeVersion = record { id = facts.id; version = opens.version } in
-    let is = c.version_is_one.ensures.lawful named left opens.manifest in
-    let held = c.in_ok-manifest.ensures.opened named honest opens.manifest in
-    c.in_err-parts.ensures.told (c.open.ensures.kept.honest.1 honest)
-    (subst (λ (n : NodeVersion). HasParts (contents s1) n.version)
-    (sym (c.state.ensures ∙ held.knows))
-    (parts_then s0 s1 (c.open.ensures.kept.files honest) facts count opens is))))
 
 pub returns-in_err-parts-clause-still : goal.returns-in_err-parts-clause-still
 returns-in_err-parts-clause-still g c = λ honest.
-    still_more (c.open.ensures.still honest)
-    (c.read_parts.ensures.still (c.open.ensures.kept.honest.1 honest))
+    still_more (c.open.ensures.reads.still honest)
+    (c.read_parts.ensures.reads.still (c.open.ensures.reads.kept.honest.1 honest))
 
 pub returns-clause-still : goal.returns-clause-still
 returns-clause-still g c = λ honest.
-    still_more (c.open.ensures.still honest)
-    (c.read_parts.ensures.still (c.open.ensures.kept.honest.1 honest))
+    still_more (c.open.ensures.reads.still honest)
+    (c.read_parts.ensures.reads.still (c.open.ensures.reads.kept.honest.1 honest))
 
 -- the slots represented the version, and the files were those that it names
-pub returns-clause-told : goal.returns-clause-told
-returns-clause-told g c = λ honest.
-    let s0 = g.D.Disk.state c.args.disk.now in
-    let s1 = g.D.Disk.state c.open.new.disk in
-    let s2 = g.D.Disk.state c.read_parts.new.disk in
-    let parts = c.in_ok-parts.parts in
-    let had = (c.in_ok-manifest.ensures.told honest).had in
-    subst (λ (n : ℕ). FilesOpenAs (contents s0) (files_with c.in_ok-manifest.manifest parts n))
-    (sym c.next_file_of-free_file.ensures)
-    (opens_as s0 s1 s2 (c.open.ensures.kept.files honest) c.in_ok-manifest.manifest parts
-    (c.version_is_one.ensures.lawful _ (contents s0) had) had
-    (subst (λ (n : NodeVersion). WereParts s1 s2 n.version parts) c.state.ensures
-    (c.in_ok-parts.ensures.told (c.open.ensures.kept.honest.1 honest))))
-
--- they can be used
-pub returns-clause-usable : goal.returns-clause-usable
-returns-clause-usable g c =
-    let manifest = c.in_ok-manifest.manifest in
-    let parts = c.in_ok-parts.parts in
-    subst (λ (n : ℕ). AreUsableFiles (files_with manifest parts n))
-    (sym c.next_file_of-free_file.ensures)
-    (usable_of manifest parts c.in_ok-manifest.ensures.works
-    (subst (λ (n : NodeVersion). AreParts n.version parts) c.state.ensures
-    c.in_ok-parts.ensures.usable))
+pub returns-clause-opens : goal.returns-clause-opens
+returns-clause-opens g c = record {
+  kept = search rules;
+  -- and hold the list that they represented, or were meant to represent
+  opened = λ facts list honest.
+      let s0 = g.D.Disk.state c.args.disk.now in
+      let s1 = g.D.Disk.state c.open.new.disk in
+      let s2 = g.D.Disk.state c.read_parts.new.disk in
+      let manifest = c.in_ok-manifest.manifest in
+      let parts = c.in_ok-parts.parts in
+      let honest1 = c.open.ensures.reads.kept.honest.1 honest in
+      let spares = c.open.ensures.reads.kept.files honest in
+      let stays = c.held_versions_are_left.ensures.same in
+      let first = suc facts.kept in
+      let batches = drop facts.kept list in
+      let usable = usable_of manifest parts c.in_ok-manifest.ensures.works
+      (subst (λ (n : NodeVersion). AreParts n.version parts) c.state.ensures
+      c.in_ok-parts.ensures.usable) in
+      subst (λ (n : ℕ). OpensFor facts list (contents s0) (λ files. FilesAreRead s2 files list)
+      (λ files. WereMeantToRead s2 files list) (Ok (files_with manifest parts n)))
+      (sym c.next_file_of-free_file.ensures) (record {
+        whole = λ h.
+            let named : NodeVersion = record { id = facts.id; version = h.version } in
+            let is = c.version_is_one.ensures.lawful named (contents s0) h.manifest in
+            let held = c.in_ok-manifest.ensures.opened named honest h.manifest in
+            let same = c.state.ensures ∙ held.knows in
+            let ask = asked s0 s1 spares facts list h is c.state.result.now same in
+            let hold = subst
+            (λ (n : NodeVersion). PartsHold s2 n.version first batches h.tables parts) same
+            (c.in_ok-parts.ensures.opened first batches h.tables honest1 ask.0 ask.1 ask.2) in
+            let were = subst (λ (n : NodeVersion). WereParts s1 s2 n.version parts) same
+            (c.in_ok-parts.ensures.told honest1) in
+            read_as facts list (contents s0) h c.replays_agree.ensures s2 manifest parts usable
+            (slots_stay stays s1 s2 manifest named held were.each) hold;
+        meant = λ w.
+            let h = w.represents in
+            let named : NodeVersion = record { id = facts.id; version = h.version } in
+            let is = c.version_is_one.ensures.lawful named w.meant h.manifest in
+            let held = c.in_ok-manifest.ensures.opened named honest
+            (slots_are_meant facts list (contents s0) w is) in
+            let same = c.state.ensures ∙ held.knows in
+            let ask = asked_as_meant s0 s1 spares facts list w is c.state.result.now same in
+            let were_parts = subst (λ (n : NodeVersion).
+            PartsWereMeant s2 (durably w.meant) n.version
+            first batches h.tables parts) same (c.in_ok-parts.ensures.meant (durably w.meant) first
+            batches h.tables honest1 ask.0 ask.1 ask.2) in
+            let were = subst (λ (n : NodeVersion). WereParts s1 s2 n.version parts) same
+            (c.in_ok-parts.ensures.told honest1) in
+            read_as_meant facts list (contents s0) w is s2 manifest parts were_parts usable
+            (slots_stay stays s1 s2 manifest named held were.each)
+            c.replays_agree.ensures stays;
+      });
+  told = λ honest.
+      let s0 = g.D.Disk.state c.args.disk.now in
+      let s1 = g.D.Disk.state c.open.new.disk in
+      let s2 = g.D.Disk.state c.read_parts.new.disk in
+      let parts = c.in_ok-parts.parts in
+      let had = (c.in_ok-manifest.ensures.told honest).had in
+      subst (λ (n : ℕ). FilesOpenAs (contents s0) (files_with c.in_ok-manifest.manifest parts n))
+      (sym c.next_file_of-free_file.ensures)
+      (opens_as s0 s1 s2 (c.open.ensures.reads.kept.files honest) c.in_ok-manifest.manifest parts
+      (c.version_is_one.ensures.lawful _ (contents s0) had) had
+      (subst (λ (n : NodeVersion). WereParts s1 s2 n.version parts) c.state.ensures
+      (c.in_ok-parts.ensures.told (c.open.ensures.reads.kept.honest.1 honest))));
+  -- they can be used
+  usable = let manifest = c.in_ok-manifest.manifest in
+      let parts = c.in_ok-parts.parts in
+      subst (λ (n : ℕ). AreUsableFiles (files_with manifest parts n))
+      (sym c.next_file_of-free_file.ensures)
+      (usable_of manifest parts c.in_ok-manifest.ensures.works
+      (subst (λ (n : NodeVersion). AreParts n.version parts) c.state.ensures
+      c.in_ok-parts.ensures.usable));
+}
 
 -- which the slots durably represent
 pub returns-clause-held : goal.returns-clause-held
@@ -116,7 +171,7 @@ returns-clause-held g c = λ honest.
     let parts = c.in_ok-parts.parts in
     let it = c.in_ok-manifest.ensures.told honest in
     let were = subst (λ (n : NodeVersion). WereParts s1 s2 n.version parts) c.state.ensures
-    (c.in_ok-parts.ensures.told (c.open.ensures.kept.honest.1 honest)) in
+    (c.in_ok-parts.ensures.told (c.open.ensures.reads.kept.honest.1 honest)) in
     slots_stay c.held_versions_are_left.ensures.same s1 s2 manifest (version_of manifest) it.holds
     were.each
 
@@ -127,55 +182,5 @@ returns-clause-alike g c = λ honest.
     let s1 = g.D.Disk.state c.open.new.disk in
     let s2 = g.D.Disk.state c.read_parts.new.disk in
     read_alike s0 s1 s2 (c.in_ok-manifest.ensures.told honest).read
-    (c.open.ensures.kept.files honest)
-    (c.in_ok-parts.ensures.told (c.open.ensures.kept.honest.1 honest)).each
-
--- and hold the list that they represented, or were meant to represent
-pub returns-clause-opened : goal.returns-clause-opened
-returns-clause-opened g c = λ facts list honest.
-    let s0 = g.D.Disk.state c.args.disk.now in
-    let s1 = g.D.Disk.state c.open.new.disk in
-    let s2 = g.D.Disk.state c.read_parts.new.disk in
-    let manifest = c.in_ok-manifest.manifest in
-    let parts = c.in_ok-parts.parts in
-    let honest1 = c.open.ensures.kept.honest.1 honest in
-    let spares = c.open.ensures.kept.files honest in
-    let stays = c.held_versions_are_left.ensures.same in
-    let first = suc facts.kept in
-    let batches = drop facts.kept list in
-    let usable = usable_of manifest parts c.in_ok-manifest.ensures.works
-    (subst (λ (n : NodeVersion). AreParts n.version parts) c.state.ensures
-    c.in_ok-parts.ensures.usable) in
-    subst (λ (n : ℕ). OpensFor facts list (contents s0) (λ files. FilesAreRead s2 files list)
-    (λ files. WereMeantToRead s2 files list) (Ok (files_with manifest parts n)))
-    (sym c.next_file_of-free_file.ensures) (record {
-      whole = λ h.
-          let named : NodeVersion = record { id = facts.id; version = h.version } in
-          let is = c.version_is_one.ensures.lawful named (contents s0) h.manifest in
-          let held = c.in_ok-manifest.ensures.opened named honest h.manifest in
-          let same = c.state.ensures ∙ held.knows in
-          let ask = asked s0 s1 spares facts list h is c.state.result.now same in
-          let hold = subst
-          (λ (n : NodeVersion). PartsHold s2 n.version first batches h.tables parts) same
-          (c.in_ok-parts.ensures.opened first batches h.tables honest1 ask.0 ask.1 ask.2) in
-          let were = subst (λ (n : NodeVersion). WereParts s1 s2 n.version parts) same
-          (c.in_ok-parts.ensures.told honest1) in
-          read_as facts list (contents s0) h c.replays_agree.ensures s2 manifest parts usable
-          (slots_stay stays s1 s2 manifest named held were.each) hold;
-      meant = λ w.
-          let h = w.represents in
-          let named : NodeVersion = record { id = facts.id; version = h.version } in
-          let is = c.version_is_one.ensures.lawful named w.meant h.manifest in
-          let held = c.in_ok-manifest.ensures.opened named honest
-          (slots_are_meant facts list (contents s0) w is) in
-          let same = c.state.ensures ∙ held.knows in
-          let ask = asked_as_meant s0 s1 spares facts list w is c.state.result.now same in
-          let were_parts = subst (λ (n : NodeVersion). PartsWereMeant s2 (durably w.meant) n.version
-          first batches h.tables parts) same (c.in_ok-parts.ensures.meant (durably w.meant) first
-          batches h.tables honest1 ask.0 ask.1 ask.2) in
-          let were = subst (λ (n : NodeVersion). WereParts s1 s2 n.version parts) same
-          (c.in_ok-parts.ensures.told honest1) in
-          read_as_meant facts list (contents s0) w is s2 manifest parts were_parts usable
-          (slots_stay stays s1 s2 manifest named held were.each)
-          c.replays_agree.ensures stays;
-    })
+    (c.open.ensures.reads.kept.files honest)
+    (c.in_ok-parts.ensures.told (c.open.ensures.reads.kept.honest.1 honest)).each

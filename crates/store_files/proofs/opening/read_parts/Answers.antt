@@ -1,4 +1,4 @@
-use Rattle.std.proofs.Common.{◌≡◌, ◌-◌, ◌+◌, ℕ, List, length, sym, ap, arith, subst, ◌∙◌}
+use Rattle.std.proofs.Common.{◌≡◌, ◌-◌, ◌+◌, ℕ, List, length, sym, ap, arith, subst, ◌∙◌, rules}
 use Rattle.disk.specs.{Slot, contents}
 use Rattle.disk.specs.StillLemmas.{still_more}
 use Rattle.manifest.specs.declared.TableLine.{TableLine}
@@ -35,35 +35,54 @@ pub returns-in_err-logs-clause-opened : goal.returns-in_err-logs-clause-opened
 returns-in_err-logs-clause-opened g c = λ first batches tables honest had read ordered.
     let s1 = g.D.Disk.state c.args.disk.now in
     let s2 = g.D.Disk.state c.sync_tables.new.disk in
-    let honest2 = c.sync_tables.ensures.kept.honest.1 honest in
+    let honest2 = c.sync_tables.ensures.reads.kept.honest.1 honest in
     let same = synced_reads s1 s2 c.deref.result.now (c.in_ok-sync_tables.ensures.synced honest) in
     refuses c.from_residual-in_err-logs.result _ IsEngineExternal
     c.from_residual-in_err-logs.ensures.1 (c.in_err-logs.ensures.opened first batches honest2
     (batches_same (contents s1) (contents s2) same c.args.version.now.version.logs first batches
     had))
 
-pub returns-in_err-logs-clause-still : goal.returns-in_err-logs-clause-still
-returns-in_err-logs-clause-still g c = λ honest.
-    still_more (c.sync_tables.ensures.still honest)
-    (c.open_logs.ensures.still (c.sync_tables.ensures.kept.honest.1 honest))
+pub returns-in_err-logs-clause-reads : goal.returns-in_err-logs-clause-reads
+returns-in_err-logs-clause-reads g c = record {
+  kept = search rules;
+  causes = search rules;
+  still = λ honest.
+      still_more (c.sync_tables.ensures.reads.still honest)
+      (c.open_logs.ensures.reads.still (c.sync_tables.ensures.reads.kept.honest.1 honest));
+}
 
-pub returns-in_err-tables-clause-still : goal.returns-in_err-tables-clause-still
-returns-in_err-tables-clause-still g c = λ honest.
-    let honest2 = c.sync_tables.ensures.kept.honest.1 honest in
-    still_more (still_more (c.sync_tables.ensures.still honest) (c.open_logs.ensures.still honest2))
-    (c.open.ensures.still (c.open_logs.ensures.kept.honest.1 honest2))
+pub returns-in_err-tables-clause-reads : goal.returns-in_err-tables-clause-reads
+returns-in_err-tables-clause-reads g c = record {
+  kept = search rules;
+  causes = search rules;
+  still = λ honest.
+      let honest2 = c.sync_tables.ensures.reads.kept.honest.1 honest in
+      still_more (still_more (c.sync_tables.ensures.reads.still honest)
+      (c.open_logs.ensures.reads.still honest2))
+      (c.open.ensures.still (c.open_logs.ensures.reads.kept.honest.1 honest2));
+}
 
-pub returns-then-not-are_ordered-clause-still : goal.returns-then-not-are_ordered-clause-still
-returns-then-not-are_ordered-clause-still g c = λ honest.
-    let honest2 = c.sync_tables.ensures.kept.honest.1 honest in
-    still_more (still_more (c.sync_tables.ensures.still honest) (c.open_logs.ensures.still honest2))
-    (c.open.ensures.still (c.open_logs.ensures.kept.honest.1 honest2))
+pub returns-then-not-are_ordered-clause-reads : goal.returns-then-not-are_ordered-clause-reads
+returns-then-not-are_ordered-clause-reads g c = record {
+  kept = search rules;
+  causes = search rules;
+  still = λ honest.
+      let honest2 = c.sync_tables.ensures.reads.kept.honest.1 honest in
+      still_more (still_more (c.sync_tables.ensures.reads.still honest)
+      (c.open_logs.ensures.reads.still honest2))
+      (c.open.ensures.still (c.open_logs.ensures.reads.kept.honest.1 honest2));
+}
 
-pub returns-clause-still : goal.returns-clause-still
-returns-clause-still g c = λ honest.
-    let honest2 = c.sync_tables.ensures.kept.honest.1 honest in
-    still_more (still_more (c.sync_tables.ensures.still honest) (c.open_logs.ensures.still honest2))
-    (c.open.ensures.still (c.open_logs.ensures.kept.honest.1 honest2))
+pub returns-clause-reads : goal.returns-clause-reads
+returns-clause-reads g c = record {
+  kept = search rules;
+  causes = search rules;
+  still = λ honest.
+      let honest2 = c.sync_tables.ensures.reads.kept.honest.1 honest in
+      still_more (still_more (c.sync_tables.ensures.reads.still honest)
+      (c.open_logs.ensures.reads.still honest2))
+      (c.open.ensures.still (c.open_logs.ensures.reads.kept.honest.1 honest2));
+}
 
 -- the logs' syncs leave the tables as they are
 pub returns-in_err-tables-clause-opened : goal.returns-in_err-tables-clause-opened
@@ -71,8 +90,8 @@ returns-in_err-tables-clause-opened g c = λ first batches tables honest had rea
     let s1 = g.D.Disk.state c.args.disk.now in
     let s2 = g.D.Disk.state c.sync_tables.new.disk in
     let s3 = g.D.Disk.state c.open_logs.new.disk in
-    let honest2 = c.sync_tables.ensures.kept.honest.1 honest in
-    let honest3 = c.open_logs.ensures.kept.honest.1 honest2 in
+    let honest2 = c.sync_tables.ensures.reads.kept.honest.1 honest in
+    let honest3 = c.open_logs.ensures.reads.kept.honest.1 honest2 in
     let version = c.args.version.now.version in
     let is = subst (λ (v : NodeVersion). IsVersion v.version) c.version.view_is
     c.version.invariant in
@@ -93,7 +112,7 @@ returns-then-not-are_ordered-clause-opened g c = λ first batches tables honest 
     let s1 = g.D.Disk.state c.args.disk.now in
     let s2 = g.D.Disk.state c.sync_tables.new.disk in
     let s3 = g.D.Disk.state c.open_logs.new.disk in
-    let honest2 = c.sync_tables.ensures.kept.honest.1 honest in
+    let honest2 = c.sync_tables.ensures.reads.kept.honest.1 honest in
     let version = c.args.version.now.version in
     let logs = c.in_ok-logs.logs in
     let same = synced_reads s1 s2 c.deref.result.now (c.in_ok-sync_tables.ensures.synced honest) in
@@ -117,8 +136,8 @@ returns-clause-told g c = λ honest.
     let s2 = g.D.Disk.state c.sync_tables.new.disk in
     let s3 = g.D.Disk.state c.open_logs.new.disk in
     let s4 = g.D.Disk.state c.open.new.disk in
-    let honest2 = c.sync_tables.ensures.kept.honest.1 honest in
-    let honest3 = c.open_logs.ensures.kept.honest.1 honest2 in
+    let honest2 = c.sync_tables.ensures.reads.kept.honest.1 honest in
+    let honest3 = c.open_logs.ensures.reads.kept.honest.1 honest2 in
     let version = c.args.version.now.version in
     let is = subst (λ (v : NodeVersion). IsVersion v.version) c.version.view_is
     c.version.invariant in
@@ -145,8 +164,8 @@ returns-clause-opened g c = λ first batches tables honest had read ordered.
     let s2 = g.D.Disk.state c.sync_tables.new.disk in
     let s3 = g.D.Disk.state c.open_logs.new.disk in
     let s4 = g.D.Disk.state c.open.new.disk in
-    let honest2 = c.sync_tables.ensures.kept.honest.1 honest in
-    let honest3 = c.open_logs.ensures.kept.honest.1 honest2 in
+    let honest2 = c.sync_tables.ensures.reads.kept.honest.1 honest in
+    let honest3 = c.open_logs.ensures.reads.kept.honest.1 honest2 in
     let version = c.args.version.now.version in
     let is = subst (λ (v : NodeVersion). IsVersion v.version) c.version.view_is
     c.version.invariant in
@@ -177,8 +196,8 @@ returns-clause-meant g c = λ meant first batches tables honest had read as_mean
     let s2 = g.D.Disk.state c.sync_tables.new.disk in
     let s3 = g.D.Disk.state c.open_logs.new.disk in
     let s4 = g.D.Disk.state c.open.new.disk in
-    let honest2 = c.sync_tables.ensures.kept.honest.1 honest in
-    let honest3 = c.open_logs.ensures.kept.honest.1 honest2 in
+    let honest2 = c.sync_tables.ensures.reads.kept.honest.1 honest in
+    let honest3 = c.open_logs.ensures.reads.kept.honest.1 honest2 in
     let version = c.args.version.now.version in
     let is = subst (λ (v : NodeVersion). IsVersion v.version) c.version.view_is
     c.version.invariant in
@@ -231,7 +250,7 @@ returns-in_err-logs-clause-told g c = λ honest.
     let same = synced_reads s1 s2 c.deref.result.now (c.in_ok-sync_tables.ensures.synced honest) in
     refuses c.from_residual-in_err-logs.result _ _
     c.from_residual-in_err-logs.ensures.1 (λ has. c.in_err-logs.ensures.opened has.first has.batches
-    (c.sync_tables.ensures.kept.honest.1 honest)
+    (c.sync_tables.ensures.reads.kept.honest.1 honest)
     (batches_same (contents s1) (contents s2) same c.args.version.now.version.logs has.first
     has.batches has.had))
 
@@ -240,8 +259,8 @@ returns-in_err-tables-clause-told g c = λ honest.
     let s1 = g.D.Disk.state c.args.disk.now in
     let s2 = g.D.Disk.state c.sync_tables.new.disk in
     let s3 = g.D.Disk.state c.open_logs.new.disk in
-    let honest2 = c.sync_tables.ensures.kept.honest.1 honest in
-    let honest3 = c.open_logs.ensures.kept.honest.1 honest2 in
+    let honest2 = c.sync_tables.ensures.reads.kept.honest.1 honest in
+    let honest3 = c.open_logs.ensures.reads.kept.honest.1 honest2 in
     let version = c.args.version.now.version in
     let is = subst (λ (v : NodeVersion). IsVersion v.version) c.version.view_is
     c.version.invariant in
@@ -260,7 +279,7 @@ returns-then-not-are_ordered-clause-told g c = λ honest has.
     let s1 = g.D.Disk.state c.args.disk.now in
     let s2 = g.D.Disk.state c.sync_tables.new.disk in
     let s3 = g.D.Disk.state c.open_logs.new.disk in
-    let honest2 = c.sync_tables.ensures.kept.honest.1 honest in
+    let honest2 = c.sync_tables.ensures.reads.kept.honest.1 honest in
     let version = c.args.version.now.version in
     let logs = c.in_ok-logs.logs in
     let first = has.first in

@@ -1,4 +1,4 @@
-use Rattle.std.proofs.Common.{List, ℕ, suc, arith, inr, subst}
+use Rattle.std.proofs.Common.{List, ℕ, suc, arith, inr, subst, rules}
 use Rattle.disk.specs.{seen}
 use Rattle.record_log.specs.{LogHolds}
 use Rattle.store_tables.specs.Errors.{IsEnd, IsEngineExternal}
@@ -12,25 +12,38 @@ use Rattle.store_tables.specs.RefusalLemmas.{done, passed_on}
 use Rattle.store_files.proofs.replaying.open_log.Goals as goal
 
 -- the log's file was synced
-pub returns-in_err-opened-clause-kept : goal.returns-in_err-opened-clause-kept
-returns-in_err-opened-clause-kept g c =
-    let failed = log_failed c.open.result c.in_err-opened.field-0.0 c.from_residual.result
-    c.in_err-opened.was c.from_residual.ensures.1 in
-    kept_as g.D.Disk failed (λ a b added. added) c.open.ensures.kept
+pub returns-in_err-opened-clause-reads : goal.returns-in_err-opened-clause-reads
+returns-in_err-opened-clause-reads g c = record {
+  kept = let failed = log_failed c.open.result c.in_err-opened.field-0.0 c.from_residual.result
+      c.in_err-opened.was c.from_residual.ensures.1 in
+      kept_as g.D.Disk failed (λ a b added. added) c.open.ensures.kept;
+  -- where it was not opened, the files have to be opened again
+  causes = refuses c.from_residual.result _ IsEnd c.from_residual.ensures.1
+      (log_ends c.in_err-opened.field-0.0);
+  still = search rules;
+}
 
-pub returns-in_err-replay-clause-kept : goal.returns-in_err-replay-clause-kept
-returns-in_err-replay-clause-kept g c =
-    let failed = passed_on c.replay.result c.in_err-replay.field-0.0
-    c.from_residual-in_err-replay.result c.in_err-replay.was
-    c.from_residual-in_err-replay.ensures.1 in
-    kept_as g.D.Disk (neither (answered c.open.result c.in_ok-opened.was)
-    (λ fails. bytes_only c.replay.result c.replay.ensures.only (failed.1 fails)))
-    (λ a b added. added) c.open.ensures.kept
+pub returns-in_err-replay-clause-reads : goal.returns-in_err-replay-clause-reads
+returns-in_err-replay-clause-reads g c = record {
+  kept = let failed = passed_on c.replay.result c.in_err-replay.field-0.0
+      c.from_residual-in_err-replay.result c.in_err-replay.was
+      c.from_residual-in_err-replay.ensures.1 in
+      kept_as g.D.Disk (neither (answered c.open.result c.in_ok-opened.was)
+      (λ fails. bytes_only c.replay.result c.replay.ensures.only (failed.1 fails)))
+      (λ a b added. added) c.open.ensures.kept;
+  causes = refuses c.from_residual-in_err-replay.result _ IsEnd
+      c.from_residual-in_err-replay.ensures.1
+      (bytes_end c.in_err-replay.ensures.only);
+  still = search rules;
+}
 
-pub returns-clause-kept : goal.returns-clause-kept
-returns-clause-kept g c =
-    kept_as g.D.Disk (neither (answered c.open.result c.in_ok-opened.was) done)
-    (λ a b added. added) c.open.ensures.kept
+pub returns-clause-reads : goal.returns-clause-reads
+returns-clause-reads g c = record {
+  kept = kept_as g.D.Disk (neither (answered c.open.result c.in_ok-opened.was) done)
+      (λ a b added. added) c.open.ensures.kept;
+  causes = search rules;
+  still = search rules;
+}
 
 -- the file was a log of batches, so it was opened and its batches were read
 pub returns-in_err-opened-clause-opened : goal.returns-in_err-opened-clause-opened
@@ -77,15 +90,3 @@ returns-clause-told g c = record {
   numbered = c.in_ok-replay.ensures.numbered.0;
   few = c.in_ok-replay.ensures.numbered.1;
 }
-
--- where it was not opened, the files have to be opened again
-pub returns-in_err-opened-clause-told : goal.returns-in_err-opened-clause-told
-returns-in_err-opened-clause-told g c =
-    refuses c.from_residual.result _ IsEnd c.from_residual.ensures.1
-    (log_ends c.in_err-opened.field-0.0)
-
-pub returns-in_err-replay-clause-told : goal.returns-in_err-replay-clause-told
-returns-in_err-replay-clause-told g c =
-    refuses c.from_residual-in_err-replay.result _ IsEnd
-    c.from_residual-in_err-replay.ensures.1
-    (bytes_end c.in_err-replay.ensures.only)

@@ -1,4 +1,4 @@
-use Rattle.std.proofs.Common.{◌+◌, List, ℕ, suc, ap, arith, drop, subst, take}
+use Rattle.std.proofs.Common.{◌+◌, List, ℕ, suc, ap, arith, drop, subst, take, rules}
 use Rattle.std.proofs.lemmas.List.{take_all}
 use Rattle.disk.specs.{contents}
 use Rattle.manifest.specs.declared.LogLine.{LogLine}
@@ -39,13 +39,13 @@ pub open_log-requires-clause-few : goal.open_log-requires-clause-few
 open_log-requires-clause-few g c = c.loop-line.invariant.line.few
 
 -- the line begins elsewhere, so the files have no batches
-pub returns-then-line-count-clause-kept : goal.returns-then-line-count-clause-kept
-returns-then-line-count-clause-kept g c =
-    synced_all g.D.Disk (take c.loop-line.line-index c.args.lines.now) c.args.disk.now
-    c.loop-line.disk c.loop-line.invariant.synced (refused_otherwise (λ e. cc))
-
-pub returns-then-line-count-clause-still : goal.returns-then-line-count-clause-still
-returns-then-line-count-clause-still g c = c.loop-line.invariant.synced.still
+pub returns-then-line-count-clause-reads : goal.returns-then-line-count-clause-reads
+returns-then-line-count-clause-reads g c = record {
+  kept = synced_all g.D.Disk (take c.loop-line.line-index c.args.lines.now) c.args.disk.now
+      c.loop-line.disk c.loop-line.invariant.synced (refused_otherwise (λ e. cc));
+  causes = search rules;
+  still = c.loop-line.invariant.synced.still;
+}
 
 pub returns-then-line-count-clause-opened : goal.returns-then-line-count-clause-opened
 returns-then-line-count-clause-opened g c = λ batches honest have each few.
@@ -67,21 +67,22 @@ returns-then-line-count-clause-opened g c = λ batches honest have each few.
     absurd (c.if-line-count.true has.first)
 
 -- the log of the line was not opened
-pub returns-in_err-one-clause-kept : goal.returns-in_err-one-clause-kept
-returns-in_err-one-clause-kept g c =
-    let failed = passed_on c.open_log.result c.in_err-one.field-0.0 c.from_residual.result
-    c.in_err-one.was c.from_residual.ensures.1 in
-    let lines = c.args.lines.now in
-    let i = c.loop-line.line-index in
-    let line : LogLine = line_at lines i in
-    synced_then g.D.Disk (take i lines) c.args.disk.now c.loop-line.disk
-    c.loop-line.invariant.synced line.file
-    (kept_as g.D.Disk failed (λ a b added. added) c.open_log.ensures.kept)
-
-pub returns-in_err-one-clause-still : goal.returns-in_err-one-clause-still
-returns-in_err-one-clause-still g c =
-    still_then g.D.Disk (take c.loop-line.line-index c.args.lines.now) c.args.disk.now
-    c.loop-line.disk c.loop-line.invariant.synced c.open_log.ensures.still
+pub returns-in_err-one-clause-reads : goal.returns-in_err-one-clause-reads
+returns-in_err-one-clause-reads g c = record {
+  kept = let failed = passed_on c.open_log.result c.in_err-one.field-0.0 c.from_residual.result
+      c.in_err-one.was c.from_residual.ensures.1 in
+      let lines = c.args.lines.now in
+      let i = c.loop-line.line-index in
+      let line : LogLine = line_at lines i in
+      synced_then g.D.Disk (take i lines) c.args.disk.now c.loop-line.disk
+      c.loop-line.invariant.synced line.file
+      (kept_as g.D.Disk failed (λ a b added. added) c.open_log.ensures.reads.kept);
+  -- where a log was not opened, the files have to be opened again
+  causes = refuses c.from_residual.result _ IsEnd c.from_residual.ensures.1
+      c.in_err-one.ensures.reads.causes;
+  still = still_then g.D.Disk (take c.loop-line.line-index c.args.lines.now) c.args.disk.now
+      c.loop-line.disk c.loop-line.invariant.synced c.open_log.ensures.reads.still;
+}
 
 pub returns-in_err-one-clause-opened : goal.returns-in_err-one-clause-opened
 returns-in_err-one-clause-opened g c = λ batches honest have each few.
@@ -105,21 +106,21 @@ returns-in_err-one-clause-opened g c = λ batches honest have each few.
     has.few)
 
 -- memory was out
-pub returns-in_err-push-clause-kept : goal.returns-in_err-push-clause-kept
-returns-in_err-push-clause-kept g c =
-    let lines = c.args.lines.now in
-    let i = c.loop-line.line-index in
-    let line : LogLine = line_at lines i in
-    synced_then g.D.Disk (take i lines) c.args.disk.now c.loop-line.disk
-    c.loop-line.invariant.synced line.file
-    (kept_as g.D.Disk (neither (answered c.open_log.result c.in_ok-one.was)
-    (lacks_memory c.from_residual-in_err-push.result c.from_residual-in_err-push.ensures.1))
-    (λ a b added. added) c.open_log.ensures.kept)
-
-pub returns-in_err-push-clause-still : goal.returns-in_err-push-clause-still
-returns-in_err-push-clause-still g c =
-    still_then g.D.Disk (take c.loop-line.line-index c.args.lines.now) c.args.disk.now
-    c.loop-line.disk c.loop-line.invariant.synced c.open_log.ensures.still
+pub returns-in_err-push-clause-reads : goal.returns-in_err-push-clause-reads
+returns-in_err-push-clause-reads g c = record {
+  kept = let lines = c.args.lines.now in
+      let i = c.loop-line.line-index in
+      let line : LogLine = line_at lines i in
+      synced_then g.D.Disk (take i lines) c.args.disk.now c.loop-line.disk
+      c.loop-line.invariant.synced line.file
+      (kept_as g.D.Disk (neither (answered c.open_log.result c.in_ok-one.was)
+      (lacks_memory c.from_residual-in_err-push.result c.from_residual-in_err-push.ensures.1))
+      (λ a b added. added) c.open_log.ensures.reads.kept);
+  causes = refuses c.from_residual-in_err-push.result _ IsEnd
+      c.from_residual-in_err-push.ensures.1 tt;
+  still = still_then g.D.Disk (take c.loop-line.line-index c.args.lines.now) c.args.disk.now
+      c.loop-line.disk c.loop-line.invariant.synced c.open_log.ensures.reads.still;
+}
 
 -- one log more is open
 pub loop-line-preserved : goal.loop-line-preserved
@@ -148,8 +149,8 @@ loop-line-preserved g c =
     let follows = c.if-line-count.false in
     record {
       synced = subst (λ (l : List LogLine). HasSynced g.D.Disk l d0 d2) next
-          (synced_more g.D.Disk passed d0 d1 before.synced line c.open_log.ensures.kept
-          (answered c.open_log.result c.in_ok-one.was) c.open_log.ensures.still);
+          (synced_more g.D.Disk passed d0 d1 before.synced line c.open_log.ensures.reads.kept
+          (answered c.open_log.result c.in_ok-one.was) c.open_log.ensures.reads.still);
       line = subst (λ (l : List LogLine). AreInLine l c.args.before more now after) next
           (in_line_more passed line c.args.before count logs memtable before.line follows now one
           after more told pushed counts);
@@ -161,17 +162,17 @@ loop-line-preserved g c =
           (read_more passed line c.args.before count logs memtable before.line follows now one after
           more told pushed counts (g.D.Disk.state d0) (g.D.Disk.state d1) (g.D.Disk.state d2)
           c.args.flushed (before.read honest) (c.in_ok-one.ensures.read honest1) same apart
-          (c.open_log.ensures.kept.files honest1).others);
+          (c.open_log.ensures.reads.kept.files honest1).others);
     }
 
 -- all logs are open
-pub returns-clause-kept : goal.returns-clause-kept
-returns-clause-kept g c =
-    synced_all g.D.Disk (take c.loop-line.line-index c.args.lines.now) c.args.disk.now
-    c.loop-line.disk c.loop-line.invariant.synced done
-
-pub returns-clause-still : goal.returns-clause-still
-returns-clause-still g c = c.loop-line.invariant.synced.still
+pub returns-clause-reads : goal.returns-clause-reads
+returns-clause-reads g c = record {
+  kept = synced_all g.D.Disk (take c.loop-line.line-index c.args.lines.now) c.args.disk.now
+      c.loop-line.disk c.loop-line.invariant.synced done;
+  causes = search rules;
+  still = c.loop-line.invariant.synced.still;
+}
 
 pub returns-clause-read : goal.returns-clause-read
 returns-clause-read g c = λ honest.
@@ -194,13 +195,3 @@ returns-clause-told g c = (
       (take_all c.loop-line.line-index c.args.lines.now c.loop-line-test.false)
       c.loop-line.invariant.line,
 )
-
--- where a log was not opened, the files have to be opened again
-pub returns-in_err-one-clause-told : goal.returns-in_err-one-clause-told
-returns-in_err-one-clause-told g c =
-    refuses c.from_residual.result _ IsEnd c.from_residual.ensures.1
-    c.in_err-one.ensures.told
-
-pub returns-in_err-push-clause-told : goal.returns-in_err-push-clause-told
-returns-in_err-push-clause-told g c =
-    refuses c.from_residual-in_err-push.result _ IsEnd c.from_residual-in_err-push.ensures.1 tt

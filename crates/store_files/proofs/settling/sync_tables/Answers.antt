@@ -1,4 +1,4 @@
-use Rattle.std.proofs.Common.{List, refl, subst, sym}
+use Rattle.std.proofs.Common.{List, refl, subst, sym, rules}
 use Rattle.std.specs.Prelude.{IsSome}
 use Rattle.std.proofs.lemmas.List.{take_all}
 use Rattle.std.proofs.lemmas.List.Elements.{All-get_or}
@@ -18,13 +18,20 @@ pub loop-line-init : goal.loop-line-init
 loop-line-init g c = record { done = none_yet g.D.Disk c.args.disk.now }
 
 -- the sync of a line's file was refused
-pub returns-in_err-sync-clause-kept : goal.returns-in_err-sync-clause-kept
-returns-in_err-sync-clause-kept g c =
-    sync_then g.D.Disk c.args.disk.now c.loop-line.disk c.loop-line.invariant.done c.sync.result
-    c.line-item.result.file
-    (kept_as g.D.Disk (disk_failed c.sync.result c.in_err-sync.field-0.0 c.from_residual.result
-    c.in_err-sync.was c.from_residual.ensures.1) (λ a b same. same) c.sync.ensures.kept.disk)
-    c.sync.ensures.syncs
+pub returns-in_err-sync-clause-reads : goal.returns-in_err-sync-clause-reads
+returns-in_err-sync-clause-reads g c = record {
+  kept = sync_then g.D.Disk c.args.disk.now c.loop-line.disk c.loop-line.invariant.done
+      c.sync.result
+      c.line-item.result.file
+      (kept_as g.D.Disk (disk_failed c.sync.result c.in_err-sync.field-0.0 c.from_residual.result
+      c.in_err-sync.was c.from_residual.ensures.1) (λ a b same. same) c.sync.ensures.kept.disk)
+      c.sync.ensures.syncs;
+  causes = search rules;
+  still = still_after g.D.Disk c.args.disk.now c.loop-line.disk c.loop-line.invariant.done
+      c.sync.result
+      c.line-item.result.file c.sync.ensures.syncs
+      (λ honest. (c.sync.ensures.passes honest).moment);
+}
 
 pub returns-in_err-sync-clause-there : goal.returns-in_err-sync-clause-there
 returns-in_err-sync-clause-there g c = λ honest there.
@@ -40,12 +47,6 @@ returns-in_err-sync-clause-there g c = λ honest there.
     (there_machine c.in_err-sync.field-0.0 s1 line.file
     (settled_there s0 s1 line.file ((before.synced honest).each line.file) was)
     (c.in_err-sync.ensures.syncs (before.kept.honest.1 honest)).1)
-
-pub returns-in_err-sync-clause-still : goal.returns-in_err-sync-clause-still
-returns-in_err-sync-clause-still g c =
-    still_after g.D.Disk c.args.disk.now c.loop-line.disk c.loop-line.invariant.done c.sync.result
-    c.line-item.result.file c.sync.ensures.syncs
-    (λ honest. (c.sync.ensures.passes honest).moment)
 
 -- one file more is synced
 pub loop-line-preserved : goal.loop-line-preserved
@@ -69,9 +70,12 @@ loop-line-preserved g c =
     }
 
 -- all lines were passed
-pub returns-clause-kept : goal.returns-clause-kept
-returns-clause-kept g c =
-    sync_all g.D.Disk c.args.disk.now c.loop-line.disk c.loop-line.invariant.done done
+pub returns-clause-reads : goal.returns-clause-reads
+returns-clause-reads g c = record {
+  kept = sync_all g.D.Disk c.args.disk.now c.loop-line.disk c.loop-line.invariant.done done;
+  causes = search rules;
+  still = c.loop-line.invariant.done.still;
+}
 
 pub returns-clause-synced : goal.returns-clause-synced
 returns-clause-synced g c = λ honest.
@@ -79,6 +83,3 @@ returns-clause-synced g c = λ honest.
     (g.D.Disk.state c.loop-line.disk) lines)
     (take_all c.loop-line.line-index c.args.lines.now c.loop-line-test.false)
     (c.loop-line.invariant.done.synced honest)
-
-pub returns-clause-still : goal.returns-clause-still
-returns-clause-still g c = c.loop-line.invariant.done.still

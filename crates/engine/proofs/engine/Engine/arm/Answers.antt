@@ -1,25 +1,26 @@
-use Rattle.std.proofs.Common.{refl}
+use Rattle.std.proofs.Common.{refl, rules}
 use Rattle.engine.proofs.Engines.{holds_of, reads_on}
 use Rattle.engine.proofs.engine.Engine.arm.Goals as goal
 
 -- the files and the store stay
-pub returns-clause-reads : goal.returns-clause-reads
-returns-clause-reads g c = λ list r.
-    let laws = c.held_files_are_left.ensures in
-    reads_on g.D.Disk laws c.args.self.now _ list (record {
-      store = refl;
-      honest = c.arm.ensures.honest.1;
-      same = c.arm.ensures.same;
-    }) r.works r
-
-pub returns-clause-holds : goal.returns-clause-holds
-returns-clause-holds g c = λ list h.
-    let laws = c.held_files_are_left.ensures in
-    holds_of g.D.Disk laws _ list (reads_on g.D.Disk laws c.args.self.now _ list (record {
-      store = refl;
-      honest = c.arm.ensures.honest.1;
-      same = c.arm.ensures.same;
-    }) h.reads.works h.reads)
+pub returns-clause-stays : goal.returns-clause-stays
+returns-clause-stays g c = record {
+  ended = search rules;
+  reads = λ list r.
+      let laws = c.held_files_are_left.ensures in
+      reads_on g.D.Disk laws c.args.self.now _ list (record {
+        store = refl;
+        honest = c.arm.ensures.honest.1;
+        same = c.arm.ensures.same;
+      }) r.works r;
+  holds = λ list h.
+      let laws = c.held_files_are_left.ensures in
+      holds_of g.D.Disk laws _ list (reads_on g.D.Disk laws c.args.self.now _ list (record {
+        store = refl;
+        honest = c.arm.ensures.honest.1;
+        same = c.arm.ensures.same;
+      }) h.reads.works h.reads);
+}
 
 pub returns-clause-tends : goal.returns-clause-tends
 returns-clause-tends g c = λ other answer. (λ tells. tells, λ tells. tells)

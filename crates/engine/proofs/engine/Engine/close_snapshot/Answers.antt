@@ -1,4 +1,4 @@
-use Rattle.std.proofs.Common.{refl, subst, sym}
+use Rattle.std.proofs.Common.{refl, subst, sym, rules}
 use Rattle.engine.specs.Snapshots.{AreReadable}
 use Rattle.engine.proofs.Engines.{goes_on}
 use Rattle.engine.proofs.Removals.{readable_without}
@@ -16,10 +16,15 @@ invariant_of-self g c =
     }
 
 -- the files and the store stay
-pub returns-clause-kept : goal.returns-clause-kept
-returns-clause-kept g c = λ list.
-    goes_on g.D.Disk c.held_files_are_left.ensures c.args.self.now _ list _ (record {
-      store = refl;
-      honest = λ honest. honest;
-      same = λ honest file. refl;
-    }) (λ h. absurd cc)
+pub returns-clause-changes : goal.returns-clause-changes
+returns-clause-changes g c = record {
+  keeps = search rules;
+  told = search rules;
+  kept = λ list.
+      goes_on g.D.Disk c.held_files_are_left.ensures c.args.self.now _ list _ (record {
+        store = refl;
+        honest = λ honest. honest;
+        same = λ honest file. refl;
+      }) (λ h. absurd cc);
+  disk = search rules;
+}

@@ -15,6 +15,6 @@ returns-in-Ok-clause-created g c = λ honest.
 pub returns-in-Ok-clause-begun : goal.returns-in-Ok-clause-begun
 returns-in-Ok-clause-begun g c = record {
   works = not_true;
-  told = told_of c.in-Ok.ensures.facts c.in-Ok.ensures.none c.new.ensures;
+  told = told_of c.in-Ok.ensures.begun.facts c.in-Ok.ensures.begun.none c.new.ensures;
   files = λ honest. c.in-Ok.ensures.first (c.create.ensures.kept.honest.0 honest);
 }

@@ -27,8 +27,8 @@ returns-in-Ok-clause-opened g c = λ facts list honest.
     let laws = c.held_files_are_left.ensures in
     let same = sym c.in_ok-files.ensures.files in
     let honest' = subst g.D.Disk.is_honest same honest in
-    let opens = c.in-Ok.ensures.opened facts list honest' in
-    let now = c.open.ensures.kept.honest.1 honest' in
+    let opens = c.in-Ok.ensures.opens.opened facts list honest' in
+    let now = c.open.ensures.opens.kept.honest.1 honest' in
     record {
       whole = λ represents.
           let opened = opens.whole (subst
@@ -51,7 +51,7 @@ returns-in-Ok-clause-fresh g c = record {
   committed = c.floor-committed.ensures;
   limits = refl;
   snapshots = c.new.ensures;
-  swept = λ honest. (c.in-Ok.ensures.swept (c.open.ensures.kept.honest.0 honest)).alone;
+  swept = λ honest. (c.in-Ok.ensures.swept (c.open.ensures.opens.kept.honest.0 honest)).alone;
 }
 
 -- and those that it names read as before
@@ -85,7 +85,7 @@ returns-in-Err-clause-opened g c = λ facts list honest.
     let same = sym c.in_ok-files.ensures.files in
     record {
       whole = λ represents.
-          (c.in-Err.ensures.opened facts list (subst g.D.Disk.is_honest same honest)).whole
+          (c.in-Err.ensures.opens.opened facts list (subst g.D.Disk.is_honest same honest)).whole
           (subst (λ d. FilesRepresent facts list (contents (g.D.Disk.state d))) same represents);
       meant = λ were. tt;
     }
@@ -96,6 +96,6 @@ returns-in-Err-clause-told g c = λ honest.
     let honest' = subst g.D.Disk.is_honest (sym is) honest in
     explains c.in-Err.e (contents (g.D.Disk.state c.args.disk))
     (subst (λ d. OpeningRefusal c.in-Err.e (contents (g.D.Disk.state d))) is
-    (c.in-Err.ensures.told honest'))
-    (λ facts list represents. (c.in-Err.ensures.opened facts list honest').whole
+    (c.in-Err.ensures.opens.told honest'))
+    (λ facts list represents. (c.in-Err.ensures.opens.opened facts list honest').whole
     (subst (λ d. FilesRepresent facts list (contents (g.D.Disk.state d))) (sym is) represents))

@@ -1,22 +1,27 @@
-use Rattle.std.proofs.Common.{refl}
-use Rattle.engine.proofs.Engines.{holds_of, reads_on}
+use Rattle.std.proofs.Common.{rules}
+use Rattle.engine.specs.Engines.{IsInMemory}
 use Rattle.engine.proofs.engine.Engine.set_committed.Goals as goal
 
--- the list stays
-pub returns-clause-reads : goal.returns-clause-reads
-returns-clause-reads g c = λ list r.
-    let laws = c.held_files_are_left.ensures in
-    reads_on g.D.Disk laws c.args.self.now _ list (record {
-      store = refl;
-      honest = λ honest. honest;
-      same = λ honest file. refl;
-    }) r.works r
-
-pub returns-clause-holds : goal.returns-clause-holds
-returns-clause-holds g c = λ list h.
-    let laws = c.held_files_are_left.ensures in
-    holds_of g.D.Disk laws _ list (reads_on g.D.Disk laws c.args.self.now _ list (record {
-      store = refl;
-      honest = λ honest. honest;
-      same = λ honest file. refl;
-    }) h.reads.works h.reads)
+-- neither the disk nor the store changes
+pub returns-clause-stays : goal.returns-clause-stays
+unfolding IsInMemory
+returns-clause-stays g c = record {
+  ended = search rules;
+  reads = λ list r. record {
+    honest = r.honest;
+    works = r.works;
+    represents = r.represents;
+    count = r.count;
+    inside = r.inside;
+  };
+  holds = λ list h. record {
+    reads = record {
+      honest = h.reads.honest;
+      works = h.reads.works;
+      represents = h.reads.represents;
+      count = h.reads.count;
+      inside = h.reads.inside;
+    };
+    crash = h.crash;
+  };
+}

@@ -1,5 +1,5 @@
 use Rattle.std.proofs.Common.{◌≡◌, ℕ, ◌+◌, ◌-◌, List, ◌∷◌, drop, sym, ap, subst, ◌∙◌, refl, arith}
-use Rattle.std.proofs.Common.{length, ◌<◌, ◌^◌, true}
+use Rattle.std.proofs.Common.{length, ◌<◌, ◌^◌, rules, true}
 use Rattle.record_log.specs.{IsAt, IsDurableAs}
 use Rattle.disk.specs.{IsLeftAt, LeavesSince}
 use Rattle.manifest.specs.Holds.{slot_behind}
@@ -12,96 +12,105 @@ use Rattle.manifest.proofs.Kept.{behind_fits, disk_fails, fails_disk, kept_as, k
 use Rattle.manifest.proofs.slot_pair.SlotPair.rewrite.Goals as goal
 
 -- nothing was done
-pub returns-in_err-closed-clause-any_moment : goal.returns-in_err-closed-clause-any_moment
-returns-in_err-closed-clause-any_moment g c = λ id records honest h.
-    unmoved (g.D.Disk.state c.args.disk.now) c.args.self.now id records c.args.one.now h
-    (omega (arith, c.requires.short)) c.requires.room (g.D.Disk.past c.args.disk.now)
+pub returns-in_err-closed-clause-changes : goal.returns-in_err-closed-clause-changes
+returns-in_err-closed-clause-changes g c = record {
+  done = search rules;
+  any_moment = λ id records honest h.
+      unmoved (g.D.Disk.state c.args.disk.now) c.args.self.now id records c.args.one.now h
+      (omega (arith, c.requires.short)) c.requires.room (g.D.Disk.past c.args.disk.now);
+}
 
-pub returns-in_err-log-clause-any_moment : goal.returns-in_err-log-clause-any_moment
-returns-in_err-log-clause-any_moment g c = λ id records honest h.
-    unmoved (g.D.Disk.state c.args.disk.now) c.args.self.now id records c.args.one.now h
-    (omega (arith, c.requires.short)) c.requires.room (g.D.Disk.past c.args.disk.now)
+pub returns-in_err-log-clause-changes : goal.returns-in_err-log-clause-changes
+returns-in_err-log-clause-changes g c = record {
+  done = search rules;
+  any_moment = λ id records honest h.
+      unmoved (g.D.Disk.state c.args.disk.now) c.args.self.now id records c.args.one.now h
+      (omega (arith, c.requires.short)) c.requires.room (g.D.Disk.past c.args.disk.now);
+}
 
 -- the other slot is replaced
-pub returns-in_err-replace-clause-any_moment : goal.returns-in_err-replace-clause-any_moment
-returns-in_err-replace-clause-any_moment g c = λ id records honest h.
-    let state = g.D.Disk.state in
-    let past = g.D.Disk.past in
-    let s0 = state c.args.disk.now in
-    let slots = c.args.self.now in
-    let file : c.saturating_sub-other.result ≡ 3 - slots.slot =
-    omega (arith, c.saturating_sub-other.ensures) in
-    let behind : c.split_at.result.1.now ≡ slot_behind
-    (slots.generation + 1) slots.id c.args.one.now =
-    c.split_at.ensures.back ∙ ap (drop 1) (c.deref.ensures.value ∙ c.in_ok-closed.ensures) in
-    let sure = subst (λ (f : ℕ). IsDurableAs s0 f h.other_bytes) (sym file) h.other_sure in
-    either_since s0 slots id records c.args.one.now h (omega (arith, c.requires.short))
-    c.requires.room (state c.replace.new.disk) (past c.args.disk.now) (past c.replace.new.disk)
-    c.saturating_sub-other.result file
-    (subst (λ (b : List ℕ). LeavesSince s0 (past c.args.disk.now) (state c.replace.new.disk)
-    (past c.replace.new.disk) (IsLeftAt s0 c.saturating_sub-other.result
-    (OnTheWay h.other_bytes b)))
-    behind (c.replace.ensures.any_moment h.other_bytes honest sure h.gate))
+pub returns-in_err-replace-clause-changes : goal.returns-in_err-replace-clause-changes
+returns-in_err-replace-clause-changes g c = record {
+  done = search rules;
+  any_moment = λ id records honest h.
+      let state = g.D.Disk.state in
+      let past = g.D.Disk.past in
+      let s0 = state c.args.disk.now in
+      let slots = c.args.self.now in
+      let file : c.saturating_sub-other.result ≡ 3 - slots.slot =
+      omega (arith, c.saturating_sub-other.ensures) in
+      let behind : c.split_at.result.1.now ≡ slot_behind
+      (slots.generation + 1) slots.id c.args.one.now =
+      c.split_at.ensures.back ∙ ap (drop 1) (c.deref.ensures.value ∙ c.in_ok-closed.ensures) in
+      let sure = subst (λ (f : ℕ). IsDurableAs s0 f h.other_bytes) (sym file) h.other_sure in
+      either_since s0 slots id records c.args.one.now h (omega (arith, c.requires.short))
+      c.requires.room (state c.replace.new.disk) (past c.args.disk.now) (past c.replace.new.disk)
+      c.saturating_sub-other.result file
+      (subst (λ (b : List ℕ). LeavesSince s0 (past c.args.disk.now) (state c.replace.new.disk)
+      (past c.replace.new.disk) (IsLeftAt s0 c.saturating_sub-other.result
+      (OnTheWay h.other_bytes b)))
+      behind (c.replace.ensures.any_moment h.other_bytes honest (sure, h.gate)));
+}
 
-pub returns-clause-any_moment : goal.returns-clause-any_moment
-returns-clause-any_moment g c = λ id records honest h.
-    let state = g.D.Disk.state in
-    let past = g.D.Disk.past in
-    let s0 = state c.args.disk.now in
-    let slots = c.args.self.now in
-    let file : c.saturating_sub-other.result ≡ 3 - slots.slot =
-    omega (arith, c.saturating_sub-other.ensures) in
-    let behind : c.split_at.result.1.now ≡ slot_behind
-    (slots.generation + 1) slots.id c.args.one.now =
-    c.split_at.ensures.back ∙ ap (drop 1) (c.deref.ensures.value ∙ c.in_ok-closed.ensures) in
-    let sure = subst (λ (f : ℕ). IsDurableAs s0 f h.other_bytes) (sym file) h.other_sure in
-    either_since s0 slots id records c.args.one.now h (omega (arith, c.requires.short))
-    c.requires.room (state c.replace.new.disk) (past c.args.disk.now) (past c.replace.new.disk)
-    c.saturating_sub-other.result file
-    (subst (λ (b : List ℕ). LeavesSince s0 (past c.args.disk.now) (state c.replace.new.disk)
-    (past c.replace.new.disk) (IsLeftAt s0 c.saturating_sub-other.result
-    (OnTheWay h.other_bytes b)))
-    behind (c.replace.ensures.any_moment h.other_bytes honest sure h.gate))
-
--- and then it counts
-pub returns-clause-rewritten : goal.returns-clause-rewritten
-returns-clause-rewritten g c = λ id records honest h.
-    let state = g.D.Disk.state in
-    let s0 = state c.args.disk.now in
-    let slots = c.args.self.now in
-    let one = c.args.one.now in
-    let short : length one < 2 ^ 32 = omega (arith, c.requires.short) in
-    let file : c.saturating_sub-other.result ≡ 3 - slots.slot =
-    omega (arith, c.saturating_sub-other.ensures) in
-    let whole = slot_behind (slots.generation + 1) slots.id one in
-    let behind : c.split_at.result.1.now ≡ whole =
-    c.split_at.ensures.back ∙ ap (drop 1) (c.deref.ensures.value ∙ c.in_ok-closed.ensures) in
-    let sure = subst (λ (f : ℕ). IsDurableAs s0 f h.other_bytes) (sym file) h.other_sure in
-    let new = state c.replace.new.disk in
-    let done = c.in_ok-replace.ensures.done h.other_bytes honest sure h.gate in
-    let there : IsDurableAs new c.saturating_sub-other.result (1 ∷ whole) =
-    subst (λ (b : List ℕ). IsDurableAs new c.saturating_sub-other.result (1 ∷ b)) behind done.0 in
-    let fits : length (1 ∷ whole) < 2 ^ 63 =
-    subst (λ (b : List ℕ). length (1 ∷ b) < 2 ^ 63) behind (omega (arith, done.1)) in
-    let log = c.in_ok-log.ensures.holds new one refl (record {
-      bytes = 1 ∷ whole;
-      sure = there;
-      within = new_long s0 slots id records one h short c.requires.room;
-      fits = fits;
-      stands = new_stands s0 slots id records one h short c.requires.room;
-    }) in
-    held_new s0 slots id records one h short c.requires.room new
-    (record slots {
-      slot = c.saturating_sub-other.result;
-      generation = slots.generation + 1;
-      other_is_open = true;
-      log = c.in_ok-log.log;
-    })
-    file refl refl refl (subst (λ (f : ℕ). IsAt f 11 c.in_ok-log.log) file c.in_ok-log.ensures.at)
-    log
-    (subst (λ (f : ℕ). IsDurableAs new f (1 ∷ whole)) file there)
-    (c.replace.ensures.kept.files honest slots.slot
-    (λ same. others_differ slots.slot h.one (sym (same ∙ file))))
+pub returns-clause-changes : goal.returns-clause-changes
+returns-clause-changes g c = record {
+  -- and then it counts
+  done = λ id records honest h.
+      let state = g.D.Disk.state in
+      let s0 = state c.args.disk.now in
+      let slots = c.args.self.now in
+      let one = c.args.one.now in
+      let short : length one < 2 ^ 32 = omega (arith, c.requires.short) in
+      let file : c.saturating_sub-other.result ≡ 3 - slots.slot =
+      omega (arith, c.saturating_sub-other.ensures) in
+      let whole = slot_behind (slots.generation + 1) slots.id one in
+      let behind : c.split_at.result.1.now ≡ whole =
+      c.split_at.ensures.back ∙ ap (drop 1) (c.deref.ensures.value ∙ c.in_ok-closed.ensures) in
+      let sure = subst (λ (f : ℕ). IsDurableAs s0 f h.other_bytes) (sym file) h.other_sure in
+      let new = state c.replace.new.disk in
+      let done = c.in_ok-replace.ensures.done h.other_bytes honest (sure, h.gate) in
+      let there : IsDurableAs new c.saturating_sub-other.result (1 ∷ whole) =
+      subst (λ (b : List ℕ). IsDurableAs new c.saturating_sub-other.result (1 ∷ b)) behind done.0 in
+      let fits : length (1 ∷ whole) < 2 ^ 63 =
+      subst (λ (b : List ℕ). length (1 ∷ b) < 2 ^ 63) behind (omega (arith, done.1)) in
+      let log = c.in_ok-log.ensures.holds new one refl (record {
+        bytes = 1 ∷ whole;
+        sure = there;
+        within = new_long s0 slots id records one h short c.requires.room;
+        fits = fits;
+        stands = new_stands s0 slots id records one h short c.requires.room;
+      }) in
+      held_new s0 slots id records one h short c.requires.room new
+      (record slots {
+        slot = c.saturating_sub-other.result;
+        generation = slots.generation + 1;
+        other_is_open = true;
+        log = c.in_ok-log.log;
+      })
+      file refl refl refl (subst (λ (f : ℕ). IsAt f 11 c.in_ok-log.log) file c.in_ok-log.ensures.at)
+      log
+      (subst (λ (f : ℕ). IsDurableAs new f (1 ∷ whole)) file there)
+      (c.replace.ensures.kept.files honest slots.slot
+      (λ same. others_differ slots.slot h.one (sym (same ∙ file))));
+  any_moment = λ id records honest h.
+      let state = g.D.Disk.state in
+      let past = g.D.Disk.past in
+      let s0 = state c.args.disk.now in
+      let slots = c.args.self.now in
+      let file : c.saturating_sub-other.result ≡ 3 - slots.slot =
+      omega (arith, c.saturating_sub-other.ensures) in
+      let behind : c.split_at.result.1.now ≡ slot_behind
+      (slots.generation + 1) slots.id c.args.one.now =
+      c.split_at.ensures.back ∙ ap (drop 1) (c.deref.ensures.value ∙ c.in_ok-closed.ensures) in
+      let sure = subst (λ (f : ℕ). IsDurableAs s0 f h.other_bytes) (sym file) h.other_sure in
+      either_since s0 slots id records c.args.one.now h (omega (arith, c.requires.short))
+      c.requires.room (state c.replace.new.disk) (past c.args.disk.now) (past c.replace.new.disk)
+      c.saturating_sub-other.result file
+      (subst (λ (b : List ℕ). LeavesSince s0 (past c.args.disk.now) (state c.replace.new.disk)
+      (past c.replace.new.disk) (IsLeftAt s0 c.saturating_sub-other.result
+      (OnTheWay h.other_bytes b)))
+      behind (c.replace.ensures.any_moment h.other_bytes honest (sure, h.gate)));
+}
 
 -- the disk is untouched before the other slot is written
 pub returns-in_err-closed-clause-kept : goal.returns-in_err-closed-clause-kept

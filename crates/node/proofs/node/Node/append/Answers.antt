@@ -30,7 +30,7 @@ returns-in_err-append g c =
       kept = record {
         disk = kept_but g.D.Disk (λ full. inl full)
             (kept_as g.D.Disk (stop_passed c.append.result e result c.in_err-append.was
-            c.from_residual.ensures.1) (λ a b kept. tt) c.append.ensures.keeps.disk);
+            c.from_residual.ensures.1) (λ a b kept. tt) c.append.ensures.changes.keeps.disk);
         works = rw (err_from_is_err_and result c.from_residual.ensures.1).1 tt;
         limits = ap (λ (l : LookUps). l.limits) c.in_err-append.ensures.told;
       };
@@ -39,13 +39,13 @@ returns-in_err-append g c =
           let leaves = c.steps_leave.ensures x n batch c.args.done in
           let p = err_from_is_err_and result c.from_residual.ensures.1 in
           let why = append_env e (look_ups old.engine).count
-          (c.in_err-append.ensures.met n.list r.store.reads)
+          (c.in_err-append.ensures.met.reads n.list r.store.reads)
           (omega (arith, c.requires.room, c.requires.may.count)) in
           ends_stopped g.D.Disk old _ x n a _ result p.0 p.1
           (subst IsEnvironmental (sym p.2) (env_of e why))
-          (c.append.ensures.keeps.disk.honest.1 r.honest)
+          (c.append.ensures.changes.keeps.disk.honest.1 r.honest)
           (appends g.D.Disk old (engine_disk c.append.new.self) x n batch c.args.done a leaves
-          c.requires.done r (c.append.ensures.any_moment n.list r.store));
+          c.requires.done r (c.append.ensures.changes.any_moment n.list r.store));
     }
 
 -- the batch is durable, and memory ran out
@@ -59,7 +59,7 @@ returns-in_err-due g c =
       kept = record {
         disk = kept_but g.D.Disk (λ full. inl full)
             (kept_as g.D.Disk (neither (answered c.append.result c.in_ok-append.was)
-            (memory_told result err)) (λ a b kept. tt) c.append.ensures.keeps.disk);
+            (memory_told result err)) (λ a b kept. tt) c.append.ensures.changes.keeps.disk);
         works = rw (err_from_is_err_and result err).1 tt;
         limits = ap (λ (l : LookUps). l.limits) c.in_ok-append.ensures.told.0;
       };
@@ -68,9 +68,9 @@ returns-in_err-due g c =
           let leaves = c.steps_leave.ensures x n batch c.args.done in
           let p = err_from_is_err_and result err in
           ends_stopped g.D.Disk old _ x n a _ result p.0 p.1 (inr p.2)
-          (c.append.ensures.keeps.disk.honest.1 r.honest)
+          (c.append.ensures.changes.keeps.disk.honest.1 r.honest)
           (appends g.D.Disk old (engine_disk c.append.new.self) x n batch c.args.done a leaves
-          c.requires.done r (c.append.ensures.any_moment n.list r.store));
+          c.requires.done r (c.append.ensures.changes.any_moment n.list r.store));
     }
 
 -- no fewer batches are committed, and no more than there are
@@ -109,10 +109,10 @@ returns g c =
             (kept_but g.D.Disk (λ full. inl full)
             (kept_as g.D.Disk (neither (answered c.append.result c.in_ok-append.was)
             (only_memory result c.output_of_append.ensures.memory)) (λ a b kept. tt)
-            c.append.ensures.keeps.disk));
+            c.append.ensures.changes.keeps.disk));
         works = on_ok result (record {
-          works = λ ended. still_works c.in_ok-append.ensures.keeps.ends may.works
-              (c.set_committed.ensures.ended.0 ended);
+          works = λ ended. still_works c.in_ok-append.ensures.changes.keeps.ends may.works
+              (c.set_committed.ensures.stays.ended.0 ended);
           count = counts_appended law old.core new d replies c.requires.done after
               ∙ ap (λ (k : ℕ). k + 1) may.count ∙ sym (ap (λ (l : LookUps). l.count) told)
               ∙ sym (ap (λ (l : LookUps). l.count) known);
@@ -137,16 +137,16 @@ returns g c =
           let leaves = c.steps_leave.ensures x n batch d in
           let follows = subst (λ (y : ℕ). core.CoreFollows new (done_of y n batch d) replies) r.id
           (after n batch r.core) in
-          let holds = (c.in_ok-append.ensures.appended n.list).holds r.store in
+          let holds = (c.in_ok-append.ensures.changes.list n.list).holds r.store in
           let facts = ap (λ (l : LookUps). l.facts) known ∙ ap (λ (l : LookUps). l.facts) told in
           let runs = goes_on g.D.Disk old _ x n batch d a leaves r
           (list_after_is g.D.Disk c.set_committed.new.self n batch d has
-          (c.set_committed.ensures.holds (n.list ++ batch ∷ []) holds)) facts follows.is
+          (c.set_committed.ensures.stays.holds (n.list ++ batch ∷ []) holds)) facts follows.is
           (c.in_ok-due.ensures.same ∙ r.id) in
           let moments = subst (λ disk. AlwaysRefines g.D.Disk (disk_of old) disk x n a.node)
           (sym c.set_committed.ensures.disk)
           (appends g.D.Disk old (engine_disk c.append.new.self) x n batch d a leaves has r
-          (c.append.ensures.any_moment n.list r.store)) in
+          (c.append.ensures.changes.any_moment n.list r.store)) in
           let number : new.count ≡ suc (length n.list) =
           sym follows.is.count ∙ number_taken x n batch d a leaves has in
           let there = taken_stands c.stands_last.ensures x n batch d a new.count leaves has number

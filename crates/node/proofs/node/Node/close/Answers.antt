@@ -18,15 +18,15 @@ returns-in_err-close_snapshot g c =
     c.requires.open in
     absurd (close_refuses (Unit {0}) (look_ups c.args.self.now.engine) c.args.number
     c.in_err-close_snapshot.field-0.0 known.closed
-    (λ is. may.works (known.keeps.closed.0 (ap (λ d. Err d) is))) there)
+    (λ is. may.works (known.changes.keeps.closed.0 (ap (λ d. Err d) is))) there)
 
 -- it is closed in the store, and memory ran out
 pub returns-in_err-after : goal.returns-in_err-after
 returns-in_err-after g c =
-    stopped_for_memory g.D.Disk c.args.self.now _ c.close_snapshot.ensures.disk _
+    stopped_for_memory g.D.Disk c.args.self.now _ c.close_snapshot.ensures.changes.disk _
     c.from_residual-in_err-after.result
     (λ x n. remove_snapshot n c.args.request c.args.number)
-    (ap (λ (l : LookUps). l.limits) c.in_ok-close_snapshot.ensures.told)
+    (ap (λ (l : LookUps). l.limits) c.in_ok-close_snapshot.ensures.changes.told)
     c.from_residual-in_err-after.ensures.1
 
 -- it is closed in the store and in the state
@@ -36,11 +36,12 @@ returns g c =
     let i = c.args.request in
     let s = c.args.number in
     let known = c.in_ok-close_snapshot.ensures in
-    snapshots_changed g.D.Disk c.args.self.now _ c.close_snapshot.ensures.disk _ c.replying.result
+    snapshots_changed g.D.Disk c.args.self.now _ c.close_snapshot.ensures.changes.disk _
+    c.replying.result
     c.steps_leave.ensures (done.Closed i s) (λ (l : List ℕ). without s l)
     (Closed i s ∷ committed_responses c.in_ok-after.field-0.items) may
     (record { list = λ n. refl; snapshots = λ n. refl; committed = λ x n. refl })
     c.in_ok-after.ensures.after c.in_ok-after.ensures.same
-    (λ ended. still_works known.keeps.ends may.works ended) known.told
-    (λ list. (known.kept list).holds) (λ x n input. c.replying.ensures.said)
+    (λ ended. still_works known.changes.keeps.ends may.works ended) known.changes.told
+    (λ list. (known.changes.kept list).holds) (λ x n input. c.replying.ensures.said)
     c.replying.ensures.refused

@@ -68,7 +68,7 @@ returns-clause-followed g c = record {
         let snapshots = snapshots_left law old new d replies after in
         let told = c.set_committed.ensures.told in
         on_ok c.output_of.result (record {
-          works = λ ended. may.works (c.set_committed.ensures.ended.0 ended);
+          works = λ ended. may.works (c.set_committed.ensures.stays.ended.0 ended);
           count = count ∙ may.count ∙ sym (ap (λ (l : LookUps). l.count) told);
           floor = floor ∙ may.floor ∙ sym (ap (λ (l : LookUps). l.facts.floor) told);
           kept = kept ∙ may.kept ∙ sym (ap (λ (l : LookUps). l.facts.kept) told);
@@ -87,7 +87,7 @@ returns-clause-followed g c = record {
       core.CoreFollows c.after.new.self (done_of y n [] d) (committed_responses due)) r.id
       (c.in_ok-due.ensures.after n [] r.core) in
       let runs = goes_on g.D.Disk old _ x n [] d a leaves r
-      (c.set_committed.ensures.holds n.list r.store)
+      (c.set_committed.ensures.stays.holds n.list r.store)
       (ap (λ (l : LookUps). l.facts) c.set_committed.ensures.told) follows.is
       (c.in_ok-due.ensures.same ∙ r.id) in
       let told : Bool → List (Message BatchContent) = λ acks. if acks then ack x a.node else [] in

@@ -25,19 +25,20 @@ returns-in_err-open_snapshot g c =
     ) in
     let why = open_memory (Unit {0}) (look_ups c.args.self.now.engine) c.args.number
     c.in_err-open_snapshot.field-0.0 known.opened
-    (λ is. may.works (known.keeps.closed.0 (ap (λ d. Err d) is))) can in
-    stopped_for_memory g.D.Disk c.args.self.now _ c.open_snapshot.ensures.disk _ result
-    (λ x n. add_snapshot n c.args.request c.args.number) (ap (λ (l : LookUps). l.limits) known.told)
+    (λ is. may.works (known.changes.keeps.closed.0 (ap (λ d. Err d) is))) can in
+    stopped_for_memory g.D.Disk c.args.self.now _ c.open_snapshot.ensures.changes.disk _ result
+    (λ x n. add_snapshot n c.args.request c.args.number)
+    (ap (λ (l : LookUps). l.limits) known.changes.told)
     (subst (λ (d : EngineError). IsErrAnd result (λ s. s ≡ engine_stop d)) why
     c.from_residual.ensures.1)
 
 -- it is open in the store, and memory ran out
 pub returns-in_err-after : goal.returns-in_err-after
 returns-in_err-after g c =
-    stopped_for_memory g.D.Disk c.args.self.now _ c.open_snapshot.ensures.disk _
+    stopped_for_memory g.D.Disk c.args.self.now _ c.open_snapshot.ensures.changes.disk _
     c.from_residual-in_err-after.result
     (λ x n. add_snapshot n c.args.request c.args.number)
-    (ap (λ (l : LookUps). l.limits) c.in_ok-open_snapshot.ensures.told)
+    (ap (λ (l : LookUps). l.limits) c.in_ok-open_snapshot.ensures.changes.told)
     c.from_residual-in_err-after.ensures.1
 
 -- it is open in the store and in the state
@@ -47,11 +48,12 @@ returns g c =
     let i = c.args.request in
     let s = c.args.number in
     let known = c.in_ok-open_snapshot.ensures in
-    snapshots_changed g.D.Disk c.args.self.now _ c.open_snapshot.ensures.disk _ c.replying.result
+    snapshots_changed g.D.Disk c.args.self.now _ c.open_snapshot.ensures.changes.disk _
+    c.replying.result
     c.steps_leave.ensures (done.Opened i s) (λ (l : List ℕ). s ∷ l)
     (Opened i s ∷ committed_responses c.in_ok-after.field-0.items) may
     (record { list = λ n. refl; snapshots = λ n. refl; committed = λ x n. refl })
     c.in_ok-after.ensures.after c.in_ok-after.ensures.same
-    (λ ended. still_works known.keeps.ends may.works ended) known.told
-    (λ list. (known.kept list).holds) (λ x n input. c.replying.ensures.said)
+    (λ ended. still_works known.changes.keeps.ends may.works ended) known.changes.told
+    (λ list. (known.changes.kept list).holds) (λ x n input. c.replying.ensures.said)
     c.replying.ensures.refused

@@ -13,11 +13,11 @@ returns-in_err-value g c =
     let request = c.args.request in
     let at = c.args.at in
     read_refused g.D.Disk c.args.self.now c.get.new.self c.get.result c.requires
-    c.get.ensures.keeps c.get.ensures.told c.get.ensures.still
+    c.get.ensures.reads.keeps c.get.ensures.reads.told c.get.ensures.reads.still
     (λ n input. IsReadOf n input (decision.Read request c.args.key at)) request at
     c.in_err-value.field-0.0 c.from_residual.result c.in_err-value.was c.from_residual.ensures.1
-    known.readable (λ is. c.requires.works (known.keeps.closed.0 (ap (λ d. Err d) is)))
-    (λ list reads is. (known.found list reads).1 (ap (λ d. Err d) is))
+    known.readable (λ is. c.requires.works (known.reads.keeps.closed.0 (ap (λ d. Err d) is)))
+    (λ list reads is. known.intact list reads (ap (λ d. Err d) is))
     (λ n input read. readable n input request at c.args.key read)
 
 -- the value of the key is shown
@@ -28,11 +28,11 @@ returns g c =
     let at = c.args.at in
     let result = c.value_output.result in
     read_answered g.D.Disk c.args.self.now c.get.new.self c.get.result c.requires
-    c.get.ensures.keeps c.get.ensures.told c.get.ensures.still
+    c.get.ensures.reads.keeps c.get.ensures.reads.told c.get.ensures.reads.still
     (λ n input. IsReadOf n input (decision.Read request c.args.key at)) request at
     c.in_ok-value.value result c.in_ok-value.was
-    (λ ended. still_works known.keeps.ends c.requires.works ended)
-    (λ list. (known.kept list).holds)
+    (λ ended. still_works known.reads.keeps.ends c.requires.works ended)
+    (λ list. (known.reads.kept list).holds)
     (λ n input read reads. tells_read n input request at c.args.key result read
-    (λ number. c.value_output.ensures.tells n c.args.key number (known.found n.list reads).0))
+    (λ number. c.value_output.ensures.tells n c.args.key number (known.found.reads n.list reads)))
     c.value_output.ensures.memory

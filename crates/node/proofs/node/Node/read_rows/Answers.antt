@@ -13,11 +13,11 @@ returns-in_err-page g c =
     let request = c.args.request in
     let at = c.args.at in
     read_refused g.D.Disk c.args.self.now c.rows.new.self c.rows.result c.requires
-    c.rows.ensures.keeps c.rows.ensures.told c.rows.ensures.still
+    c.rows.ensures.reads.keeps c.rows.ensures.reads.told c.rows.ensures.reads.still
     (λ n input. IsReadOf n input (decision.ReadRows request c.args.range at)) request at
     c.in_err-page.field-0.0 c.from_residual.result c.in_err-page.was c.from_residual.ensures.1
-    known.readable (λ is. c.requires.works (known.keeps.closed.0 (ap (λ d. Err d) is)))
-    (λ list reads is. (known.found list reads).1 (ap (λ d. Err d) is))
+    known.readable (λ is. c.requires.works (known.reads.keeps.closed.0 (ap (λ d. Err d) is)))
+    (λ list reads is. known.intact list reads (ap (λ d. Err d) is))
     (λ n input read. rows_readable n input request at c.args.range read)
 
 -- the page of the range is shown
@@ -28,11 +28,11 @@ returns g c =
     let at = c.args.at in
     let result = c.page_output.result in
     read_answered g.D.Disk c.args.self.now c.rows.new.self c.rows.result c.requires
-    c.rows.ensures.keeps c.rows.ensures.told c.rows.ensures.still
+    c.rows.ensures.reads.keeps c.rows.ensures.reads.told c.rows.ensures.reads.still
     (λ n input. IsReadOf n input (decision.ReadRows request c.args.range at)) request at
     c.in_ok-page.page result c.in_ok-page.was
-    (λ ended. still_works known.keeps.ends c.requires.works ended)
-    (λ list. (known.kept list).holds)
+    (λ ended. still_works known.reads.keeps.ends c.requires.works ended)
+    (λ list. (known.reads.kept list).holds)
     (λ n input read reads. tells_rows n input request at c.args.range result read
-    (λ number. c.page_output.ensures.tells n c.args.range number (known.found n.list reads).0))
+    (λ number. c.page_output.ensures.tells n c.args.range number (known.found.reads n.list reads)))
     c.page_output.ensures.memory

@@ -7,7 +7,7 @@ use Rattle.program.proofs.text.printing.print_step.Goals as goal
 pub loop-line-preserved : goal.loop-line-preserved
 loop-line-preserved g c =
     prints_next (g.W.Write.contents c.args.out.now) (g.W.Write.contents c.loop-line.out) _
-    (line_output c.args.events.now c.args.here) c.args.step.now c.loop-line.line-index _
+    (line_output c.args.places.now c.args.here) c.args.step.now c.loop-line.line-index _
     c.line-item.result c.loop-line-test.true c.line-item.is c.loop-line.invariant
     c.in_ok-print_line.ensures
 

@@ -7,4 +7,4 @@ use Rattle.program.proofs.text.printing.print_step.Given as goal
 abbrev pub invariant-loop-line : goal.invariant-loop-line
 invariant-loop-line g l =
     Appends (g.W.Write.contents l.fn.out) (g.W.Write.contents l.out) (flat_map
-    (line_output l.events l.here) (take l.line-index l.step))
+    (line_output l.places l.here) (take l.line-index l.step))

@@ -7,4 +7,4 @@ use Rattle.program.proofs.text.printing.print_steps.Given as goal
 abbrev pub invariant-loop-step : goal.invariant-loop-step
 invariant-loop-step g l =
     Appends (g.W.Write.contents l.fn.out) (g.W.Write.contents l.out) (flat_map
-    (step_text l.events l.here) (take l.step-index l.steps))
+    (step_text l.places l.here) (take l.step-index l.steps))

@@ -1,4 +1,4 @@
-use Rattle.std.proofs.Common.{◌≡◌, ℕ, List, [], ◌∙◌, ap, refl, subst, sym}
+use Rattle.std.proofs.Common.{◌≡◌, ℕ, List, [], ◌∙◌, ap, refl, subst, sym, rules}
 use Rattle.disk.specs.{contents}
 use Rattle.record_log.specs.{LogHolds}
 use Rattle.manifest.specs.declared.TableLine.{TableLine}
@@ -27,11 +27,14 @@ returns-in_err-tables-clause-created g c = λ honest.
     c.from_residual-in_err-tables.ensures.1 (c.in_err-tables.ensures.opened [] honest3 read)
 
 -- the new log has no batch
-pub returns-clause-none : goal.returns-clause-none
-returns-clause-none g c =
-    counts_none c.new-logs.result (record { first = 1; log = c.in_ok-log.log })
-    (record { older = c.new-logs.ensures.alone.0; newest = c.new-logs.ensures.alone.1 }) refl
-    c.in_ok-log.ensures.empty.1
+pub returns-clause-begun : goal.returns-clause-begun
+returns-clause-begun g c = record {
+  facts = search rules;
+  none = counts_none c.new-logs.result (record { first = 1; log = c.in_ok-log.log })
+      (record { older = c.new-logs.ensures.alone.0; newest = c.new-logs.ensures.alone.1 }) refl
+      c.in_ok-log.ensures.empty.1;
+  usable = search rules;
+}
 
 -- a new log and a new manifest, and no other file
 pub returns-clause-created : goal.returns-clause-created

@@ -1,4 +1,4 @@
-use Rattle.std.proofs.Common.{◌≤◌, ℕ, List, Option, subst}
+use Rattle.std.proofs.Common.{◌≤◌, ℕ, List, Option, subst, rules}
 use Rattle.disk.specs.{contents}
 use Rattle.disk.specs.StillLemmas.{still}
 use Rattle.memtable.specs.{TableHolds}
@@ -11,13 +11,21 @@ use Rattle.store_files.proofs.Meant.{own_blocks, zip_was}
 use Rattle.store_files.proofs.store_files.StoreFiles.get.Goals as goal
 
 -- no call of the disk
-pub returns-in_err-value-clause-still : goal.returns-in_err-value-clause-still
-returns-in_err-value-clause-still g c = λ honest.
-    still (g.D.Disk.state c.args.files.now.disk) (g.D.Disk.past c.args.files.now.disk)
+pub returns-in_err-value-clause-reads : goal.returns-in_err-value-clause-reads
+returns-in_err-value-clause-reads g c = record {
+  kept = search rules;
+  causes = search rules;
+  still = λ honest.
+      still (g.D.Disk.state c.args.files.now.disk) (g.D.Disk.past c.args.files.now.disk);
+}
 
-pub returns-in-Some-clause-still : goal.returns-in-Some-clause-still
-returns-in-Some-clause-still g c = λ honest.
-    still (g.D.Disk.state c.args.files.now.disk) (g.D.Disk.past c.args.files.now.disk)
+pub returns-in-Some-clause-reads : goal.returns-in-Some-clause-reads
+returns-in-Some-clause-reads g c = record {
+  kept = search rules;
+  causes = search rules;
+  still = λ honest.
+      still (g.D.Disk.state c.args.files.now.disk) (g.D.Disk.past c.args.files.now.disk);
+}
 
 -- what memory has is what the map has
 pub returns-in-Some-clause-found : goal.returns-in-Some-clause-found

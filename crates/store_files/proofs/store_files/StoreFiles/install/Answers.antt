@@ -1,19 +1,16 @@
-use Rattle.std.proofs.Common.{◌≡◌, ◌+◌, ◌-◌, ℕ, List, ap, drop, inr, refl, subst, suc, sym, ◌∙◌}
-use Rattle.kv_types.specs.{BatchContent, Entry}
-use Rattle.disk.specs.{AlwaysLeaves}
+use Rattle.std.proofs.Common.{◌+◌, ◌-◌, ℕ, ap, drop, inr, refl, subst, suc, sym, ◌∙◌}
+use Rattle.kv_types.specs.{Entry}
 use Rattle.manifest.specs.declared.TableLine.{TableLine}
-use Rattle.manifest.specs.{IsFit, ManifestHolds, NodeVersion}
+use Rattle.manifest.specs.{IsFit, NodeVersion}
 use Rattle.memtable.specs.declared.Memtable.{Memtable}
 use Rattle.memtable.specs.{HasFailedAdd, TableHolds}
 use Rattle.sorted_table.specs.{as_meant_itself, index_lines, table_file}
 use Rattle.store_files.specs.declared.store_files.StoreFiles.{StoreFiles}
-use Rattle.store_files.specs.BatchLogs.{LogsHold}
 use Rattle.store_tables.specs.Errors.{IsEnd, IsEngineExternal}
 use Rattle.store_tables.specs.KeepingLemmas.{answered, kept_as, kept_behind, kept_but, neither}
 use Rattle.store_tables.specs.LevelTables.{table_lines, with_flushed, with_flushed_line}
-use Rattle.store_files.specs.OpenFiles.{batch_count, known_facts, known_version, trimmed_count}
-use Rattle.store_files.specs.StoreFiles.{FilesRepresent, WereMeant, flush_change}
-use Rattle.store_files.specs.Tending.{HeldAndSpilled, IsSameBeside, MeantAndSpilled, tended_files}
+use Rattle.store_files.specs.OpenFiles.{batch_count, known_version, trimmed_count}
+use Rattle.store_files.specs.StoreFiles.{flush_change}
 use Rattle.store_files.proofs.Appended.{first_same}
 use Rattle.store_tables.specs.RefusalLemmas.{refuses}
 use Rattle.store_files.proofs.FlushVersions.{beside_new, count_kept, edit_is, flush_by}
@@ -149,11 +146,11 @@ returns-in-Err g c =
           (answered c.begin.result c.in_ok-begin.was) (kept_but g.D.Disk
           (λ room. c.slots_reach_gates.ensures.full files.manifest c.in_ok-edit.edit fits fit.1
           room) (kept_as g.D.Disk (edit_failed c.in-Err.e _ why) (λ a b same. same)
-          c.in-Err.ensures.kept));
+          c.in-Err.ensures.changes.kept));
       touches = λ honest. beside_both files s1 s2 s3
           (log_alone files s1 s2 (files.free_file + 1) refl (c.begin.ensures.kept.files honest))
           (counting_alone files s2 s3
-          (c.record.ensures.kept.files (c.begin.ensures.kept.honest.1 honest)));
+          (c.record.ensures.changes.kept.files (c.begin.ensures.kept.honest.1 honest)));
       numbers = (
         ap (λ (n : ℕ). n - 1) begun.1,
         facts_same files (record files { manifest = c.record.new.self; logs = c.begin.new.self })
@@ -172,10 +169,10 @@ returns-in-Err g c =
           manifest_begun so s1 list table hs s2 spares logs begun.2 began keeps stays in
           record {
             list = subst IsEngineExternal (sym why) (edit_is_external c.in-Err.e
-                (c.in-Err.ensures.recorded (known_version files) honest2 held));
+                (c.in-Err.ensures.changes.changed (known_version files) honest2 held));
             any_moment = edit_is_recorded so s1 list table hs s2 spares logs begun.2 began
                 keeps law left stays edits p1 p2 p3 s3 (c.begin.ensures.any_moment honest)
-                (c.record.ensures.any_moment (known_version files) honest2 held);
+                (c.record.ensures.changes.any_moment (known_version files) honest2 held);
           };
       meant = λ list honest ms.
           let spares = c.begin.ensures.kept.files honest in
@@ -187,10 +184,10 @@ returns-in-Err g c =
           manifest_was_begun so s1 list table ms s2 spares logs begun.2 began keeps stays in
           record {
             list = subst IsEngineExternal (sym why) (edit_is_external c.in-Err.e
-                (c.in-Err.ensures.recorded (known_version files) honest2 held));
+                (c.in-Err.ensures.changes.changed (known_version files) honest2 held));
             any_moment = edit_was_recorded so s1 list table ms s2 spares logs begun.2 began
                 keeps law left stays edits p1 p2 p3 s3 (c.begin.ensures.any_moment honest)
-                (c.record.ensures.any_moment (known_version files) honest2 held);
+                (c.record.ensures.changes.any_moment (known_version files) honest2 held);
           };
     }
 
@@ -233,11 +230,11 @@ returns-in_err-add g c =
           (answered c.begin.result c.in_ok-begin.was) (kept_but g.D.Disk
           (λ room. c.slots_reach_gates.ensures.full files.manifest c.in_ok-edit.edit fits fit.1
           room) (kept_as g.D.Disk (neither (λ f. absurd cc) (refused_device result told memory))
-          (λ a b same. same) c.in_default.ensures.kept));
+          (λ a b same. same) c.in_default.ensures.changes.kept));
       touches = λ honest. beside_both files s1 s2 s3
           (log_alone files s1 s2 (files.free_file + 1) refl (c.begin.ensures.kept.files honest))
           (counting_alone files s2 s3
-          (c.record.ensures.kept.files (c.begin.ensures.kept.honest.1 honest)));
+          (c.record.ensures.changes.kept.files (c.begin.ensures.kept.honest.1 honest)));
       numbers = (
         count_kept so new c.in_default.ensures.told.0 begun.2 begun.1,
         facts_kept so new c.in_default.ensures.told.0 begun.2,
@@ -256,7 +253,7 @@ returns-in_err-add g c =
             list = refuses result _ IsEngineExternal told (inr memory);
             any_moment = edit_is_recorded so s1 list table hs s2 spares logs begun.2 began
                 keeps law left stays edits p1 p2 p3 s3 (c.begin.ensures.any_moment honest)
-                (c.record.ensures.any_moment (known_version files) honest2 held);
+                (c.record.ensures.changes.any_moment (known_version files) honest2 held);
           };
       meant = λ list honest ms.
           let spares = c.begin.ensures.kept.files honest in
@@ -270,7 +267,7 @@ returns-in_err-add g c =
             list = refuses result _ IsEngineExternal told (inr memory);
             any_moment = edit_was_recorded so s1 list table ms s2 spares logs begun.2 began
                 keeps law left stays edits p1 p2 p3 s3 (c.begin.ensures.any_moment honest)
-                (c.record.ensures.any_moment (known_version files) honest2 held);
+                (c.record.ensures.changes.any_moment (known_version files) honest2 held);
           };
     }
 
@@ -322,11 +319,11 @@ returns g c =
           (answered c.begin.result c.in_ok-begin.was) (kept_but g.D.Disk
           (λ room. c.slots_reach_gates.ensures.full files.manifest c.in_ok-edit.edit fits fit.1
           room) (kept_as g.D.Disk (neither (λ f. absurd cc) (λ f. absurd cc))
-          (λ a b same. same) c.in_default.ensures.kept));
+          (λ a b same. same) c.in_default.ensures.changes.kept));
       touches = λ honest. beside_both files s1 s2 s3
           (log_alone files s1 s2 (files.free_file + 1) refl (c.begin.ensures.kept.files honest))
           (counting_alone files s2 s3
-          (c.record.ensures.kept.files (c.begin.ensures.kept.honest.1 honest)));
+          (c.record.ensures.changes.kept.files (c.begin.ensures.kept.honest.1 honest)));
       numbers = (
         count_kept so new c.in_default.ensures.told.0 begun.2 begun.1,
         facts_kept so new c.in_default.ensures.told.0 begun.2,
@@ -346,12 +343,12 @@ returns g c =
           manifest_begun so s1 list table hs s2 spares logs begun.2 began keeps stays in
           let slot = (c.manifest_has_slots.ensures s2 files.manifest (known_version files) held).0
           in
-          let same = c.record.ensures.kept.files honest2 in
+          let same = c.record.ensures.changes.kept.files honest2 in
           record {
             list = installed_holds so s1 list c.args.made.table hs s2 spares logs
                 begun.2 began keeps s3 _ slot
                 same edits new refl c.in_default.ensures.told.0 begun.1 usable
-                (c.in_default.ensures.recorded (known_version files) honest2 held)
+                (c.in_default.ensures.changes.changed (known_version files) honest2 held)
                 (zip_serves s3 s3 c.add.new.self.tables.items
                 (with_flushed hs.held.known.tables hs.spilled.written.table)
                 (c.in_ok-add.ensures.added s3 s3 hs.held.known.tables hs.spilled.written.table
@@ -368,7 +365,7 @@ returns g c =
                 }))) empty;
             any_moment = edit_is_recorded so s1 list table hs s2 spares logs begun.2 began
                 keeps law left stays edits p1 p2 p3 s3 (c.begin.ensures.any_moment honest)
-                (c.record.ensures.any_moment (known_version files) honest2 held);
+                (c.record.ensures.changes.any_moment (known_version files) honest2 held);
           };
       meant = λ list honest ms.
           let spares = c.begin.ensures.kept.files honest in
@@ -380,7 +377,7 @@ returns g c =
           manifest_was_begun so s1 list table ms s2 spares logs begun.2 began keeps stays in
           let slot = (c.manifest_has_slots.ensures s2 files.manifest (known_version files) held).0
           in
-          let same = c.record.ensures.kept.files honest2 in
+          let same = c.record.ensures.changes.kept.files honest2 in
           let served = all_served so s1 list c.args.made.table ms s2 spares logs begun.2
           began keeps s3 _ slot
           same in
@@ -390,11 +387,11 @@ returns g c =
             list = installed_as_meant so s1 list c.args.made.table ms s2 spares logs
                 begun.2 began keeps s3 _
                 slot same edits stays new refl c.in_default.ensures.told.0 begun.1 usable
-                (c.in_default.ensures.recorded (known_version files) honest2 held)
+                (c.in_default.ensures.changes.changed (known_version files) honest2 held)
                 (c.in_ok-add.ensures.added s3 mended ms.meant.hold.known.tables
                 ms.spilled.written.table served.0 served.1) empty;
             any_moment = edit_was_recorded so s1 list table ms s2 spares logs begun.2 began
                 keeps law left stays edits p1 p2 p3 s3 (c.begin.ensures.any_moment honest)
-                (c.record.ensures.any_moment (known_version files) honest2 held);
+                (c.record.ensures.changes.any_moment (known_version files) honest2 held);
           };
     }

@@ -1,49 +1,111 @@
-use Rattle.std.proofs.Common.{◌∙◌, ℕ, List, ap, subst}
+use Rattle.std.proofs.Common.{◌∙◌, ℕ, List, ap, inl, inr, refl, subst, sym, rules}
 use Rattle.manifest.specs.{NodeVersion}
 use Rattle.store_tables.specs.Errors.{IsEngineExternal}
+use Rattle.store_tables.specs.KeepingLemmas.{answered, kept_as, kept_behind, neither}
+use Rattle.store_tables.specs.declared.error.EngineError.{EngineError}
+use Rattle.store_files.specs.OpenFiles.{AreUsableFiles, FilesOpenAs, OpeningRefusal}
 use Rattle.store_files.specs.Openings.{kept_files}
-use Rattle.disk.specs.{seen}
+use Rattle.disk.specs.{Contents, contents, seen}
 use Rattle.store_files.specs.Settling.{AreSwept, IsReadAlike}
 use Rattle.store_files.specs.StoreFiles.{IsOneOf, WereOneOf}
-use Rattle.store_tables.specs.RefusalLemmas.{answers_nothing, if_refuses, refuses}
+use Rattle.store_tables.specs.RefusalLemmas.{answers_nothing, done, if_refuses, lacks_memory}
+use Rattle.store_tables.specs.RefusalLemmas.{passed_on, refuses}
 use Rattle.store_files.proofs.StillFiles.{settled_as, still_keeps}
 use Rattle.store_files.proofs.MeantOpenings.{settled_as_meant}
 use Rattle.store_files.proofs.OpenMoments.{settling_keeps_each}
 use Rattle.store_files.proofs.store_files.StoreFiles.open.Goals as goal
 
 -- the files that are read are those that the disk represents
-pub returns-in_err-files-clause-opened : goal.returns-in_err-files-clause-opened
-returns-in_err-files-clause-opened g c = λ facts list honest. record {
-  whole = λ represents. refuses c.from_residual.result _ IsEngineExternal
-      c.from_residual.ensures.1
-      ((c.in_err-files.ensures.opened facts list honest).whole represents);
-  meant = λ were. answers_nothing c.from_residual.result _ _ c.from_residual.ensures.1;
+pub returns-in_err-files-clause-opens : goal.returns-in_err-files-clause-opens
+returns-in_err-files-clause-opens g c = record {
+  kept = search rules;
+  opened = λ facts list honest. record {
+    whole = λ represents. refuses c.from_residual.result _ IsEngineExternal
+        c.from_residual.ensures.1
+        ((c.in_err-files.ensures.opens.opened facts list honest).whole represents);
+    meant = λ were. answers_nothing c.from_residual.result _ _ c.from_residual.ensures.1;
+  };
+  told = search rules;
+  usable = search rules;
 }
 
-pub returns-clause-opened : goal.returns-clause-opened
-returns-clause-opened g c = λ facts list honest.
-    let s1 = g.D.Disk.state c.read_files.new.disk in
-    let s2 = g.D.Disk.state c.remove_others.new.disk in
-    let honest1 = c.read_files.ensures.kept.honest.1 honest in
-    let files = c.in_ok-files.files in
-    let is = c.deref.ensures.value ∙ c.in_ok-kept.ensures
-    ∙ ap (λ (n : NodeVersion). kept_files n.version) c.state.ensures in
+-- an external refusal says nothing of the files
+external : (e : EngineError) (left : Contents) → IsEngineExternal e → OpeningRefusal e left
+external e left (inl is) = subst (λ (s : EngineError). OpeningRefusal s left) (sym is) tt
+external e left (inr is) = subst (λ (s : EngineError). OpeningRefusal s left) (sym is) tt
+
+-- memory was out
+pub returns-in_err-kept-clause-opens : goal.returns-in_err-kept-clause-opens
+returns-in_err-kept-clause-opens g c =
+    let result = c.from_residual-in_err-kept.result in
+    let refused = c.from_residual-in_err-kept.ensures.1 in
+    let left = contents (g.D.Disk.state c.args.disk.now) in
     record {
-      whole = λ represents.
-          let found = (c.in_ok-files.ensures.opened facts list honest).whole represents in (
-            found.0,
-            settled_as c.held_versions_are_left.ensures.same list files c.deref.result.now s1 s2
-                found.1 is (c.remove_others.ensures.kept.files honest1)
-                (c.in_ok-remove_others.ensures.alone honest1),
-          );
-      meant = λ were.
-          let found = (c.in_ok-files.ensures.opened facts list honest).meant were in (
-            found.0,
-            settled_as_meant c.held_versions_are_left.ensures.same list files c.deref.result.now
-                s1 s2 found.1 is (c.remove_others.ensures.kept.files honest1)
-                (c.in_ok-remove_others.ensures.alone honest1),
-          );
+      kept = kept_as g.D.Disk (neither (answered c.read_files.result c.in_ok-files.was)
+          (lacks_memory result refused)) (λ a b same. tt) c.read_files.ensures.opens.kept;
+      opened = λ facts list honest. record {
+        whole = λ represents. refuses result _ IsEngineExternal refused (inr refl);
+        meant = λ were. answers_nothing result _ _ refused;
+      };
+      told = λ honest. refuses result (FilesOpenAs left) (λ e. OpeningRefusal e left) refused tt;
+      usable = answers_nothing result _ AreUsableFiles refused;
     }
+
+-- the other files were not removed
+pub returns-in_err-remove_others-clause-opens : goal.returns-in_err-remove_others-clause-opens
+returns-in_err-remove_others-clause-opens g c =
+    let result = c.from_residual-in_err-remove_others.result in
+    let refused = c.from_residual-in_err-remove_others.ensures.1 in
+    let e = c.in_err-remove_others.field-0.0 in
+    let left = contents (g.D.Disk.state c.args.disk.now) in
+    let before = c.read_files.ensures.opens.kept in
+    record {
+      kept = kept_behind g.D.Disk (λ a b d before after. tt) before
+          (answered c.read_files.result c.in_ok-files.was) (kept_as g.D.Disk
+          (passed_on c.remove_others.result e result c.in_err-remove_others.was refused)
+          (λ a b spares. spares) c.remove_others.ensures.kept);
+      opened = λ facts list honest. record {
+        whole = λ represents. refuses result _ IsEngineExternal refused
+            (c.in_err-remove_others.ensures.alone (before.honest.1 honest));
+        meant = λ were. answers_nothing result _ _ refused;
+      };
+      told = λ honest. refuses result (FilesOpenAs left) (λ s. OpeningRefusal s left) refused
+          (external e left (c.in_err-remove_others.ensures.alone (before.honest.1 honest)));
+      usable = answers_nothing result _ AreUsableFiles refused;
+    }
+
+pub returns-clause-opens : goal.returns-clause-opens
+returns-clause-opens g c = record {
+  kept = kept_behind g.D.Disk (λ a b d before after. tt) c.read_files.ensures.opens.kept
+      (answered c.read_files.result c.in_ok-files.was) (kept_as g.D.Disk
+      (neither (answered c.remove_others.result c.in_ok-remove_others.was) done)
+      (λ a b spares. spares) c.remove_others.ensures.kept);
+  opened = λ facts list honest.
+      let s1 = g.D.Disk.state c.read_files.new.disk in
+      let s2 = g.D.Disk.state c.remove_others.new.disk in
+      let honest1 = c.read_files.ensures.opens.kept.honest.1 honest in
+      let files = c.in_ok-files.files in
+      let is = c.deref.ensures.value ∙ c.in_ok-kept.ensures
+      ∙ ap (λ (n : NodeVersion). kept_files n.version) c.state.ensures in
+      record {
+        whole = λ represents.
+            let found = (c.in_ok-files.ensures.opens.opened facts list honest).whole represents in (
+              found.0,
+              settled_as c.held_versions_are_left.ensures.same list files c.deref.result.now s1 s2
+                  found.1 is (c.remove_others.ensures.kept.files honest1)
+                  (c.in_ok-remove_others.ensures.alone honest1),
+            );
+        meant = λ were.
+            let found = (c.in_ok-files.ensures.opens.opened facts list honest).meant were in (
+              found.0,
+              settled_as_meant c.held_versions_are_left.ensures.same list files c.deref.result.now
+                  s1 s2 found.1 is (c.remove_others.ensures.kept.files honest1)
+                  (c.in_ok-remove_others.ensures.alone honest1),
+            );
+      };
+  told = c.in_ok-files.ensures.opens.told;
+  usable = c.in_ok-files.ensures.opens.usable;
+}
 
 -- no file is left that the version does not name, and those that it names read as before
 pub returns-clause-swept : goal.returns-clause-swept
@@ -51,7 +113,7 @@ returns-clause-swept g c = λ honest.
     let s0 = g.D.Disk.state c.args.disk.now in
     let s1 = g.D.Disk.state c.read_files.new.disk in
     let s2 = g.D.Disk.state c.remove_others.new.disk in
-    let honest1 = c.read_files.ensures.kept.honest.1 honest in
+    let honest1 = c.read_files.ensures.opens.kept.honest.1 honest in
     let alike : IsReadAlike s0 s1 = c.in_ok-files.ensures.alike honest in
     let spares = c.remove_others.ensures.kept.files honest1 in
     subst (λ (l : List ℕ). AreSwept l s0 s2)
@@ -88,7 +150,7 @@ returns-in_err-kept-clause-any_moment g c = λ facts list facts' list' honest. r
 pub returns-in_err-remove_others-clause-any_moment :
     goal.returns-in_err-remove_others-clause-any_moment
 returns-in_err-remove_others-clause-any_moment g c = λ facts list facts' list' honest.
-    let honest1 = c.read_files.ensures.kept.honest.1 honest in
+    let honest1 = c.read_files.ensures.opens.kept.honest.1 honest in
     let is = c.deref.ensures.value ∙ c.in_ok-kept.ensures
     ∙ ap (λ (n : NodeVersion). kept_files n.version) c.state.ensures in
     let each = settling_keeps_each facts list facts' list'
@@ -103,7 +165,7 @@ returns-in_err-remove_others-clause-any_moment g c = λ facts list facts' list' 
 
 pub returns-clause-any_moment : goal.returns-clause-any_moment
 returns-clause-any_moment g c = λ facts list facts' list' honest.
-    let honest1 = c.read_files.ensures.kept.honest.1 honest in
+    let honest1 = c.read_files.ensures.opens.kept.honest.1 honest in
     let is = c.deref.ensures.value ∙ c.in_ok-kept.ensures
     ∙ ap (λ (n : NodeVersion). kept_files n.version) c.state.ensures in
     let each = settling_keeps_each facts list facts' list'
@@ -131,4 +193,4 @@ pub returns-in_err-remove_others-clause-still : goal.returns-in_err-remove_other
 returns-in_err-remove_others-clause-still g c =
     if_refuses c.from_residual-in_err-remove_others.result _
     c.from_residual-in_err-remove_others.ensures.1 (λ other honest. absurd (other
-    (c.in_err-remove_others.ensures.alone (c.read_files.ensures.kept.honest.1 honest))))
+    (c.in_err-remove_others.ensures.alone (c.read_files.ensures.opens.kept.honest.1 honest))))

@@ -1,4 +1,4 @@
-use Rattle.std.proofs.Common.{refl, subst, sym, take}
+use Rattle.std.proofs.Common.{refl, subst, sym, take, rules}
 use Rattle.disk.specs.StillLemmas.{still}
 use Rattle.kv_types.specs.{map_of}
 use Rattle.kv_types.specs.Pages.{page_of}
@@ -9,15 +9,22 @@ use Rattle.store_files.proofs.RowReads.{kept_answered, page_is, refusal_external
 use Rattle.store_files.proofs.store_files.StoreFiles.rows.Goals as goal
 
 -- no call of the disk
-pub returns-in_err-rows-clause-still : goal.returns-in_err-rows-clause-still
-returns-in_err-rows-clause-still g c = λ honest.
-    still (g.D.Disk.state c.args.files.now.disk) (g.D.Disk.past c.args.files.now.disk)
+pub returns-in_err-rows-clause-reads : goal.returns-in_err-rows-clause-reads
+returns-in_err-rows-clause-reads g c = record {
+  kept = search rules;
+  causes = search rules;
+  still = λ honest.
+      still (g.D.Disk.state c.args.files.now.disk) (g.D.Disk.past c.args.files.now.disk);
+}
 
 -- the page that was read
-pub returns-in-Ok-clause-kept : goal.returns-in-Ok-clause-kept
-returns-in-Ok-clause-kept g c =
-    kept_answered _ c.args.files.now c.read_page.new.source c.read_page.result c.in-Ok.page
-    c.in-Ok.page c.in-Ok.is c.read_page.ensures.moved.device
+pub returns-in-Ok-clause-reads : goal.returns-in-Ok-clause-reads
+returns-in-Ok-clause-reads g c = record {
+  kept = kept_answered _ c.args.files.now c.read_page.new.source c.read_page.result c.in-Ok.page
+      c.in-Ok.page c.in-Ok.is c.read_page.ensures.moved.device;
+  causes = search rules;
+  still = c.read_page.ensures.moved.device.still;
+}
 
 pub returns-in-Ok-clause-found : goal.returns-in-Ok-clause-found
 returns-in-Ok-clause-found g c = λ list honest w floor count.
@@ -29,9 +36,6 @@ returns-in-Ok-clause-found g c = λ list honest w floor count.
     page_is c.pages_agree.ensures.one agree first range c.in-Ok.page
     (c.in-Ok.ensures.page w.meant (map_of first) shows.0 shows.1
     (walk_of_page (map_of first) range (page_of first range) (agree first range)))
-
-pub returns-in-Ok-clause-still : goal.returns-in-Ok-clause-still
-returns-in-Ok-clause-still g c = c.read_page.ensures.moved.device.still
 
 -- of undamaged tables no cursor is refused for damage
 pub returns-clause-intact : goal.returns-clause-intact

@@ -1,11 +1,10 @@
-use Rattle.std.proofs.Common.{◌≡◌, ◌≤◌, ℕ, List, arith, length, subst, sym}
+use Rattle.std.proofs.Common.{◌≤◌, ℕ, List, length, subst, sym}
 use Rattle.disk.specs.{contents}
-use Rattle.kv_types.specs.{Entry}
 use Rattle.kv_types.specs.declared.bounds.TheConstants.{MAX_NUMBER}
 use Rattle.merge_iter.specs.{AreDisjoint, AreSound, IsAlike, union_of}
 use Rattle.store_cursors.specs.contracts.store_cursor.StoreCursorCursor.TheImpl.{ghosts, no_dict}
 use Rattle.store_model.specs.{memory_entries, store_entries}
-use Rattle.store_files.specs.OpenFiles.{batch_count, known_store, known_version}
+use Rattle.store_files.specs.OpenFiles.{known_store, known_version}
 use Rattle.store_files.specs.RangeEntries.{HasRange}
 use Rattle.store_files.proofs.Meant.{zip_was}
 use Rattle.store_files.proofs.RangeCursors.{all_apart, all_in_range, all_sound}

@@ -32,18 +32,18 @@ returns-in-Ok g c =
     let told = c.in-Ok.ensures.told in
     record {
       kept = kept_as g.D.Disk (neither (λ f. absurd cc) (λ f. absurd cc)) (λ a b same. tt)
-          c.in-Ok.ensures.kept;
-      touches = λ honest. spare_alone files disk new (c.rewrite.ensures.kept.files honest);
+          c.in-Ok.ensures.changes.kept;
+      touches = λ honest. spare_alone files disk new (c.rewrite.ensures.changes.kept.files honest);
       numbers = (refl, facts_with files c.rewrite.new.self told.0);
       usable = usable_with files c.rewrite.new.self told.0 told.1.2 c.requires;
       did = (told.1.0, told.0, told.1.1);
       tended = λ list honest h. record {
         list = held_rewritten disk files list h new c.rewrite.new.self _
             (c.manifest_has_slots.ensures disk files.manifest known h.known.manifest).1
-            (c.rewrite.ensures.kept.files honest)
-            (c.in-Ok.ensures.rewritten known honest h.known.manifest).holds;
+            (c.rewrite.ensures.changes.kept.files honest)
+            (c.in-Ok.ensures.changes.changed known honest h.known.manifest).holds;
         any_moment = slots_are_written disk files list h law past since new
-            (c.rewrite.ensures.any_moment known honest h.known.manifest);
+            (c.rewrite.ensures.changes.any_moment known honest h.known.manifest);
       };
       meant = λ list honest w.
           let stays = c.held_versions_are_left.ensures.same in
@@ -51,10 +51,10 @@ returns-in-Ok g c =
           record {
             list = rewritten_as_meant disk files list w stays new c.rewrite.new.self _
                 (c.manifest_has_slots.ensures disk files.manifest known held).1
-                (c.rewrite.ensures.kept.files honest)
-                (c.in-Ok.ensures.rewritten known honest held).holds;
+                (c.rewrite.ensures.changes.kept.files honest)
+                (c.in-Ok.ensures.changes.changed known honest held).holds;
             any_moment = slots_were_written disk files list w law past since new
-                (c.rewrite.ensures.any_moment known honest held);
+                (c.rewrite.ensures.changes.any_moment known honest held);
           };
     }
 
@@ -69,23 +69,24 @@ returns-in-Err g c =
     let law = c.durable_file_is_left.ensures in
     let is = c.refusal_of_edit.ensures in
     record {
-      kept = kept_as g.D.Disk (edit_failed c.in-Err.e _ is) (λ a b same. tt) c.in-Err.ensures.kept;
-      touches = λ honest. spare_alone files disk new (c.rewrite.ensures.kept.files honest);
+      kept = kept_as g.D.Disk (edit_failed c.in-Err.e _ is) (λ a b same. tt)
+          c.in-Err.ensures.changes.kept;
+      touches = λ honest. spare_alone files disk new (c.rewrite.ensures.changes.kept.files honest);
       numbers = (refl, facts_with files c.rewrite.new.self c.in-Err.ensures.told.0);
       usable = tt;
       did = subst IsEnd (sym is) (edit_ends c.in-Err.e);
       tended = λ list honest h. record {
         list = subst IsEngineExternal (sym is) (edit_is_external c.in-Err.e
-            (c.in-Err.ensures.rewritten known honest h.known.manifest));
+            (c.in-Err.ensures.changes.changed known honest h.known.manifest));
         any_moment = slots_are_written disk files list h law past since new
-            (c.rewrite.ensures.any_moment known honest h.known.manifest);
+            (c.rewrite.ensures.changes.any_moment known honest h.known.manifest);
       };
       meant = λ list honest w.
           let held = manifest_holds disk files list w c.held_versions_are_left.ensures.same in
           record {
             list = subst IsEngineExternal (sym is) (edit_is_external c.in-Err.e
-                (c.in-Err.ensures.rewritten known honest held));
+                (c.in-Err.ensures.changes.changed known honest held));
             any_moment = slots_were_written disk files list w law past since new
-                (c.rewrite.ensures.any_moment known honest held);
+                (c.rewrite.ensures.changes.any_moment known honest held);
           };
     }

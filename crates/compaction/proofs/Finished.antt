@@ -1,0 +1,116 @@
+-- A finished output, and its line.
+use Rattle.std.proofs.Common.{◌≡◌, ◌≤◌, ◌<◌, ◌^◌, ℕ, List, [], ◌∷◌, ◌++◌, length, Option, All}
+use Rattle.std.proofs.Common.{IfSome, inl, inr, refl, sym, ap, subst, arith, length-append}
+use Rattle.std.proofs.Common.{Result, Ok, Err}
+use Rattle.std.specs.Prelude.{MatchResult}
+use Rattle.disk.specs.{State}
+use Rattle.kv_types.specs.declared.bounds.TheConstants.{MAX_KEY, MAX_NUMBER}
+use Rattle.kv_types.specs.ByteOrderLemmas.{Less-below}
+use Rattle.kv_types.specs.OrderLemmas.{Among, Rises, among_of_All, rises_from_AllPairs}
+use Rattle.kv_types.specs.{Entry}
+use Rattle.merge_iter.specs.declared.Direction.TheVariants.{Forward}
+use Rattle.merge_iter.specs.{EntryPrecedes}
+use Rattle.table_format.specs.RisingLemmas.{last_among, last_of_some}
+use Rattle.table_format.specs.TablesLemmas.{length-table}
+use Rattle.table_format.specs.{AreRising, IsTableEntry, TableRepresents, block_lines, data_bytes}
+use Rattle.table_format.specs.{filter_part, index_part, last_entry}
+use Rattle.table_builder.specs.declared.Finished.{Finished}
+use Rattle.table_builder.specs.{IsFinishedTable, first_entry}
+use Rattle.store_model.specs.{KeyPrecedes}
+use Rattle.store_model.specs.KeysLemmas.{key_never}
+use Rattle.version_edits.specs.declared.TableLine.{TableLine}
+use Rattle.version_edits.specs.{IsTableLine}
+use Rattle.compaction.specs.declared.error.MergeError.{MergeError}
+use Rattle.compaction.specs.declared.error.MergeError.TheVariants as merge
+use Rattle.compaction.specs.Errors.{IsMergeExternal}
+use Rattle.compaction.specs.Outputs.{IsOutput, output_line}
+use Rattle.compaction.proofs.Orders.{not_behind}
+
+-- ---- the ends of entries in order
+
+first_least : (x : Entry) (xs : List Entry) → Rises (EntryPrecedes Forward) (x ∷ xs)
+    → (e : Entry) → Among e (x ∷ xs) → KeyPrecedes e.key x.key → ⊥
+first_least x xs rises e (inl is) before =
+    key_never x.key (subst (λ (z : Entry). KeyPrecedes z.key x.key) (sym is) before)
+first_least x xs rises e (inr later) before = not_behind x e (rises.0 e later) before
+
+-- the ends of entries, by the keys that a finished table names
+record HasEnds (least greatest : List ℕ) : Type 0 where
+  short_least : length least ≤ MAX_KEY
+  short_greatest : length greatest ≤ MAX_KEY
+  proper : KeyPrecedes greatest least → ⊥
+
+has_ends : (entries : List Entry) (least greatest : List ℕ) → All IsTableEntry entries
+    → AreRising entries → 1 ≤ length entries
+    → IfSome (first_entry entries) (λ entry. least ≡ entry.key)
+    → IfSome (last_entry entries) (λ entry. greatest ≡ entry.key) → HasEnds least greatest
+has_ends [] least greatest each rising some first end = absurd (omega (arith, some))
+has_ends (x ∷ xs) least greatest each rising some first end =
+    let last = last_of_some (x ∷ xs) (omega arith) in
+    let is : greatest ≡ last.0.key =
+    subst (λ (o : Option Entry). IfSome o (λ entry. greatest ≡ entry.key)) last.1 end in
+    let there = last_among (x ∷ xs) last.0 last.1 in
+    let rises = rises_from_AllPairs (EntryPrecedes Forward) (x ∷ xs) rising in
+    record {
+      short_least = subst (λ (k : List ℕ). length k ≤ MAX_KEY) (sym first)
+          (among_of_All IsTableEntry (x ∷ xs) x each (inl refl)).key;
+      short_greatest = subst (λ (k : List ℕ). length k ≤ MAX_KEY) (sym is)
+          (among_of_All IsTableEntry (x ∷ xs) last.0 each there).key;
+      proper = λ before. first_least x xs rises last.0 there
+          (subst (λ k. KeyPrecedes k x.key) is
+          (subst (λ k. KeyPrecedes greatest k) first before));
+    }
+
+short_table : (bytes : List ℕ) (entries : List Entry) → TableRepresents bytes entries
+    → length bytes < 2 ^ 63
+short_table bytes entries r =
+    let filter = filter_part r.filter in
+    let index = index_part (block_lines 0 r.blocks) in
+    let data_len = r.fits.data_len in
+    let filter_len = r.fits.filter_len in
+    let index_len = r.fits.index_len in
+    omega (
+      arith,
+      ap length r.spelled,
+      length-table r.blocks r.filter,
+      length-append (data_bytes r.blocks) (filter ++ index),
+      length-append filter index,
+      data_len,
+      filter_len,
+      index_len,
+    )
+
+-- ---- its line
+
+pub finished_output : (disk : State) (level file : ℕ) (entries : List Entry) (done : Finished)
+    → level ≤ 6 → file ≤ MAX_NUMBER → IsFinishedTable (disk file) entries done
+    → IsOutput disk level (output_line level file done) entries
+finished_output disk level file entries done merged named f =
+    let r = f.holds.represents in
+    let ends = has_ends entries done.least done.greatest r.each r.rising r.some f.least
+    f.greatest in
+    let len = f.len in
+    let short = short_table f.holds.bytes entries r in
+    record {
+      at = refl;
+      table = f.holds;
+      len = f.len;
+      least = f.least;
+      greatest = f.greatest;
+      proper = record {
+        level = merged;
+        file = named;
+        bytes = omega (arith, len, short);
+        short_least = ends.short_least;
+        short_greatest = ends.short_greatest;
+        proper = λ below. ends.proper (Less-below done.greatest done.least below);
+      };
+    }
+
+-- what a manifest may have is told
+pub line_told : (P : TableLine → Type 0) (line : TableLine) (result : Result TableLine MergeError)
+    → MatchResult result (λ told. (told ≡ line) × IsTableLine told)
+    (λ e. (e ≡ merge.Damaged) × (IsTableLine line → ⊥)) → IsTableLine line → P line
+    → MatchResult result P IsMergeExternal
+line_told P line (Ok one) told proper has = subst P (sym told.0) has
+line_told P line (Err e) told proper has = absurd (told.1 proper)

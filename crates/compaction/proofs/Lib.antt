@@ -1,0 +1,16 @@
+mod Lists
+mod Orders
+mod Dropping
+mod Cutting
+mod OutputOrder
+mod JointRanges
+mod Planning
+mod Calls
+mod Finished
+mod Writing
+mod Walks
+mod Steps
+mod Advances
+mod Merging
+mod Lasting
+mod Leaving

@@ -1,0 +1,61 @@
+use Rattle.std.proofs.Common.{refl, sym, subst, ◌∙◌, arith}
+use Rattle.std.proofs.lemmas.Bool.{both_ways}
+use Rattle.compaction.specs.Outputs.{IsOwnFile}
+use Rattle.compaction.specs.Survivors.{AreDeeperLines}
+use Rattle.compaction.proofs.Calls.{done, ok_fails, passed_on, refused, writes_as}
+use Rattle.compaction.proofs.Calls.{writes_nothing}
+use Rattle.compaction.proofs.Merging.{step_count}
+use Rattle.compaction.proofs.Writing.{refuses}
+use Rattle.compaction.proofs.merge.Merge.step.Goals as goal
+
+pub returns-then-self : goal.returns-then-self
+returns-then-self g c = record {
+  writes = writes_nothing _ (IsOwnFile c.args.self.now.writer c.args.next_file.now)
+      c.args.files.now (refused (λ e. cc));
+  own = λ file mine. mine;
+  numbers = (omega arith, refl);
+  status = (c.if-self.true, λ failed. refl);
+  steps = λ meant plan floor m. absurd (m.works c.if-self.true);
+}
+
+pub returns-in_err-write_some : goal.returns-in_err-write_some
+returns-in_err-write_some g c = record {
+  writes = writes_as _ (IsOwnFile c.args.self.now.writer c.args.next_file.now)
+      (passed_on c.write_some.result c.in_err-write_some.field-0.0 c.from_residual.result
+      c.in_err-write_some.was c.from_residual.ensures.1)
+      (λ lost meant plan floor m. lost meant plan.inputs m.walk) c.write_some.ensures.1.writes;
+  own = c.write_some.ensures.1.own;
+  numbers = (c.write_some.ensures.1.number, refl);
+  status = refuses c.from_residual.result _ _ c.from_residual.ensures.1
+      (refl, λ failed. absurd (both_ways _ c.if-self.false failed));
+  steps = λ meant plan floor m. refuses c.from_residual.result _ _ c.from_residual.ensures.1
+      (c.in_err-write_some.ensures.1.walks meant plan.inputs m.walk);
+}
+
+pub returns : goal.returns
+returns g c =
+    record {
+      writes = writes_as _ (IsOwnFile c.args.self.now.writer c.args.next_file.now) (
+        ok_fails c.write_some.result c.in_ok-write_some.field-0 c.in_ok-write_some.was,
+        λ f. absurd (done f),
+      )
+          (λ lost meant plan floor m. lost meant plan.inputs m.walk)
+          c.write_some.ensures.1.writes;
+      own = c.write_some.ensures.1.own;
+      numbers = (c.write_some.ensures.1.number, refl);
+      status = (both_ways _ c.if-self.false, λ f. cc, c.valid.ensures);
+      steps = λ meant plan floor m.
+          let went = c.in_ok-write_some.ensures.1.walks meant plan.inputs m.walk in
+          let rules = c.write_some.ensures.1.rules in (
+            record {
+              works = λ f. cc;
+              walk = went.0;
+              deeper = subst (λ v. AreDeeperLines plan v.items) (sym rules.deeper) m.deeper;
+              level = rules.level ∙ m.level;
+              same_floor = rules.floor ∙ m.same_floor;
+              gone = m.gone;
+            },
+            step_count _ _ _ _ _ went.1 c.in_ok-write_some.ensures.2,
+            went.2,
+          );
+    }

@@ -1,0 +1,146 @@
+use Rattle.std.proofs.Common.{◌≡◌, ◌≢◌, ◌<◌, ◌++◌, ◌∷◌, [], List, All, refl, sym, subst, ◌∙◌}
+use Rattle.std.proofs.Common.{Option, IfSome, ℕ}
+use Rattle.std.specs.List.{AllZip}
+use Rattle.std.specs.Prelude.{is_ok}
+use Rattle.std.specs.Option.{option_map}
+use Rattle.std.proofs.lemmas.Bool.{cond-true}
+use Rattle.std.proofs.lemmas.List.Elements.{All-push}
+use Rattle.version_edits.specs.declared.TableLine.{TableLine}
+use Rattle.compaction.specs.declared.open_output.OpenOutput.{OpenOutput}
+use Rattle.compaction.specs.Outputs.{IsOpenFile, HoldsOpen, IsOutput}
+use Rattle.compaction.proofs.Calls.{answered, done, memory_told, passed_on, writes_as, writes_done}
+use Rattle.compaction.proofs.Calls.{writes_nothing}
+use Rattle.std.proofs.Common.{arith}
+use Rattle.compaction.proofs.Writing.{none_added}
+use Rattle.compaction.proofs.Writing.{closed_kept, ok_told, open_builds, open_numbered}
+use Rattle.compaction.proofs.Writing.{writes_own, zip_push}
+use Rattle.compaction.proofs.writer.OutputWriter.close.Goals as goal
+
+pub returns-in_default-clause-writes : goal.returns-in_default-clause-writes
+returns-in_default-clause-writes g c = λ next_file.
+    writes_nothing g.D.Disk (IsOpenFile c.args.self.now) c.args.disk.now done
+
+pub returns-in_err-line-clause-writes : goal.returns-in_err-line-clause-writes
+returns-in_err-line-clause-writes g c = λ next_file.
+    writes_as g.D.Disk (IsOpenFile c.args.self.now)
+    (passed_on c.finish_output.result c.in_err-line.field-0.0 c.from_residual.result
+    c.in_err-line.was c.from_residual.ensures.1)
+    (λ cause. cause)
+    (writes_own g.D.Disk c.args.self.now c.in-Some.output next_file (sym c.in-Some.ensures.value)
+    c.finish_output.ensures.writes)
+
+pub returns-in_err-push-clause-writes : goal.returns-in_err-push-clause-writes
+returns-in_err-push-clause-writes g c = λ next_file.
+    writes_done g.D.Disk (IsOpenFile c.args.self.now)
+    (answered c.finish_output.result c.in_ok-line.was)
+    (memory_told c.from_residual-in_err-push.result c.from_residual-in_err-push.ensures.1)
+    (writes_own g.D.Disk c.args.self.now c.in-Some.output next_file (sym c.in-Some.ensures.value)
+    c.finish_output.ensures.writes)
+
+pub returns-clause-writes : goal.returns-clause-writes
+returns-clause-writes g c = λ next_file.
+    writes_done g.D.Disk (IsOpenFile c.args.self.now)
+    (answered c.finish_output.result c.in_ok-line.was) done
+    (writes_own g.D.Disk c.args.self.now c.in-Some.output next_file (sym c.in-Some.ensures.value)
+    c.finish_output.ensures.writes)
+
+pub returns-clause-closed : goal.returns-clause-closed
+returns-clause-closed g c = λ next_file it honest w some.
+    let writer = c.args.self.now in
+    let output = c.in-Some.output in
+    let old = g.D.Disk.state c.args.disk.now in
+    let new = g.D.Disk.state c.finish_output.new.disk in
+    let line = c.in_ok-line.line in
+    let is = sym c.in-Some.ensures.value in
+    let builds = open_builds old writer.current output it.opened is w.current in
+    let made = c.in_ok-line.ensures.finished it.opened honest builds some in
+    let kept = closed_kept old new writer next_file output it is w
+    (c.finish_output.ensures.writes.kept.files honest) in
+    let lines : c.push.new.self.items ≡ writer.closed.items ++ line ∷ [] =
+    c.push.ensures.items
+    ∙ cond-true {A = List TableLine} (is_ok c.push.result) _ _
+    (ok_told c.push.result c.in_ok-push.was) in
+    let given = open_numbered writer next_file output is w.numbered in
+    let file = c.in_ok-line.ensures.file in
+    record {
+      before = w.before;
+      closed = subst (λ (l : List TableLine). AllZip (IsOutput new writer.level) l
+          (it.closed ++ it.opened ∷ [])) (sym lines)
+          (zip_push (IsOutput new writer.level) writer.closed.items it.closed line it.opened kept
+          made);
+      current = subst (λ (o : Option OpenOutput). HoldsOpen new o []) (sym c.in-Some.ensures.after)
+          refl;
+      numbered = record {
+        closed = subst (λ (l : List TableLine). All (λ one. one.file < next_file) l) (sym lines)
+            (All-push (λ (one : TableLine). one.file < next_file) writer.closed.items line
+            w.numbered.closed (subst (λ (n : ℕ). n < next_file) (sym file) given.0));
+        current = subst (λ (o : Option OpenOutput). IfSome (option_map (λ one. one.file) o)
+            (λ file. (file < next_file) × All (λ line. line.file ≢ file) c.push.new.self.items))
+            (sym c.in-Some.ensures.after) tt;
+      };
+    }
+
+-- ---- nothing was written to the open table
+
+pub returns-then-len-eq0-clause-writes : goal.returns-then-len-eq0-clause-writes
+returns-then-len-eq0-clause-writes g c = λ next_file.
+    writes_nothing g.D.Disk (IsOpenFile c.args.self.now) c.args.disk.now done
+
+pub returns-then-len-eq0-clause-closed : goal.returns-then-len-eq0-clause-closed
+returns-then-len-eq0-clause-closed g c = λ next_file it honest w some.
+    let old = g.D.Disk.state c.args.disk.now in
+    let output = c.in-Some.output in
+    let builds = open_builds old c.args.self.now.current output it.opened
+    (sym c.in-Some.ensures.value) w.current in
+    let count = c.len.ensures.added (old output.file) it.opened builds in
+    let none = c.if-len-eq0.true in
+    absurd (omega (arith, count, none, some))
+
+pub returns-then-len-eq0-clause-empty : goal.returns-then-len-eq0-clause-empty
+returns-then-len-eq0-clause-empty g c = λ slots next_file it w none. (
+  refl,
+  record {
+    before = w.before;
+    closed = w.closed;
+    current = subst (λ (o : Option OpenOutput). HoldsOpen slots o it.opened)
+        (sym c.in-Some.ensures.after) none;
+    numbered = record {
+      closed = w.numbered.closed;
+      current = subst (λ (o : Option OpenOutput). IfSome (option_map (λ one. one.file) o)
+          (λ file. (file < next_file) × All (λ line. line.file ≢ file)
+          c.args.self.now.closed.items)) (sym c.in-Some.ensures.after) tt;
+    };
+  },
+)
+
+pub returns-in_default-clause-empty : goal.returns-in_default-clause-empty
+returns-in_default-clause-empty g c = λ slots next_file it w none. (
+  refl,
+  record {
+    before = w.before;
+    closed = w.closed;
+    current = subst (λ (o : Option OpenOutput). HoldsOpen slots o it.opened)
+        (sym c.in_default.ensures.after) none;
+    numbered = record {
+      closed = w.numbered.closed;
+      current = subst (λ (o : Option OpenOutput). IfSome (option_map (λ one. one.file) o)
+          (λ file. (file < next_file) × All (λ line. line.file ≢ file)
+          c.args.self.now.closed.items)) (sym c.in_default.ensures.after) tt;
+    };
+  },
+)
+
+pub returns-in_err-line-clause-empty : goal.returns-in_err-line-clause-empty
+returns-in_err-line-clause-empty g c = λ slots next_file it w none.
+    absurd (c.if-len-eq0.false (none_added c.args.self.now c.in-Some.output slots next_file it
+    c.len.result (sym c.in-Some.ensures.value) w c.len.ensures.added none))
+
+pub returns-in_err-push-clause-empty : goal.returns-in_err-push-clause-empty
+returns-in_err-push-clause-empty g c = λ slots next_file it w none.
+    absurd (c.if-len-eq0.false (none_added c.args.self.now c.in-Some.output slots next_file it
+    c.len.result (sym c.in-Some.ensures.value) w c.len.ensures.added none))
+
+pub returns-clause-empty : goal.returns-clause-empty
+returns-clause-empty g c = λ slots next_file it w none.
+    absurd (c.if-len-eq0.false (none_added c.args.self.now c.in-Some.output slots next_file it
+    c.len.result (sym c.in-Some.ensures.value) w c.len.ensures.added none))

@@ -1,0 +1,146 @@
+-- The outputs of a merge: what their writer knows, and what their files have.
+use Rattle.std.specs.Prelude.{◌≡◌, ◌≢◌, ◌⊎◌, ℕ, ◌+◌, ◌<◌, ◌≤◌, List, [], ◌∷◌, ◌++◌, length, All}
+use Rattle.std.specs.Prelude.{true, false, Option, Some, None, IfSome, IsNone}
+use Rattle.std.specs.List.{AllZip}
+use Rattle.std.specs.Option.{option_map}
+use Rattle.disk.specs.declared.Disk.{Ghosts}
+use Rattle.disk.specs.{AlwaysLeaves, Contents, IsFileOutcome, KeepsDisk, State, seen}
+use Rattle.kv_types.specs.declared.bounds.TheConstants.{MAX_NUMBER}
+use Rattle.kv_types.specs.{Entry}
+use Rattle.version_edits.specs.declared.TableLine.{TableLine}
+use Rattle.version_edits.specs.declared.line.TheConstants.{MAX_LINES}
+use Rattle.version_edits.specs.{IsTableLine}
+use Rattle.table_builder.specs.declared.Finished.{Finished}
+use Rattle.table_builder.specs.{Builds, HoldsTable, data_size, first_entry}
+use Rattle.table_format.specs.{last_entry}
+use Rattle.table_format.specs.declared.sizes.TheConstants.{MAX_DATA}
+use Rattle.compaction.specs.declared.error.MergeError.{MergeError}
+use Rattle.compaction.specs.declared.error.MergeError.TheVariants as merge
+use Rattle.compaction.specs.declared.open_output.OpenOutput.{OpenOutput}
+use Rattle.compaction.specs.declared.writer.OutputWriter.{OutputWriter}
+use Rattle.compaction.specs.Errors.{IsMergeExternal}
+use Rattle.compaction.specs.WrittenTables.{Written}
+
+-- ---- what the writer knows
+
+-- the writer knows the key and the number of the entry that came last
+abbrev pub KnowsBefore : OutputWriter → Option Entry → Type 0
+KnowsBefore writer None = writer.has_before ≡ false
+KnowsBefore writer (Some entry) = (writer.has_before ≡ true)
+    × (writer.key ≡ entry.key) × (writer.number ≡ entry.number)
+
+-- the file of the open table, if there is one
+abbrev pub open_file : OutputWriter → Option ℕ
+open_file writer = option_map (λ it. it.file) writer.current
+
+-- the rules by which it drops, cuts and writes are the same
+pub record KeepsRules (old new : OutputWriter) : Type 0 where
+  pub floor : new.floor ≡ old.floor
+  pub target : new.target ≡ old.target
+  pub level : new.level ≡ old.level
+  pub deeper : new.deeper ≡ old.deeper
+
+-- ---- complete tables
+
+-- the line of a finished table in this file
+abbrev pub output_line : ℕ → ℕ → Finished → TableLine
+output_line level file done = record {
+  level = level;
+  file = file;
+  length = done.length;
+  least = done.least;
+  greatest = done.greatest;
+}
+
+-- The file of the line durably represents the entries, which run from the line's least key to its
+-- greatest.
+pub record IsOutput (disk : State) (level : ℕ) (line : TableLine) (entries : List Entry)
+    : Type 0 where
+  pub at : line.level ≡ level
+  pub table : HoldsTable (disk line.file) entries
+  pub len : line.length ≡ length table.bytes
+  pub least : IfSome (first_entry entries) (λ entry. line.least ≡ entry.key)
+  pub greatest : IfSome (last_entry entries) (λ entry. line.greatest ≡ entry.key)
+  pub proper : IsTableLine line
+
+-- ---- under way
+
+-- the builder of the open table has these entries, and its file the blocks that are closed
+abbrev pub HoldsOpen : State → Option OpenOutput → List Entry → Type 0
+HoldsOpen disk None entries = entries ≡ []
+HoldsOpen disk (Some it) entries = Builds (disk it.file) it.builder entries
+
+-- each file of an output has a number below the next one, and the open one has none of the others'
+pub record HaveOwnNumbers (writer : OutputWriter) (next_file : ℕ) : Type 0 where
+  pub closed : All (λ line. line.file < next_file) writer.closed.items
+  pub current : IfSome (open_file writer) (λ file. (file < next_file)
+      × All (λ line. line.file ≢ file) writer.closed.items)
+
+-- what is written so far stands in the files of the writer
+pub record WriterHolds (disk : State) (next_file : ℕ) (writer : OutputWriter) (it : Written)
+    : Type 0 where
+  pub before : KnowsBefore writer it.before
+  pub closed : AllZip (IsOutput disk writer.level) writer.closed.items it.closed
+  pub current : HoldsOpen disk writer.current it.opened
+  pub numbered : HaveOwnNumbers writer next_file
+
+-- no file exists with a number from this one on
+abbrev pub AreUnused : State → ℕ → Type 0
+AreUnused disk next_file = (file : ℕ) → next_file ≤ file → IsNone (seen (disk file))
+
+-- ---- the device
+
+-- the file is that of the open table
+abbrev pub IsOpenFile : OutputWriter → ℕ → Type 0
+IsOpenFile writer file = open_file writer ≡ Some file
+
+-- the writer may change the file: it is that of the open table, or has a number from this one on
+abbrev pub IsOwnFile : OutputWriter → ℕ → ℕ → Type 0
+IsOwnFile writer next_file file = IsOpenFile writer file ⊎ (next_file ≤ file)
+
+-- all files but these are as they were
+abbrev pub IsSameBeyond : (ℕ → Type 0) → State → State → Type 0
+IsSameBeyond own old new = (file : ℕ) → (own file → ⊥) → new file ≡ old file
+
+-- a crash left of all files but these what it might have left when the disk had this state
+abbrev pub IsLeftBeyond : (ℕ → Type 0) → State → Contents → Type 0
+IsLeftBeyond own disk left = (file : ℕ) → (own file → ⊥) → IsFileOutcome (disk file) (left file)
+
+-- Calls that write to these files alone. They fail only for this cause or where an armed fault
+-- struck. A crash at any moment since they began leaves each other file as it was.
+pub record WritesOnly {D : Type 0} (g : Ghosts D) (own : ℕ → Type 0) (old new : D)
+    (has_failed cause : Type 0) : Type 0 where
+  pub kept : KeepsDisk g old new has_failed cause (IsSameBeyond own)
+  pub any_moment : g.is_honest old → AlwaysLeaves g old new (IsLeftBeyond own (g.state old))
+
+-- nothing that may have been written is in the files of the writer
+abbrev pub HoldsNothing : {D : Type 0} → Ghosts D → D → ℕ → OutputWriter → Type 0
+HoldsNothing g disk next_file writer =
+    (it : Written) → g.is_honest disk → WriterHolds (g.state disk) next_file writer it → ⊥
+
+-- nothing is in the files of the writer, or a file exists with a number from the next one on
+abbrev pub IsAstray : {D : Type 0} → Ghosts D → D → ℕ → OutputWriter → Type 0
+IsAstray g disk next_file writer =
+    (it : Written) → g.is_honest disk → WriterHolds (g.state disk) next_file writer it
+    → AreUnused (g.state disk) next_file → ⊥
+
+-- ---- why an entry has no place
+
+-- one more output is one table too many, beside so many of the version, or has no number
+abbrev pub HasNoPlace : ℕ → ℕ → ℕ → Type 0
+HasNoPlace tables next_file closed = (MAX_LINES ≤ tables + closed) ⊎ (MAX_NUMBER ≤ next_file)
+
+-- with the entry, these have more data than a table may have
+abbrev pub PassesTableLimit : List Entry → Entry → Type 0
+PassesTableLimit entries entry = MAX_DATA < data_size (entries ++ entry ∷ [])
+
+-- the entry wants a table more, which has no place, or makes the open one too large
+abbrev pub LacksRoom : ℕ → ℕ → Written → Entry → Type 0
+LacksRoom tables next_file it entry =
+    ((it.opened ≡ []) × HasNoPlace tables next_file (length it.closed))
+    ⊎ PassesTableLimit it.opened entry
+
+-- why an entry was not written
+abbrev pub PutRefusal : ℕ → ℕ → Written → Entry → MergeError → Type 0
+PutRefusal tables next_file it entry e =
+    IsMergeExternal e ⊎ ((e ≡ merge.Full) × LacksRoom tables next_file it entry)

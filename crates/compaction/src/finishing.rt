@@ -1,0 +1,62 @@
+// Finishing an output.
+ghost use Rattle.std.specs.Prelude.{◌≡◌, ◌≤◌, ◌<◌, List, IfErr, IfOk, MatchResult, length};
+ghost use Rattle.kv_types.specs.declared.bounds.TheConstants.{MAX_NUMBER};
+ghost use Rattle.kv_types.specs.{Entry};
+ghost use Rattle.version_edits.specs.{IsTableLine};
+ghost use Rattle.table_builder.specs.{Builds, BuildsNothing};
+ghost use Rattle.compaction.specs.Errors.{IsMergeExternal, MergeFailsDevice};
+ghost use Rattle.compaction.specs.Outputs.{IsOutput, WritesOnly, output_line};
+
+use crate::error::MergeError;
+use crate::open_output::OpenOutput;
+use disk::Disk;
+use kv_types::bounds::MAX_NUMBER;
+use std::alloc::Global;
+use table_builder::Finished;
+use version_edits::TableLine;
+
+// The line of a finished output in this file. `Damaged` where a manifest may not have it, which
+// only a disk that is not honest brings about.
+fn line_of(level: u8, file: u64, done: Finished) -> Result<TableLine, MergeError>
+    requires merged { level ≤ 6 }
+    requires named { file ≤ MAX_NUMBER }
+    ensures { MatchResult result
+        (λ line. (line ≡ output_line level file done) × IsTableLine line)
+        (λ e. (e ≡ MergeError.Damaged) × (IsTableLine (output_line level file done) → ⊥)) }
+{
+    if done.length > MAX_NUMBER || done.greatest.is_below(&done.least) {
+        return Err(MergeError::Damaged);
+    }
+    Ok(TableLine {
+        level,
+        file,
+        length: done.length,
+        least: done.least,
+        greatest: done.greatest,
+    })
+}
+
+/// Finishes the table of an output.
+pub(crate) fn finish_output<D: Disk>(
+    alloc: Global,
+    disk: &mut D,
+    level: u8,
+    output: OpenOutput,
+) -> Result<TableLine, MergeError>
+    requires { level ≤ 6 }
+    ensures writes { WritesOnly D.Disk (λ file. output.file ≡ file) disk.old disk.new
+        (MergeFailsDevice result) (BuildsNothing output.builder) }
+    ensures finished { (entries : List Entry) → D.is_honest disk.old →
+        Builds (D.state disk.old output.file) output.builder entries → 0 < length entries →
+        MatchResult result (λ line. IsOutput (D.state disk.new) level line entries)
+        IsMergeExternal }
+    ensures file { IfOk result (λ line. line.file ≡ output.file) }
+    ensures place { IfErr result (λ e. e ≡ MergeError.Full → ⊥) }
+{
+    let OpenOutput { file, builder } = output;
+    if builder.len() == 0 {
+        return Err(MergeError::Damaged);
+    }
+    let done = builder.finish(alloc, disk)?;
+    line_of(level, file, done)
+}

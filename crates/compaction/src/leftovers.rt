@@ -1,0 +1,78 @@
+// Files that a merge leaves where it is abandoned.
+ghost use Rattle.std.specs.Prelude.{◌≡◌, IsNone, MatchResult};
+ghost use Rattle.disk.specs.{seen};
+ghost use Rattle.version_edits.specs.Versions.{names_file, names_log};
+ghost use Rattle.compaction.specs.Errors.{IsMergeExternal, MergeFailsDevice};
+ghost use Rattle.compaction.specs.Leftovers.{IsBesideVersion, RemovesLeftovers};
+ghost use Rattle.compaction.specs.Outputs.{WritesOnly};
+
+use crate::error::MergeError;
+use disk::{Disk, DiskError};
+use version_edits::{LogLine, StoreVersion, TableLine};
+
+// Whether one of the logs has the file.
+fn has_log(logs: &[LogLine], file: u64) -> bool
+    ensures { result ≡ names_log logs.now file }
+{
+    logs.iter().any(|line| line.file == file)
+}
+
+// Whether one of the tables has the file.
+fn has_table(tables: &[TableLine], file: u64) -> bool
+    ensures { result ≡ names_file tables.now file }
+{
+    tables.iter().any(|line| line.file == file)
+}
+
+// Removes a file, if there is one.
+fn remove_file<D: Disk>(disk: &mut D, file: u64) -> Result<(), MergeError>
+    ensures writes { WritesOnly D.Disk (λ one. file ≡ one) disk.old disk.new
+        (MergeFailsDevice result) ⊥ }
+    ensures removed { D.is_honest disk.old →
+        MatchResult result (λ _. IsNone (seen (D.state disk.new file))) IsMergeExternal }
+{
+    match disk.remove(file) {
+        Ok(()) | Err(DiskError::NoFile) => Ok(()),
+        Err(DiskError::Failed) => Err(MergeError::Disk),
+        Err(DiskError::Short) => Err(MergeError::Damaged),
+        Err(DiskError::Memory) => Err(MergeError::Memory),
+    }
+}
+
+// Removes a file, unless the version names it.
+fn remove_unnamed<D: Disk>(
+    disk: &mut D,
+    version: &StoreVersion,
+    file: u64,
+) -> Result<(), MergeError>
+    ensures writes { WritesOnly D.Disk
+        (λ one. (file ≡ one) × IsBesideVersion version.now.version one) disk.old disk.new
+        (MergeFailsDevice result) ⊥ }
+    ensures removed { D.is_honest disk.old → MatchResult result
+        (λ _. IsBesideVersion version.now.version file → IsNone (seen (D.state disk.new file)))
+        IsMergeExternal }
+{
+    if has_log(&version.logs, file) {
+        return Ok(());
+    }
+    if has_table(&version.tables, file) {
+        return Ok(());
+    }
+    remove_file(disk, file)
+}
+
+/// Removes the files with numbers from the first one up to the next one that the version does not
+/// name.
+pub(crate) fn remove_leftovers<D: Disk>(
+    disk: &mut D,
+    version: &StoreVersion,
+    first: u64,
+    next_file: u64,
+) -> Result<(), MergeError>
+    ensures { RemovesLeftovers D.Disk first next_file version.now.version disk.old disk.new result }
+{
+    for file in first..next_file {
+        remove_unnamed(disk, version, file)?;
+    }
+    Ok(())
+}

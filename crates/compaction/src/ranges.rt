@@ -1,0 +1,35 @@
+// Which tables' ranges hold a key.
+ghost use Rattle.std.specs.Prelude.{◌≡◌};
+ghost use Rattle.std.specs.List.{list_any};
+ghost use Rattle.std.specs.Ordering.{is_lt};
+ghost use Rattle.kv_types.specs.{lent_key, stored_cmp};
+ghost use Rattle.compaction.specs.Survivors.{line_holds};
+
+use kv_types::LentKey;
+use version_edits::TableLine;
+
+// Whether the first key is below the second.
+fn precedes(a: LentKey, b: LentKey) -> bool
+    ensures { result ≡ is_lt (stored_cmp (lent_key a.entry) (lent_key b.entry)) }
+{
+    a.cmp(b).is_lt()
+}
+
+// Whether the range of a table holds the key.
+fn line_holds(key: LentKey, line: &TableLine) -> bool
+    ensures { result ≡ line_holds (lent_key key.entry) line.now }
+{
+    !precedes(key, line.least.lent()) && !precedes(line.greatest.lent(), key)
+}
+
+// Whether the range of one of these tables does.
+pub(crate) fn any_holds(key: LentKey, lines: &[TableLine]) -> bool
+    ensures { result ≡ list_any (line_holds (lent_key key.entry)) lines.now }
+{
+    for line in lines {
+        if line_holds(key, line) {
+            return true;
+        }
+    }
+    false
+}

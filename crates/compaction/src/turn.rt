@@ -1,0 +1,47 @@
+// Whose turn it is in a level.
+use kv_types::Key;
+use std::alloc::{AllocError, Global};
+
+/// The greatest key of the table that was last merged out of each level since the start.
+#[derive(Drop)]
+pub struct Turn {
+    last: Vec<Option<Key>>,
+}
+
+impl Turn {
+    ghost use Rattle.std.specs.Prelude.{◌≡◌, ℕ, ◌<◌, IfOk, None, Some, option_map};
+    ghost use Rattle.std.specs.Prelude.{◌==◌, if◌then◌else◌};
+    ghost use Rattle.compaction.specs.Turns.{turn_key, turn_levels};
+
+    /// No table was merged out of any level.
+    pub fn new(alloc: Global) -> Result<Turn, AllocError>
+        ensures none { IfOk result (λ turn. (level : ℕ) → turn_key turn level ≡ None) }
+        ensures levels { IfOk result (λ turn. turn_levels turn ≡ 7) }
+    {
+        let mut last = Vec::new(alloc);
+        for _ in 0..7u8 {
+            last.push(None)?;
+        }
+        Ok(Turn { last })
+    }
+
+    /// The greatest key of the table that was last merged out of the level.
+    pub fn after(&self, level: u8) -> Option<&Key>
+        ensures { option_map (λ key. key.now) result ≡ turn_key self.now level }
+    {
+        match self.last.get(level as usize) {
+            Some(Some(key)) => Some(key),
+            _ => None,
+        }
+    }
+
+    /// Records that a table with this greatest key is merged out of the level.
+    pub fn advance(&mut self, level: u8, key: Key)
+        requires { level < turn_levels self.old }
+        ensures keys { (other : ℕ) → turn_key self.new other
+            ≡ (if other == level then Some key else turn_key self.old other) }
+        ensures levels { turn_levels self.new ≡ turn_levels self.old }
+    {
+        self.last[level as usize] = Some(key);
+    }
+}
