@@ -1,6 +1,6 @@
-//! Tests of entries in memory and in tables, of cursors over them and of filters, beyond the
-//! contracts: long walks against plain lists, bytes of filters and tables, damage, and calls that
-//! succeed.
+//! Tests of entries in memory and in tables, of cursors over them, of filters and of merges, beyond
+//! the contracts: long walks against plain lists, bytes of filters and tables, damage, and calls
+//! that succeed.
 #![tactic(auto)]
 
 #[cfg(test)]
@@ -12,7 +12,11 @@ mod files;
 #[cfg(test)]
 mod filters;
 #[cfg(test)]
+mod lettered;
+#[cfg(test)]
 mod memtables;
+#[cfg(test)]
+mod merges;
 #[cfg(test)]
 mod numbered;
 #[cfg(test)]

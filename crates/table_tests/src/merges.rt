@@ -1,0 +1,360 @@
+//! Merges of two tables of level 0 and one of level 1, by steps: what their edits give up and add,
+//! and what stands in the tables that they write.
+
+use crate::counts::is_count;
+use crate::lettered::{FIRST, LEN, Lines, entries_of, letters_of};
+use crate::tables::{table_in, with_cache};
+use compaction::{Merge, MergeError, Plan, Turn, pick};
+use disk::{Disk, MemDisk};
+use kv_types::Limits;
+use sorted_table::{Files, TableCursor};
+use std::alloc::Global;
+use std::process::Abort;
+use version_edits::{MAX_LINES, StoreVersion, VersionEdit};
+
+// ---- the tables
+
+/// The entries of the tables in the files 4 and 5 of level 0, and 6 of level 1.
+type Inputs = [&'static [u8]; 3];
+
+static INPUTS: Inputs = [b"a5+a4-b5-c4-d6+", b"a8+b7+c9+e8-f7-", b"a1+b2+d1-e3+"];
+
+/// The tables of these entries, beside one of level 1 that is no input, and a deeper one whose
+/// range is from `b` to `e`, if there is to be one.
+fn tables_of(
+    rt: &impl Abort,
+    alloc: Global,
+    inputs: &Inputs,
+    is_deep: bool,
+) -> (Files<MemDisk>, Lines) {
+    let (mut disk, mut lines) = (MemDisk::new(alloc), Lines::new(alloc));
+    let [older, newer, deep] = *inputs;
+    for (place, letters) in [
+        ((0, 4), older),
+        ((0, 5), newer),
+        ((1, 6), deep),
+        ((1, 7), b"m2+".as_slice()),
+        ((2, 8), b"b1+e1+"),
+    ] {
+        if place.0 < 2 || is_deep {
+            let entries = entries_of(rt, alloc, letters, LEN);
+            lines.add(rt, alloc, &mut disk, place, &entries);
+        }
+    }
+    (with_cache(rt, alloc, disk, 4), lines)
+}
+
+// ---- a merge
+
+/// The plan that is due, where level 0 may have one table.
+fn plan_of(rt: &impl Abort, alloc: Global, version: &StoreVersion) -> Plan {
+    let limits = Limits::new(16, 1, 64, 64, 1).expect(rt, "limits");
+    let turn = Turn::new(alloc).expect(rt, "memory");
+    pick(version, &limits, &turn).expect(rt, "a plan")
+}
+
+/// Cursors over the inputs of a plan.
+fn cursors_of(
+    rt: &impl Abort,
+    alloc: Global,
+    files: &mut Files<MemDisk>,
+    version: &StoreVersion,
+    plan: Plan,
+) -> Vec<TableCursor<MemDisk>> {
+    let range = plan.range(&version.tables).expect(rt, "a range");
+    let mut cursors = Vec::new(alloc);
+    for line in &version.tables {
+        if plan.has_input(range, line) {
+            let table = table_in(rt, alloc, files, line.file);
+            let cursor = table.cursor(alloc).expect(rt, "memory");
+            cursors.push(cursor).expect(rt, "memory");
+        }
+    }
+    cursors
+}
+
+/// Begins the merge that is due.
+fn begin(
+    rt: &impl Abort,
+    alloc: Global,
+    files: &mut Files<MemDisk>,
+    version: &StoreVersion,
+    target: u64,
+) -> Result<Merge<MemDisk>, MergeError> {
+    let plan = plan_of(rt, alloc, version);
+    assert!(rt; plan.level == 0 && target > 0);
+    let cursors = cursors_of(rt, alloc, files, version, plan);
+    Merge::begin(alloc, files, version, plan, target, FIRST, cursors)
+}
+
+/// Merges all entries by steps.
+fn step_all(
+    rt: &impl Abort,
+    alloc: Global,
+    files: &mut Files<MemDisk>,
+    merge: &mut Merge<MemDisk>,
+    next_file: &mut u64,
+) {
+    let mut more = true;
+    for count in [1, 3, 256, 1] {
+        more = merge
+            .step(alloc, files, count, 5, next_file)
+            .expect(rt, "a step");
+    }
+    assert!(rt; !more, "entries are left");
+}
+
+/// The edit of the merge that is due.
+fn edit_of(
+    rt: &impl Abort,
+    alloc: Global,
+    files: &mut Files<MemDisk>,
+    version: &StoreVersion,
+    target: u64,
+) -> VersionEdit {
+    let mut merge = begin(rt, alloc, files, version, target).expect(rt, "a merge");
+    let mut next_file = FIRST;
+    step_all(rt, alloc, files, &mut merge, &mut next_file);
+    merge
+        .finish(alloc, files, version, next_file)
+        .expect(rt, "an edit")
+}
+
+// ---- merges of all
+
+/// A merge at a floor, with tables that are complete from so many bytes of data on, and with a
+/// deeper table or without; and what its edit is to say.
+struct Row {
+    floor: u8,
+    target: u64,
+    is_deep: bool,
+    want: &'static [u8],
+}
+
+/// Whether the edit says what it is to say, and the next file is behind so many tables.
+fn is_merged(rt: &impl Abort, alloc: Global, inputs: &Inputs, row: &Row) -> bool {
+    let (mut files, lines) = tables_of(rt, alloc, inputs, row.is_deep);
+    let version = lines.version(rt, alloc, 16, row.floor);
+    let edit = edit_of(rt, alloc, &mut files, &version, row.target);
+    let tables = edit.next_file.wrapping_sub(FIRST);
+    letters_of(rt, alloc, &mut files, &edit).as_slice() == row.want
+        && tables == edit.tables_added.len() as u64
+        && edit.floor == u64::from(row.floor)
+}
+
+fn all_are_merged(rt: &impl Abort, alloc: Global, inputs: &Inputs, rows: &[Row]) {
+    for row in rows {
+        let is_so = is_merged(rt, alloc, inputs, row);
+        assert!(rt; is_so, "floor {} target {}", row.floor, row.target);
+    }
+}
+
+/// The rows of one table.
+static FLOORS: [Row; 6] = [
+    Row {
+        floor: 0,
+        target: 4_096,
+        is_deep: false,
+        want: b"040516 0af:a8+a5+a4-a1+b7+b5-b2+c9+c4-d6+d1-e8-e3+f7-",
+    },
+    Row {
+        floor: 0,
+        target: 4_096,
+        is_deep: true,
+        want: b"040516 0af:a8+a5+a4-a1+b7+b5-b2+c9+c4-d6+d1-e8-e3+f7-",
+    },
+    Row {
+        floor: 5,
+        target: 4_096,
+        is_deep: false,
+        want: b"040516 0af:a8+a5+b7+c9+d6+e8-e3+f7-",
+    },
+    Row {
+        floor: 5,
+        target: 4_096,
+        is_deep: true,
+        want: b"040516 0af:a8+a5+b7+b5-c9+c4-d6+d1-e8-e3+f7-",
+    },
+    Row {
+        floor: 9,
+        target: 4_096,
+        is_deep: false,
+        want: b"040516 0ad:a8+b7+c9+d6+",
+    },
+    Row {
+        floor: 9,
+        target: 4_096,
+        is_deep: true,
+        want: b"040516 0ae:a8+b7+c9+d6+e8-",
+    },
+];
+
+/// A block has 12 bytes beside its entries, a deletion 12 and a put 114.
+static CUTS: [Row; 4] = [
+    Row {
+        floor: 0,
+        target: 252,
+        is_deep: false,
+        want: b"040516 0aa:a8+a5+a4-a1+ 1bb:b7+b5-b2+ 2cd:c9+c4-d6+d1- 3ef:e8-e3+f7-",
+    },
+    Row {
+        floor: 0,
+        target: 253,
+        is_deep: false,
+        want: b"040516 0aa:a8+a5+a4-a1+ 1bc:b7+b5-b2+c9+c4- 2de:d6+d1-e8-e3+ 3ff:f7-",
+    },
+    Row {
+        floor: 0,
+        target: 1,
+        is_deep: false,
+        want: b"040516 0aa:a8+a5+a4-a1+ 1bb:b7+b5-b2+ 2cc:c9+c4- 3dd:d6+d1- 4ee:e8-e3+ 5ff:f7-",
+    },
+    Row {
+        floor: 9,
+        target: 1,
+        is_deep: false,
+        want: b"040516 0aa:a8+ 1bb:b7+ 2cc:c9+ 3dd:d6+",
+    },
+];
+
+/// Inputs of which nothing is left at 9.
+static DELETED: Inputs = [b"a5-", b"b6-", b"a1+b2+"];
+
+static NOTHING: [Row; 1] = [Row {
+    floor: 9,
+    target: 1,
+    is_deep: false,
+    want: b"040516",
+}];
+
+#[test]
+fn merges_of_three_tables(rt: HostRuntime) {
+    let alloc = rt.alloc();
+    all_are_merged(&rt, alloc, &INPUTS, &FLOORS);
+    all_are_merged(&rt, alloc, &INPUTS, &CUTS);
+    all_are_merged(&rt, alloc, &DELETED, &NOTHING);
+}
+
+// ---- merges without an end
+
+/// Whether a step beside so many tables is refused for this, and what is called behind it because
+/// of that.
+fn ends_by(
+    alloc: Global,
+    files: &mut Files<MemDisk>,
+    merge: &mut Merge<MemDisk>,
+    version: &StoreVersion,
+    tables: usize,
+    (next_file, why): (&mut u64, MergeError),
+) -> bool {
+    let tables = tables.min(MAX_LINES);
+    merge.step(alloc, files, 256, tables, next_file).err() == Some(why)
+        && merge.step(alloc, files, 1, 0, next_file).err() == Some(MergeError::Failed)
+        && merge.finish(alloc, files, version, *next_file).err() == Some(MergeError::Failed)
+}
+
+/// Fails the test where the disk has other files.
+fn has_files(rt: &impl Abort, files: &mut Files<MemDisk>, want: &[u64]) {
+    let found = files.files().expect(rt, "the files");
+    assert!(rt; found.as_slice() == want, "{}", found.len());
+}
+
+#[test]
+fn no_table_more(rt: HostRuntime) {
+    let alloc = rt.alloc();
+    let (mut files, lines) = tables_of(&rt, alloc, &INPUTS, false);
+    let version = lines.version(&rt, alloc, 16, 0);
+    let mut merge = begin(&rt, alloc, &mut files, &version, 1).expect(&rt, "a merge");
+    let mut next = FIRST;
+    let is_so = ends_by(
+        alloc,
+        &mut files,
+        &mut merge,
+        &version,
+        MAX_LINES,
+        (&mut next, MergeError::Full),
+    );
+    assert!(rt; is_so && next == FIRST, "{next}");
+    has_files(&rt, &mut files, &[4, 5, 6, 7]);
+}
+
+// While the merge writes the files 16 and 17, another table is written in 18.
+#[test]
+fn an_abandoned_merge(rt: HostRuntime) {
+    let alloc = rt.alloc();
+    let (mut files, mut lines) = tables_of(&rt, alloc, &INPUTS, false);
+    let version = lines.version(&rt, alloc, 16, 0);
+    let mut merge = begin(&rt, alloc, &mut files, &version, 1).expect(&rt, "a merge");
+    let mut next = FIRST;
+    let more = merge
+        .step(alloc, &mut files, 5, 4, &mut next)
+        .expect(&rt, "a step");
+    assert!(rt; more && next == 18, "{next}");
+    let entries = entries_of(&rt, alloc, b"g9+", LEN);
+    lines.add(&rt, alloc, &mut files, (0, 18), &entries);
+    next = 19;
+    let is_so = ends_by(
+        alloc,
+        &mut files,
+        &mut merge,
+        &version,
+        MAX_LINES - 2,
+        (&mut next, MergeError::Full),
+    );
+    assert!(rt; is_so && next == 19, "{next}");
+    has_files(&rt, &mut files, &[4, 5, 6, 7, 16, 17, 18]);
+    let version = lines.version(&rt, alloc, 19, 0);
+    merge
+        .abandon(&mut files, &version, next)
+        .expect(&rt, "no leftovers");
+    has_files(&rt, &mut files, &[4, 5, 6, 7, 18]);
+}
+
+// ---- damage
+
+/// Two tables whose entries have a block each, with another byte at a place of the first.
+fn damaged_at(rt: &impl Abort, alloc: Global, place: u64) -> (Files<MemDisk>, Lines) {
+    let (mut disk, mut lines) = (MemDisk::new(alloc), Lines::new(alloc));
+    let odd = entries_of(rt, alloc, b"11+31+51+71+91+", 5_000);
+    lines.add(rt, alloc, &mut disk, (0, 4), &odd);
+    let even = entries_of(rt, alloc, b"21+41+61+81+", 5_000);
+    lines.add(rt, alloc, &mut disk, (0, 5), &even);
+    disk.write_at(4, place, b"8").expect(rt, "another byte");
+    (with_cache(rt, alloc, disk, 64), lines)
+}
+
+/// What is no number of a step.
+const NONE: usize = 99;
+
+/// The number of the step by one entry that is refused for damage; 0 where the beginning is.
+fn refused_step(rt: &impl Abort, alloc: Global, place: u64) -> usize {
+    let (mut files, lines) = damaged_at(rt, alloc, place);
+    let version = lines.version(rt, alloc, 16, 0);
+    let mut merge = match begin(rt, alloc, &mut files, &version, 1) {
+        Ok(merge) => merge,
+        Err(e) => return if e == MergeError::Damaged { 0 } else { NONE },
+    };
+    let mut next = FIRST;
+    for number in 1..=9usize {
+        if let Err(e) = merge.step(alloc, &mut files, 1, 2, &mut next) {
+            let later = merge.step(alloc, &mut files, 1, 2, &mut next).err();
+            let is_so = e == MergeError::Damaged && later == Some(MergeError::Failed);
+            return if is_so { number } else { NONE };
+        }
+    }
+    NONE
+}
+
+#[test]
+fn damage_ends_a_merge(rt: HostRuntime) {
+    let alloc = rt.alloc();
+    for (place, want) in [
+        (2_500, 0),
+        (7_500, 1),
+        (12_500, 3),
+        (17_500, 5),
+        (22_500, 7),
+    ] {
+        is_count(&rt, refused_step(&rt, alloc, place), want);
+    }
+}
