@@ -134,6 +134,7 @@ impl<D: Disk + Drop> Merge<D> {
             has_failed: false,
         })
     }
+
     /// Merges the next entries of the inputs: so many, or all that are left. Says whether entries
     /// are left. The version has so many tables. After any refusal the merge answers `Failed`.
     pub fn step(

@@ -239,7 +239,7 @@ impl OutputWriter {
         Ok(())
     }
 
-    // WriterHolds an entry that is not dropped.
+    // Writes an entry that is not dropped.
     fn write<D: Disk>(
         &mut self,
         alloc: Global,
@@ -307,6 +307,7 @@ impl OutputWriter {
         self.remember(entry)?;
         Ok(())
     }
+
     /// The lines of the complete tables, which the writer gives up.
     pub(crate) fn drain(&mut self, alloc: Global) -> Vec<TableLine>
         ensures { result ≡ self.old.closed }

@@ -22,6 +22,8 @@ mod faults;
 #[cfg(test)]
 mod items;
 #[cfg(test)]
+mod levels;
+#[cfg(test)]
 mod limits;
 #[cfg(test)]
 mod lists;
@@ -32,6 +34,14 @@ mod logs;
 #[cfg(test)]
 mod manifests;
 #[cfg(test)]
+mod plain_store;
+#[cfg(test)]
+mod random_rows;
+#[cfg(test)]
 mod round_trips;
 #[cfg(test)]
+mod row_reads;
+#[cfg(test)]
 mod steps;
+#[cfg(test)]
+mod watched_disk;
