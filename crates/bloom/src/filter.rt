@@ -8,7 +8,7 @@ use crate::BloomError;
 use crate::bits::{bits_of, has_bit, set_bit};
 use crate::hashes::{KeyHashes, Probes};
 use kv_types::Key;
-use std::alloc::Global;
+use std::alloc::{AllocError, Global};
 
 /// The number of probes of a key.
 const PROBES: u8 = 7;
@@ -50,7 +50,7 @@ pub fn build(alloc: Global, keys: &[Key]) -> Result<Vec<u8>, BloomError>
 
 /// `build` of the keys that have these hashes. Who collects keys for a filter needs to keep no more
 /// of each than its hashes, which are 16 bytes.
-pub fn build_hashed(alloc: Global, hashes: &[KeyHashes]) -> Result<Vec<u8>, BloomError>
+pub fn build_hashed(alloc: Global, hashes: &[KeyHashes]) -> Result<Vec<u8>, AllocError>
     ensures { (keys : List (List ℕ)) → hashes.now ≡ map hashes_of keys →
         IfOk result (λ filter. IsFilter keys filter.items) }
 {

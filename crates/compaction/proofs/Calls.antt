@@ -1,6 +1,6 @@
 -- Calls that write to some files alone, one behind another.
 use Rattle.std.proofs.Common.{◌≡◌, ◌↔◌, ℕ, Result, Ok, Err, refl, sym, ap, subst, ◌∙◌}
-use Rattle.std.specs.Prelude.{IsErrAnd, MatchResult}
+use Rattle.std.specs.Prelude.{IsErrAnd, IsErrOf, MatchResult}
 use Rattle.disk.specs.declared.Disk.{Ghosts}
 use Rattle.disk.specs.{AlwaysLeaves, IsFileOutcome, IsLeftAt, IsSameBut, KeepsDisk}
 use Rattle.disk.specs.{RisesByOne, Slot}
@@ -11,9 +11,8 @@ use Rattle.compaction.specs.declared.error.MergeError.{MergeError}
 use Rattle.compaction.specs.declared.error.MergeError.TheVariants as merge
 use Rattle.table_format.specs.declared.TableError.{TableError}
 use Rattle.table_format.specs.declared.TableError.TheVariants as table
-use Rattle.table_format.specs.{ReportsDevice}
 use Rattle.version_edits.specs.declared.TableLine.{TableLine}
-use Rattle.compaction.specs.Errors.{MergeFailsDevice, merge_error_of_table}
+use Rattle.compaction.specs.Errors.{merge_error_of_table}
 use Rattle.compaction.specs.Outputs.{IsLeftBeyond, WritesOnly}
 
 module _ {D : Type 0} (g : Ghosts D) (own : ℕ → Type 0) where
@@ -156,36 +155,36 @@ writes_call g file {old = old} {new = new} kept passes =
 -- ---- what is told of a failure
 
 -- an answer is none
-pub done : {U : Type 0} {x : U} → MergeFailsDevice (Ok x) → ⊥
+pub done : {U : Type 0} {x : U} → IsErrOf (Ok x) merge.Disk → ⊥
 done fails = cc
 
 -- an answer reports no failure, whatever follows from one
 pub ok_fails : {T P : Type 0} (result : Result T MergeError) (x : T) → result ≡ Ok x
-    → MergeFailsDevice result → P
+    → IsErrOf result merge.Disk → P
 ok_fails (Ok y) x ok fails = absurd cc
 ok_fails (Err e) x ok fails = absurd cc
 
 -- a refusal is passed on
 pub passed_on : {T U : Type 0} (called : Result T MergeError) (e : MergeError)
     (result : Result U MergeError) → called ≡ Err e → IsErrAnd result (λ s. s ≡ e)
-    → MergeFailsDevice called ↔ MergeFailsDevice result
+    → IsErrOf called merge.Disk ↔ IsErrOf result merge.Disk
 passed_on called e (Ok x) is told = absurd told
 passed_on called e (Err s) is told = (λ f. cc, λ f. cc)
 
 -- a result that is an answer reports no failure
 pub answered : {T : Type 0} (result : Result T MergeError) {x : T} → result ≡ Ok x
-    → MergeFailsDevice result → ⊥
+    → IsErrOf result merge.Disk → ⊥
 answered result ok fails = cc
 
 -- want of memory is none
 pub memory_told : {U : Type 0} (result : Result U MergeError)
-    → IsErrAnd result (λ s. s ≡ merge.Memory) → MergeFailsDevice result → ⊥
+    → IsErrAnd result (λ s. s ≡ merge.Memory) → IsErrOf result merge.Disk → ⊥
 memory_told (Ok x) told fails = absurd told
 memory_told (Err s) told fails = cc
 
 -- a refusal for another cause is none
 pub refused : {T : Type 0} {e : MergeError} → (e ≡ merge.Disk → ⊥)
-    → MergeFailsDevice {T = T} (Err e) → ⊥
+    → IsErrOf {T = T} (Err e) merge.Disk → ⊥
 refused {e = e} other fails =
     let is : e ≡ merge.Disk = cc in
     other is
@@ -194,7 +193,7 @@ refused {e = e} other fails =
 pub table_failed : {T U : Type 0} (called : Result T TableError) (e : TableError)
     (result : Result U MergeError) → called ≡ Err e
     → IsErrAnd result (λ s. s ≡ merge_error_of_table e)
-    → ReportsDevice called ↔ MergeFailsDevice result
+    → IsErrOf called table.Disk ↔ IsErrOf result merge.Disk
 table_failed called e (Ok x) is told = absurd told
 table_failed called table.Disk (Err s) is told = (λ _. ap (λ d. Err d) told, λ _. is)
 table_failed called table.Damaged (Err s) is told = (λ f. cc, λ f. cc)
@@ -205,12 +204,12 @@ table_failed called table.Failed (Err s) is told = (λ f. cc, λ f. cc)
 
 -- a table's answer is no failure
 pub table_answered : {T : Type 0} (result : Result T TableError) {x : T} → result ≡ Ok x
-    → ReportsDevice result → ⊥
+    → IsErrOf result table.Disk → ⊥
 table_answered result ok fails = cc
 
 -- nor is a line that a manifest may not have
 pub line_refused : (P : TableLine → Type 0) (Q : Type 0) (result : Result TableLine MergeError)
-    → MatchResult result P (λ e. (e ≡ merge.Damaged) × Q) → MergeFailsDevice result → ⊥
+    → MatchResult result P (λ e. (e ≡ merge.Damaged) × Q) → IsErrOf result merge.Disk → ⊥
 line_refused P Q (Ok line) told fails = cc
 line_refused P Q (Err e) told fails =
     let is : e ≡ merge.Disk = cc in

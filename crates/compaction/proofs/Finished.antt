@@ -3,7 +3,7 @@ use Rattle.std.proofs.Common.{◌≡◌, ◌≤◌, ◌<◌, ◌^◌, ℕ, List,
 use Rattle.std.proofs.Common.{IfSome, inl, inr, refl, sym, ap, subst, arith, length-append}
 use Rattle.std.proofs.Common.{Result, Ok, Err}
 use Rattle.std.specs.Prelude.{MatchResult}
-use Rattle.disk.specs.{State}
+use Rattle.disk.specs.{IsEnvironmental, State}
 use Rattle.kv_types.specs.declared.bounds.TheConstants.{MAX_KEY, MAX_NUMBER}
 use Rattle.kv_types.specs.ByteOrderLemmas.{Less-below}
 use Rattle.kv_types.specs.OrderLemmas.{Among, Rises, among_of_All, rises_from_AllPairs}
@@ -22,7 +22,6 @@ use Rattle.version_edits.specs.declared.TableLine.{TableLine}
 use Rattle.version_edits.specs.{IsTableLine}
 use Rattle.compaction.specs.declared.error.MergeError.{MergeError}
 use Rattle.compaction.specs.declared.error.MergeError.TheVariants as merge
-use Rattle.compaction.specs.Errors.{IsMergeExternal}
 use Rattle.compaction.specs.Outputs.{IsOutput, output_line}
 use Rattle.compaction.proofs.Orders.{not_behind}
 
@@ -111,6 +110,6 @@ finished_output disk level file entries done merged named f =
 pub line_told : (P : TableLine → Type 0) (line : TableLine) (result : Result TableLine MergeError)
     → MatchResult result (λ told. (told ≡ line) × IsTableLine told)
     (λ e. (e ≡ merge.Damaged) × (IsTableLine line → ⊥)) → IsTableLine line → P line
-    → MatchResult result P IsMergeExternal
+    → MatchResult result P (IsEnvironmental merge.Disk merge.Memory)
 line_told P line (Ok one) told proper has = subst P (sym told.0) has
 line_told P line (Err e) told proper has = absurd (told.1 proper)

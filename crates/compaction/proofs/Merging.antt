@@ -7,7 +7,7 @@ use Rattle.std.specs.Prelude.{IsOkAnd, MatchResult, filter, nat_lt}
 use Rattle.std.specs.List.{AllZip}
 use Rattle.std.proofs.lemmas.Bool.{cases_Bool, cond-false, cond-true, lt-ltb, ltb-true}
 use Rattle.disk.specs.declared.Disk.{Ghosts}
-use Rattle.disk.specs.{IsSame, State}
+use Rattle.disk.specs.{IsEnvironmental, IsSame, State}
 use Rattle.kv_types.specs.{Entry}
 use Rattle.kv_types.specs.OrderLemmas.{AllPairs-rises}
 use Rattle.merge_iter.specs.{EntryPrecedes, IsOn, ErrorCauses}
@@ -40,7 +40,6 @@ use Rattle.version_edits.specs.{IsVersion, StoreVersion}
 use Rattle.compaction.specs.declared.error.MergeError.{MergeError}
 use Rattle.compaction.specs.declared.plan.Plan.{Plan}
 use Rattle.compaction.specs.declared.writer.OutputWriter.{OutputWriter}
-use Rattle.compaction.specs.Errors.{IsMergeExternal}
 use Rattle.compaction.specs.Inputs.{line_name}
 use Rattle.compaction.specs.Merges.{IsOutputTable, table_name}
 use Rattle.compaction.specs.Outputs.{AreUnused, IsOutput, WriterHolds, open_file}
@@ -214,19 +213,21 @@ outputs_of disk level (l ∷ ls) (e ∷ es) zip =
 pub all_closed : (slots : State) (next_file : ℕ) (writer : OutputWriter) (it : Written)
     {R : Type 0} (result : Result R MergeError)
     → (0 < length it.opened → MatchResult result (λ _. WriterHolds slots next_file writer
-    (record it { closed = it.closed ++ it.opened ∷ []; opened = [] })) IsMergeExternal)
+    (record it { closed = it.closed ++ it.opened ∷ []; opened = [] }))
+    (IsEnvironmental merge.Disk merge.Memory))
     → (it.opened ≡ [] → IsOkAnd result (λ _. WriterHolds slots next_file writer it))
     → MatchResult result
     (λ _. AllZip (IsOutput slots writer.level) writer.closed.items (tables_of it))
-    IsMergeExternal
+    (IsEnvironmental merge.Disk merge.Memory)
 all_closed slots next_file writer it {R = R} result some none = by_open it.opened refl
   where
     closes : (e : Entry) (es : List Entry) → it.opened ≡ e ∷ es → (r : Result R MergeError)
         → MatchResult r (λ _. WriterHolds slots next_file writer
-        (record it { closed = it.closed ++ it.opened ∷ []; opened = [] })) IsMergeExternal
+        (record it { closed = it.closed ++ it.opened ∷ []; opened = [] }))
+        (IsEnvironmental merge.Disk merge.Memory)
         → MatchResult r
         (λ _. AllZip (IsOutput slots writer.level) writer.closed.items (tables_of it))
-        IsMergeExternal
+        (IsEnvironmental merge.Disk merge.Memory)
     closes e es is (Ok x) w = subst (λ (opened : List Entry).
         AllZip (IsOutput slots writer.level) writer.closed.items
         (tables_of (record it { opened = opened }))) (sym is)
@@ -239,7 +240,7 @@ all_closed slots next_file writer it {R = R} result some none = by_open it.opene
         → IsOkAnd r (λ _. WriterHolds slots next_file writer it)
         → MatchResult r
         (λ _. AllZip (IsOutput slots writer.level) writer.closed.items (tables_of it))
-        IsMergeExternal
+        (IsEnvironmental merge.Disk merge.Memory)
     stays is (Ok x) w = subst (λ (opened : List Entry).
         AllZip (IsOutput slots writer.level) writer.closed.items
         (tables_of (record it { opened = opened }))) (sym is)
@@ -250,7 +251,7 @@ all_closed slots next_file writer it {R = R} result some none = by_open it.opene
 
     by_open : (opened : List Entry) → it.opened ≡ opened → MatchResult result
         (λ _. AllZip (IsOutput slots writer.level) writer.closed.items (tables_of it))
-        IsMergeExternal
+        (IsEnvironmental merge.Disk merge.Memory)
     by_open [] is = stays is result (none is)
     by_open (e ∷ es) is = closes e es is result
         (some (subst (λ (l : List Entry). 0 < length l) (sym is) (omega arith)))
@@ -259,7 +260,7 @@ all_closed slots next_file writer it {R = R} result some none = by_open it.opene
 pub begin_stops : {R : Type 0} (intact sound allocates : Type 0) (before now : ℕ)
     (result : Result R CursorError) (e : CursorError) → (intact → sound)
     → ErrorCauses sound ⊥ allocates before now result → result ≡ Err e
-    → IsMergeExternal (merge_error_of_cursor e)
+    → IsEnvironmental merge.Disk merge.Memory (merge_error_of_cursor e)
     ⊎ ((merge_error_of_cursor e ≡ merge.Damaged) × (intact → ⊥))
 begin_stops I S A before now result cursor.Disk so causes stops = inl (inl refl)
 begin_stops I S A before now result cursor.Damaged so causes stops =
@@ -329,12 +330,13 @@ pub closed_all : {F : Type 0} (d : Ghosts F) (old new : F) (next_file : ℕ)
     (was now : OutputWriter) (it : Written) {R : Type 0} (result : Result R MergeError)
     → WriterHolds (d.state old) next_file was it
     → (0 < length it.opened → MatchResult result (λ _. WriterHolds (d.state new) next_file now
-    (record it { closed = it.closed ++ it.opened ∷ []; opened = [] })) IsMergeExternal)
+    (record it { closed = it.closed ++ it.opened ∷ []; opened = [] }))
+    (IsEnvironmental merge.Disk merge.Memory))
     → ((slots : State) (n : ℕ) (it : Written) → WriterHolds slots n was it → it.opened ≡ []
     → (new ≡ old) × IsOkAnd result (λ _. WriterHolds slots n now it))
     → MatchResult result
     (λ _. AllZip (IsOutput (d.state new) now.level) now.closed.items (tables_of it))
-    IsMergeExternal
+    (IsEnvironmental merge.Disk merge.Memory)
 closed_all {F} d old new next_file was now it result w some none =
     all_closed (d.state new) next_file now it result some (λ is.
     let e = none (d.state old) next_file it w is in

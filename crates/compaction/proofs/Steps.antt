@@ -3,7 +3,7 @@ use Rattle.std.proofs.Common.{◌+◌, length, length-append}
 use Rattle.std.proofs.Common.{◌≡◌, ◌↔◌, inl, inr, ℕ, List, [], ◌∷◌, ◌++◌}
 use Rattle.std.proofs.Common.{IsTrue}
 use Rattle.std.proofs.Common.{Result, Ok, Err, refl, sym, ap, subst, ◌∙◌}
-use Rattle.std.specs.Prelude.{IsErrAnd}
+use Rattle.std.specs.Prelude.{IsErrAnd, IsErrOf}
 use Rattle.std.proofs.lemmas.List.Sums.{fold_push}
 use Rattle.disk.specs.declared.Disk.{Ghosts}
 use Rattle.disk.specs.{IsCrashOutcome, IsSame}
@@ -24,7 +24,7 @@ use Rattle.store_model.specs.{LevelTable, tables_entries}
 use Rattle.compaction.specs.declared.error.MergeError.{MergeError}
 use Rattle.compaction.specs.declared.error.MergeError.TheVariants as merge
 use Rattle.compaction.specs.declared.writer.OutputWriter.{OutputWriter}
-use Rattle.compaction.specs.Errors.{MergeFailsDevice, merge_error_of_cursor}
+use Rattle.compaction.specs.Errors.{merge_error_of_cursor}
 use Rattle.compaction.specs.Outputs.{AreUnused, IsLeftBeyond, IsOwnFile}
 use Rattle.compaction.specs.Outputs.{KeepsRules, LacksRoom, PutRefusal, WriterHolds, WritesOnly}
 use Rattle.compaction.specs.Walks.{HasSameFiles, HasWalked, IsIntactOn, IsWalking}
@@ -72,7 +72,7 @@ writes_read g own {old = old} {new = new} {told = told} result same moves =
 pub cursor_failed : {T U : Type 0} (called : Result T CursorError) (e : CursorError)
     (result : Result U MergeError) → called ≡ Err e
     → IsErrAnd result (λ s. s ≡ merge_error_of_cursor e)
-    → (called ≡ Err cursor.Disk) ↔ MergeFailsDevice result
+    → (called ≡ Err cursor.Disk) ↔ IsErrOf result merge.Disk
 cursor_failed called e (Ok x) is told = absurd told
 cursor_failed called cursor.Disk (Err s) is told = (λ _. ap (λ d. Err d) told, λ _. is)
 cursor_failed called cursor.Damaged (Err s) is told = (λ f. cc, λ f. cc)
@@ -80,7 +80,7 @@ cursor_failed called cursor.Memory (Err s) is told = (λ f. cc, λ f. cc)
 cursor_failed called cursor.Failed (Err s) is told = (λ f. cc, λ f. cc)
 
 pub cursor_works : {T U : Type 0} (called : Result T CursorError) {x : T} {y : U}
-    → called ≡ Ok x → (called ≡ Err cursor.Disk) ↔ MergeFailsDevice {T = U} (Ok y)
+    → called ≡ Ok x → (called ≡ Err cursor.Disk) ↔ IsErrOf {T = U} (Ok y) merge.Disk
 cursor_works called ok = (λ f. cc, λ f. cc)
 
 -- on an entry no cursor is broken
@@ -91,7 +91,7 @@ on_unbroken Broken on broken = absurd on
 
 -- an answer reports no failure
 pub ok_works : {T : Type 0} (result : Result T MergeError) (x : T) → result ≡ Ok x
-    → MergeFailsDevice result → ⊥
+    → IsErrOf result merge.Disk → ⊥
 ok_works (Ok y) x ok fails = absurd cc
 ok_works (Err e) x ok fails = absurd cc
 
@@ -117,7 +117,7 @@ written_more old new k entries entry = rules_same old new k (entries ++ entry �
 -- a refusal that is passed on
 pub fails_same : {T U : Type 0} (called : Result T MergeError) (e : MergeError)
     (result : Result U MergeError) → called ≡ Err e → IsErrAnd result (λ s. s ≡ e)
-    → MergeFailsDevice called ↔ MergeFailsDevice result
+    → IsErrOf called merge.Disk ↔ IsErrOf result merge.Disk
 fails_same called e (Ok x) is told = absurd told
 fails_same called e (Err s) is told = (
   λ fails. let failed : Err e ≡ Err merge.Disk = sym is ∙ fails in cc,

@@ -4,7 +4,7 @@ use Rattle.std.proofs.Common.{None}
 use Rattle.std.proofs.Common.{Bool, true, false, All, IfSome, inl, inr, refl, sym, ap, subst, ◌∙◌}
 use Rattle.std.proofs.Common.{arith}
 use Rattle.std.proofs.Common.{Result, Ok, Err, get_or}
-use Rattle.std.specs.Prelude.{◌&&◌, IsErrAnd, IsNone, MatchResult, is_ok, is_some}
+use Rattle.std.specs.Prelude.{◌&&◌, IsErrAnd, IsErrOf, IsNone, MatchResult, is_ok, is_some}
 use Rattle.std.specs.List.{AllZip}
 use Rattle.std.specs.Option.{option_map}
 use Rattle.std.proofs.lemmas.Bool.{cond_both, le-leb, true≢false}
@@ -17,7 +17,6 @@ use Rattle.table_format.specs.{CanFollow}
 use Rattle.table_builder.specs.{Builds, BuildsNothing, IsFresh, data_size}
 use Rattle.compaction.specs.declared.error.MergeError.{MergeError}
 use Rattle.compaction.specs.declared.error.MergeError.TheVariants as merge
-use Rattle.compaction.specs.Errors.{MergeFailsDevice}
 use Rattle.compaction.specs.declared.open_output.OpenOutput.{OpenOutput}
 use Rattle.compaction.specs.declared.writer.OutputWriter.{OutputWriter}
 use Rattle.compaction.specs.Outputs.{HaveOwnNumbers, IsOpenFile, HoldsOpen, IsOutput, IsOwnFile}
@@ -258,7 +257,7 @@ told_more P P' Q Q' (Ok x) yes_more no_more told = yes_more x told
 told_more P P' Q Q' (Err e) yes_more no_more told = no_more e told
 
 pub full_told : {T : Type 0} (result : Result T MergeError) (e : MergeError) → e ≡ merge.Full
-    → IsErrAnd result (λ s. s ≡ e) → MergeFailsDevice result → ⊥
+    → IsErrAnd result (λ s. s ≡ e) → IsErrOf result merge.Disk → ⊥
 full_told (Ok x) e is told fails = absurd told
 full_told (Err s) e is told fails =
     let failed : s ≡ merge.Disk = cc in

@@ -22,11 +22,3 @@ merge_error_of_cursor cursor.Disk = merge.Disk
 merge_error_of_cursor cursor.Damaged = merge.Damaged
 merge_error_of_cursor cursor.Memory = merge.Memory
 merge_error_of_cursor cursor.Failed = merge.Damaged
-
--- the refusals that say nothing of the files: the device failed, or memory is out
-abbrev pub IsMergeExternal : MergeError → Type 0
-IsMergeExternal e = (e ≡ merge.Disk) ⊎ (e ≡ merge.Memory)
-
--- the call was refused because the device failed
-abbrev pub MergeFailsDevice : {T : Type 0} → Result T MergeError → Type 0
-MergeFailsDevice result = result ≡ Err merge.Disk

@@ -1,11 +1,11 @@
 -- Files that a merge leaves where it is abandoned.
-use Rattle.std.specs.Prelude.{◌≡◌, ℕ, ◌<◌, ◌≤◌, false, IsNone, Result, MatchResult}
+use Rattle.std.specs.Prelude.{◌≡◌, IsErrOf, ℕ, ◌<◌, ◌≤◌, false, IsNone, Result, MatchResult}
 use Rattle.disk.specs.declared.Disk.{Ghosts}
-use Rattle.disk.specs.{seen}
+use Rattle.disk.specs.{IsEnvironmental, seen}
 use Rattle.version_edits.specs.Versions.{names_file, names_log}
 use Rattle.version_edits.specs.{StoreVersion}
+use Rattle.compaction.specs.declared.error.MergeError.TheVariants as merge
 use Rattle.compaction.specs.declared.error.MergeError.{MergeError}
-use Rattle.compaction.specs.Errors.{IsMergeExternal, MergeFailsDevice}
 use Rattle.compaction.specs.Outputs.{WritesOnly}
 
 -- neither a log nor a table of the version has the file
@@ -22,7 +22,8 @@ pub record IsLeftover (first next_file : ℕ) (version : StoreVersion) (file : �
 -- the files that a merge leaves were removed, and no others
 pub record RemovesLeftovers {D : Type 0} (g : Ghosts D) (first next_file : ℕ)
     (version : StoreVersion) (old new : D) (result : Result (Unit {0}) MergeError) : Type 0 where
-  pub writes : WritesOnly g (IsLeftover first next_file version) old new (MergeFailsDevice result) ⊥
+  pub writes : WritesOnly g (IsLeftover first next_file version) old new
+      (IsErrOf result merge.Disk) ⊥
   pub removed : g.is_honest old → MatchResult result
       (λ _. (file : ℕ) → IsLeftover first next_file version file → IsNone (seen (g.state new file)))
-      IsMergeExternal
+      (IsEnvironmental merge.Disk merge.Memory)

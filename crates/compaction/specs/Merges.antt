@@ -1,9 +1,9 @@
 -- A merge: what its calls promise.
 use Rattle.std.specs.Prelude.{◌≡◌, ◌⊎◌, ◌↔◌, ℕ, suc, ◌+◌, ◌<◌, ◌≤◌, List, [], length, map, IsTrue}
-use Rattle.std.specs.Prelude.{Bool, Result, Err, MatchResult}
+use Rattle.std.specs.Prelude.{Bool, IsErrOf, Result, Err, MatchResult}
 use Rattle.std.specs.List.{AllZip}
 use Rattle.disk.specs.declared.Disk.{Ghosts}
-use Rattle.disk.specs.{State}
+use Rattle.disk.specs.{IsEnvironmental, State}
 use Rattle.merge_iter.specs.declared.Cursor.{Ghosts as CursorGhosts}
 use Rattle.merge_iter.specs.declared.Merged.{Merged}
 use Rattle.merge_iter.specs.{AreDisjoint, AreSound, EachChild, IsAlike, IsOn, union_of}
@@ -16,7 +16,6 @@ use Rattle.version_edits.specs.{Change, StoreVersion}
 use Rattle.compaction.specs.declared.error.MergeError.{MergeError}
 use Rattle.compaction.specs.declared.error.MergeError.TheVariants as merge
 use Rattle.compaction.specs.declared.merge.Merge.{Merge}
-use Rattle.compaction.specs.Errors.{IsMergeExternal, MergeFailsDevice}
 use Rattle.compaction.specs.Outputs.{IsOpenFile, IsOutput, IsOwnFile, WritesOnly}
 use Rattle.compaction.specs.Plans.{IsLineOf}
 use Rattle.compaction.specs.Survivors.{AreDeeperLines}
@@ -131,7 +130,7 @@ module _ {D F : Type 0} (u : CursorGhosts (Merged (TableCursor D)) F) (d : Ghost
   pub record StepsMerge (tables count : ℕ) (old : F) (next_old : ℕ) (was : Merge D) (new : F)
       (next_new : ℕ) (now : Merge D) (result : Result Bool MergeError) : Type 0 where
     -- the call writes to the file of the open output, and to files from the next number on
-    pub writes : WritesOnly d (IsOwnFile was.writer next_old) old new (MergeFailsDevice result)
+    pub writes : WritesOnly d (IsOwnFile was.writer next_old) old new (IsErrOf result merge.Disk)
         (IsNoMerge old next_old was)
     pub own : (file : ℕ) → IsOwnFile now.writer next_new file → IsOwnFile was.writer next_old file
     pub numbers : (next_old ≤ next_new) × (begun_number now ≡ begun_number was)
@@ -148,14 +147,15 @@ module _ {D F : Type 0} (u : CursorGhosts (Merged (TableCursor D)) F) (d : Ghost
   pub record EndsMerge (version : StoreVersion) (next_file : ℕ) (was : Merge D) (old new : F)
       (result : Result Change MergeError) : Type 0 where
     -- the call writes to the file of the open output
-    pub writes : WritesOnly d (IsOpenFile was.writer) old new (MergeFailsDevice result)
+    pub writes : WritesOnly d (IsOpenFile was.writer) old new (IsErrOf result merge.Disk)
         (IsNoMerge old next_file was)
     pub failed : MergeHasFailed was → result ≡ Err merge.Failed
     -- of a merge under way, of which no entry is left
     pub ends : (meant : u.Meant) (plan : MergePlan) (floor : ℕ) →
         IsMerging meant old next_file was plan floor → (HasEntriesLeft was → ⊥) →
         MatchResult result (IsMergeEdit (d.state new) version next_file plan floor)
-        (λ e. IsMergeExternal e ⊎ ((e ≡ merge.Full) × HasTooManyTables version plan floor))
+        (λ e. IsEnvironmental merge.Disk merge.Memory e ⊎ ((e ≡ merge.Full) ×
+        HasTooManyTables version plan floor))
 
   -- ---- what other calls keep
 

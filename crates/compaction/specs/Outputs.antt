@@ -3,6 +3,7 @@ use Rattle.std.specs.Prelude.{◌≡◌, ◌≢◌, ◌⊎◌, ℕ, ◌+◌, ◌
 use Rattle.std.specs.Prelude.{true, false, Option, Some, None, IfSome, IsNone}
 use Rattle.std.specs.List.{AllZip}
 use Rattle.std.specs.Option.{option_map}
+use Rattle.disk.specs.{IsEnvironmental}
 use Rattle.disk.specs.declared.Disk.{Ghosts}
 use Rattle.disk.specs.{AlwaysLeaves, Contents, IsFileOutcome, KeepsDisk, State, seen}
 use Rattle.kv_types.specs.declared.bounds.TheConstants.{MAX_NUMBER}
@@ -18,7 +19,6 @@ use Rattle.compaction.specs.declared.error.MergeError.{MergeError}
 use Rattle.compaction.specs.declared.error.MergeError.TheVariants as merge
 use Rattle.compaction.specs.declared.open_output.OpenOutput.{OpenOutput}
 use Rattle.compaction.specs.declared.writer.OutputWriter.{OutputWriter}
-use Rattle.compaction.specs.Errors.{IsMergeExternal}
 use Rattle.compaction.specs.WrittenTables.{Written}
 
 -- ---- what the writer knows
@@ -143,4 +143,5 @@ LacksRoom tables next_file it entry =
 -- why an entry was not written
 abbrev pub PutRefusal : ℕ → ℕ → Written → Entry → MergeError → Type 0
 PutRefusal tables next_file it entry e =
-    IsMergeExternal e ⊎ ((e ≡ merge.Full) × LacksRoom tables next_file it entry)
+    IsEnvironmental merge.Disk merge.Memory e ⊎ ((e ≡ merge.Full) ×
+    LacksRoom tables next_file it entry)

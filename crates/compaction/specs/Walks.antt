@@ -1,6 +1,7 @@
 -- A merge under way: the union of its inputs is walked, and what it has shown is written.
 use Rattle.std.specs.Prelude.{◌≡◌, ◌⊎◌, ◌≤◌, ◌+◌, ℕ, List, length, map, All, Contains, Result}
-use Rattle.std.specs.Prelude.{MatchResult}
+use Rattle.std.specs.Prelude.{IsErrOf, MatchResult}
+use Rattle.disk.specs.{IsEnvironmental}
 use Rattle.disk.specs.declared.Disk.{Ghosts}
 use Rattle.kv_types.specs.{Entry}
 use Rattle.merge_iter.specs.declared.Cursor.{Ghosts as CursorGhosts}
@@ -11,7 +12,6 @@ use Rattle.store_model.specs.{LevelTable, tables_entries}
 use Rattle.compaction.specs.declared.error.MergeError.{MergeError}
 use Rattle.compaction.specs.declared.error.MergeError.TheVariants as merge
 use Rattle.compaction.specs.declared.writer.OutputWriter.{OutputWriter}
-use Rattle.compaction.specs.Errors.{IsMergeExternal, MergeFailsDevice}
 use Rattle.compaction.specs.Outputs.{AreUnused, IsOpenFile, IsOwnFile, KeepsRules, LacksRoom}
 use Rattle.compaction.specs.Outputs.{WriterHolds, WritesOnly}
 use Rattle.compaction.specs.WrittenTables.{Written, cut_before, written_of}
@@ -105,7 +105,7 @@ pub record FindsNoRoom (tables : ℕ) (writer : OutputWriter) (inputs : List Lev
 -- why a merge did not go on, where its inputs are intact or not
 abbrev pub StepRefusal : Type 0 → ℕ → OutputWriter → List LevelTable → MergeError → Type 0
 StepRefusal intact tables writer inputs e =
-    IsMergeExternal e ⊎ (((e ≡ merge.Damaged) × (intact → ⊥))
+    IsEnvironmental merge.Disk merge.Memory e ⊎ (((e ≡ merge.Damaged) × (intact → ⊥))
     ⊎ ((e ≡ merge.Full) × FindsNoRoom tables writer inputs))
 
 -- ---- the calls
@@ -117,7 +117,7 @@ module _ {U F : Type 0} (u : CursorGhosts U F) (d : Ghosts F) where
       (writer_old : OutputWriter) (new : F) (next_new : ℕ) (union_new : U)
       (writer_new : OutputWriter) (result : Result (Unit {0}) MergeError) : Type 0 where
     -- the calls write to the writer's files alone, as they are before or are begun
-    pub writes : WritesOnly d (IsOwnFile writer_old next_old) old new (MergeFailsDevice result)
+    pub writes : WritesOnly d (IsOwnFile writer_old next_old) old new (IsErrOf result merge.Disk)
         (IsNoWalk u d old next_old union_old writer_old)
     pub rules : KeepsRules writer_old writer_new
     pub own : (file : ℕ) → IsOwnFile writer_new next_new file → IsOwnFile writer_old next_old file

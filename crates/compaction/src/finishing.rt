@@ -1,10 +1,11 @@
 // Finishing an output.
-ghost use Rattle.std.specs.Prelude.{◌≡◌, ◌≤◌, ◌<◌, List, IfErr, IfOk, MatchResult, length};
+ghost use Rattle.std.specs.Prelude.{◌≡◌, ◌≤◌, ◌<◌, IsErrOf, List, IfErr, IfOk, MatchResult, length};
+ghost use Rattle.disk.specs.{IsEnvironmental};
 ghost use Rattle.kv_types.specs.declared.bounds.TheConstants.{MAX_NUMBER};
 ghost use Rattle.kv_types.specs.{Entry};
 ghost use Rattle.version_edits.specs.{IsTableLine};
 ghost use Rattle.table_builder.specs.{Builds, BuildsNothing};
-ghost use Rattle.compaction.specs.Errors.{IsMergeExternal, MergeFailsDevice};
+ghost use Rattle.compaction.specs.declared.error.MergeError.TheVariants.{Disk, Memory};
 ghost use Rattle.compaction.specs.Outputs.{IsOutput, WritesOnly, output_line};
 
 use crate::error::MergeError;
@@ -45,11 +46,11 @@ pub(crate) fn finish_output<D: Disk>(
 ) -> Result<TableLine, MergeError>
     requires { level ≤ 6 }
     ensures writes { WritesOnly D.Disk (λ file. output.file ≡ file) disk.old disk.new
-        (MergeFailsDevice result) (BuildsNothing output.builder) }
+        (IsErrOf result Disk) (BuildsNothing output.builder) }
     ensures finished { (entries : List Entry) → D.is_honest disk.old →
         Builds (D.state disk.old output.file) output.builder entries → 0 < length entries →
         MatchResult result (λ line. IsOutput (D.state disk.new) level line entries)
-        IsMergeExternal }
+        (IsEnvironmental Disk Memory) }
     ensures file { IfOk result (λ line. line.file ≡ output.file) }
     ensures place { IfErr result (λ e. e ≡ MergeError.Full → ⊥) }
 {

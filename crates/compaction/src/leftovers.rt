@@ -1,8 +1,8 @@
 // Files that a merge leaves where it is abandoned.
-ghost use Rattle.std.specs.Prelude.{◌≡◌, IsNone, MatchResult};
-ghost use Rattle.disk.specs.{seen};
+ghost use Rattle.std.specs.Prelude.{◌≡◌, IsErrOf, IsNone, MatchResult};
+ghost use Rattle.disk.specs.{IsEnvironmental, seen};
 ghost use Rattle.version_edits.specs.Versions.{names_file, names_log};
-ghost use Rattle.compaction.specs.Errors.{IsMergeExternal, MergeFailsDevice};
+ghost use Rattle.compaction.specs.declared.error.MergeError.TheVariants.{Disk, Memory};
 ghost use Rattle.compaction.specs.Leftovers.{IsBesideVersion, RemovesLeftovers};
 ghost use Rattle.compaction.specs.Outputs.{WritesOnly};
 
@@ -27,9 +27,10 @@ fn has_table(tables: &[TableLine], file: u64) -> bool
 // Removes a file, if there is one.
 fn remove_file<D: Disk>(disk: &mut D, file: u64) -> Result<(), MergeError>
     ensures writes { WritesOnly D.Disk (λ one. file ≡ one) disk.old disk.new
-        (MergeFailsDevice result) ⊥ }
+        (IsErrOf result Disk) ⊥ }
     ensures removed { D.is_honest disk.old →
-        MatchResult result (λ _. IsNone (seen (D.state disk.new file))) IsMergeExternal }
+        MatchResult result (λ _. IsNone (seen (D.state disk.new file)))
+        (IsEnvironmental Disk Memory) }
 {
     match disk.remove(file) {
         Ok(()) | Err(DiskError::NoFile) => Ok(()),
@@ -47,10 +48,10 @@ fn remove_unnamed<D: Disk>(
 ) -> Result<(), MergeError>
     ensures writes { WritesOnly D.Disk
         (λ one. (file ≡ one) × IsBesideVersion version.now.version one) disk.old disk.new
-        (MergeFailsDevice result) ⊥ }
+        (IsErrOf result Disk) ⊥ }
     ensures removed { D.is_honest disk.old → MatchResult result
         (λ _. IsBesideVersion version.now.version file → IsNone (seen (D.state disk.new file)))
-        IsMergeExternal }
+        (IsEnvironmental Disk Memory) }
 {
     if has_log(&version.logs, file) {
         return Ok(());

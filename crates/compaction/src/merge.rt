@@ -1,10 +1,11 @@
 //! A merge in bounded steps.
-ghost use Rattle.std.specs.Prelude.{◌≡◌, ◌≤◌, ◌<◌, ◌⊎◌, ◌+◌, List, IfOk, MatchResult};
+ghost use Rattle.std.specs.Prelude.{◌≡◌, ◌≤◌, ◌<◌, ◌⊎◌, ◌+◌, IsErrOf, List, IfOk, MatchResult};
+ghost use Rattle.disk.specs.{IsEnvironmental};
 ghost use Rattle.std.specs.Prelude.{Some, filter, nat_lt, ℕ};
 ghost use Rattle.std.specs.List.{AllZip};
 ghost use Rattle.store_model.specs.{LevelTable};
 ghost use Rattle.version_edits.specs.declared.line.TheConstants.{MAX_LINES};
-ghost use Rattle.compaction.specs.Errors.{IsMergeExternal, MergeFailsDevice};
+ghost use Rattle.compaction.specs.declared.error.MergeError.TheVariants.{Disk, Memory};
 ghost use Rattle.compaction.specs.Merges.{AreCursorsOf, AreIntactCursors, EndsMerge, IsIntactMerge};
 ghost use Rattle.compaction.specs.Leftovers.{RemovesLeftovers};
 ghost use Rattle.compaction.specs.Merges.{IsMerging, StepsMerge, begun_number, merge_change};
@@ -97,7 +98,7 @@ impl<D: Disk + Drop> Merge<D> {
         requires deep { plan.level ≤ 5 }
         requires aimed { 0 < target }
         ensures reads { WritesOnly ⟦<Files<D> as Disk>⟧ (λ _. ⊥) files.old files.new
-            (MergeFailsDevice result) ⊥ }
+            (IsErrOf result Disk) ⊥ }
         ensures first { IfOk result (λ merge. begun_number merge ≡ next_file) }
         ensures begun { (meant : _) (tables : List LevelTable) (range : _) →
             ⟦<Files<D> as Disk>⟧.is_honest files.old →
@@ -113,7 +114,7 @@ impl<D: Disk + Drop> Merge<D> {
             cursors.items (model_plan plan range tables).inputs →
             IsIntactMerge ⟦<Merged<TableCursor<D>> as Cursor>⟧ ⟦<Files<D> as Disk>⟧ files.new merge
             (model_plan plan range tables)))
-            (λ e. IsMergeExternal e ⊎ ((e ≡ MergeError.Damaged) × (AreIntactCursors
+            (λ e. IsEnvironmental Disk Memory e ⊎ ((e ≡ MergeError.Damaged) × (AreIntactCursors
             ⟦<TableCursor<D> as Cursor>⟧ ⟦<Files<D> as Disk>⟧ files.old cursors.items
             (model_plan plan range tables).inputs → ⊥))) }
     {

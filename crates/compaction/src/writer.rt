@@ -1,6 +1,6 @@
 //! The writer of a merge's outputs. Entries come in order: those that the merge drops are left out,
 //! and the others are written into tables.
-ghost use Rattle.std.specs.Prelude.{◌≤◌, ◌<◌};
+ghost use Rattle.std.specs.Prelude.{◌≤◌, ◌<◌, IsErrOf};
 
 use crate::error::MergeError;
 use crate::finishing::finish_output;
@@ -39,11 +39,11 @@ impl OutputWriter {
     ghost use Rattle.std.specs.Prelude.{IsSome, MatchResult, None, OnErr, OnOk, Option, Some};
     ghost use Rattle.std.specs.Prelude.{bytes_eq};
     ghost use Rattle.std.specs.Prelude.{IsOkAnd, length};
-    ghost use Rattle.disk.specs.{State};
+    ghost use Rattle.disk.specs.{IsEnvironmental, State};
     ghost use Rattle.kv_types.specs.{Entry, lent_key};
     ghost use Rattle.version_edits.specs.declared.line.TheConstants.{MAX_LINES};
     ghost use Rattle.table_format.specs.{CanFollow, IsTableEntry, lent_entry};
-    ghost use Rattle.compaction.specs.Errors.{IsMergeExternal, MergeFailsDevice};
+ghost use Rattle.compaction.specs.declared.error.MergeError.TheVariants.{Disk, Memory};
     ghost use Rattle.compaction.specs.Outputs.{AreUnused, HasNoPlace, HoldsNothing, IsAstray};
     ghost use Rattle.compaction.specs.Outputs.{IsOpenFile, IsOwnFile, KeepsRules, KnowsBefore};
     ghost use Rattle.compaction.specs.Outputs.{PassesTableLimit, PutRefusal, WriterHolds};
@@ -138,13 +138,14 @@ impl OutputWriter {
     /// Completes the open table, if there is one.
     pub(crate) fn close<D: Disk>(&mut self, alloc: Global, disk: &mut D) -> Result<(), MergeError>
         ensures writes { (next_file : ℕ) → WritesOnly D.Disk (IsOpenFile self.old) disk.old
-            disk.new (MergeFailsDevice result) (HoldsNothing D.Disk disk.old next_file self.old) }
+            disk.new (IsErrOf result Disk) (HoldsNothing D.Disk disk.old next_file self.old) }
         ensures rules { KeepsRules self.old self.new }
         ensures none { open_file self.new ≡ None }
         ensures closed { (next_file : ℕ) (it : Written) → D.is_honest disk.old →
             WriterHolds (D.state disk.old) next_file self.old it → 0 < length it.opened →
             MatchResult result (λ _. WriterHolds (D.state disk.new) next_file self.new
-            (record it { closed = it.closed ++ it.opened ∷ []; opened = [] })) IsMergeExternal }
+            (record it { closed = it.closed ++ it.opened ∷ []; opened = [] }))
+            (IsEnvironmental Disk Memory) }
         ensures empty { (slots : State) (next_file : ℕ) (it : Written) →
             WriterHolds slots next_file self.old it → it.opened ≡ [] → (disk.new ≡ disk.old)
             × IsOkAnd result (λ _. WriterHolds slots next_file self.new it) }
@@ -164,13 +165,13 @@ impl OutputWriter {
     // Completes the open table, if it is complete before an entry of this key.
     fn cut<D: Disk>(&mut self, alloc: Global, disk: &mut D, key: LentKey) -> Result<(), MergeError>
         ensures writes { (next_file : ℕ) → WritesOnly D.Disk (IsOpenFile self.old) disk.old
-            disk.new (MergeFailsDevice result) (HoldsNothing D.Disk disk.old next_file self.old) }
+            disk.new (IsErrOf result Disk) (HoldsNothing D.Disk disk.old next_file self.old) }
         ensures rules { KeepsRules self.old self.new }
         ensures open { (file : ℕ) → IsOpenFile self.new file → IsOpenFile self.old file }
         ensures cut { (next_file : ℕ) (it : Written) (entry : Entry) → D.is_honest disk.old →
             WriterHolds (D.state disk.old) next_file self.old it → entry.key ≡ lent_key key.entry →
             MatchResult result (λ _. WriterHolds (D.state disk.new) next_file self.new
-            (cut_before self.old.target it entry)) IsMergeExternal }
+            (cut_before self.old.target it entry)) (IsEnvironmental Disk Memory) }
         ensures place { IfErr result (λ e. e ≡ MergeError.Full → ⊥) }
     {
         if self.is_complete(key) {
@@ -219,7 +220,7 @@ impl OutputWriter {
     ) -> Result<(), MergeError>
         requires { IsTableEntry (lent_entry entry) }
         ensures writes { (next_file : ℕ) → WritesOnly D.Disk (IsOpenFile self.old) disk.old
-            disk.new (MergeFailsDevice result) (HoldsNothing D.Disk disk.old next_file self.old) }
+            disk.new (IsErrOf result Disk) (HoldsNothing D.Disk disk.old next_file self.old) }
         ensures rules { KeepsRules self.old self.new }
         ensures open { (file : ℕ) → IsOpenFile self.new file → IsOpenFile self.old file }
         ensures added { (next_file : ℕ) (it : Written) → D.is_honest disk.old →
@@ -227,7 +228,7 @@ impl OutputWriter {
             CanFollow it.opened (lent_entry entry.entry) → MatchResult result
             (λ _. WriterHolds (D.state disk.new) next_file self.new
             (with_written it (lent_entry entry.entry)))
-            (λ e. IsMergeExternal e ⊎ ((e ≡ MergeError.Full)
+            (λ e. IsEnvironmental Disk Memory e ⊎ ((e ≡ MergeError.Full)
             × PassesTableLimit it.opened (lent_entry entry.entry))) }
     {
         let Some(output) = self.current.take() else {
@@ -251,7 +252,7 @@ impl OutputWriter {
         requires entry { IsTableEntry (lent_entry entry) }
         requires few { tables ≤ MAX_LINES }
         ensures writes { WritesOnly D.Disk (IsOwnFile self.old next_file.old) disk.old disk.new
-            (MergeFailsDevice result) (IsAstray D.Disk disk.old next_file.old self.old) }
+            (IsErrOf result Disk) (IsAstray D.Disk disk.old next_file.old self.old) }
         ensures rules { KeepsRules self.old self.new }
         ensures number { next_file.old ≤ next_file.new }
         ensures own { (file : ℕ) → IsOwnFile self.new next_file.new file →
@@ -284,7 +285,7 @@ impl OutputWriter {
         requires entry { IsTableEntry (lent_entry entry) }
         requires few { tables ≤ MAX_LINES }
         ensures writes { WritesOnly D.Disk (IsOwnFile self.old next_file.old) disk.old disk.new
-            (MergeFailsDevice result) (IsAstray D.Disk disk.old next_file.old self.old) }
+            (IsErrOf result Disk) (IsAstray D.Disk disk.old next_file.old self.old) }
         ensures rules { KeepsRules self.old self.new }
         ensures number { next_file.old ≤ next_file.new }
         ensures own { (file : ℕ) → IsOwnFile self.new next_file.new file →

@@ -1,10 +1,10 @@
 -- The effect of a call on a disk that is passed to it, and of arming it with a fault.
 use Rattle.disk.specs.declared.disk.Disk.{Ghosts}
-use Rattle.std.specs.Prelude.{◌≡◌, ◌↔◌, ◌∷◌, length}
+use Rattle.std.specs.Prelude.{◌≡◌, ◌↔◌, ◌∷◌, ℕ, length}
 use Rattle.disk.specs.declared.fault.Fault.{Fault}
 use Rattle.disk.specs.declared.mark.Mark.TheVariants.{Armed}
-use Rattle.disk.specs.States.{State, Contents, IsCrashOutcome, IsSame}
-use Rattle.disk.specs.Moments.{IsLastLeft, LeavesSince}
+use Rattle.disk.specs.States.{State, Contents, IsCrashOutcome, IsSame, IsSameBut}
+use Rattle.disk.specs.Moments.{IsLastLeft, IsLeftAt, LeavesSince}
 use Rattle.disk.specs.Calls.{KeepsBy}
 use Rattle.disk.specs.Faults.{struck_call}
 
@@ -22,6 +22,14 @@ AlwaysLeaves g old new P = LeavesSince (g.state old) (g.past old) (g.state new) 
 -- a crash at any moment since the call began leaves only what it might have left before
 abbrev pub IsStill : {D : Type 0} → Ghosts D → (old new : D) → Type 0
 IsStill g old new = g.is_honest old → AlwaysLeaves g old new (IsCrashOutcome (g.state old))
+
+-- Calls that write to one file. They fail only for this cause or where an armed fault struck. A
+-- crash at any moment since they began leaves each other file as it was.
+pub record WritesInto {D : Type 0} (g : Ghosts D) (file : ℕ) (old new : D)
+    (has_failed cause : Type 0) : Type 0 where
+  pub kept : KeepsDisk g old new has_failed cause (IsSameBut file)
+  pub any_moment : g.is_honest old → AlwaysLeaves g old new (IsLeftAt (g.state old) file
+      (λ left. Unit {0}))
 
 -- the disk was armed with this fault, and is the same otherwise
 pub record IsArmed {D : Type 0} (g : Ghosts D) (fault : Fault) (old new : D) : Type 0 where

@@ -11,20 +11,23 @@ pub mod File
 pub mod Held
 pub mod Memory
 pub mod Crashes
+pub mod Refusals
 pub mod PlacesLemmas
 pub mod StepsLemmas
 pub mod MomentsLemmas
 pub mod BesideLemmas
 pub mod StillLemmas
+pub mod WritesLemmas
 -- What crates above name.
 pub use Rattle.disk.specs.Calls.{EndsOutOfRange, HasStruck, RisesByOne, SyncOutcome}
 pub use Rattle.disk.specs.Calls.{WriteOutcome}
 pub use Rattle.disk.specs.Crashes.{CrashOutcome, CrashedIsDurable}
 pub use Rattle.disk.specs.Faults.{HasStruckBy, Marks, armed_after, fault_of, struck_call}
-pub use Rattle.disk.specs.Lent.{AlwaysLeaves, IsArmed, IsStill, KeepsDisk}
+pub use Rattle.disk.specs.Lent.{AlwaysLeaves, IsArmed, IsStill, KeepsDisk, WritesInto}
 pub use Rattle.disk.specs.Memory.{IsReliable, Slots, past_states, state_of}
 pub use Rattle.disk.specs.Moments.{AddsMoment, AllLeave, IsLastLeft, IsLeftAt, LeavesSince}
 pub use Rattle.disk.specs.Moments.{OnlyLeaves, Passes}
+pub use Rattle.disk.specs.Refusals.{IsEnvironmental}
 pub use Rattle.disk.specs.States.{Absent, AddsNoOutcome, Contents, DurableFileIsLeft}
 pub use Rattle.disk.specs.States.{DurableIsLeft, Fresh}
 pub use Rattle.disk.specs.States.{IsCrashOutcome, IsDurable, IsFileOutcome, IsSame, IsSameBut}

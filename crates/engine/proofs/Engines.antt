@@ -6,7 +6,7 @@ use Rattle.std.specs.Prelude.{is_err}
 use Rattle.kv_types.specs.declared.Limits.{Limits}
 use Rattle.kv_types.specs.{BatchContent}
 use Rattle.disk.specs.declared.Disk.{Ghosts}
-use Rattle.disk.specs.{AlwaysLeaves, Contents, IsSame}
+use Rattle.disk.specs.{AlwaysLeaves, Contents, IsEnvironmental, IsSame}
 use Rattle.disk.specs.{LeavesSince, OnlyLeaves, State}
 use Rattle.disk.specs.MomentsLemmas.{none_yet, weaker}
 use Rattle.engine.specs.declared.engine.Engine.{Engine}
@@ -18,7 +18,7 @@ use Rattle.engine.specs.Calls.{IsOldOrNewSince, disk_after}
 use Rattle.engine.specs.Engines.{EngineHolds, EngineReads, EngineWasMeant, HasEnded, IsInMemory}
 use Rattle.engine.specs.Engines.{IsNearlyFull, LookUps, WasMeantInMemory, engine_disk, facts_of}
 use Rattle.engine.specs.Engines.{raised_facts}
-use Rattle.store_tables.specs.Errors.{EndsEngine, IsEnd, IsEngineExternal}
+use Rattle.store_tables.specs.Errors.{EndsEngine, IsEnd}
 use Rattle.store_files.specs.Files.{Facts}
 use Rattle.store_files.specs.HeldFiles.{HeldFilesAreLeft}
 use Rattle.store_files.specs.OpenFiles.{FilesHold, OpeningRefusal, WereMeantToHold}
@@ -118,28 +118,30 @@ told_of facts count none = rw (facts, count, none) refl
 -- ---- openings
 
 -- damage is no external refusal
-not_external : IsEngineExternal engine.Damaged → ⊥
+not_external : IsEnvironmental engine.Disk engine.Memory engine.Damaged → ⊥
 not_external (inl is) = cc
 not_external (inr is) = cc
 
 -- a refusal that is external is no damage
-pub no_damage : {T : Type 0} (result : Result T EngineError) → IfErr result IsEngineExternal →
+pub no_damage : {T : Type 0} (result : Result T EngineError) →
+    IfErr result (IsEnvironmental engine.Disk engine.Memory) →
     IsNoDamage result
 no_damage (Ok x) why = λ damaged. cc
 no_damage (Err e) why = λ damaged.
     let is : e ≡ engine.Damaged = cc in
-    not_external (subst IsEngineExternal is why)
+    not_external (subst (IsEnvironmental engine.Disk engine.Memory) is why)
 
 -- an answer and a refusal
 pub match_of : {T : Type 0} (result : Result T EngineError) (P : T → Type 0) →
-    IfOk result P → IfErr result IsEngineExternal → MatchResult result P IsEngineExternal
+    IfOk result P → IfErr result (IsEnvironmental engine.Disk engine.Memory) →
+    MatchResult result P (IsEnvironmental engine.Disk engine.Memory)
 match_of (Ok x) P answer why = answer
 match_of (Err e) P answer why = why
 
 -- a refusal to open files says what is wrong with them
 pub explains : (e : EngineError) (left : Contents) → OpeningRefusal e left →
     ((facts : Facts) (list : List BatchContent) → FilesRepresent facts list left →
-    IsEngineExternal e) → ExplainsRefusal e left
+    IsEnvironmental engine.Disk engine.Memory e) → ExplainsRefusal e left
 explains engine.Disk left told opens = tt
 explains engine.Damaged left told opens = record {
   created = told.0;
@@ -305,7 +307,7 @@ one_left facts list more disk past only =
 pub only_exhausted : {T : Type 0} {M : Type 0} (result : Result T EngineError) (e : EngineError) →
     IsErrAnd result (λ s. s ≡ e) → (e ≡ engine.Failed → ⊥) →
     (e ≡ engine.Failed) ⊎ ((e ≡ engine.Exhausted) × M) →
-    IfErr result (λ s. IsEngineExternal s ⊎ ((s ≡ engine.Exhausted) × M))
+    IfErr result (λ s. IsEnvironmental engine.Disk engine.Memory s ⊎ ((s ≡ engine.Exhausted) × M))
 only_exhausted (Ok x) e told works only = absurd told
 only_exhausted (Err s) e told works (inl failed) = absurd (works failed)
 only_exhausted (Err s) e told works (inr last) = inr (told ∙ last.0, last.1)

@@ -5,7 +5,7 @@ use Rattle.chain_model.specs.Machine.{is_open}
 use Rattle.kv_types.specs.declared.Limits.{Limits}
 use Rattle.kv_types.specs.{BatchContent}
 use Rattle.disk.specs.declared.Disk.{Ghosts}
-use Rattle.disk.specs.{AlwaysLeaves, Contents, IsSame, IsStill, KeepsDisk, State}
+use Rattle.disk.specs.{AlwaysLeaves, Contents, IsEnvironmental, IsSame, IsStill, KeepsDisk, State}
 use Rattle.engine.specs.declared.engine.Engine.{Engine}
 use Rattle.store_tables.specs.declared.error.EngineError.{EngineError}
 use Rattle.store_tables.specs.declared.error.EngineError.TheVariants as engine
@@ -15,7 +15,7 @@ use Rattle.engine.specs.Engines.{LookUps, engine_disk, engine_files, facts_of}
 use Rattle.engine.specs.Engines.{look_ups}
 use Rattle.engine.specs.declared.snapshots.TheConstants.{MAX_SNAPSHOTS}
 use Rattle.store_files.specs.declared.tended.Tended.{Tended}
-use Rattle.store_tables.specs.Errors.{EndsEngine, FailsDevice, IsEnd, IsEngineExternal}
+use Rattle.store_tables.specs.Errors.{EndsEngine, IsEnd}
 use Rattle.store_files.specs.Tending.{IsTend, IsWorkAnswer}
 use Rattle.manifest.specs.{IsNotCreated}
 use Rattle.store_files.specs.Files.{Facts, IsOwned, first_facts}
@@ -78,7 +78,8 @@ IsNoDamage result = IsErrOf result engine.Damaged → ⊥
 pub record KeepsEngine {D T : Type 0} (g : Ghosts D) (old new : Engine D g)
     (result : Result T EngineError) (cause : Type 0) (IsKept : State → State
     → Type 0) : Type 0 where
-  pub disk : KeepsDisk g (engine_disk old) (engine_disk new) (FailsDevice result) cause IsKept
+  pub disk : KeepsDisk g (engine_disk old) (engine_disk new)
+      (IsErrOf result engine.Disk) cause IsKept
   pub closed : IsErrOf result engine.Failed ↔ HasEnded old
   pub ends : HasEnded new ↔ (HasEnded old ⊎ EndsEngine result)
   pub refusal : IsErrAnd result (λ e. IsEnd e → ⊥) → new ≡ old
@@ -177,17 +178,13 @@ abbrev pub disk_after : {D : Type 0} {g : Ghosts D} → Result (Engine D g) (Eng
 disk_after (Ok engine) = engine_disk engine
 disk_after (Err refused) = refused.1
 
--- it was refused because the device failed
-abbrev pub RefusedByDevice : {D : Type 0} {g : Ghosts D} → Result (Engine D g) (EngineError × D) →
-    Type 0
-RefusedByDevice result = IsErrAnd result (λ refused. refused.0 ≡ engine.Disk)
-
 -- The disk that such a call has handed on, or back, is the device that it was; any of its files may
 -- have changed.
 abbrev pub KeepsOwnedDisk : {D : Type 0} (g : Ghosts D) → D →
     Result (Engine D g) (EngineError × D) → Type 0
 KeepsOwnedDisk g disk result =
-    KeepsDisk g disk (disk_after result) (RefusedByDevice result) ⊥ IsOwned
+    KeepsDisk g disk (disk_after result) (IsErrAnd result (λ refused. refused.0 ≡ engine.Disk)) ⊥
+    IsOwned
 
 -- a store without batches, of node x in the first configuration, with these limits; its disk has
 -- the files of a new store, and no other
@@ -230,7 +227,8 @@ pub record IsMeantEngineOf {D : Type 0} (g : Ghosts D) (told : Facts) (list : Li
 pub record OpensEngineFor {D : Type 0} (g : Ghosts D) (facts : Facts) (list : List BatchContent)
     (left : Contents) (result : Result (Engine D g) (EngineError × D)) : Type 0 where
   pub whole : FilesRepresent facts list left →
-      MatchResult result (IsEngineOf g facts list) (λ refused. IsEngineExternal refused.0)
+      MatchResult result (IsEngineOf g facts list)
+      (λ refused. IsEnvironmental engine.Disk engine.Memory refused.0)
   pub meant : WereMeant facts list left → IfOk result (IsMeantEngineOf g facts list)
 
 -- the files open as what the engine tells

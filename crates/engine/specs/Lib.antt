@@ -4,7 +4,7 @@ pub mod Calls
 -- What crates above name.
 pub use Rattle.engine.specs.Calls.{IsNewEngine, IsEngineOf, IsJustOpened, IsOldOrNewSince, IsOpened}
 pub use Rattle.engine.specs.Calls.{IsMeantEngineOf, KeepsEngine, ListFollows, ExplainsRefusal}
-pub use Rattle.engine.specs.Calls.{IsTendOf, OpensEngineFor, RefusedByDevice}
+pub use Rattle.engine.specs.Calls.{IsTendOf, OpensEngineFor}
 pub use Rattle.engine.specs.Calls.{IsAdrift, IsReadableAnswer, IsTendAnswer, TendsAlike, disk_after}
 pub use Rattle.engine.specs.Calls.{IsCloseAnswer, IsOpenAnswer, MayOpen}
 pub use Rattle.engine.specs.Calls.{ChangesList, ChangesSnapshots, OfEachList, ReadsEngine}
@@ -21,7 +21,7 @@ pub use Rattle.engine.specs.Engines.{with_closed, with_opened}
 pub use Rattle.store_tables.specs.declared.error.EngineError
 pub use Rattle.store_files.specs.declared.tended.Tended
 pub use Rattle.store_tables.specs.KeepingLemmas
-pub use Rattle.store_tables.specs.Errors.{EndsEngine, FailsDevice, IsEnd, IsEngineExternal}
+pub use Rattle.store_tables.specs.Errors.{EndsEngine, IsEnd}
 pub use Rattle.store_files.specs.Files.{Facts, IsOwned, first_facts}
 pub use Rattle.store_files.specs.StoreFiles.{FilesRepresent, IsDamaged, IsOneOf, OpensAs}
 pub use Rattle.store_files.specs.StoreFiles.{StillLeavesOneOf, WereMeant, WereOneOf}

@@ -1,5 +1,6 @@
 //! One node's store.
 ghost use Rattle.std.specs.Prelude.{◌≡◌, IfOk, IfErr, false};
+ghost use Rattle.store_tables.specs.declared.error.EngineError.TheVariants.{Disk, Memory};
 ghost use Rattle.table_files.specs.{inner_disk};
 ghost use Rattle.store_files.specs.OpenFiles.{AreCounted, AreUsableFiles, known_facts};
 ghost use Rattle.store_files.specs.UsableProps.{props};
@@ -52,7 +53,7 @@ impl<D: Disk + Drop> Engine<D> {
     ghost use Rattle.std.specs.Prelude.{IfOk, IfErr, IsErrOf, OnOk, MatchResult, slice_index, Some};
     ghost use Rattle.kv_types.specs.declared.bounds.TheConstants.{MAX_NUMBER};
     ghost use Rattle.kv_types.specs.{BatchContent};
-    ghost use Rattle.disk.specs.{contents, IsSameBut, IsStill};
+    ghost use Rattle.disk.specs.{contents, IsEnvironmental, IsSameBut, IsStill};
     ghost use Rattle.chain_model.specs.{place};
     ghost use Rattle.engine.specs.Calls.{ChangesList, ExplainsRefusal, IsAdrift, IsJustOpened};
     ghost use Rattle.engine.specs.Calls.{IsNewEngine, IsOpened, IsTendAnswer, IsTendOf};
@@ -63,7 +64,6 @@ impl<D: Disk + Drop> Engine<D> {
     ghost use Rattle.engine.specs.Engines.{engine_disk, engine_files, facts_of, files_of_tend};
     ghost use Rattle.engine.specs.Engines.{look_ups, newest_log_file, raised_facts};
     ghost use Rattle.engine.specs.Engines.{table_count, with_one_more, with_committed};
-    ghost use Rattle.store_tables.specs.Errors.{IsEngineExternal};
     ghost use Rattle.store_files.specs.Files.{Facts};
     ghost use Rattle.store_files.specs.Settling.{AreReadAlike};
     ghost use Rattle.store_files.specs.StoreFiles.{StillLeavesOneOf};
@@ -81,7 +81,7 @@ impl<D: Disk + Drop> Engine<D> {
         ensures kept { KeepsOwnedDisk D.Disk disk result }
         ensures created { D.is_honest disk →
             MatchResult result (λ engine. EngineHolds D.Disk engine [])
-            (λ refused. IsEngineExternal refused.0) }
+            (λ refused. IsEnvironmental Disk Memory refused.0) }
         ensures begun { IfOk result (IsNewEngine id config.now limits.now) }
     {
         held_files_are_left(); // law: what the disk of open files reads as, and leaves
@@ -121,7 +121,7 @@ impl<D: Disk + Drop> Engine<D> {
             (D.state disk) (D.state (engine_disk engine))) }
 
         // What is refused for its files is left as it was.
-        ensures still { IfErr result (λ refused. (IsEngineExternal refused.0 → ⊥) →
+        ensures still { IfErr result (λ refused. (IsEnvironmental Disk Memory refused.0 → ⊥) →
             IsStill D.Disk disk refused.1) }
     {
         held_files_are_left(); // law: what the disk of open files reads as, and leaves
@@ -166,7 +166,8 @@ impl<D: Disk + Drop> Engine<D> {
             (λ n. (look_ups self.new ≡ with_one_more (look_ups self.old))
             × (n ≡ (look_ups self.new).count))
             (λ _. look_ups self.new ≡ look_ups self.old) }
-        ensures met { OfEachList D.Disk self.old (λ list. IfErr result (λ e. IsEngineExternal e
+        ensures met { OfEachList D.Disk self.old (λ list. IfErr result
+            (λ e. IsEnvironmental Disk Memory e
             ⊎ ((e ≡ EngineError.Exhausted) × (MAX_NUMBER ≤ (look_ups self.old).count)))) }
     {
         held_files_are_left(); // law: what the disk of open files reads as, and leaves
@@ -183,7 +184,8 @@ impl<D: Disk + Drop> Engine<D> {
             × (number ≤ (look_ups self.old).count) }
         ensures reads { ReadsEngine D.Disk self.old self.new result }
         ensures found { OfEachList D.Disk self.old (λ list.
-            MatchResult result (λ batch. place list number ≡ Some batch) IsEngineExternal) }
+            MatchResult result (λ batch. place list number ≡ Some batch)
+            (IsEnvironmental Disk Memory)) }
     {
         held_files_are_left(); // law: what the disk of open files reads as, and leaves
         if self.has_ended {
@@ -203,7 +205,7 @@ impl<D: Disk + Drop> Engine<D> {
             (IsSameBeside (files_of_tend self.old)) (raised_facts self.old) (λ list. list) }
         ensures told { look_ups self.new ≡ look_ups self.old }
         ensures work { OfEachList D.Disk self.old (λ list.
-            MatchResult result (IsTendAnswer self.old self.new) IsEngineExternal) }
+            MatchResult result (IsTendAnswer self.old self.new) (IsEnvironmental Disk Memory)) }
         ensures did { IfOk result (IsTendOf self.old self.new) }
     {
         held_files_are_left(); // law: what the disk of open files reads as, and leaves

@@ -8,12 +8,12 @@ use Rattle.disk.specs.declared.Fault.{Fault}
 use Rattle.disk.specs.declared.Junk.{Junk}
 use Rattle.disk.specs.declared.Mark.TheVariants.{Crashed}
 use Rattle.disk.specs.declared.disk.Disk.{Ghosts}
-use Rattle.disk.specs.{HasStruck, IsArmed, IsLastLeft, KeepsDisk, State, fault_of}
+use Rattle.disk.specs.{HasStruck, IsArmed, IsEnvironmental, IsLastLeft, KeepsDisk, State, fault_of}
 use Rattle.node.specs.declared.Node.{Node}
 use Rattle.node.specs.declared.Output.{Output}
 use Rattle.node.specs.declared.Stop.{Stop as Cause}
-use Rattle.node.specs.declared.Stop.TheVariants.{Disk}
-use Rattle.node.specs.{HasLongFile, IsEnvironmental, IsReady}
+use Rattle.node.specs.declared.Stop.TheVariants.{Disk, Memory}
+use Rattle.node.specs.{HasLongFile, IsReady}
 use Rattle.lab.specs.declared.input.NodeInput.{NodeInput}
 use Rattle.lab.specs.declared.input.NodeInput.TheVariants as to_node
 use Rattle.lab.specs.declared.input.StepOutcome.{StepOutcome}
@@ -140,7 +140,8 @@ module _ {D : Type 0} (g : Ghosts D) (it : Fault) (was new : NodeState D g) (did
     honest_left honest = (spent_so honest).honest
 
     -- it stopped for its device or for memory: for its device where the fault struck
-    pub halts_so : g.is_honest (disk_in was) → IsEnvironmental stop → StopsByItself it struck did
+    pub halts_so : g.is_honest (disk_in was) → IsEnvironmental Disk Memory stop →
+        StopsByItself it struck did
     halts_so honest = stopped_so g it (disk_in was) left stop new did has_failed cause
         (spent_so honest) to from told crashes
 

@@ -12,7 +12,7 @@ use Rattle.disk.specs.declared.Mark.{Mark}
 use Rattle.disk.specs.declared.Mark.TheVariants.{Armed, Crashed}
 use Rattle.disk.specs.declared.disk.Disk.{Ghosts}
 use Rattle.disk.specs.{HasStruck, HasStruckBy, IsArmed, IsLastLeft, IsSame, KeepsDisk, RisesByOne}
-use Rattle.disk.specs.{AllLeave, AlwaysLeaves, Contents, State}
+use Rattle.disk.specs.{AllLeave, AlwaysLeaves, Contents, IsEnvironmental, State}
 use Rattle.disk.specs.{AllLeave as later}
 use Rattle.disk.specs.{Marks, armed_after, fault_of, struck_call}
 use Rattle.node.specs.declared.Stop.{Stop as Cause}
@@ -21,7 +21,7 @@ use Rattle.lab.specs.declared.input.StepOutcome.{StepOutcome}
 use Rattle.lab.specs.declared.input.StepOutcome.TheVariants as done
 use Rattle.lab.specs.declared.node_state.NodeState.{NodeState}
 use Rattle.lab.specs.declared.node_state.NodeState.TheVariants.{Up, Down}
-use Rattle.node.specs.{HasLongFile, IsEnvironmental, disk_of}
+use Rattle.node.specs.{HasLongFile, disk_of}
 use Rattle.lab.specs.Disks.{HasGrown, IsMarkedSo, before_crash, has_reached, junk_at_end}
 use Rattle.lab.specs.Disks.{marks_of_step}
 use Rattle.lab.specs.Events.{line_cause}
@@ -274,7 +274,7 @@ module _ {D : Type 0} (g : Ghosts D) (it : Fault) (old : D) where
       says = subst (λ (b : Bool). did ≡ done.Stopped (line_cause it b stop)) same
           (told (struck_at left) was.strikes)
 
-      pub stopped_so : IsEnvironmental stop → StopsByItself it struck did
+      pub stopped_so : IsEnvironmental Disk Memory stop → StopsByItself it struck did
       stopped_so environmental = record {
         cause = stop;
         environmental = environmental;

@@ -8,7 +8,7 @@ use Rattle.std.proofs.lemmas.Bool.{cond-true, cond-false, false≢true}
 use Rattle.kv_types.specs.{BatchContent}
 use Rattle.disk.specs.declared.Fault.{Fault}
 use Rattle.disk.specs.declared.Fault.TheVariants as fault
-use Rattle.disk.specs.{Slots}
+use Rattle.disk.specs.{IsEnvironmental, Slots}
 use Rattle.chain_model.specs.{Configurations, Message as ModelFrame, addressee, Answer, dropped_for}
 use Rattle.chain_model.specs.{stopped, SystemState, Outcome, StepResult, Answered, StoppedBefore}
 use Rattle.chain_model.specs.{StoppedAfter, outcome, answers, stops, as_completed, Message}
@@ -24,8 +24,8 @@ use Rattle.engine.specs.Tended.TheVariants as tended
 use Rattle.node.specs.declared.Output.{Output}
 use Rattle.node.specs.declared.Reply.{Reply}
 use Rattle.node.specs.declared.Stop.{Stop as Cause}
-use Rattle.node.specs.declared.Stop.TheVariants.{Disk}
-use Rattle.node.specs.{replies_of, replies_to_response, IsEnvironmental}
+use Rattle.node.specs.declared.Stop.TheVariants.{Disk, Memory}
+use Rattle.node.specs.{replies_of, replies_to_response}
 use Rattle.disk.specs.declared.Disk.{Ghosts}
 use Rattle.lab.specs.declared.input.StepOutcome.{StepOutcome}
 use Rattle.lab.specs.declared.input.StepOutcome.TheVariants as done
@@ -113,7 +113,8 @@ counts_replies (reply ∷ replies) = omega (arith, counts_replies replies)
 -- a node that stops by itself stops for its device or for memory
 abbrev pub CauseFits : Event → Choice → Outcome BatchContent → Type 0
 CauseFits event choice o =
-    o.stopped ≡ true → IfSome (reported_cause event.kind event.fault choice) IsEnvironmental
+    o.stopped ≡ true → IfSome (reported_cause event.kind event.fault choice)
+    (IsEnvironmental Disk Memory)
 
 -- the node stopped where its doing says so, with the cause that was chosen: for its device where
 -- the fault struck
@@ -259,20 +260,21 @@ module _ (x : ℕ) (event : Event) (inp : Input) (choice : Choice) (a : Answer B
 -- a stop has a line with its cause
 pub stop_traced : (x : ℕ) (event : Event) (choice : Choice) (traced : Option Cause)
     (n : Machine) → reported_cause event.kind event.fault choice ≡ traced →
-    (choice.struck ≡ true → choice.cause ≡ Disk) → IfSome traced IsEnvironmental →
+    (choice.struck ≡ true → choice.cause ≡ Disk) → IfSome traced (IsEnvironmental Disk Memory) →
     IsTraced x event choice (done.Stopped traced) (stops x n)
 stop_traced x event choice traced n is device of_machine = record {
   frames = refl;
   traced = λ m. ap (λ (c : Option Cause). line.Stopped x c ∷ []) (sym is);
   counted = λ m. refl;
-  fits = λ stops. subst (λ (c : Option Cause). IfSome c IsEnvironmental) (sym is) of_machine;
+  fits = λ stops. subst (λ (c : Option Cause). IfSome c
+  (IsEnvironmental Disk Memory)) (sym is) of_machine;
   ends = (refl, is, device);
   told = tt;
 }
 
 -- the cause that is told is that of the stop, or none
-pub told_fits : (it : Fault) (struck : Bool) (cause : Cause) → IsEnvironmental cause →
-    IfSome (line_cause it struck cause) IsEnvironmental
+pub told_fits : (it : Fault) (struck : Bool) (cause : Cause) → IsEnvironmental Disk Memory cause →
+    IfSome (line_cause it struck cause) (IsEnvironmental Disk Memory)
 told_fits fault.None struck cause is = is
 told_fits (fault.Fail call) struck cause is = is
 told_fits (fault.Stop call junk) true cause is = tt

@@ -4,6 +4,7 @@ use Rattle.std.specs.Prelude.{Bool, IfSome, true, false, if◌then◌else◌, Al
 use Rattle.std.specs.List.{flat_map}
 use Rattle.kv_types.specs.{BatchContent, map_of}
 use Rattle.kv_types.specs.Pages.{page_of}
+use Rattle.disk.specs.{IsEnvironmental}
 use Rattle.disk.specs.declared.Fault.{Fault}
 use Rattle.disk.specs.declared.Fault.TheVariants as fault
 use Rattle.chain_model.specs.{Configurations, has, at_epoch, Message, Request, Response}
@@ -13,9 +14,8 @@ use Rattle.chain_model.specs as model_frame
 use Rattle.chain_core.specs.{Machine}
 use Rattle.engine.specs.Tended.{Tended}
 use Rattle.node.specs.declared.Stop.{Stop as Cause}
-use Rattle.node.specs.declared.Stop.TheVariants.{Disk}
+use Rattle.node.specs.declared.Stop.TheVariants.{Disk, Memory}
 use Rattle.node.specs.declared.Reply.TheVariants as reply
-use Rattle.node.specs.{IsEnvironmental}
 use Rattle.lab.specs.declared.event.Event.{Event}
 use Rattle.lab.specs.declared.event.EventKind.{EventKind}
 use Rattle.lab.specs.declared.event.EventKind.TheVariants.{Submit, Get, Rows, Open, Close}
@@ -155,7 +155,7 @@ pub record ChoiceFits (event : Event) (choice : Choice) (o : model_frame.Outcome
   where
     -- a node stops by itself for its device or for memory alone
     pub cause : o.stopped ≡ true →
-        IfSome (reported_cause event.kind event.fault choice) IsEnvironmental
+        IfSome (reported_cause event.kind event.fault choice) (IsEnvironmental Disk Memory)
     -- where the fault of the event struck, a call of the disk failed, and so the node stopped
     pub struck : choice.struck ≡ true → (o.stopped ≡ true) × (choice.cause ≡ Disk)
     -- a tend of this store raises no floor and gives up no batch

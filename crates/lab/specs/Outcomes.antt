@@ -3,6 +3,7 @@ use Rattle.std.specs.Prelude.{◌≡◌, ◌⊎◌, ℕ, List, [], ◌∷◌, �
 use Rattle.std.specs.Prelude.{Bool, Some, None, IsSome, suc, true, false}
 use Rattle.kv_types.specs.declared.Limits.{Limits}
 use Rattle.kv_types.specs.{BatchContent}
+use Rattle.disk.specs.{IsEnvironmental}
 use Rattle.disk.specs.declared.disk.Disk.{Ghosts}
 use Rattle.disk.specs.declared.Fault.{Fault}
 use Rattle.disk.specs.declared.Junk.{Junk}
@@ -22,9 +23,9 @@ use Rattle.chain_core.specs.{AreFrames, answer_to, Machine}
 use Rattle.node.specs.declared.Output.{Output}
 use Rattle.node.specs.declared.Reply.TheVariants as reply
 use Rattle.node.specs.declared.Stop.{Stop as Cause}
-use Rattle.node.specs.declared.Stop.TheVariants.{Disk}
+use Rattle.node.specs.declared.Stop.TheVariants.{Disk, Memory}
 use Rattle.engine.specs.{IsTendAnswer}
-use Rattle.node.specs.{replies_of, disk_of, engine_of, HasLongFile, IsEnvironmental}
+use Rattle.node.specs.{replies_of, disk_of, engine_of, HasLongFile}
 use Rattle.lab.specs.declared.input.NodeInput.{NodeInput}
 use Rattle.lab.specs.declared.input.NodeInput.TheVariants as to_node
 use Rattle.lab.specs.declared.input.StepOutcome.{StepOutcome}
@@ -99,7 +100,7 @@ has_struck_in past fault old new =
 -- A node stopped by itself, for its device or for memory: for its device where the fault struck.
 pub record StopsByItself (fault : Fault) (struck : Bool) (did : StepOutcome) : Type 0 where
   pub cause : Cause
-  pub environmental : IsEnvironmental cause
+  pub environmental : IsEnvironmental Disk Memory cause
   pub device : struck ≡ true → cause ≡ Disk
   pub told : did ≡ done.Stopped (line_cause fault struck cause)
 

@@ -3,9 +3,11 @@ use Rattle.std.proofs.Common.{◌≡◌, ℕ, ◌<◌, ◌≤◌, ◌^◌, List,
 use Rattle.std.proofs.Common.{Option, Some, None, false, refl, sym, ap, subst, ◌∙◌, inl, inr, arith}
 use Rattle.std.proofs.Common.{append-nil}
 use Rattle.std.specs.Prelude.{IsNone}
+use Rattle.disk.specs.declared.DiskError.TheVariants as disk
 use Rattle.disk.specs.declared.DiskError.{DiskError}
-use Rattle.disk.specs.{Absent, Fresh, Kept, Slot, State, seen}
-use Rattle.record_log.specs.{IsClosed, IsDiskExternal, IsDurableAs, IsExternal, IsGatedWrite}
+use Rattle.disk.specs.{Absent, Fresh, IsEnvironmental, Kept, Slot, State, seen}
+use Rattle.record_log.specs.declared.LogError.TheVariants as log
+use Rattle.record_log.specs.{IsClosed, IsDurableAs, IsGatedWrite}
 use Rattle.record_log.specs.{LogHolds, IsAt, Represents, begun}
 use Rattle.record_log.specs.Error.{log_error}
 use Rattle.manifest.specs.declared.slot_pair.SlotPair.{SlotPair}
@@ -31,7 +33,8 @@ begun_gated (Fresh bytes back) closed behind none is some = absurd cc
 begun_gated (Kept bytes kept touches) closed behind none is some = absurd cc
 
 -- the device's failure and want of memory say nothing of a log
-pub external_log : (e : DiskError) → IsDiskExternal e → IsExternal (log_error e)
+pub external_log : (e : DiskError) → IsEnvironmental disk.Failed disk.Memory e →
+    IsEnvironmental (log.Disk disk.Failed) log.Memory (log_error e)
 external_log e (inl failed) = rw failed (inl refl)
 external_log e (inr memory) = rw memory (inr refl)
 

@@ -3,18 +3,20 @@ use Rattle.std.proofs.Common.{◌≡◌, ◌≢◌, ℕ, List, [], ◌∷◌, �
 use Rattle.std.proofs.Common.{inr}
 use Rattle.std.specs.Prelude.{All, ◌⊎◌}
 use Rattle.std.proofs.lemmas.List.Elements.{All-append, All-cons, All-nil}
-use Rattle.disk.specs.{State, Contents}
+use Rattle.disk.specs.declared.DiskError.TheVariants as disk
+use Rattle.disk.specs.{IsEnvironmental, State, Contents}
 use Rattle.disk.specs.{LeavesSince}
 use Rattle.disk.specs.MomentsLemmas.{none_yet, weaker}
+use Rattle.manifest.specs.declared.error.ManifestError.TheVariants as manifest
 use Rattle.manifest.specs.declared.manifest.Manifest.{Manifest}
 use Rattle.version_edits.specs.{StoreVersion, NodeVersion, Change, empty, changed, IsFit}
 use Rattle.version_edits.specs.{AreFit, after_all}
 use Rattle.version_edits.specs.{node_version_after}
 use Rattle.version_edits.specs.{IsFullEdit}
 use Rattle.version_edits.specs.{IsChange, change_text}
+use Rattle.record_log.specs.declared.LogError.TheVariants as log
 use Rattle.record_log.specs.declared.LogError.{LogError}
-use Rattle.record_log.specs.{IsExternal}
-use Rattle.manifest.specs.Errors.{IsManifestExternal, error_by_log}
+use Rattle.manifest.specs.Errors.{error_by_log}
 use Rattle.manifest.specs.Slots.{SlotsAreLeft, SlotsRepresent, ManifestRepresents}
 use Rattle.manifest.specs.Holds.{SlotsHold}
 use Rattle.manifest.specs.Manifests.{IsRewritten, ManifestHolds, ManifestHasFailed}
@@ -132,7 +134,8 @@ module _ (disk : State) (manifest : Manifest) (named : NodeVersion) (one : Chang
       }
 
 -- what the log met is told so
-pub met_is : (e : LogError) → IsExternal e → IsManifestExternal (error_by_log e)
+pub met_is : (e : LogError) → IsEnvironmental (log.Disk disk.Failed) log.Memory e →
+    IsEnvironmental manifest.Disk manifest.Memory (error_by_log e)
 met_is e (inl failed) = rw failed (inl refl)
 met_is e (inr memory) = rw memory (inr refl)
 

@@ -9,19 +9,19 @@ use Rattle.disk.specs.Calls.{RisesByOne}
 use Rattle.disk.specs.declared.Disk.{Ghosts}
 use Rattle.disk.specs.declared.DiskError.{DiskError}
 use Rattle.disk.specs.declared.DiskError.TheVariants as disk
-use Rattle.record_log.specs.{DeviceFailed}
 use Rattle.record_log.specs.Error.{log_error}
 use Rattle.record_log.specs.declared.LogError.{LogError}
 use Rattle.record_log.specs.declared.LogError.TheVariants as log
 use Rattle.record_log.specs.declared.log.TheConstants.{MAX_RECORD}
+use Rattle.manifest.specs.declared.error.ManifestError.TheVariants as manifest
 use Rattle.manifest.specs.Holds.{SparesOthers, closed_slot, slot_behind}
-use Rattle.manifest.specs.Errors.{ManifestFailsDevice, error_by_log}
+use Rattle.manifest.specs.Errors.{error_by_log}
 
 -- ---- reports
 
 -- the refusals of a log that a manifest reports as the device's
-pub log_fails : {T U : Type 0} (e : LogError) → ManifestFailsDevice {T = T} (Err (error_by_log e))
-    → DeviceFailed {T = U} (Err e)
+pub log_fails : {T U : Type 0} (e : LogError) → IsErrOf {T = T} (Err (error_by_log e)) manifest.Disk
+    → IsErrOf {T = U} (Err e) (log.Disk disk.Failed)
 log_fails (log.Disk disk.Failed) f = refl
 log_fails (log.Disk disk.NoFile) f = absurd cc
 log_fails (log.Disk disk.Short) f = absurd cc
@@ -30,16 +30,17 @@ log_fails log.Memory f = absurd cc
 log_fails log.TooLong f = absurd cc
 log_fails log.Failed f = absurd cc
 
-pub fails_log : {T U : Type 0} (e : LogError) → DeviceFailed {T = U} (Err e)
-    → ManifestFailsDevice {T = T} (Err (error_by_log e))
+pub fails_log : {T U : Type 0} (e : LogError) → IsErrOf {T = U} (Err e) (log.Disk disk.Failed)
+    → IsErrOf {T = T} (Err (error_by_log e)) manifest.Disk
 fails_log e f = let is : e ≡ log.Disk disk.Failed = cc in ap (λ x. Err (error_by_log x)) is
 
-pub log_again : {T U : Type 0} (e : LogError) → DeviceFailed {T = T} (Err e)
-    → DeviceFailed {T = U} (Err e)
+pub log_again : {T U : Type 0} (e : LogError) → IsErrOf {T = T} (Err e) (log.Disk disk.Failed)
+    → IsErrOf {T = U} (Err e) (log.Disk disk.Failed)
 log_again e f = let is : e ≡ log.Disk disk.Failed = cc in ap Err is
 
 -- the refusals of a disk that a log reports as the device's
-pub disk_fails : {T U : Type 0} (e : DiskError) → DeviceFailed {T = T} (Err (log_error e))
+pub disk_fails : {T U : Type 0} (e : DiskError) →
+    IsErrOf {T = T} (Err (log_error e)) (log.Disk disk.Failed)
     → IsErrOf {T = U} (Err e) disk.Failed
 disk_fails disk.Failed f = refl
 disk_fails disk.NoFile f = absurd cc
@@ -47,7 +48,7 @@ disk_fails disk.Short f = absurd cc
 disk_fails disk.Memory f = absurd cc
 
 pub fails_disk : {T U : Type 0} (e : DiskError) → IsErrOf {T = U} (Err e) disk.Failed
-    → DeviceFailed {T = T} (Err (log_error e))
+    → IsErrOf {T = T} (Err (log_error e)) (log.Disk disk.Failed)
 fails_disk e f = let is : e ≡ disk.Failed = cc in ap (λ x. Err (log_error x)) is
 
 -- ---- slots

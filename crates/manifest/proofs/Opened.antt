@@ -5,7 +5,7 @@ use Rattle.std.specs.Prelude.{IsNone, IsSomeAnd, ◌⊎◌}
 use Rattle.std.proofs.lemmas.Bool.{cases_eq}
 use Rattle.chain_model.specs.{IsId}
 use Rattle.disk.specs.{AddsNoOutcome, Contents, IsFileOutcome, IsSame, Kept, Slot, State}
-use Rattle.disk.specs.{seen}
+use Rattle.disk.specs.{IsEnvironmental, seen}
 use Rattle.disk.specs.StepsLemmas.{read_is_outcome, sure_left}
 use Rattle.disk.specs.declared.DiskError.TheVariants as disk
 use Rattle.record_log.specs.{HasRecords, IsAt, IsDurableAs, LogHolds, OpenRefusal, Represents}
@@ -18,7 +18,7 @@ use Rattle.manifest.specs.declared.error.ManifestError.{ManifestError}
 use Rattle.manifest.specs.declared.error.ManifestError.TheVariants as manifest
 use Rattle.version_edits.specs.declared.EditError.{EditError}
 use Rattle.version_edits.specs.declared.EditError.TheVariants as edit_error
-use Rattle.manifest.specs.Errors.{IsManifestExternal, error_by_edit, error_by_log}
+use Rattle.manifest.specs.Errors.{error_by_edit, error_by_log}
 use Rattle.version_edits.specs.{NodeVersion, Change, after_all, empty}
 use Rattle.version_edits.specs.{change_text}
 use Rattle.manifest.specs.Slots.{IsNotCreated, IsSlot, IsSlotFile, IsSuperseded, ManifestRepresents}
@@ -196,7 +196,8 @@ replay_refused it left disk edit_error.Damaged c kept bad = (
 replay_refused it left disk edit_error.Memory c kept bad = tt
 
 -- no slot counts, or the machine refused
-pub none_refused : (e : ManifestError) (left : Contents) → IsManifestExternal e ⊎ NoneCounts e left
+pub none_refused : (e : ManifestError) (left : Contents) →
+    IsEnvironmental manifest.Disk manifest.Memory e ⊎ NoneCounts e left
     → ManifestRefusal e left
 none_refused e left (inl (inl failed)) =
     subst (λ (x : ManifestError). ManifestRefusal x left) (sym failed) tt
@@ -211,7 +212,8 @@ none_refused manifest.Failed left (inr none) = absurd none
 
 -- files that represent a version are refused by the machine alone
 pub named_refused : (e : ManifestError) (left : Contents) (named : NodeVersion)
-    → ManifestRefusal e left → ManifestRepresents named left → IsManifestExternal e
+    → ManifestRefusal e left → ManifestRepresents named left →
+    IsEnvironmental manifest.Disk manifest.Memory e
 named_refused manifest.Disk left named why h = inl refl
 named_refused manifest.Damaged left named why h = absurd (why.1 named h)
 named_refused manifest.NotCreated left named why h = absurd (were_created named left h why)

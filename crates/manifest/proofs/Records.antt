@@ -2,7 +2,8 @@
 use Rattle.std.proofs.Common.{◌≡◌, ◌≢◌, ℕ, List, [], ◌∷◌, ◌++◌, take, drop, Option, Some, None}
 use Rattle.std.proofs.Common.{refl, sym, subst, ◌∙◌, inl, inr, arith}
 use Rattle.std.specs.Prelude.{IsSomeAnd, ◌⊎◌}
-use Rattle.disk.specs.{Slot, State, Contents, IsFileOutcome, seen}
+use Rattle.disk.specs.declared.DiskError.TheVariants as disk
+use Rattle.disk.specs.{IsEnvironmental, Slot, State, Contents, IsFileOutcome, seen}
 use Rattle.disk.specs.{IsLeftAt, IsSameBut, LeavesSince}
 use Rattle.disk.specs.MomentsLemmas.{weaker}
 use Rattle.disk.specs.StepsLemmas.{sure_only, read_is_outcome}
@@ -15,7 +16,7 @@ use Rattle.record_log.specs.declared.log.Log.{Log}
 use Rattle.record_log.specs.declared.log.TheConstants.{MAX_RECORD}
 use Rattle.record_log.specs.{LogHolds, file_of, start_of, IsAt, IsOldOrNewFrom, Appended}
 use Rattle.record_log.specs.{IsExpected}
-use Rattle.record_log.specs.{HasFailed, IsExternal}
+use Rattle.record_log.specs.{HasFailed}
 use Rattle.record_log.specs.declared.LogError.TheVariants as errors
 use Rattle.std.proofs.Common.{length}
 use Rattle.std.specs.Prelude.{IfErr}
@@ -215,7 +216,7 @@ recorded untouched disk new past since slots log id records one h (Err e) told h
 pub machine_only : {T : Type 0} (untouched : Type 0) (old log : Log) (one : List ℕ)
     (result : Result T LogError) → Appended MAX_RECORD result old log one untouched
     → (HasFailed old → ⊥) → length one ≤ MAX_RECORD → IfErr result IsExpected
-    → IfErr result IsExternal
+    → IfErr result (IsEnvironmental (errors.Disk disk.Failed) errors.Memory)
 machine_only untouched old log one (Ok x) told works short met = tt
 machine_only untouched old log one (Err (errors.Disk e)) told works short met = elim met [
   | inl machine ↦ machine

@@ -1,14 +1,13 @@
 -- What the calls promise that change slots, and the manifest that they represent.
 use Rattle.std.specs.Prelude.{◌⊎◌, ℕ, List, IsErrOf, IsNone, MatchResult, Result}
 use Rattle.disk.specs.declared.Disk.{Ghosts}
-use Rattle.disk.specs.{AlwaysLeaves, Contents, IsSameBut, KeepsDisk, State, seen}
+use Rattle.disk.specs.{AlwaysLeaves, Contents, IsEnvironmental, IsSameBut, KeepsDisk, State, seen}
 use Rattle.record_log.specs.declared.LogError.{LogError}
 use Rattle.manifest.specs.declared.error.ManifestError.{ManifestError}
 use Rattle.manifest.specs.declared.error.ManifestError.TheVariants as manifest
 use Rattle.manifest.specs.declared.manifest.Manifest.{Manifest}
 use Rattle.manifest.specs.declared.slot_pair.SlotPair.{SlotPair}
 use Rattle.version_edits.specs.{Change, NodeVersion, node_version_after}
-use Rattle.manifest.specs.Errors.{IsManifestExternal, ManifestFailsDevice}
 use Rattle.manifest.specs.Holds.{SlotsHold}
 use Rattle.manifest.specs.Manifests.{ManifestHasFailed, ManifestHolds}
 use Rattle.manifest.specs.Slots.{ManifestRepresents, SlotsAreLeft, SlotsRepresent}
@@ -57,12 +56,13 @@ pub record ChangesManifest {D : Type 0} (g : Ghosts D) (disk later : D) (before 
     (Represent : NodeVersion → Contents → Type 0) (result : Result (Unit {0}) ManifestError)
     : Type 0 where
   -- a device that works fails only for this cause, and no file but this slot changes
-  pub kept : KeepsDisk g disk later (ManifestFailsDevice result) cause (IsSameBut slot)
+  pub kept : KeepsDisk g disk later (IsErrOf result manifest.Disk) cause (IsSameBut slot)
   -- a manifest that has failed refuses the call
   pub failed : ManifestHasFailed before → IsErrOf result manifest.Failed
   -- from the version that was held it ends so, or the refusal is external
   pub changed : IfVersionHeld g disk before (λ named.
-      MatchResult result (λ _. End named (g.state later)) IsManifestExternal)
+      MatchResult result (λ _. End named (g.state later))
+      (IsEnvironmental manifest.Disk manifest.Memory))
   -- a crash at any moment leaves slots that represent this, and of other files what it might have
   -- left before
   pub any_moment : IfVersionHeld g disk before (λ named.

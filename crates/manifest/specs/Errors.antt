@@ -27,11 +27,3 @@ error_by_log log.Failed = manifest.Failed
 abbrev pub error_by_edit : EditError → ManifestError
 error_by_edit edit_error.Damaged = manifest.Damaged
 error_by_edit edit_error.Memory = manifest.Memory
-
--- the call was refused because the device failed
-abbrev pub ManifestFailsDevice : {T : Type 0} → Result T ManifestError → Type 0
-ManifestFailsDevice result = result ≡ Err manifest.Disk
-
--- the refusals that say nothing of the files: the device failed, or memory is out
-abbrev pub IsManifestExternal : ManifestError → Type 0
-IsManifestExternal e = (e ≡ manifest.Disk) ⊎ (e ≡ manifest.Memory)

@@ -18,7 +18,6 @@ pub use Rattle.version_edits.specs.{Change, EditsKeepVersions, IsChange, IsFit, 
 pub use Rattle.version_edits.specs.{IsTableLine, IsVersion, NodeVersion, StoreVersion}
 pub use Rattle.version_edits.specs.{change_text, changed, first_version, node_version_after}
 pub use Rattle.manifest.specs.Changes.{IsBeforeOrAfter}
-pub use Rattle.manifest.specs.Errors.{IsManifestExternal, ManifestFailsDevice}
 pub use Rattle.manifest.specs.Laws.{HeldVersionIsLeft, HeldVersionStays, VersionIsOne}
 pub use Rattle.manifest.specs.Laws.{VersionsAreLawful}
 pub use Rattle.manifest.specs.Holds.{first_slot}

@@ -1,11 +1,12 @@
 -- A file that is written anew behind its gate, and its gate then opened.
 use Rattle.std.specs.Prelude.{◌≡◌, ◌⊎◌, ℕ, ◌<◌, List, ◌∷◌, ◌++◌, length, Bool, true, false}
 use Rattle.std.specs.Prelude.{◌+◌, ◌^◌, IsErrOf, IsSomeAnd, MatchResult, Result}
+use Rattle.disk.specs.{IsEnvironmental}
 use Rattle.disk.specs.declared.Disk.{Ghosts}
 use Rattle.disk.specs.declared.DiskError.{DiskError}
 use Rattle.disk.specs.declared.DiskError.TheVariants as device
 use Rattle.disk.specs.{AlwaysLeaves, EndsOutOfRange, IsLeftAt, IsSameBut, KeepsDisk, State}
-use Rattle.record_log.specs.{IsClosed, IsDiskExternal, IsDurableAs}
+use Rattle.record_log.specs.{IsClosed, IsDurableAs}
 
 -- a file whose gate is as is said: open, with bytes behind it, or closed
 abbrev pub HasGate : Bool → List ℕ → Type 0
@@ -46,7 +47,7 @@ pub record ReplacesFile {D : Type 0} (g : Ghosts D) (disk later : D) (file : ℕ
   -- the file durably has the bytes then, or the refusal is external
   pub done : (was : List ℕ) → g.is_honest disk → WasSo was (g.state disk) → MatchResult result
       (λ _. IsDurableAs (g.state later) file (1 ∷ behind) × (1 + length behind < 2 ^ 63))
-      IsDiskExternal
+      (IsEnvironmental device.Failed device.Memory)
   -- a crash at any moment leaves the file on the way to them
   pub any_moment : (was : List ℕ) → g.is_honest disk → WasSo was (g.state disk) →
       LeavesReplaced g disk later file was behind

@@ -1,10 +1,10 @@
 // The heads of the slots, and which slot counts.
 ghost use Rattle.std.specs.Prelude.{◌≡◌, ◌⊎◌, ◌<◌, ◌≤◌, length, IfOk, IfErr};
 ghost use Rattle.std.specs.Prelude.{MatchResult, MatchOption};
-ghost use Rattle.disk.specs.{Contents, IsSame, seen};
+ghost use Rattle.disk.specs.{Contents, IsEnvironmental, IsSame, seen};
 ghost use Rattle.record_log.specs.{IsClosed};
 ghost use Rattle.kv_types.specs.declared.bounds.TheConstants.{MAX_NUMBER};
-ghost use Rattle.manifest.specs.Errors.{IsManifestExternal};
+ghost use Rattle.manifest.specs.declared.error.ManifestError.TheVariants.{Disk, Memory};
 ghost use Rattle.manifest.specs.Heads.{HeadIs, IsFilled, NoneCounts, SlotCounts};
 ghost use Rattle.manifest.specs.Reads.{SlotsAreRead};
 ghost use Rattle.manifest.specs.Slots.{IsSlotFile, SlotsRead, slot_head};
@@ -38,7 +38,7 @@ fn fills<D: Disk>(disk: &mut D, file: u64, into: &mut [u8]) -> Result<bool, Mani
     ensures reads { SlotsAreRead D.Disk disk.old disk.new IsSame result }
     ensures filled { D.is_honest disk.old →
         IfOk result (λ full. IsFilled full (seen (D.state disk.old file)) into.new) }
-    ensures only { IfErr result IsManifestExternal }
+    ensures only { IfErr result (IsEnvironmental Disk Memory) }
     ensures len { length into.new ≡ length into.old }
 {
     match disk.read(file, 0, into) {
@@ -68,7 +68,7 @@ fn head_of<D: Disk>(disk: &mut D, file: u64) -> Result<Head, ManifestError>
     ensures reads { SlotsAreRead D.Disk disk.old disk.new IsSame result }
     ensures is { D.is_honest disk.old →
         IfOk result (λ head. HeadIs head (seen (D.state disk.old file))) }
-    ensures only { IfErr result IsManifestExternal }
+    ensures only { IfErr result (IsEnvironmental Disk Memory) }
 {
     let mut bytes = [0; 11];
     if fills(disk, file, &mut bytes)? {
@@ -147,7 +147,7 @@ pub fn counting_slot<D: Disk>(disk: &mut D) -> Result<CountingSlot, ManifestErro
     ensures one { IfOk result (λ it. IsSlotFile it.slot) }
     ensures counts { (left : Contents) → D.is_honest disk.old → SlotsRead (D.state disk.old) left →
         MatchResult result (λ it. SlotCounts it left)
-        (λ e. IsManifestExternal e ⊎ NoneCounts e left) }
+        (λ e. IsEnvironmental Disk Memory e ⊎ NoneCounts e left) }
 {
     let first = head_of(disk, 1)?;
     let second = head_of(disk, 2)?;

@@ -1,11 +1,11 @@
 // The manifest of a store.
-ghost use Rattle.std.specs.Prelude.{◌≡◌, ◌↔◌, ◌+◌, ◌<◌, ◌^◌, IfOk, MatchResult};
+ghost use Rattle.std.specs.Prelude.{◌≡◌, ◌↔◌, ◌+◌, ◌<◌, ◌^◌, IfOk, IsErrOf, MatchResult};
 ghost use Rattle.std.specs.Prelude.{IsTrue, OnOk};
 ghost use Rattle.kv_types.specs.declared.bounds.TheConstants.{MAX_NUMBER};
-ghost use Rattle.disk.specs.{KeepsDisk, State, contents};
+ghost use Rattle.disk.specs.{IsEnvironmental, KeepsDisk, State, contents};
+ghost use Rattle.manifest.specs.declared.error.ManifestError.TheVariants.{Disk, Memory};
 ghost use Rattle.manifest.specs.Changes.{ChangesManifest, IfNoSlots, IsBeforeOrAfter};
 ghost use Rattle.manifest.specs.Reads.{SlotsAreRead};
-ghost use Rattle.manifest.specs.Errors.{ManifestFailsDevice, IsManifestExternal};
 ghost use Rattle.version_edits.specs.{NodeVersion, IsFit, first_version, node_version_after};
 ghost use Rattle.version_edits.specs.{IsChange};
 ghost use Rattle.manifest.specs.Slots.{ManifestRepresents};
@@ -71,10 +71,10 @@ impl Manifest {
         id: NodeId,
         config: &Config,
     ) -> Result<Manifest, ManifestError>
-        ensures kept { KeepsDisk D.Disk disk.old disk.new (ManifestFailsDevice result) ⊥
+        ensures kept { KeepsDisk D.Disk disk.old disk.new (IsErrOf result Disk) ⊥
             SparesOthers }
         ensures created { IfNoSlots D.Disk disk.old (MatchResult result
-            (IsNewManifest (D.state disk.new) id config.now) IsManifestExternal) }
+            (IsNewManifest (D.state disk.new) id config.now) (IsEnvironmental Disk Memory)) }
         ensures works { IfOk result (λ manifest. (version_of manifest ≡ first_version id config.now)
             × (ManifestHasFailed manifest → ⊥)) }
         ensures first { IfOk result (λ manifest. generation_of manifest ≡ 1) }
@@ -97,7 +97,8 @@ impl Manifest {
             (λ e. ManifestRefusal e (contents (D.state disk.old))) }
         ensures opened { (named : NodeVersion) → D.is_honest disk.old →
             ManifestRepresents named (contents (D.state disk.old)) → MatchResult result
-            (λ manifest. ManifestHolds (D.state disk.new) manifest named) IsManifestExternal }
+            (λ manifest. ManifestHolds (D.state disk.new) manifest named)
+            (IsEnvironmental Disk Memory) }
         ensures works { IfOk result (λ manifest. ManifestHasFailed manifest → ⊥) }
     {
         version_is_one(); // law: files represent one version at most

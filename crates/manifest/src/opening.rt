@@ -1,7 +1,7 @@
 // Opening the slots: which one counts, and the version that its records give.
 ghost use Rattle.std.specs.Prelude.{◌≡◌, MatchResult};
-ghost use Rattle.disk.specs.{Contents, IsSameBut, contents, synced};
-ghost use Rattle.manifest.specs.Errors.{IsManifestExternal};
+ghost use Rattle.disk.specs.{Contents, IsEnvironmental, IsSameBut, contents, synced};
+ghost use Rattle.manifest.specs.declared.error.ManifestError.TheVariants.{Disk, Memory};
 ghost use Rattle.manifest.specs.Heads.{SlotCounts};
 ghost use Rattle.manifest.specs.Holds.{SparesOthers};
 ghost use Rattle.manifest.specs.Slots.{IsSlotFile};
@@ -21,7 +21,8 @@ use version_edits::replay;
 fn sync_slot<D: Disk>(disk: &mut D, file: u64) -> Result<(), ManifestError>
     ensures reads { SlotsAreRead D.Disk disk.old disk.new (IsSameBut file) result }
     ensures synced { D.is_honest disk.old → MatchResult result
-        (λ _. D.state disk.new file ≡ synced (D.state disk.old file)) IsManifestExternal }
+        (λ _. D.state disk.new file ≡ synced (D.state disk.old file))
+        (IsEnvironmental Disk Memory) }
 {
     match disk.sync(file) {
         Ok(()) | Err(DiskError::NoFile) => Ok(()),
@@ -33,7 +34,8 @@ fn sync_slot<D: Disk>(disk: &mut D, file: u64) -> Result<(), ManifestError>
 fn sync_slots<D: Disk>(disk: &mut D) -> Result<(), ManifestError>
     ensures reads { SlotsAreRead D.Disk disk.old disk.new SparesOthers result }
     ensures synced { D.is_honest disk.old → MatchResult result
-        (λ _. SlotsAreKept (D.state disk.new) (contents (D.state disk.old))) IsManifestExternal }
+        (λ _. SlotsAreKept (D.state disk.new) (contents (D.state disk.old)))
+        (IsEnvironmental Disk Memory) }
 {
     sync_slot(disk, 1)?;
     sync_slot(disk, 2)

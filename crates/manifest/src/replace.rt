@@ -1,7 +1,8 @@
 // A file written anew, so that at each moment it is closed, or as it was, or whole.
 ghost use Rattle.std.specs.Prelude.{ℕ, ◌<◌, List, length, IfErr, IsErrOf, OnOk};
-ghost use Rattle.disk.specs.{IsSameBut, KeepsDisk};
-ghost use Rattle.record_log.specs.{IsDiskExternal, IsDurableAs};
+ghost use Rattle.disk.specs.declared.DiskError.TheVariants.{Failed, Memory};
+ghost use Rattle.disk.specs.{IsEnvironmental, IsSameBut, KeepsDisk};
+ghost use Rattle.record_log.specs.{IsDurableAs};
 ghost use Rattle.manifest.specs.Replace.{HasGate, IfGated, IsClosedFile, LeavesReplaced};
 ghost use Rattle.manifest.specs.Replace.{ReplacesFile};
 
@@ -16,7 +17,7 @@ fn shut<D: Disk>(disk: &mut D, file: u64, is_open: bool) -> Result<(), DiskError
     ensures done { IfGated D.Disk disk.old file is_open (λ was.
         OnOk result (IsClosedFile (D.state disk.new) file)) }
     ensures refused { (was : List ℕ) → D.is_honest disk.old →
-        IsDurableAs (D.state disk.old) file was → IfErr result IsDiskExternal }
+        IsDurableAs (D.state disk.old) file was → IfErr result (IsEnvironmental Failed Memory) }
     ensures any_moment { IfGated D.Disk disk.old file is_open (λ was.
         (behind : List ℕ) → LeavesReplaced D.Disk disk.old disk.new file was behind) }
 {

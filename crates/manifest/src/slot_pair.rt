@@ -1,13 +1,15 @@
 // The two slots of a store, as files of records.
-ghost use Rattle.std.specs.Prelude.{◌≡◌, ◌↔◌, ℕ, ◌+◌, ◌<◌, ◌≤◌, ◌^◌, List, [], ◌∷◌};
+ghost use Rattle.std.specs.Prelude.{◌≡◌, ◌↔◌, IsErrOf, ℕ, ◌+◌, ◌<◌, ◌≤◌, ◌^◌, List, [], ◌∷◌};
 ghost use Rattle.std.specs.Prelude.{◌++◌, IsTrue, length};
 ghost use Rattle.std.specs.Prelude.{IfOk, IfErr, OnOk, MatchResult};
 ghost use Rattle.std.specs.Int.{w16, w32, w64, to_be_bytes};
 ghost use Rattle.kv_types.specs.declared.bounds.TheConstants.{MAX_NUMBER};
-ghost use Rattle.disk.specs.{IsSameBut, KeepsDisk, State};
+ghost use Rattle.disk.specs.declared.DiskError.TheVariants.{Failed};
+ghost use Rattle.disk.specs.{IsEnvironmental, IsSameBut, KeepsDisk, State};
+ghost use Rattle.record_log.specs.declared.LogError.TheVariants.{Disk, Memory};
 ghost use Rattle.record_log.specs.declared.log.TheConstants.{MAX_RECORD};
-ghost use Rattle.record_log.specs.{DeviceFailed, HasNoRoom};
-ghost use Rattle.record_log.specs.{IsExpected, IsExternal, file_of, gate_of};
+ghost use Rattle.record_log.specs.{HasNoRoom};
+ghost use Rattle.record_log.specs.{IsExpected, file_of, gate_of};
 ghost use Rattle.manifest.specs.Changes.{ChangesSlots, IfNoSlots, IfSlotsHold};
 ghost use Rattle.manifest.specs.Slots.{other_slot};
 ghost use Rattle.manifest.specs.Holds.{AreNewSlots, IsLongLog, SlotsHold, SparesOthers};
@@ -81,9 +83,11 @@ impl SlotPair {
         one: &[u8],
     ) -> Result<SlotPair, LogError>
         requires short { length one.now ≤ MAX_RECORD }
-        ensures kept { KeepsDisk D.Disk disk.old disk.new (DeviceFailed result) ⊥ SparesOthers }
+        ensures kept { KeepsDisk D.Disk disk.old disk.new
+            (IsErrOf result (Disk Failed)) ⊥ SparesOthers }
         ensures created { IfNoSlots D.Disk disk.old
-            (MatchResult result (AreNewSlots (D.state disk.new) id one.now) IsExternal) }
+            (MatchResult result (AreNewSlots (D.state disk.new) id one.now)
+            (IsEnvironmental (Disk Failed) Memory)) }
         ensures first { IfOk result (λ slots. slots.generation ≡ 1) }
     {
         let closed = bytes_of_slot(alloc, 1, id, one)?;
@@ -138,12 +142,12 @@ impl SlotPair {
         disk: &mut D,
         one: &[u8],
     ) -> Result<(), LogError>
-        ensures kept { KeepsDisk D.Disk disk.old disk.new (DeviceFailed result)
+        ensures kept { KeepsDisk D.Disk disk.old disk.new (IsErrOf result (Disk Failed))
             (HasNoRoom self.old.log one.now) (IsSameBut (file_of self.old.log)) }
         ensures changes { ChangesSlots D.Disk disk.old disk.new self.old self.new
             (λ records. records ++ one.now ∷ []) IsExpected result }
         ensures met { IfSlotsHold D.Disk disk.old self.old (λ id records.
-            length one.now ≤ MAX_RECORD → IfErr result IsExternal) }
+            length one.now ≤ MAX_RECORD → IfErr result (IsEnvironmental (Disk Failed) Memory)) }
         ensures stays { (self.new.slot ≡ self.old.slot)
             × (self.new.generation ≡ self.old.generation)
             × (file_of self.new.log ≡ file_of self.old.log) }
@@ -160,10 +164,10 @@ impl SlotPair {
     ) -> Result<(), LogError>
         requires short { length one.now ≤ MAX_RECORD }
         requires room { self.old.generation < MAX_NUMBER }
-        ensures kept { KeepsDisk D.Disk disk.old disk.new (DeviceFailed result) ⊥
+        ensures kept { KeepsDisk D.Disk disk.old disk.new (IsErrOf result (Disk Failed)) ⊥
             (IsSameBut (other_slot self.old.slot)) }
         ensures changes { ChangesSlots D.Disk disk.old disk.new self.old self.new
-            (λ records. one.now ∷ []) IsExternal result }
+            (λ records. one.now ∷ []) (IsEnvironmental (Disk Failed) Memory) result }
         ensures next { OnOk result ((file_of self.new.log ≡ other_slot self.old.slot)
             × (self.new.generation ≡ self.old.generation + 1)
             × (IsLongLog self.new.log → ⊥)) }

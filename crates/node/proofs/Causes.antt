@@ -1,9 +1,9 @@
 -- Causes for which a node stops, by the causes of its engine.
 use Rattle.std.proofs.Common.{◌≡◌, ◌↔◌, ℕ, ◌<◌, ◌≤◌, inl}
+use Rattle.disk.specs.{IsEnvironmental}
 use Rattle.std.proofs.Common.{inr}
 use Rattle.std.proofs.Common.{arith, refl, sym, ap, subst, true, ◌∙◌}
-use Rattle.std.specs.Prelude.{◌⊎◌, Result, Ok, Err, IfErr, IsErrAnd, MatchResult, OnOk}
-use Rattle.engine.specs.{FailsDevice, IsEngineExternal}
+use Rattle.std.specs.Prelude.{◌⊎◌, IsErrOf, Result, Ok, Err, IfErr, IsErrAnd, MatchResult, OnOk}
 use Rattle.engine.specs.{IsCloseAnswer, IsOpenAnswer, IsReadableAnswer, LookUps, MayOpen}
 use Rattle.chain_model.specs.Machine.{is_open}
 use Rattle.std.proofs.lemmas.Bool.{true≢false}
@@ -12,7 +12,7 @@ use Rattle.kv_types.specs.declared.bounds.TheConstants.{MAX_NUMBER}
 use Rattle.engine.specs.EngineError.{EngineError}
 use Rattle.node.specs.declared.stop.Stop.{Stop}
 use Rattle.node.specs.declared.stop.Stop.TheVariants as stop
-use Rattle.node.specs.Stops.{IsDeviceStop, IsEnvironmental, engine_stop}
+use Rattle.node.specs.Stops.{engine_stop}
 
 -- a property of every result holds of an answer
 pub on_ok : {T E P : Type 0} (result : Result T E) → P → OnOk result P
@@ -20,25 +20,25 @@ on_ok (Ok x) p = p
 on_ok (Err e) p = tt
 
 -- an answer is no failure of the device
-pub done_told : {T : Type 0} {x : T} → IsDeviceStop (Ok x) → ⊥
+pub done_told : {T : Type 0} {x : T} → IsErrOf (Ok x) stop.Disk → ⊥
 done_told fails = cc
 
 -- a call that is refused for memory alone is no failure of the device
 pub only_memory : {U : Type 0} (result : Result U Stop) → IfErr result (λ e. e ≡ stop.Memory) →
-    IsDeviceStop result → ⊥
+    IsErrOf result stop.Disk → ⊥
 only_memory (Ok x) memory fails = cc
 only_memory (Err e) memory fails = cc
 
 -- nor is want of memory
 pub memory_told : {U : Type 0} (result : Result U Stop) →
-    IsErrAnd result (λ s. s ≡ stop.Memory) → IsDeviceStop result → ⊥
+    IsErrAnd result (λ s. s ≡ stop.Memory) → IsErrOf result stop.Disk → ⊥
 memory_told (Ok x) told fails = absurd told
 memory_told (Err s) told fails = cc
 
 -- a refusal of the engine is passed on
 pub stop_passed : {T U : Type 0} (called : Result T EngineError) (e : EngineError)
     (result : Result U Stop) → called ≡ Err e → IsErrAnd result (λ s. s ≡ engine_stop e) →
-    FailsDevice called ↔ IsDeviceStop result
+    IsErrOf called engine.Disk ↔ IsErrOf result stop.Disk
 stop_passed called e (Ok x) is told = absurd told
 stop_passed called engine.Disk (Err s) is told = (λ f. ap (λ d. Err d) told, λ f. is)
 stop_passed called engine.Damaged (Err s) is told = (λ f. cc, λ f. cc)
@@ -53,7 +53,8 @@ stop_passed called engine.Exhausted (Err s) is told = (λ f. cc, λ f. cc)
 
 -- a stop is passed on
 pub same_stop : {T U : Type 0} (called : Result T Stop) (e : Stop) (result : Result U Stop) →
-    called ≡ Err e → IsErrAnd result (λ s. s ≡ e) → IsDeviceStop called ↔ IsDeviceStop result
+    called ≡ Err e → IsErrAnd result (λ s. s ≡ e) →
+    IsErrOf called stop.Disk ↔ IsErrOf result stop.Disk
 same_stop called e (Ok x) is told = absurd told
 same_stop called e (Err s) is told = (λ fails. cc, λ fails. cc)
 
@@ -83,14 +84,15 @@ still_works iff works ended = elim
     (iff.0 ended) [ inl before ↦ absurd (works before) | inr now ↦ now ]
 
 -- an external refusal of an engine is a cause of the environment
-pub env_of : (e : EngineError) → IsEngineExternal e → IsEnvironmental (engine_stop e)
+pub env_of : (e : EngineError) → IsEnvironmental engine.Disk engine.Memory e →
+    IsEnvironmental stop.Disk stop.Memory (engine_stop e)
 env_of e (inl is) = inl (ap engine_stop is)
 env_of e (inr is) = inr (ap engine_stop is)
 
 -- a read of a number that the engine can read is refused for such a cause alone
 pub read_env : (T : Type 0) (told : LookUps) (at : ℕ) (e : EngineError) →
     IsReadableAnswer {T = T} told at (Err e) → (e ≡ engine.Damaged → ⊥) → (e ≡ engine.Failed → ⊥) →
-    told.facts.floor ≤ at → at ≤ told.committed → IsEngineExternal e
+    told.facts.floor ≤ at → at ≤ told.committed → IsEnvironmental engine.Disk engine.Memory e
 read_env T told at engine.Disk tells whole works above known = inl refl
 read_env T told at engine.Damaged tells whole works above known = absurd (whole refl)
 read_env T told at engine.Memory tells whole works above known = inr refl
@@ -124,7 +126,8 @@ close_refuses T told number e (inl none) works is = true≢false (sym is ∙ non
 close_refuses T told number e (inr ended) works is = works ended
 
 -- an append is refused for such a cause, where a number is left
-pub append_env : (e : EngineError) (count : ℕ) → IsEngineExternal e ⊎ ((e ≡ engine.Exhausted)
-    × (MAX_NUMBER ≤ count)) → count < MAX_NUMBER → IsEngineExternal e
+pub append_env : (e : EngineError) (count : ℕ) → IsEnvironmental engine.Disk engine.Memory e ⊎
+    ((e ≡ engine.Exhausted)
+    × (MAX_NUMBER ≤ count)) → count < MAX_NUMBER → IsEnvironmental engine.Disk engine.Memory e
 append_env e count (inl external) room = external
 append_env e count (inr full) room = absurd (omega (arith, full.1, room))

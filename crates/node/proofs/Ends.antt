@@ -4,6 +4,7 @@ use Rattle.std.proofs.Common.{inr}
 use Rattle.std.proofs.Common.{map, None, refl, sym, subst}
 use Rattle.std.specs.Prelude.{Result, Ok, Err, IfOk, IfErr}
 use Rattle.kv_types.specs.{BatchContent}
+use Rattle.disk.specs.{IsEnvironmental}
 use Rattle.disk.specs.declared.Disk.{Ghosts}
 use Rattle.chain_model.specs.{Answer, Message}
 use Rattle.chain_core.specs.declared.Done.{Done}
@@ -18,7 +19,6 @@ use Rattle.node.specs.declared.output.Output.{Output}
 use Rattle.node.specs.declared.stop.Stop.{Stop}
 use Rattle.node.specs.declared.stop.Stop.TheVariants as stop
 use Rattle.node.specs.Steps.{NodeRefines, StepRefines, disk_of}
-use Rattle.node.specs.Stops.{IsEnvironmental}
 use Rattle.node.proofs.Outputs.{tells_rule}
 use Rattle.node.specs.Outputs.{OutputHas, OutputRefines, committed_reply, CallRefines}
 use Rattle.node.specs.Outputs.{AlwaysRefines, ExecutesDecision}
@@ -105,7 +105,7 @@ module _ {D : Type 0} (g : Ghosts D) where
   pub ends_stopped : {T : Type 0} (old node : Node D g) (x : ℕ) (n : Machine) (a : Answer
       BatchContent)
       (IsDone : T → Type 0) (result : Result T Stop) (e : Stop) → result ≡ Err e →
-      IsEnvironmental e → g.is_honest (disk_of node) →
+      IsEnvironmental stop.Disk stop.Memory e → g.is_honest (disk_of node) →
       AlwaysRefines g (disk_of old) (disk_of node) x n a.node →
       CallRefines g old node x n a IsDone result
   ends_stopped old node x n a IsDone result e is machine honest moments =

@@ -4,7 +4,7 @@ use Rattle.std.specs.Prelude.{Result, IfErr, IfOk, IsErrAnd}
 use Rattle.std.proofs.lemmas.Result.{err_from_is_err_and}
 use Rattle.kv_types.specs.{BatchContent}
 use Rattle.disk.specs.declared.Disk.{Ghosts}
-use Rattle.disk.specs.{IsSame, IsStill}
+use Rattle.disk.specs.{IsEnvironmental, IsSame, IsStill}
 use Rattle.chain_model.specs.{reply_read}
 use Rattle.chain_core.specs.declared.Input.{Input}
 use Rattle.chain_core.specs.{Machine}
@@ -20,7 +20,7 @@ use Rattle.node.specs.declared.stop.Stop.{Stop}
 use Rattle.node.specs.declared.stop.Stop.TheVariants as stop
 use Rattle.node.specs.Outputs.{FollowsRule, OutputRefines}
 use Rattle.node.specs.Steps.{IsReady}
-use Rattle.node.specs.Stops.{IsEnvironmental, engine_stop}
+use Rattle.node.specs.Stops.{engine_stop}
 use Rattle.node.proofs.Causes.{env_of, on_ok, only_memory, read_env, stop_passed}
 use Rattle.node.proofs.Ends.{ends, ends_stopped}
 use Rattle.node.proofs.Running.{kept_read, read_more, still_refines, still_runs, unread}
@@ -56,7 +56,9 @@ module _ {D T : Type 0} (g : Ghosts D) (old : Node D g) (read : Engine D g)
             works (omega (arith, within.0, floor))
             (omega (arith, within.1, r.core.committed, ready.committed)) in
             ends_stopped g old new x n a _ result p.0 p.1
-            (subst IsEnvironmental (sym p.2) (env_of e why)) (keeps.disk.honest.1 r.honest)
+            (subst
+            (IsEnvironmental stop.Disk stop.Memory) (sym p.2) (env_of e why))
+            (keeps.disk.honest.1 r.honest)
             (still_refines g old (engine_disk read) x n a.node r (still r.honest));
       }
 

@@ -2,15 +2,16 @@
 use Rattle.std.proofs.Common.{◌≡◌, ℕ, List, [], ◌∷◌, ◌++◌, inl}
 use Rattle.std.proofs.Common.{inr}
 use Rattle.std.proofs.Common.{refl, sym, ap, subst, ◌∙◌}
-use Rattle.std.specs.Prelude.{◌⊎◌, ◌↔◌, Result, Ok, Err, OnOk}
+use Rattle.std.specs.Prelude.{◌⊎◌, ◌↔◌, IsErrOf, Result, Ok, Err, OnOk}
 use Rattle.kv_types.specs.{BatchContent}
 use Rattle.disk.specs.declared.Disk.{Ghosts}
 use Rattle.disk.specs.{AlwaysLeaves, Contents, IsCrashOutcome, IsSame, IsStill, KeepsDisk, State}
 use Rattle.disk.specs.MomentsLemmas.{weaker}
 use Rattle.disk.specs.StillLemmas.{still, still_more}
+use Rattle.engine.specs.EngineError.TheVariants as engine
 use Rattle.engine.specs.declared.Engine.{Engine}
 use Rattle.engine.specs.EngineError.{EngineError}
-use Rattle.engine.specs.{EngineHolds, Facts, FailsDevice, FilesRepresent, HasEnded, IsOneOf}
+use Rattle.engine.specs.{EngineHolds, Facts, FilesRepresent, HasEnded, IsOneOf}
 use Rattle.engine.specs.{IsOwned}
 use Rattle.engine.specs.{KeepsEngine, LookUps, engine_disk, facts_of, look_ups, raised_facts}
 use Rattle.engine.specs.KeepingLemmas.{kept_as, kept_behind, kept_but, neither, same_files}
@@ -20,12 +21,12 @@ use Rattle.chain_model.specs.{Answer}
 use Rattle.chain_core.specs.declared.Done.{Done}
 use Rattle.chain_core.specs.{Machine, Core, CoreRefines, StepLeaves}
 use Rattle.chain_core.specs.{list_after}
+use Rattle.node.specs.declared.stop.Stop.TheVariants as stop
 use Rattle.node.specs.declared.node.Node.{Node}
 use Rattle.node.specs.Steps.{DiskRefines, NodeRefines, DiskAlwaysRefines, disk_of}
 use Rattle.node.specs.Steps.{IsReady, facts_for}
 use Rattle.node.specs.declared.stop.Stop.{Stop}
 use Rattle.node.specs.Outputs.{AlwaysRefines, HasAppended, IsOnlyRead, KeepsNode}
-use Rattle.node.specs.Stops.{IsDeviceStop}
 use Rattle.node.proofs.Causes.{done_told}
 use Rattle.node.proofs.Counts.{appended_list, list_is, same_facts}
 
@@ -141,7 +142,7 @@ module _ {D : Type 0} (g : Ghosts D) where
 
   -- a call that leaves the disk as it is keeps it
   pub keeps_same : {T cause : Type 0} (old new : D) (result : Result T Stop) → new ≡ old →
-      (IsDeviceStop result → ⊥) → KeepsDisk g old new (IsDeviceStop result) cause IsOwned
+      (IsErrOf result stop.Disk → ⊥) → KeepsDisk g old new (IsErrOf result stop.Disk) cause IsOwned
   keeps_same old new result same spared =
       kept_on (sym same)
       (kept_as g (neither (λ none. none) spared) (λ a b kept. tt)
@@ -180,7 +181,7 @@ module _ {D : Type 0} (g : Ghosts D) where
   -- a node whose engine was only read is kept
   pub kept_read : {T U : Type 0} (old new : Node D g) (called : Result T Stop)
       (result : Result U Stop) → IsReady old → IsOnlyRead g old.engine new.engine called →
-      new.core ≡ old.core → (IsDeviceStop called ↔ IsDeviceStop result) →
+      new.core ≡ old.core → (IsErrOf called stop.Disk ↔ IsErrOf result stop.Disk) →
       OnOk result (HasEnded new.engine → ⊥) → KeepsNode g old new result
   kept_read old new called result ready read same fails works = record {
     disk = kept_but g (λ none. absurd none) (kept_as g fails (λ a b same. tt) read.keeps);
@@ -192,7 +193,8 @@ module _ {D : Type 0} (g : Ghosts D) where
   pub read_more : {S T U : Type 0} {x : S} (old mid new : Engine D g)
       (called : Result T EngineError) (result : Result U Stop) → IsOnlyRead g old mid (Ok x) →
       KeepsEngine g mid new called ⊥ IsSame → look_ups new ≡ look_ups mid →
-      IsStill g (engine_disk mid) (engine_disk new) → (FailsDevice called ↔ IsDeviceStop result) →
+      IsStill g (engine_disk mid) (engine_disk new) →
+      (IsErrOf called engine.Disk ↔ IsErrOf result stop.Disk) →
       OnOk result (HasEnded new → ⊥) → IsOnlyRead g old new result
   read_more old mid new called result before keeps told leaves fails works = record {
     keeps = kept_behind g same_then_same before.keeps done_told

@@ -4,7 +4,7 @@ use Rattle.std.proofs.Common.{inr}
 use Rattle.std.proofs.Common.{sym, ap, subst}
 use Rattle.std.specs.Prelude.{Result, Ok, Err, IfOk, IfErr}
 use Rattle.disk.specs.declared.Disk.{Ghosts}
-use Rattle.disk.specs.{Contents}
+use Rattle.disk.specs.{Contents, IsEnvironmental}
 use Rattle.engine.specs.declared.Engine.{Engine}
 use Rattle.engine.specs.{EngineHolds, Facts}
 use Rattle.engine.specs.{OpensAs, facts_of, look_ups}
@@ -16,7 +16,6 @@ use Rattle.node.specs.declared.stop.Stop.TheVariants as stop
 use Rattle.node.specs.Steps.{NodeRefines}
 use Rattle.node.specs.Starts.{BeginsAs, ExplainsStart, RunsOpened, StartRefusal}
 use Rattle.node.specs.Steps.{HasNumbersOf, facts_for}
-use Rattle.node.specs.Stops.{IsEnvironmental}
 
 module _ {D : Type 0} (g : Ghosts D) where
   -- the node of an engine that was opened, which holds the machine's list
@@ -53,7 +52,7 @@ module _ {D : Type 0} (g : Ghosts D) where
   -- so it says nothing of the files
   pub not_for_files : (Q : Stop × D → Type 0) (result : Result (Node D g) (Stop × D)) →
       IfErr result (λ refused. refused.0 ≡ stop.Memory) →
-      IfErr result (λ refused. (IsEnvironmental refused.0 → ⊥) → Q refused)
+      IfErr result (λ refused. (IsEnvironmental stop.Disk stop.Memory refused.0 → ⊥) → Q refused)
   not_for_files Q (Ok node) memory = tt
   not_for_files Q (Err refused) memory = λ other. absurd (other (inr memory))
 

@@ -1,9 +1,10 @@
 -- The end of a step and the state that it keeps, and the contracts of private functions on its
 -- answer.
+use Rattle.std.specs.Prelude.{IsErrOf}
 use Rattle.std.specs.Prelude.{◌≡◌, ◌⊎◌, ℕ, Bool, false, List, Option, Result, MatchResult, OnOk}
 use Rattle.kv_types.specs.{BatchContent}
 use Rattle.disk.specs.declared.Disk.{Ghosts}
-use Rattle.disk.specs.{AlwaysLeaves, IsSame, IsStill, KeepsDisk}
+use Rattle.disk.specs.{AlwaysLeaves, IsEnvironmental, IsSame, IsStill, KeepsDisk}
 use Rattle.engine.specs.declared.Engine.{Engine}
 use Rattle.engine.specs.{HasEnded, IsNearlyFull, IsOwned, engine_disk, look_ups}
 use Rattle.chain_model.specs.{Message, Answer}
@@ -14,6 +15,7 @@ use Rattle.chain_core.specs.declared.Done.TheVariants as done
 use Rattle.chain_core.specs.declared.Input.{Input}
 use Rattle.chain_core.specs.declared.PendingSubmit.{PendingSubmit}
 use Rattle.chain_core.specs.{Machine, AreFrames, IsReadOf, rule_of}
+use Rattle.node.specs.declared.stop.Stop.TheVariants as stop
 use Rattle.node.specs.declared.node.Node.{Node}
 use Rattle.node.specs.declared.output.Output.{Output}
 use Rattle.node.specs.declared.output.Reply.{Reply}
@@ -21,7 +23,6 @@ use Rattle.node.specs.declared.output.Reply.TheVariants as reply
 use Rattle.node.specs.declared.stop.Stop.{Stop}
 use Rattle.node.specs.Steps.{DiskRefines, StepRefines, IsReady, NodeRefines, disk_of, engine_of}
 use Rattle.node.specs.Steps.{node_limits, replies_of}
-use Rattle.node.specs.Stops.{IsEnvironmental, IsDeviceStop}
 
 -- the acknowledgement of a request whose batch is committed
 abbrev pub committed_reply : PendingSubmit → Reply
@@ -58,7 +59,7 @@ AlwaysRefines g old new x n m =
 -- since it began leaves the disk of the machine before the answer or of the one after it.
 pub record CallRefines {D T : Type 0} (g : Ghosts D) (old new : Node D g) (x : ℕ) (n : Machine)
     (a : Answer BatchContent) (IsDone : T → Type 0) (result : Result T Stop) : Type 0 where
-  pub done : MatchResult result IsDone IsEnvironmental
+  pub done : MatchResult result IsDone (IsEnvironmental stop.Disk stop.Memory)
   pub honest : g.is_honest (disk_of new)
   pub any_moment : AlwaysRefines g (disk_of old) (disk_of new) x n a.node
 
@@ -73,7 +74,7 @@ StepEnds g old new result x n input a = NodeRefines g.is_honest g.state old x n 
 -- for another step
 pub record KeepsNode {D T : Type 0} (g : Ghosts D) (old new : Node D g) (result : Result T Stop) :
     Type 0 where
-  pub disk : KeepsDisk g (disk_of old) (disk_of new) (IsDeviceStop result)
+  pub disk : KeepsDisk g (disk_of old) (disk_of new) (IsErrOf result stop.Disk)
       (IsNearlyFull (engine_of old)) IsOwned
   pub works : OnOk result (IsReady new)
   pub limits : node_limits new ≡ node_limits old
@@ -97,7 +98,7 @@ ExecutesDecision g old new decision = FollowsRule g old new (λ n input. IsReadO
 -- and after an answer it works.
 pub record IsOnlyRead {D T : Type 0} (g : Ghosts D) (old new : Engine D g) (result : Result T Stop)
     : Type 0 where
-  pub keeps : KeepsDisk g (engine_disk old) (engine_disk new) (IsDeviceStop result) ⊥ IsSame
+  pub keeps : KeepsDisk g (engine_disk old) (engine_disk new) (IsErrOf result stop.Disk) ⊥ IsSame
   pub told : look_ups new ≡ look_ups old
   pub works : OnOk result (HasEnded new → ⊥)
   pub still : IsStill g (engine_disk old) (engine_disk new)

@@ -1,6 +1,6 @@
 -- The answers of the calls that receive a disk: a node, or a refusal.
 use Rattle.std.specs.Prelude.{◌≡◌, ◌≤◌, ℕ, List, [], Result, Ok, Err, IsErrAnd, MatchResult}
-use Rattle.disk.specs.{Contents, KeepsDisk}
+use Rattle.disk.specs.{Contents, IsEnvironmental, KeepsDisk}
 use Rattle.disk.specs.declared.Disk.{Ghosts}
 use Rattle.chain_model.specs.{started}
 use Rattle.chain_core.specs.{Core, CoreRefines, Machine}
@@ -13,7 +13,6 @@ use Rattle.node.specs.declared.stop.Stop.{Stop}
 use Rattle.node.specs.declared.stop.Stop.TheVariants as stop
 use Rattle.node.specs.Steps.{HasNumbersOf, IsReady, NodeRefines, disk_of, engine_of, facts_for}
 use Rattle.node.specs.Steps.{node_limits}
-use Rattle.node.specs.Stops.{IsEnvironmental}
 
 -- the disk's files open as what the started node's store tells
 abbrev pub IsStarted : {D : Type 0} {g : Ghosts D} → Contents → Node D g → Type 0
@@ -63,7 +62,7 @@ module _ {D : Type 0} {g : Ghosts D} where
   -- the node refines this machine, or the call is refused for a cause of the environment
   abbrev pub BeginsAs : ℕ → Machine → Result (Node D g) (Stop × D) → Type 0
   BeginsAs x n result = MatchResult result (λ node. NodeRefines g.is_honest g.state node x n)
-      (λ refused. IsEnvironmental refused.0)
+      (λ refused. IsEnvironmental stop.Disk stop.Memory refused.0)
 
   -- the disk's content is what the node was started from, or explains the refusal
   abbrev pub ExplainsStart : Contents → Result (Node D g) (Stop × D) → Type 0

@@ -17,11 +17,3 @@ engine_stop engine.NotCommitted = stop.Damaged
 engine_stop engine.NoSuchSnapshot = stop.Damaged
 engine_stop engine.TooManySnapshots = stop.Damaged
 engine_stop engine.Exhausted = stop.Damaged
-
--- the call stops the node because of the disk
-abbrev pub IsDeviceStop : {T : Type 0} → Result T Stop → Type 0
-IsDeviceStop result = result ≡ Err stop.Disk
-
--- the causes that say nothing of the disk's content
-abbrev pub IsEnvironmental : Stop → Type 0
-IsEnvironmental e = (e ≡ stop.Disk) ⊎ (e ≡ stop.Memory)

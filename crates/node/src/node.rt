@@ -1,15 +1,15 @@
 // A running node: its store, and the rules of a step over it.
-ghost use Rattle.std.specs.Prelude.{◌≡◌, ◌⊎◌, ◌↔◌, ℕ, length, slice_index, false};
+ghost use Rattle.std.specs.Prelude.{◌≡◌, ◌⊎◌, ◌↔◌, IsErrOf, ℕ, length, slice_index, false};
 ghost use Rattle.std.specs.Prelude.{◌<◌, OnOk};
 ghost use Rattle.disk.specs.{IsArmed, KeepsDisk};
 ghost use Rattle.chain_model.specs.Rules.{tend};
 ghost use Rattle.chain_core.specs.{Machine, answer_to};
 ghost use Rattle.engine.specs.{IsAdrift, IsNearlyFull, IsOwned, IsTendAnswer, TendsAlike};
 ghost use Rattle.engine.specs.{table_count};
+ghost use Rattle.node.specs.declared.stop.Stop.TheVariants.{Disk};
 ghost use Rattle.node.specs.Steps.{DiskAlwaysRefines, IfRefines, IsReady, NodeRefines};
 ghost use Rattle.node.specs.Steps.{NumbersRefine, disk_of, engine_of, node_limits};
 ghost use Rattle.node.specs.Outputs.{CallRefines, KeepsNode, StepEnds};
-ghost use Rattle.node.specs.Stops.{IsDeviceStop};
 
 use crate::{Numbers, Output, Stop};
 use chain_core::{CoreState, Input, decide};
@@ -43,7 +43,7 @@ impl<D: Disk + Drop> Node<D> {
     /// `Stop` the node has ended.
     pub fn tend(&mut self, alloc: Global) -> Result<Tended, Stop>
         requires { IsReady self.old }
-        ensures kept { KeepsDisk D.Disk (disk_of self.old) (disk_of self.new) (IsDeviceStop result)
+        ensures kept { KeepsDisk D.Disk (disk_of self.old) (disk_of self.new) (IsErrOf result Disk)
             (IsNearlyFull (engine_of self.old) ⊎ IsAdrift D.Disk (engine_of self.old)) IsOwned }
         ensures works { OnOk result (IsReady self.new) }
         ensures limits { node_limits self.new ≡ node_limits self.old }

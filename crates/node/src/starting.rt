@@ -1,14 +1,14 @@
 // How a node begins: it is created, or it starts with the store of its disk.
 ghost use Rattle.std.specs.Prelude.{◌≡◌, ℕ, IfOk, IfErr};
-ghost use Rattle.disk.specs.{contents, IsStill};
+ghost use Rattle.disk.specs.{contents, IsEnvironmental, IsStill};
 ghost use Rattle.chain_model.specs.{created, started};
 ghost use Rattle.chain_core.specs.{Machine};
 ghost use Rattle.engine.specs.{IsJustOpened, engine_disk, look_ups};
+ghost use Rattle.node.specs.declared.stop.Stop.TheVariants.{Disk, Memory};
 ghost use Rattle.node.specs.Outputs.{AlwaysRefines};
 ghost use Rattle.node.specs.Starts.{BeginsAs, CoreStartsFrom, ExplainsStart, KeepsReceived};
 ghost use Rattle.node.specs.Starts.{RunsOpened, disk_behind};
 ghost use Rattle.node.specs.Steps.{DiskRefines, DiskRefinesOneOf, IsReady, node_limits};
-ghost use Rattle.node.specs.Stops.{IsEnvironmental};
 
 use crate::{Node, Stop};
 use chain_core::{CoreState, PersistentState};
@@ -93,7 +93,7 @@ impl<D: Disk + Drop> Node<D> {
             AlwaysRefines D.Disk disk (disk_behind result) x n m }
 
         // What is refused for its files is left as it was.
-        ensures still { IfErr result (λ refused. (IsEnvironmental refused.0 → ⊥) →
+        ensures still { IfErr result (λ refused. (IsEnvironmental Disk Memory refused.0 → ⊥) →
             IsStill D.Disk disk refused.1) }
     {
         match Engine::open(alloc, disk, limits) {

@@ -2,7 +2,7 @@
 use Rattle.std.proofs.Common.{◌≡◌, ℕ, List, Option, Some, None, drop, inl, inr, refl, sym, ap}
 use Rattle.std.proofs.Common.{length, subst, ◌∙◌, arith, ◌<◌}
 use Rattle.std.specs.Prelude.{IsSomeAnd}
-use Rattle.disk.specs.{State, seen}
+use Rattle.disk.specs.{IsEnvironmental, State, seen}
 use Rattle.disk.specs.Calls.{IsRefusalOf}
 use Rattle.disk.specs.declared.DiskError.{DiskError}
 use Rattle.disk.specs.declared.DiskError.TheVariants as disk
@@ -12,7 +12,7 @@ use Rattle.record_log.specs.declared.log.OpenedLog.{OpenedLog}
 use Rattle.record_log.specs.Error.{log_error}
 use Rattle.record_log.specs.Grammar.{Represents, ends_from, end_of}
 use Rattle.record_log.specs.Logs.{OpenRefusal, HasRead, HasRecords, LogHolds}
-use Rattle.record_log.specs.Logs.{IsExternal, IsRest}
+use Rattle.record_log.specs.Logs.{IsRest}
 use Rattle.record_log.proofs.Fronts.{one_reading}
 use Rattle.record_log.proofs.First.{nothing_past}
 
@@ -32,7 +32,8 @@ declines_bytes disk.Memory old file start why = tt
 -- opening a file that represents records is refused for environment errors alone
 pub declined : (e : LogError) (bytes : Option (List ℕ)) (start : ℕ) (records : List (List ℕ))
     → OpenRefusal e bytes start →
-    IsSomeAnd bytes (λ it. Represents (drop start it) records) → IsExternal e
+    IsSomeAnd bytes (λ it. Represents (drop start it) records) →
+    IsEnvironmental (log.Disk disk.Failed) log.Memory e
 declined (log.Disk disk.Failed) bytes start records why stood = inl refl
 declined (log.Disk disk.NoFile) None start records why stood = absurd stood
 declined (log.Disk disk.NoFile) (Some it) start records why stood = absurd cc

@@ -9,12 +9,13 @@ use Rattle.std.specs.Int.{w32, to_be_bytes}
 use Rattle.std.proofs.lemmas.List.{take_at, drop_at, drop-drop, length-drop}
 use Rattle.disk.specs.declared.DiskError.{DiskError}
 use Rattle.disk.specs.declared.DiskError.TheVariants as disk'
-use Rattle.disk.specs.{State, Slot, seen}
+use Rattle.disk.specs.{IsEnvironmental, State, Slot, seen}
 use Rattle.disk.specs.Calls.{IsRefusalOf}
+use Rattle.record_log.specs.declared.error.LogError.TheVariants as log'
 use Rattle.record_log.specs.declared.log.Log.{Log}
 use Rattle.record_log.specs.Grammar.{Represents, entry, ends_from}
 use Rattle.record_log.specs.Error.{log_error}
-use Rattle.record_log.specs.Logs.{LogHolds, IsExternal, IsPart}
+use Rattle.record_log.specs.Logs.{LogHolds, IsPart}
 
 -- record number i of those that begin at a place: its bytes, and what stands around them
 pub record Span (bytes : List ℕ) (at : ℕ) (records : List (List ℕ)) (i : ℕ) : Type 0 where
@@ -152,7 +153,8 @@ module _ (disk : State) (log : Log) (records : List (List ℕ)) (i begin len at 
       within begin_is len_is part (parts.1 ∙ ap (take len) moved)
 
   -- a record that a log has is there to be read
-  pub there : (e : DiskError) → IsRefusalOf e disk log.file (at + len) → IsExternal (log_error e)
+  pub there : (e : DiskError) → IsRefusalOf e disk log.file (at + len) →
+      IsEnvironmental (log'.Disk disk'.Failed) log'.Memory (log_error e)
   there disk'.Failed why = inl refl
   there disk'.NoFile why =
       let gone : IsNone (Some h.bytes) = subst (λ (slot : Slot). IsNone (seen slot)) h.sure why in

@@ -11,11 +11,3 @@ log_error disk.Failed = log.Disk disk.Failed
 log_error disk.NoFile = log.Disk disk.NoFile
 log_error disk.Short = log.Disk disk.Short
 log_error disk.Memory = log.Memory
-
--- the call reports a failure of the device
-abbrev pub DeviceFailed : {T : Type 0} → Result T LogError → Type 0
-DeviceFailed result = result ≡ Err (log.Disk disk.Failed)
-
--- the refusals of a disk that say nothing of the file
-abbrev pub IsDiskExternal : DiskError → Type 0
-IsDiskExternal e = (e ≡ disk.Failed) ⊎ (e ≡ disk.Memory)

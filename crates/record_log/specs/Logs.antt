@@ -3,7 +3,7 @@ use Rattle.std.specs.Prelude.{◌≡◌, ◌⊎◌, ℕ, ◌+◌, ◌<◌, ◌�
 use Rattle.std.specs.Prelude.{drop, Result, Ok, Err, IfErr, Option, Some, None, IsNone, IfSome}
 use Rattle.std.specs.Prelude.{IsSomeAnd, IsTrue, slice_index_or, ◌-◌}
 use Rattle.disk.specs.declared.DiskError.TheVariants as disk
-use Rattle.disk.specs.{State, seen, EndsOutOfRange}
+use Rattle.disk.specs.{IsEnvironmental, State, seen, EndsOutOfRange}
 use Rattle.record_log.specs.declared.error.LogError.{LogError}
 use Rattle.record_log.specs.declared.error.LogError.TheVariants as log
 use Rattle.record_log.specs.declared.log.Log.{Log}
@@ -96,10 +96,6 @@ abbrev pub begun : Option (List ℕ) → List ℕ
 begun None = 0 ∷ []
 begun (Some bytes) = 0 ∷ drop 1 bytes
 
--- the refusals that say nothing of the file
-abbrev pub IsExternal : LogError → Type 0
-IsExternal e = (e ≡ log.Disk disk.Failed) ⊎ (e ≡ log.Memory)
-
 -- the bytes of this length from a place of the file on
 abbrev pub IsPart : State → ℕ → ℕ → ℕ → List ℕ → Type 0
 IsPart disk file at len part =
@@ -165,7 +161,8 @@ AppendOutcome limit (Err log.Failed) old new one = HasFailed old × (new ≡ old
 
 -- the refusals of a log whose file holds the log's records
 abbrev pub IsExpected : LogError → Type 0
-IsExpected e = IsExternal e ⊎ ((e ≡ log.TooLong) ⊎ (e ≡ log.Failed))
+IsExpected e = IsEnvironmental (log.Disk disk.Failed) log.Memory e
+    ⊎ ((e ≡ log.TooLong) ⊎ (e ≡ log.Failed))
 
 -- the refusals of the log itself, without a call of the disk
 abbrev pub IsArgumentError : LogError → Type 0

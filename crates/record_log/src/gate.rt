@@ -1,7 +1,8 @@
 // A write behind a closed gate, which is opened when the bytes are durable.
 ghost use Rattle.std.specs.Prelude.{◌≡◌, ◌⊎◌, ℕ, ◌+◌, ◌<◌, ◌^◌, List, length, IsErrOf, MatchResult};
+ghost use Rattle.disk.specs.{IsEnvironmental};
+ghost use Rattle.disk.specs.declared.DiskError.TheVariants.{Failed, Memory};
 ghost use Rattle.disk.specs.{AlwaysLeaves, EndsOutOfRange, IsLeftAt, IsSameBut, KeepsDisk};
-ghost use Rattle.record_log.specs.Error.{IsDiskExternal};
 ghost use Rattle.record_log.specs.Gate.{IsDurableAs, IsGatedWrite, IsPartlyOpened, with_open_gate};
 
 use disk::{Disk, DiskError};
@@ -21,7 +22,7 @@ pub fn write_gated<D: Disk>(
     ensures done { (all : List ℕ) → D.is_honest disk.old →
         IsGatedWrite (D.state disk.old file) gate at bytes.now all → MatchResult result
         (λ _. IsDurableAs (D.state disk.new) file (with_open_gate all gate)
-        × (at + length bytes.now < 2 ^ 63)) IsDiskExternal }
+        × (at + length bytes.now < 2 ^ 63)) (IsEnvironmental Failed Memory) }
 
     // The outcomes of a crash at any moment since the call began, whatever it answers.
     ensures any_moment { (all : List ℕ) → D.is_honest disk.old →

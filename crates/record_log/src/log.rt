@@ -2,13 +2,13 @@
 ghost use Rattle.std.specs.Prelude.{◌≡◌, ◌↔◌, ◌⊎◌, ℕ, ◌+◌, ◌<◌, ◌^◌, ◌-◌, min, List, []};
 ghost use Rattle.std.specs.Prelude.{◌∷◌, ◌++◌, length, slice_get, slice_index_or, Some, IfOk};
 ghost use Rattle.std.specs.Prelude.{IfErr, IsErrOf, IsSomeAnd, OnOk, MatchResult};
+ghost use Rattle.disk.specs.declared.DiskError.TheVariants.{Failed};
 ghost use Rattle.disk.specs.{seen, AddsNoOutcome, AlwaysLeaves, IsLeftAt, IsSame, IsSameBut};
-ghost use Rattle.disk.specs.{IsStill, KeepsDisk, State};
-ghost use Rattle.record_log.specs.Error.{DeviceFailed};
+ghost use Rattle.disk.specs.{IsEnvironmental, IsStill, KeepsDisk, State};
+ghost use Rattle.record_log.specs.declared.error.LogError.TheVariants.{Disk, Memory};
 ghost use Rattle.record_log.specs.Gate.{IsDurableAs, behind_of, pushed};
 ghost use Rattle.record_log.specs.Logs.{LogHolds, HasRecords, IsAt, IsPart, IsRest};
 ghost use Rattle.record_log.specs.Logs.{OpenOutcome, Appended, IsExpected};
-ghost use Rattle.record_log.specs.Logs.{IsExternal};
 ghost use Rattle.disk.specs.Calls.{IsRefusalOf};
 ghost use Rattle.record_log.specs.Logs.{IsOldOrNewFrom, EndsInRange, begun, file_of, start_of};
 ghost use Rattle.record_log.specs.Logs.{IsDurableLog};
@@ -118,9 +118,11 @@ impl Log {
     /// device calls: write and sync. An existing file loses its first byte, and with it the records
     /// from there on. A refusal may leave the file changed.
     pub fn create<D: Disk>(alloc: Global, disk: &mut D, file: u64) -> Result<Log, LogError>
-        ensures kept { KeepsDisk D.Disk disk.old disk.new (DeviceFailed result) ⊥ (IsSameBut file) }
+        ensures kept { KeepsDisk D.Disk disk.old disk.new
+            (IsErrOf result (Disk Failed)) ⊥ (IsSameBut file) }
         ensures created { D.is_honest disk.old → EndsInRange (seen (D.state disk.old file)) →
-            MatchResult result (λ log. LogHolds (D.state disk.new) log []) IsExternal }
+            MatchResult result (λ log. LogHolds (D.state disk.new) log [])
+            (IsEnvironmental (Disk Failed) Memory) }
         ensures spelled { D.is_honest disk.old → OnOk result
             (IsDurableAs (D.state disk.new) file (begun (seen (D.state disk.old file)))) }
         ensures at { IfOk result (IsAt file 0) }
@@ -149,7 +151,7 @@ impl Log {
         file: u64,
         start: u64,
     ) -> Result<OpenedLog, LogError>
-        ensures kept { KeepsDisk D.Disk disk.old disk.new (DeviceFailed result) ⊥
+        ensures kept { KeepsDisk D.Disk disk.old disk.new (IsErrOf result (Disk Failed)) ⊥
             (AddsNoOutcome file) }
         ensures at { IfOk result (λ opened. IsAt file start opened.log) }
         ensures told { D.is_honest disk.old →
@@ -158,7 +160,7 @@ impl Log {
             HasRecords (D.state disk.old) file start records →
             MatchResult result
             (λ opened. LogHolds (D.state disk.new) opened.log records × HasRead opened records)
-            IsExternal }
+            (IsEnvironmental (Disk Failed) Memory) }
         ensures still { IsStill D.Disk disk.old disk.new }
     {
         let bytes = synced_from(alloc, disk, file, start)?;
@@ -241,7 +243,7 @@ impl Log {
         disk: &mut D,
         bytes: &[u8],
     ) -> Result<(), LogError>
-        ensures kept { KeepsDisk D.Disk disk.old disk.new (DeviceFailed result)
+        ensures kept { KeepsDisk D.Disk disk.old disk.new (IsErrOf result (Disk Failed))
             (HasNoRoom self.old bytes.now) (IsSameBut (file_of self.old)) }
         ensures told { Appended MAX_RECORD result self.old self.new bytes.now
             (disk.new ≡ disk.old) }
@@ -286,12 +288,12 @@ impl Log {
         index: usize,
     ) -> Result<Vec<u8>, LogError>
         requires { index < count_of self.now }
-        ensures kept { KeepsDisk D.Disk disk.old disk.new (DeviceFailed result) ⊥ IsSame }
+        ensures kept { KeepsDisk D.Disk disk.old disk.new (IsErrOf result (Disk Failed)) ⊥ IsSame }
         ensures failed { IsErrOf result LogError.Failed ↔ HasFailed self.now }
         ensures given { (records : List (List ℕ)) → D.is_honest disk.old →
             LogHolds (D.state disk.old) self.now records →
             MatchResult result (λ bytes. slice_get records index ≡ Some bytes.items)
-            (λ e. IsExternal e ⊎ (e ≡ LogError.Failed)) }
+            (λ e. IsEnvironmental (Disk Failed) Memory e ⊎ (e ≡ LogError.Failed)) }
         ensures still { IsStill D.Disk disk.old disk.new }
     {
         if self.has_failed {

@@ -5,11 +5,11 @@ use Rattle.std.specs.List.{slice_get}
 use Rattle.std.specs.Rc.{rc_slice_items}
 use Rattle.std.specs.Global.{Global}
 use Rattle.std.specs.declared.rc.RcSlice.{RcSlice}
-use Rattle.disk.specs.{State}
-use Rattle.table_format.specs.{IsBlock, IsEnvironmentError, block_entries}
+use Rattle.disk.specs.{IsEnvironmental, State}
+use Rattle.table_format.specs.{IsBlock, block_entries}
 use Rattle.table_format.specs.declared.IndexLine.{IndexLine}
-use Rattle.table_format.specs.declared.TableError.{TableError}
-use Rattle.table_format.specs.declared.TableError.TheVariants as table
+use Rattle.table_format.specs.declared.FileError.{FileError}
+use Rattle.table_format.specs.declared.FileError.TheVariants as reading
 use Rattle.table_files.specs.{BlockAnswer, known_block_answered}
 use Rattle.sorted_table.specs.declared.block_place.BlockPlace.{BlockPlace}
 use Rattle.sorted_table.specs.BlockPlaces.{PlaceReads}
@@ -28,10 +28,10 @@ block_of_line disk file lines n line t within at =
 
 pub block_answer : (disk : State) (file : ℕ) (lines : List IndexLine) (n : ℕ) (line : IndexLine)
     (t : HasLines (disk file) lines) (b : BlockNumber t.bytes t.represents.blocks line n)
-    (result : Result (RcSlice ℕ Global) TableError)
+    (result : Result (RcSlice ℕ Global) FileError)
     → BlockAnswer disk file line.place line.len result
     → MatchResult result (λ block. IsBlock (rc_slice_items block) (block_entries b.block))
-    IsEnvironmentError
+    (IsEnvironmental reading.Disk reading.Memory)
 block_answer disk file lines n line t b (Ok block) answer =
     let is = known_block_answered disk file line.place line.len (Ok block) t.bytes
     (block_entries b.block) answer t.present b.within b.is_block in
@@ -43,11 +43,11 @@ block_answer disk file lines n line t b (Err e) answer =
 -- the place in the block
 pub place_in : (disk : State) (file : ℕ) (lines : List IndexLine) (n : ℕ) (line : IndexLine)
     (t : HasLines (disk file) lines) (b : BlockNumber t.bytes t.represents.blocks line n)
-    (result : Result BlockPlace TableError)
+    (result : Result BlockPlace FileError)
     → IfOk result (λ place. (place.line ≡ n) × (place.at ≡ 0))
     → MatchResult result (λ place. PlaceReads place (block_entries b.block))
-    (λ e. e ≡ table.Memory)
-    → MatchResult result (IsPlaceIn t.represents.blocks) (λ e. e ≡ table.Memory)
+    (λ e. e ≡ reading.Memory)
+    → MatchResult result (IsPlaceIn t.represents.blocks) (λ e. e ≡ reading.Memory)
 place_in disk file lines n line t b (Ok place) is reads =
     record {
       block = b.block;
@@ -59,11 +59,11 @@ place_in disk file lines n line t b (Err e) is reads = reads
 -- ---- refusals
 
 -- the entries of a block of a table are not damaged
-pub places_are_right : {A : Type 0} (P : A → Type 0) (result : Result A TableError)
-    → result ≡ Err table.Damaged → MatchResult result P (λ e. e ≡ table.Memory) → ⊥
+pub places_are_right : {A : Type 0} (P : A → Type 0) (result : Result A FileError)
+    → result ≡ Err reading.Damaged → MatchResult result P (λ e. e ≡ reading.Memory) → ⊥
 places_are_right P result is answer =
-    let e : table.Damaged ≡ table.Memory =
-    subst (λ r. MatchResult r P (λ e. e ≡ table.Memory)) is answer in
+    let e : reading.Damaged ≡ reading.Memory =
+    subst (λ r. MatchResult r P (λ e. e ≡ reading.Memory)) is answer in
     absurd cc
 
 pub ok_part : {A E : Type 0} (P : A → Type 0) (Q : E → Type 0) (result : Result A E)
@@ -74,7 +74,7 @@ ok_part P Q (Err e) m = tt
 -- ---- what holds of any block
 
 pub first_place : (lines : List IndexLine) (n : ℕ) (line : IndexLine) (size : ℕ)
-    → slice_get lines n ≡ Some line → size ≡ line.len → (result : Result BlockPlace TableError)
+    → slice_get lines n ≡ Some line → size ≡ line.len → (result : Result BlockPlace FileError)
     → IfOk result (λ place. (place.line ≡ n) × (place.at ≡ 0))
     → IfOk result (λ place. length place.starts.items ≤ size)
     → IfOk result (λ place. (place.line ≡ n) × (place.at ≡ 0) × IsBounded lines place)

@@ -10,7 +10,7 @@ use Rattle.std.specs.List.{slice_get}
 use Rattle.std.specs.Rc.{rc_slice_items}
 use Rattle.std.specs.Global.{Global}
 use Rattle.std.specs.declared.rc.RcSlice.{RcSlice}
-use Rattle.disk.specs.{Slot, State, seen}
+use Rattle.disk.specs.{IsEnvironmental, Slot, State, seen}
 use Rattle.kv_types.specs.FieldsLemmas.{some_is}
 use Rattle.kv_types.specs.OrderLemmas.{Among, Rises, rises_from_AllPairs}
 use Rattle.kv_types.specs.{Entry}
@@ -18,12 +18,12 @@ use Rattle.merge_iter.specs.{EntryPrecedes}
 use Rattle.merge_iter.specs.declared.Direction.TheVariants.{Forward}
 use Rattle.table_files.specs.{BlockAnswer, IsPartAt}
 use Rattle.table_format.specs.RisingLemmas.{last_push}
-use Rattle.table_format.specs.{Block, IsBlock, IsBuilderError, IsCheckedBlock, IsEnvironmentError}
+use Rattle.table_format.specs.{Block, IsBlock, IsCheckedBlock}
 use Rattle.table_format.specs.{block_entries, block_line, data_bytes, end_spot}
 use Rattle.table_format.specs.{entries_of_blocks}
 use Rattle.table_format.specs.declared.IndexLine.{IndexLine}
-use Rattle.table_format.specs.declared.TableError.{TableError}
-use Rattle.table_format.specs.declared.TableError.TheVariants as table
+use Rattle.table_format.specs.declared.FileError.{FileError}
+use Rattle.table_format.specs.declared.FileError.TheVariants as reading
 use Rattle.sorted_table.specs.Meant.{AreAtLine, HasEndOf, IsBehindLine, IsBlockAtLine}
 use Rattle.sorted_table.specs.Meant.{LineBlockAnswer}
 use Rattle.sorted_table.specs.TableCursors.{HasLines}
@@ -58,11 +58,11 @@ line_read disk file lines n line block at is =
 
 -- a read that is damaged finds no block at the line
 pub unread_line : (disk : State) (file : ℕ) (lines : List IndexLine) (n : ℕ) (line : IndexLine)
-    (e : TableError) → slice_get lines n ≡ Some line
+    (e : FileError) → slice_get lines n ≡ Some line
     → BlockAnswer disk file line.place line.len (Err e)
     → LineBlockAnswer lines n (disk file) (Err e)
 unread_line disk file lines n line e at answer damaged part is =
-    let none = subst (λ (why : TableError). BlockAnswer disk file line.place line.len (Err why))
+    let none = subst (λ (why : FileError). BlockAnswer disk file line.place line.len (Err why))
     damaged answer in
     let p = parts_of lines n (disk file) part line is at in
     none part p.0 (p.1, p.2)
@@ -82,7 +82,7 @@ pub misplaced : (disk : State) (file : ℕ) (lines : List IndexLine) (n : ℕ) (
     → BlockAnswer disk file line.place line.len (Ok block)
     → ((entries : List Entry) → IsBlock (rc_slice_items block) entries
     → AreAtLine lines n line entries → ⊥)
-    → (e : TableError) → LineBlockAnswer lines n (disk file) (Err e)
+    → (e : FileError) → LineBlockAnswer lines n (disk file) (Err e)
 misplaced disk file lines n line block at answer never e damaged part is =
     let p = parts_of lines n (disk file) part line is at in
     let same : part ≡ rc_slice_items block = one_part (seen (disk file)) line.place part
@@ -107,15 +107,12 @@ placed disk file lines n line block at answer lies = record {
   checked = ∥∥₁_map answer.1.1 (λ it. (it.0, it.1, lies it.0 it.1));
 }
 
--- an error that is neither of these is one of the environment
-pub environmental : (e : TableError) → (IsBuilderError e → ⊥) → (e ≡ table.Damaged → ⊥)
-    → IsEnvironmentError e
-environmental table.Disk builder damaged = inl refl
-environmental table.Memory builder damaged = inr refl
-environmental table.Damaged builder damaged = absurd (damaged refl)
-environmental table.Order builder damaged = absurd (builder (search rules))
-environmental table.TooLarge builder damaged = absurd (builder (search rules))
-environmental table.Failed builder damaged = absurd (builder (search rules))
+-- an error that is no damage is one of the environment
+pub environmental : (e : FileError) → (e ≡ reading.Damaged → ⊥)
+    → IsEnvironmental reading.Disk reading.Memory e
+environmental reading.Disk damaged = inl refl
+environmental reading.Memory damaged = inr refl
+environmental reading.Damaged damaged = absurd (damaged refl)
 
 -- ---- the blocks of a table
 
@@ -216,8 +213,8 @@ module _ (file : Slot) (lines : List IndexLine) (t : HasLines file lines) where
       }
 
   -- so a read for a line is not damaged
-  pub never_damaged : (n : ℕ) (line : IndexLine) (e : TableError)
+  pub never_damaged : (n : ℕ) (line : IndexLine) (e : FileError)
       → BlockNumber t.bytes t.represents.blocks line n → slice_get lines n ≡ Some line
-      → LineBlockAnswer lines n file (Err e) → e ≡ table.Damaged → ⊥
+      → LineBlockAnswer lines n file (Err e) → e ≡ reading.Damaged → ⊥
   never_damaged n line e b at answer damaged =
       answer damaged (take line.len (drop line.place t.bytes)) (block_there n line b at)

@@ -9,13 +9,13 @@ use Rattle.std.specs.Global.{Global}
 use Rattle.bloom.specs.{Covers, CoversHashed, hashes_of}
 use Rattle.std.specs.List.{slice_get}
 use Rattle.std.proofs.lemmas.Option.{slice_get_within}
-use Rattle.disk.specs.{Slot, State, seen}
+use Rattle.disk.specs.{IsEnvironmental, Slot, State, seen}
 use Rattle.kv_types.specs.{Entry, StoredKey}
 use Rattle.merge_iter.specs.{spot}
-use Rattle.table_format.specs.{AreRising, IsBlock, IsEnvironmentError, end_spot}
+use Rattle.table_format.specs.{AreRising, IsBlock, end_spot}
 use Rattle.table_format.specs.declared.IndexLine.{IndexLine}
-use Rattle.table_format.specs.declared.TableError.{TableError}
-use Rattle.table_format.specs.declared.TableError.TheVariants.{Damaged, Memory}
+use Rattle.table_format.specs.declared.FileError.{FileError}
+use Rattle.table_format.specs.declared.FileError.TheVariants.{Damaged, Disk, Memory}
 use Rattle.sorted_table.specs.declared.found.FoundVersion.{FoundVersion}
 use Rattle.sorted_table.specs.declared.table.Table.{Table}
 use Rattle.sorted_table.specs.Open.{FindsAtLine, IsOpenOn, LineAnswer, LookupAnswer, LookupFinds}
@@ -50,7 +50,7 @@ not_denied filter key hashes denies are covered holds =
 
 -- the answer by a line is that of a lookup
 pub by_line : (file : Slot) (table : Table) (lines : List IndexLine) (key : StoredKey) (at n : ℕ)
-    (result : Result (Option FoundVersion) TableError)
+    (result : Result (Option FoundVersion) FileError)
     → IsOpenOn file table → Covers table.filter.items key → lines ≡ rc_slice_items table.lines
     → (AreRising (map end_spot lines) → IsLinePlace lines (spot key at) n)
     → LineAnswer lines n file key at result → LookupAnswer file table key at result
@@ -77,7 +77,7 @@ none_behind file lines key at n past =
 -- the block was read
 pub line_answers : (file : Slot) (lines : List IndexLine) (n : ℕ) (line : IndexLine)
     (key : StoredKey) (at : ℕ) (block : RcSlice ℕ Global)
-    (result : Result (Option FoundVersion) TableError) → slice_get lines n ≡ Some line
+    (result : Result (Option FoundVersion) FileError) → slice_get lines n ≡ Some line
     → LineBlockAnswer lines n file (Ok block)
     → ((entries : List Entry) → IsBlock (rc_slice_items block) entries
     → MatchResult result (LookupFinds entries key at) (λ e. e ≡ Memory))
@@ -124,13 +124,13 @@ block_at file lines t n line at =
 -- a lookup in the block of the first line that does not end before is a lookup in the table
 pub found_as : (file : Slot) (table : Table) (entries : List Entry)
     (s : TableServes file table entries) (lines : List IndexLine) (n : ℕ) (key : StoredKey) (at : ℕ)
-    (block : RcSlice ℕ Global) (result : Result (Option FoundVersion) TableError)
+    (block : RcSlice ℕ Global) (result : Result (Option FoundVersion) FileError)
     → lines ≡ rc_slice_items table.lines → n < length lines
     → (AreRising (map end_spot lines) → IsLinePlace lines (spot key at) n)
     → IsBlockAtLine lines n file (rc_slice_items block)
     → ((mine : List Entry) → IsBlock (rc_slice_items block) mine
     → MatchResult result (LookupFinds mine key at) (λ e. e ≡ Memory))
-    → MatchResult result (LookupFinds entries key at) IsEnvironmentError
+    → MatchResult result (LookupFinds entries key at) (IsEnvironmental Disk Memory)
 found_as file table entries s lines n key at block result are within place read finds =
     let p = some_of lines n within in
     let line = p.0 in

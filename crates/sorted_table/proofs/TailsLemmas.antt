@@ -24,8 +24,8 @@ use Rattle.table_format.specs.{index_content, index_part}
 use Rattle.table_format.specs.{line_bytes, table_footer}
 use Rattle.table_format.specs.declared.Footer.{Footer}
 use Rattle.table_format.specs.declared.IndexLine.{IndexLine}
-use Rattle.table_format.specs.declared.TableError.{TableError}
-use Rattle.table_format.specs.declared.TableError.TheVariants.{Memory, Damaged}
+use Rattle.table_format.specs.declared.FileError.{FileError}
+use Rattle.table_format.specs.declared.FileError.TheVariants.{Memory, Damaged}
 use Rattle.sorted_table.specs.declared.tail.Tail.{Tail}
 use Rattle.sorted_table.specs.Tails.{IsTail, tail_bytes}
 use Rattle.sorted_table.proofs.LineBlocks.{among_left, among_right, last_there, rising_parts}
@@ -296,7 +296,7 @@ index_here bytes entries s part place is at =
     (subst (λ (n : ℕ). IsIndex (index_part lines) n lines) (sym at) (is_index bytes entries s))
 
 -- an index that is one is refused only for want of memory
-pub only_memory : (e : TableError) (part : List ℕ) (place : ℕ) (lines : List IndexLine)
+pub only_memory : (e : FileError) (part : List ℕ) (place : ℕ) (lines : List IndexLine)
     → (e ≡ Memory) ⊎ ((e ≡ Damaged) × ((a : List IndexLine) → IsIndex part place a → ⊥))
     → IsIndex part place lines → e ≡ Memory
 only_memory e part place lines (inl m) is = m

@@ -11,8 +11,8 @@ use Rattle.merge_iter.specs.{EntryPrecedes}
 use Rattle.table_files.specs.{IsPartAt}
 use Rattle.table_format.specs.{IsBlock, end_spot, last_entry}
 use Rattle.table_format.specs.declared.IndexLine.{IndexLine}
-use Rattle.table_format.specs.declared.TableError.{TableError}
-use Rattle.table_format.specs.declared.TableError.TheVariants.{Damaged}
+use Rattle.table_format.specs.declared.FileError.{FileError}
+use Rattle.table_format.specs.declared.FileError.TheVariants.{Damaged}
 
 -- ---- blocks at lines
 
@@ -51,7 +51,7 @@ pub record IsBlockAtLine (lines : List IndexLine) (n : ℕ) (file : Slot) (part 
 
 -- The answers of a search for the block of line n: the block that the file has for it, and
 -- `Damaged` only where it has none.
-abbrev pub LineBlockAnswer : List IndexLine → ℕ → Slot → Result (RcSlice ℕ Global) TableError
+abbrev pub LineBlockAnswer : List IndexLine → ℕ → Slot → Result (RcSlice ℕ Global) FileError
     → Type 0
 LineBlockAnswer lines n file (Ok block) = IsBlockAtLine lines n file (rc_slice_items block)
 LineBlockAnswer lines n file (Err e) =

@@ -11,8 +11,8 @@ use Rattle.merge_iter.specs.{spot}
 use Rattle.table_builder.specs.{HoldsTable}
 use Rattle.table_format.specs.{IsBlock, TableRepresents, block_lines, last_entry}
 use Rattle.table_format.specs.declared.IndexLine.{IndexLine}
-use Rattle.table_format.specs.declared.TableError.{TableError}
-use Rattle.table_format.specs.declared.TableError.TheVariants.{Damaged}
+use Rattle.table_format.specs.declared.FileError.{FileError}
+use Rattle.table_format.specs.declared.FileError.TheVariants.{Damaged}
 use Rattle.sorted_table.specs.Meant.{AreAsMeant, IsBlockAtLine}
 use Rattle.sorted_table.specs.Searches.{IsLinePlace}
 use Rattle.sorted_table.specs.Tails.{HasTail}
@@ -106,7 +106,7 @@ pub record FindsAtLine (lines : List IndexLine) (n : ℕ) (file : Slot) (key : S
 -- The answer by line n: what is found in its block, and `Damaged` only where the file has no block
 -- for it. Without such a line nothing is found.
 abbrev pub LineAnswer : List IndexLine → ℕ → Slot → StoredKey → ℕ
-    → Result (Option FoundVersion) TableError → Type 0
+    → Result (Option FoundVersion) FileError → Type 0
 LineAnswer lines n file key at (Ok found) =
     MatchOption (slice_get lines n) (found ≡ None)
     (λ line. ∥ FindsAtLine lines n file key at found ∥₁)
@@ -116,7 +116,7 @@ LineAnswer lines n file key at (Err e) =
 
 -- The answer by filter and lines: nothing where the filter denies the key, and else the answer by
 -- the first line whose block does not end before key and number.
-abbrev pub LookupAnswer : Slot → Table → StoredKey → ℕ → Result (Option FoundVersion) TableError
+abbrev pub LookupAnswer : Slot → Table → StoredKey → ℕ → Result (Option FoundVersion) FileError
     → Type 0
 LookupAnswer file table key at result =
     ((Covers table.filter.items key → ⊥) × (result ≡ Ok None))
@@ -128,7 +128,7 @@ LookupAnswer file table key at result =
 
 -- A lookup that succeeds finds what the table has that the file was meant to be. This holds for
 -- each table that it may have been meant to be, if its undamaged blocks are as they were meant.
-abbrev pub AnswersAsMeant : Slot → Table → StoredKey → ℕ → Result (Option FoundVersion) TableError
+abbrev pub AnswersAsMeant : Slot → Table → StoredKey → ℕ → Result (Option FoundVersion) FileError
     → Type 0
 AnswersAsMeant file table key at result =
     (meant : Slot) (entries : List Entry) → TableServes meant table entries →

@@ -9,8 +9,8 @@ use Rattle.merge_iter.specs.declared.CursorError.{CursorError}
 use Rattle.merge_iter.specs.declared.CursorError.TheVariants as cursor
 use Rattle.table_format.specs.{Block, TableRepresents, block_entries, block_lines}
 use Rattle.table_format.specs.declared.IndexLine.{IndexLine}
-use Rattle.table_format.specs.declared.TableError.{TableError}
-use Rattle.table_format.specs.declared.TableError.TheVariants as table
+use Rattle.table_format.specs.declared.FileError.{FileError}
+use Rattle.table_format.specs.declared.FileError.TheVariants as reading
 use Rattle.sorted_table.specs.Open.{FileRepresents}
 use Rattle.sorted_table.specs.declared.block_place.BlockPlace.{BlockPlace}
 use Rattle.sorted_table.specs.BlockPlaces.{IsAtEnd, PlaceReads, place_entry}
@@ -67,10 +67,7 @@ HasReached lines line has_failed None = (has_failed ≡ false) × (length lines 
 HasReached lines line has_failed (Some place) = place.line ≡ line
 
 -- how a cursor reports the errors of tables
-abbrev pub move_error : TableError → CursorError
-move_error table.Disk = cursor.Disk
-move_error table.Memory = cursor.Memory
-move_error table.Damaged = cursor.Damaged
-move_error table.Order = cursor.Damaged
-move_error table.TooLarge = cursor.Damaged
-move_error table.Failed = cursor.Damaged
+abbrev pub move_error : FileError → CursorError
+move_error reading.Disk = cursor.Disk
+move_error reading.Memory = cursor.Memory
+move_error reading.Damaged = cursor.Damaged

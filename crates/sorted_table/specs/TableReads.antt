@@ -1,15 +1,15 @@
 -- What the calls promise that read a table.
-use Rattle.std.specs.Prelude.{◌≡◌, ℕ, List, Bool, true, Option, None, Result, IfErr, OnErr}
+use Rattle.std.specs.Prelude.{◌≡◌, IsErrOf, ℕ, List, Bool, true, Option, None, Result, IfErr, OnErr}
 use Rattle.std.specs.Prelude.{MatchResult}
 use Rattle.disk.specs.declared.Disk.{Ghosts}
-use Rattle.disk.specs.{IsSame, IsStill, KeepsDisk}
+use Rattle.disk.specs.{IsEnvironmental, IsSame, IsStill, KeepsDisk}
 use Rattle.kv_types.specs.{Entry, StoredKey}
 use Rattle.merge_iter.specs.{ErrorCauses, reports}
 use Rattle.merge_iter.specs.declared.CursorError.{CursorError}
 use Rattle.table_files.specs.{KeepsFiles}
-use Rattle.table_format.specs.{IsBuilderError, IsEnvironmentError, ReportsDevice}
+use Rattle.table_format.specs.declared.FileError.TheVariants as reading
 use Rattle.table_format.specs.declared.IndexLine.{IndexLine}
-use Rattle.table_format.specs.declared.TableError.{TableError}
+use Rattle.table_format.specs.declared.FileError.{FileError}
 use Rattle.sorted_table.specs.MovedFiles.{MovesFiles}
 use Rattle.sorted_table.specs.Open.{AnswersAsMeant, IsOpenOn, LookupAnswer, LookupFinds}
 use Rattle.sorted_table.specs.Open.{TableServes, table_file}
@@ -19,20 +19,19 @@ use Rattle.sorted_table.specs.declared.found.FoundVersion.{FoundVersion}
 use Rattle.sorted_table.specs.declared.table.Table.{Table}
 
 module _ {D : Type 0} (g : Ghosts D) where
-  -- A call that only reads. Its errors are none of a builder.
-  pub record ReadsDisk {T : Type 0} (before now : D) (result : Result T TableError) : Type 0 where
-    pub kept : KeepsDisk g before now (ReportsDevice result) ⊥ IsSame
+  -- a call that only reads
+  pub record ReadsDisk {T : Type 0} (before now : D) (result : Result T FileError) : Type 0 where
+    pub kept : KeepsDisk g before now (IsErrOf result reading.Disk) ⊥ IsSame
     pub still : IsStill g before now
-    pub refusals : IfErr result (λ e. IsBuilderError e → ⊥)
 
   -- a lookup of a key at a number in a table, whose filter may have the key or not
   pub record AnswersLookup (table : Table) (key : StoredKey) (at : ℕ) (may_have : Type 0)
-      (before now : D) (result : Result (Option FoundVersion) TableError) : Type 0 where
-    pub kept : KeepsDisk g before now (ReportsDevice result) ⊥ IsSame
+      (before now : D) (result : Result (Option FoundVersion) FileError) : Type 0 where
+    pub kept : KeepsDisk g before now (IsErrOf result reading.Disk) ⊥ IsSame
     -- of a table that serves these entries
     pub found : (entries : List Entry) → g.is_honest before →
         TableServes (g.state before (table_file table)) table entries →
-        MatchResult result (LookupFinds entries key at) IsEnvironmentError
+        MatchResult result (LookupFinds entries key at) (IsEnvironmental reading.Disk reading.Memory)
     -- of a table that is open on its file, whatever that has
     pub checked : g.is_honest before → IsOpenOn (g.state before (table_file table)) table →
         LookupAnswer (g.state before (table_file table)) table key at result
@@ -41,7 +40,6 @@ module _ {D : Type 0} (g : Ghosts D) where
         AnswersAsMeant (g.state before (table_file table)) table key at result
     -- no call is made where the filter denies the key
     pub unread : (may_have → ⊥) → now ≡ before
-    pub refusals : IfErr result (λ e. IsBuilderError e → ⊥)
     pub still : IsStill g before now
 
   -- a cursor over a file with these lines was moved to a block, or stands on none after a refusal

@@ -11,7 +11,7 @@ use crate::found::{FoundVersion, version_of};
 use kv_types::LentKey;
 use merge_iter::order;
 use std::alloc::Global;
-use table_format::{LentEntry, TableError, entries_in, entry_of};
+use table_format::{LentEntry, FileError, entries_in, entry_of};
 
 // Whether the entry comes before the key and number.
 fn is_earlier(entry: LentEntry, key: LentKey, number: u64) -> bool
@@ -27,18 +27,18 @@ fn first_from<'a>(
     text: &'a [u8],
     key: LentKey,
     number: u64,
-) -> Result<Option<LentEntry<'a>>, TableError>
+) -> Result<Option<LentEntry<'a>>, FileError>
     ensures first { (entries : List Entry) → All IsTableEntry entries →
         text.now ≡ entries_bytes entries →
         MatchResult result (λ first.
         FindsFirstWithout (IsEarlier (spot (lent_key key.entry) number)) entries
         (option_map lent_entry first)) (λ _. ⊥) }
-    ensures only { IfErr result (λ e. e ≡ TableError.Damaged) }
+    ensures only { IfErr result (λ e. e ≡ FileError.Damaged) }
 {
     let mut rest = text;
     while !rest.is_empty() {
         let Some((entry, after)) = entry_of(rest) else {
-            return Err(TableError::Damaged);
+            return Err(FileError::Damaged);
         };
         if !is_earlier(entry, key, number) {
             return Ok(Some(entry));
@@ -54,14 +54,14 @@ pub fn find_in(
     block: &[u8],
     key: LentKey,
     at: u64,
-) -> Result<Option<FoundVersion>, TableError>
+) -> Result<Option<FoundVersion>, FileError>
     ensures found { (entries : List Entry) → IsBlock block.now entries →
         MatchResult result (LookupFinds entries (lent_key key.entry) at)
-        (λ e. e ≡ TableError.Memory) }
-    ensures only { IfErr result (λ e. (e ≡ TableError.Memory) ⊎ (e ≡ TableError.Damaged)) }
+        (λ e. e ≡ FileError.Memory) }
+    ensures only { IfErr result (λ e. (e ≡ FileError.Memory) ⊎ (e ≡ FileError.Damaged)) }
 {
     let Some(text) = entries_in(block) else {
-        return Err(TableError::Damaged);
+        return Err(FileError::Damaged);
     };
     let Some(entry) = first_from(text, key, at)? else {
         return Ok(None);

@@ -12,7 +12,7 @@ use crate::starts::{count_before, entry_from, starts_in};
 use kv_types::LentKey;
 use merge_iter::Direction;
 use std::rc::RcSlice;
-use table_format::{LentEntry, TableError};
+use table_format::{LentEntry, FileError};
 
 /// An entry of a block, and where each entry of the block starts. The block is that of a line of
 /// an index.
@@ -34,18 +34,18 @@ impl BlockPlace {
         line: usize,
         block: RcSlice<u8>,
         starts: Vec<usize>,
-    ) -> Result<BlockPlace, TableError>
+    ) -> Result<BlockPlace, FileError>
         ensures first { IfOk result (λ place. (place.line ≡ line) × (place.at ≡ 0)) }
         ensures few { IfOk result
             (λ place. length place.starts.items ≤ length (rc_slice_items block)) }
         ensures entries { (entries : List Entry) → IsBlock (rc_slice_items block) entries →
-            MatchResult result (λ place. PlaceReads place entries) (λ e. e ≡ TableError.Memory) }
+            MatchResult result (λ place. PlaceReads place entries) (λ e. e ≡ FileError.Memory) }
         ensures errors { IfErr result
-            (λ e. (e ≡ TableError.Damaged) ⊎ (e ≡ TableError.Memory)) }
+            (λ e. (e ≡ FileError.Damaged) ⊎ (e ≡ FileError.Memory)) }
     {
         let starts = starts_in(&block, starts)?;
         if starts.is_empty() {
-            return Err(TableError::Damaged);
+            return Err(FileError::Damaged);
         }
         Ok(BlockPlace {
             line,

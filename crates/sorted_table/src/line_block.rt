@@ -14,7 +14,7 @@ use disk::Disk;
 use std::alloc::Global;
 use std::rc::RcSlice;
 use table_files::Files;
-use table_format::{IndexLine, LentEntry, TableError, entries_in, entry_of};
+use table_format::{IndexLine, LentEntry, FileError, entries_in, entry_of};
 
 // The first and the last entry in the spelling of some entries.
 fn ends_of(text: &[u8]) -> Option<(LentEntry<'_>, LentEntry<'_>)>
@@ -75,7 +75,7 @@ pub fn block_of_line<D: Disk + Drop>(
     file: u64,
     lines: &[IndexLine],
     number: usize,
-) -> Result<RcSlice<u8>, TableError>
+) -> Result<RcSlice<u8>, FileError>
     requires { number < length lines.now }
     ensures device { ReadsDisk ⟦<Files<D> as Disk>⟧ files.old files.new result }
     ensures answers { ⟦<Files<D> as Disk>⟧.is_honest files.old → LineBlockAnswer lines.now number
@@ -86,7 +86,7 @@ pub fn block_of_line<D: Disk + Drop>(
     let line = &lines[number];
     let block = files.block(alloc, file, line.place, line.len as usize)?;
     if !is_at_line(lines, number, line, &block) {
-        return Err(TableError::Damaged);
+        return Err(FileError::Damaged);
     }
     Ok(block)
 }

@@ -10,7 +10,7 @@ ghost use Rattle.sorted_table.specs.EntryReads.{is_read_before};
 use byte_fields::read_u32;
 use kv_types::LentKey;
 use merge_iter::order;
-use table_format::{LentEntry, TableError, entry_of};
+use table_format::{LentEntry, FileError, entry_of};
 
 /// The entry that starts at this place of the bytes, if there is one.
 pub fn entry_from(bytes: &[u8], start: usize) -> Option<LentEntry<'_>>
@@ -24,23 +24,23 @@ pub fn entry_from(bytes: &[u8], start: usize) -> Option<LentEntry<'_>>
 }
 
 /// The place of each entry of a block. The places are put into the memory of `starts`.
-pub fn starts_in(block: &[u8], mut starts: Vec<usize>) -> Result<Vec<usize>, TableError>
+pub fn starts_in(block: &[u8], mut starts: Vec<usize>) -> Result<Vec<usize>, FileError>
     ensures read { IfOk result (λ starts. AreRead block.now starts.items) }
     ensures few { IfOk result (λ starts. length starts.items ≤ length block.now) }
     ensures entries { (entries : List Entry) → IsBlock block.now entries →
         MatchResult result (λ starts. ReadsEntries block.now starts.items entries)
-        (λ e. e ≡ TableError.Memory) }
+        (λ e. e ≡ FileError.Memory) }
     ensures errors { IfErr result
-        (λ e. (e ≡ TableError.Damaged) ⊎ (e ≡ TableError.Memory)) }
+        (λ e. (e ≡ FileError.Damaged) ⊎ (e ≡ FileError.Memory)) }
 {
     starts.clear();
     let Some((count, entries)) = read_u32(block) else {
-        return Err(TableError::Damaged);
+        return Err(FileError::Damaged);
     };
     let mut rest = entries;
     for _done in 0..count {
         let Some((_entry, after)) = entry_of(rest) else {
-            return Err(TableError::Damaged);
+            return Err(FileError::Damaged);
         };
         starts.push(block.len() - rest.len())?;
         rest = after;

@@ -1,11 +1,11 @@
 //! Open tables.
 ghost use Rattle.std.specs.Prelude.{◌≡◌, ◌↔◌, List, IfOk, IfErr, IsTrue, MatchResult, Contains};
-ghost use Rattle.std.specs.Prelude.{option_map};
+ghost use Rattle.std.specs.Prelude.{IsErrOf, option_map};
 ghost use Rattle.bloom.specs.{Covers, CoversHashed, hashes_of};
-ghost use Rattle.disk.specs.{IsSame, IsStill, KeepsDisk, Slot, State};
+ghost use Rattle.disk.specs.{IsEnvironmental, IsSame, IsStill, KeepsDisk, Slot, State};
 ghost use Rattle.kv_types.specs.{Entry, lent_key};
 ghost use Rattle.merge_iter.specs.{IsAlike, Off};
-ghost use Rattle.table_format.specs.{IsBuilderError, IsEnvironmentError, ReportsDevice};
+ghost use Rattle.table_format.specs.declared.FileError.TheVariants.{Disk, Memory};
 
 use crate::block::find_in;
 use crate::found::FoundVersion;
@@ -18,10 +18,10 @@ use bloom::{KeyHashes, may_hold_hashed};
 use disk::Disk;
 use kv_types::{LentKey, StoredKey};
 use merge_iter::Cursor;
-use std::alloc::Global;
+use std::alloc::{AllocError, Global};
 use std::rc::RcSlice;
 use table_files::Files;
-use table_format::{IndexLine, TableError};
+use table_format::{IndexLine, FileError};
 
 /// An open table. It keeps the lines of the index and the filter, and no block. Cursors share the
 /// lines.
@@ -41,18 +41,17 @@ impl Table {
 
     /// Opens the table of a file. It needs three device calls, reads no block, and takes no more
     /// memory than the file is long.
-    pub fn open<D: Disk>(alloc: Global, disk: &mut D, file: u64) -> Result<Table, TableError>
-        ensures kept { KeepsDisk D.Disk disk.old disk.new (ReportsDevice result) ⊥ IsSame }
+    pub fn open<D: Disk>(alloc: Global, disk: &mut D, file: u64) -> Result<Table, FileError>
+        ensures kept { KeepsDisk D.Disk disk.old disk.new (IsErrOf result Disk) ⊥ IsSame }
         ensures at { IfOk result (λ table. table_file table ≡ file) }
         ensures opened { (entries : List Entry) → D.is_honest disk.old →
             FileRepresents (D.state disk.old file) entries →
             MatchResult result (λ table. TableServes (D.state disk.new file) table entries)
-            IsEnvironmentError }
+            (IsEnvironmental Disk Memory) }
         ensures checked { D.is_honest disk.old →
             MatchResult result (λ table. IsOpenOn (D.state disk.new file) table
             × HasItsLines (D.state disk.old file) table)
-            (λ e. CanBeOpen (D.state disk.old file) → IsEnvironmentError e) }
-        ensures refusals { IfErr result (λ e. IsBuilderError e → ⊥) }
+            (λ e. CanBeOpen (D.state disk.old file) → IsEnvironmental Disk Memory e) }
         ensures still { IsStill D.Disk disk.old disk.new }
     {
         let (bytes, tail) = read_tail(alloc, disk, file)?;
@@ -92,7 +91,7 @@ impl Table {
         files: &mut Files<D>,
         key: LentKey,
         at: u64,
-    ) -> Result<Option<FoundVersion>, TableError>
+    ) -> Result<Option<FoundVersion>, FileError>
         ensures { AnswersLookup ⟦<Files<D> as Disk>⟧ self.now (lent_key key.entry) at
             (Covers (table_filter self.now) (lent_key key.entry)) files.old files.new result }
     {
@@ -107,7 +106,7 @@ impl Table {
         key: LentKey,
         hashes: KeyHashes,
         at: u64,
-    ) -> Result<Option<FoundVersion>, TableError>
+    ) -> Result<Option<FoundVersion>, FileError>
         requires { hashes ≡ hashes_of (lent_key key) }
         ensures { AnswersLookup ⟦<Files<D> as Disk>⟧ self.now (lent_key key.entry) at
             (CoversHashed (table_filter self.now) hashes) files.old files.new result }
@@ -127,7 +126,7 @@ impl Table {
 
     /// A cursor over all entries of the table, which stands on none. It shares the lines of the
     /// index, and so it may outlive the table.
-    pub fn cursor<D: Disk + Drop>(&self, alloc: Global) -> Result<TableCursor<D>, TableError>
+    pub fn cursor<D: Disk + Drop>(&self, alloc: Global) -> Result<TableCursor<D>, AllocError>
         ensures off { IfOk result (λ cursor.
             ⟦<TableCursor<D> as Cursor>⟧.position cursor ≡ Off) }
         ensures serves { IfOk result (λ cursor. (meant : State) (files : _) (entries : List Entry) →
@@ -141,7 +140,6 @@ impl Table {
             ⟦<Files<D> as Disk>⟧.is_honest b × (⟦<Files<D> as Disk>⟧.state b (table_file self.now)
             ≡ ⟦<Files<D> as Disk>⟧.state a (table_file self.now))) →
             ⟦<TableCursor<D> as Cursor>⟧.suits cursor a b) }
-        ensures memory { IfErr result (λ e. e ≡ TableError.Memory) }
     {
         Ok(TableCursor::new(alloc, self.file, self.lines.clone()?))
     }

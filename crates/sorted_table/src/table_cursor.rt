@@ -24,17 +24,16 @@ use std::alloc::Global;
 use std::marker::PhantomData;
 use std::rc::RcSlice;
 use table_files::Files;
-use table_format::{IndexLine, TableError};
+use table_format::{IndexLine, FileError};
 
 // How a cursor reports an error of a table.
-fn cursor_error(e: TableError) -> CursorError
+fn cursor_error(e: FileError) -> CursorError
     ensures { result ≡ move_error e }
 {
     match e {
-        TableError::Disk => CursorError::Disk,
-        TableError::Memory => CursorError::Memory,
-        TableError::Damaged | TableError::Order | TableError::TooLarge | TableError::Failed =>
-            CursorError::Damaged,
+        FileError::Disk => CursorError::Disk,
+        FileError::Memory => CursorError::Memory,
+        FileError::Damaged => CursorError::Damaged,
     }
 }
 
@@ -54,7 +53,7 @@ fn first_of<D: Disk + Drop>(
     lines: &RcSlice<IndexLine>,
     line: usize,
     starts: Vec<usize>,
-) -> Result<BlockPlace, TableError>
+) -> Result<BlockPlace, FileError>
     requires { line < length (rc_slice_items lines.now) }
     ensures device { ReadsDisk ⟦<Files<D> as Disk>⟧ files.old files.new result }
     ensures first { IfOk result (λ place. (place.line ≡ line) × (place.at ≡ 0)
@@ -63,7 +62,7 @@ fn first_of<D: Disk + Drop>(
         AreAsMeant (⟦<Files<D> as Disk>⟧.state files.old file) meant (rc_slice_items lines.now) →
         (table : HasLines meant (rc_slice_items lines.now)) →
         IfOk result (IsPlaceIn table.represents.blocks) }
-    ensures damaged { result ≡ Err TableError.Damaged → ⟦<Files<D> as Disk>⟧.is_honest files.old →
+    ensures damaged { result ≡ Err FileError.Damaged → ⟦<Files<D> as Disk>⟧.is_honest files.old →
         HasLines (⟦<Files<D> as Disk>⟧.state files.old file) (rc_slice_items lines.now) → ⊥ }
 {
     let block = block_of_line(alloc, files, file, lines, line)?;

@@ -4,9 +4,9 @@ ghost use Rattle.std.specs.Prelude.{IsTrue};
 ghost use Rattle.std.specs.Prelude.{IfOk, IfErr, IfSome, IsSome, IsSomeAnd, MatchOption};
 ghost use Rattle.std.specs.Prelude.{MatchResult};
 ghost use Rattle.std.specs.Rc.{rc_slice_items};
-ghost use Rattle.disk.specs.{seen};
+ghost use Rattle.disk.specs.{IsEnvironmental, seen};
 ghost use Rattle.kv_types.specs.{Entry};
-ghost use Rattle.table_format.specs.{IsEnvironmentError};
+ghost use Rattle.table_format.specs.declared.FileError.TheVariants.{Disk, Memory};
 ghost use Rattle.table_format.specs.{IsFilterPart, IsIndex, TableRepresents, block_lines};
 ghost use Rattle.sorted_table.specs.TableReads.{ReadsDisk};
 ghost use Rattle.sorted_table.specs.Tails.{FooterSays, HasReadTail, IsTail, ReadsTail, tail_bytes};
@@ -17,7 +17,7 @@ use disk::Disk;
 use std::alloc::Global;
 use std::rc::RcSlice;
 use table_format::sizes::FOOTER_SIZE;
-use table_format::{Footer, IndexLine, TableError, filter_of, footer_of, lines_of};
+use table_format::{Footer, IndexLine, FileError, filter_of, footer_of, lines_of};
 
 /// Where the tail stands in its file, its length, and that of the filter's part, in bytes.
 #[derive(Clone, Copy)]
@@ -60,20 +60,20 @@ fn tail_of(footer: &[u8], end: u64) -> Option<Tail>
 }
 
 // Reads the footer of a file, and where it begins.
-fn read_footer<D: Disk>(disk: &mut D, file: u64) -> Result<([u8; FOOTER_SIZE], u64), TableError>
+fn read_footer<D: Disk>(disk: &mut D, file: u64) -> Result<([u8; FOOTER_SIZE], u64), FileError>
     ensures device { ReadsDisk D.Disk disk.old disk.new result }
     ensures footer { (bytes : List ℕ) → D.is_honest disk.old →
         seen (D.state disk.old file) ≡ Some bytes →
         MatchResult result (λ x. (x.1 + FOOTER_SIZE ≡ length bytes)
         × (x.0 ≡ take FOOTER_SIZE (drop x.1 bytes)))
-        (λ e. FOOTER_SIZE ≤ length bytes → IsEnvironmentError e) }
+        (λ e. FOOTER_SIZE ≤ length bytes → IsEnvironmental Disk Memory e) }
     ensures present { D.is_honest disk.old → IfOk result (λ _.
         IsSome (seen (D.state disk.old file))) }
 {
     let mut footer = [0u8; FOOTER_SIZE];
     let length = disk.length(file)?;
     if length < FOOTER_SIZE as u64 {
-        return Err(TableError::Damaged);
+        return Err(FileError::Damaged);
     }
     let end = length - FOOTER_SIZE as u64;
     disk.read(file, end, &mut footer)?;
@@ -87,12 +87,12 @@ fn read_part<D: Disk>(
     file: u64,
     at: u64,
     len: usize,
-) -> Result<Vec<u8>, TableError>
+) -> Result<Vec<u8>, FileError>
     ensures device { ReadsDisk D.Disk disk.old disk.new result }
     ensures read { (bytes : List ℕ) → D.is_honest disk.old →
         seen (D.state disk.old file) ≡ Some bytes →
         MatchResult result (λ part. part.items ≡ take len (drop at bytes))
-        (λ e. at + len ≤ length bytes → IsEnvironmentError e) }
+        (λ e. at + len ≤ length bytes → IsEnvironmental Disk Memory e) }
     ensures len { IfOk result (λ part. length part.items ≡ len) }
 {
     let mut part = vec![in alloc; 0u8; len]?;
@@ -106,20 +106,21 @@ pub fn read_tail<D: Disk>(
     alloc: Global,
     disk: &mut D,
     file: u64,
-) -> Result<(Vec<u8>, Tail), TableError>
+) -> Result<(Vec<u8>, Tail), FileError>
     ensures device { ReadsDisk D.Disk disk.old disk.new result }
     ensures tail { (bytes : List ℕ) (entries : List Entry) (table : TableRepresents bytes entries) →
         D.is_honest disk.old → seen (D.state disk.old file) ≡ Some bytes →
         MatchResult result (λ x. (x.0.items ≡ tail_bytes table.blocks table.filter)
-        × IsTail table.blocks table.filter x.1) IsEnvironmentError }
+        × IsTail table.blocks table.filter x.1) (IsEnvironmental Disk Memory) }
     ensures there { D.is_honest disk.old → MatchResult result
         (λ x. IsSomeAnd (seen (D.state disk.old file)) (ReadsTail x.0.items x.1))
-        (λ e. IsSomeAnd (seen (D.state disk.old file)) HasReadTail → IsEnvironmentError e) }
+        (λ e. IsSomeAnd (seen (D.state disk.old file)) HasReadTail →
+        IsEnvironmental Disk Memory e) }
     ensures within { IfOk result (λ x. x.1.filter_len ≤ length x.0.items) }
 {
     let (footer, end) = read_footer(disk, file)?;
     let Some(tail) = tail_of(&footer, end) else {
-        return Err(TableError::Damaged);
+        return Err(FileError::Damaged);
     };
     let bytes = read_part(alloc, disk, file, tail.place, tail.len)?;
     Ok((bytes, tail))
@@ -130,12 +131,12 @@ pub fn parts_of(
     alloc: Global,
     bytes: &[u8],
     tail: Tail,
-) -> Result<(RcSlice<IndexLine>, Vec<u8>), TableError>
+) -> Result<(RcSlice<IndexLine>, Vec<u8>), FileError>
     requires { tail.filter_len ≤ length bytes.now }
     ensures parts { (all : List ℕ) (entries : List Entry) (table : TableRepresents all entries) →
         bytes.now ≡ tail_bytes table.blocks table.filter → IsTail table.blocks table.filter tail →
         MatchResult result (λ x. (rc_slice_items x.0 ≡ block_lines 0 table.blocks)
-        × (x.1.items ≡ table.filter)) (λ e. e ≡ TableError.Memory) }
+        × (x.1.items ≡ table.filter)) (λ e. e ≡ FileError.Memory) }
     ensures checked { MatchResult result
         (λ x. IsFilterPart (take tail.filter_len bytes.now) x.1.items
         × IsIndex (drop tail.filter_len bytes.now) tail.place (rc_slice_items x.0)
@@ -143,12 +144,12 @@ pub fn parts_of(
         lines ≡ rc_slice_items x.0))
         (λ e. (filter : List ℕ) (lines : List IndexLine) →
         IsFilterPart (take tail.filter_len bytes.now) filter →
-        IsIndex (drop tail.filter_len bytes.now) tail.place lines → e ≡ TableError.Memory) }
-    ensures only { IfErr result (λ e. (e ≡ TableError.Memory) ⊎ (e ≡ TableError.Damaged)) }
+        IsIndex (drop tail.filter_len bytes.now) tail.place lines → e ≡ FileError.Memory) }
+    ensures only { IfErr result (λ e. (e ≡ FileError.Memory) ⊎ (e ≡ FileError.Damaged)) }
 {
     let (filter, index) = bytes.split_at(tail.filter_len);
     let Some(filter) = filter_of(filter) else {
-        return Err(TableError::Damaged);
+        return Err(FileError::Damaged);
     };
     let lines = lines_of(alloc, index, tail.place)?;
     let lines = RcSlice::from_vec(lines)?;

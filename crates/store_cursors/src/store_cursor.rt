@@ -10,8 +10,8 @@ use disk::Disk;
 use kv_types::LentKey;
 use memtable::{MemCursor, Memtable, MemtableError};
 use merge_iter::{Cursor, CursorError};
-use sorted_table::{Files, Table, TableCursor, TableError};
-use std::alloc::Global;
+use sorted_table::{Files, Table, TableCursor};
+use std::alloc::{AllocError, Global};
 
 /// A cursor over a memtable or over a table. The source of both is the files of the disk: a cursor
 /// over a memtable reads nothing of them and leaves them as they are.
@@ -41,7 +41,7 @@ impl<'a, D: Disk + Drop> StoreCursor<'a, D> {
     }
 
     /// A cursor over all entries of a table. It stands on none, and may outlive the table.
-    pub fn of_table(alloc: Global, table: &Table) -> Result<StoreCursor<'a, D>, TableError>
+    pub fn of_table(alloc: Global, table: &Table) -> Result<StoreCursor<'a, D>, AllocError>
         ensures off { IfOk result (λ cursor.
             ⟦<StoreCursor<'a, D> as Cursor>⟧.position cursor ≡ Off) }
         ensures serves { IfOk result (λ cursor. (meant : State) (files : _) (entries : List Entry) →
@@ -56,7 +56,6 @@ impl<'a, D: Disk + Drop> StoreCursor<'a, D> {
             ⟦<Files<D> as Disk>⟧.is_honest b × (⟦<Files<D> as Disk>⟧.state b (table_file table.now)
             ≡ ⟦<Files<D> as Disk>⟧.state a (table_file table.now))) →
             ⟦<StoreCursor<'a, D> as Cursor>⟧.suits cursor a b) }
-        ensures memory { IfErr result (λ e. e ≡ TableError.Memory) }
     {
         Ok(StoreCursor::Table(table.cursor(alloc)?))
     }

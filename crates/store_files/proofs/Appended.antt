@@ -8,7 +8,7 @@ use Rattle.std.proofs.lemmas.List.Elements.{All-contains, All-contains_itself, A
 use Rattle.kv_types.specs.declared.bounds.TheConstants.{MAX_NUMBER}
 use Rattle.kv_types.specs.{BatchContent, Entry, IsBatch}
 use Rattle.disk.specs.{Contents, DurableFileIsLeft, IsDurable, IsFileOutcome, IsSameBut, Slot}
-use Rattle.disk.specs.{LeavesSince, State, contents, seen}
+use Rattle.disk.specs.{IsEnvironmental, LeavesSince, State, contents, seen}
 use Rattle.disk.specs.MomentsLemmas.{none_yet, weaker}
 use Rattle.memtable.specs.declared.Memtable.{Memtable}
 use Rattle.memtable.specs.{HasFailedAdd, TableHolds}
@@ -27,8 +27,9 @@ use Rattle.store_files.specs.StoreFiles.{AreOrderedNumbers}
 use Rattle.store_files.specs.OpenFiles.{known_facts, known_store, known_version, trimmed_count}
 use Rattle.store_files.specs.StoreFiles.{FilesRepresent, store_of_version}
 use Rattle.store_files.specs.Stores.{IsNumberedTo}
+use Rattle.store_tables.specs.declared.error.EngineError.TheVariants as engine
 use Rattle.store_tables.specs.declared.error.EngineError.{EngineError}
-use Rattle.store_tables.specs.Errors.{IsEnd, IsEngineExternal}
+use Rattle.store_tables.specs.Errors.{IsEnd}
 use Rattle.store_files.proofs.Entries.{Adds, next_numbered}
 use Rattle.store_files.proofs.FilesApart.{newest_given, newest_no_slot, newest_no_table}
 use Rattle.store_files.proofs.FilesApart.{newest_positive}
@@ -291,9 +292,9 @@ pub appended_told : (disk : State) (files : StoreFiles) (list : List BatchConten
     → MatchResult result (λ _. AreUsableFiles (after_append files logs memtable)
     × (batch_count (after_append files logs memtable) ≡ batch_count files + 1)) Q
     → MatchResult result (λ _. LogsHold new logs (suc (trimmed_count files))
-    (drop (trimmed_count files) list ++ batch ∷ [])) IsEngineExternal
+    (drop (trimmed_count files) list ++ batch ∷ [])) (IsEnvironmental engine.Disk engine.Memory)
     → MatchResult result (λ _. FilesHold new (after_append files logs memtable)
-    (list ++ batch ∷ [])) IsEngineExternal
+    (list ++ batch ∷ [])) (IsEnvironmental engine.Disk engine.Memory)
 appended_told disk files list h batch is new logs memtable lines others keeps stays entries Q (Ok x)
     counts held =
     held_after disk files list h batch is new logs memtable lines others keeps stays counts.0

@@ -2,10 +2,10 @@
 use Rattle.std.proofs.Common.{◌≡◌, ◌≢◌, ◌↔◌, ◌≤◌, ◌∙◌, ℕ, suc, List, [], ◌∷◌, ◌-◌, drop, arith}
 use Rattle.std.proofs.Common.{refl}
 use Rattle.std.proofs.Common.{Option, Some, None, Result, Ok, Err, ap, inl, inr, subst, sym}
-use Rattle.std.specs.Prelude.{All, Contains, IsErrAnd, IsNone}
+use Rattle.std.specs.Prelude.{All, Contains, IsErrAnd, IsErrOf, IsNone}
 use Rattle.std.proofs.lemmas.List.Elements.{All-nil}
 use Rattle.kv_types.specs.{Entry, IsBatch}
-use Rattle.disk.specs.{IsDurable, IsSame, IsSameBut, Slot, State, contents, seen}
+use Rattle.disk.specs.{IsDurable, IsEnvironmental, IsSame, IsSameBut, Slot, State, contents, seen}
 use Rattle.record_log.specs.{EndsInRange, IsDurableAs, begun, count_of}
 use Rattle.memtable.specs.{HasFailedAdd, TableHolds}
 use Rattle.store_model.specs.Claims.{EmptyRepresents}
@@ -14,16 +14,17 @@ use Rattle.manifest.specs.declared.ManifestError.{ManifestError}
 use Rattle.manifest.specs.declared.ManifestError.TheVariants as manifest
 use Rattle.manifest.specs.declared.LogLine.{LogLine}
 use Rattle.manifest.specs.declared.TableLine.{TableLine}
-use Rattle.manifest.specs.{IsManifestExternal, IsSlotFile, IsVersion, ManifestFailsDevice}
+use Rattle.manifest.specs.{IsSlotFile, IsVersion}
 use Rattle.manifest.specs.{ManifestHasFailed, ManifestHolds, NodeVersion, first_version}
 use Rattle.manifest.specs.Holds.{SparesOthers}
 use Rattle.store_files.specs.declared.batch_logs.BatchLog.{BatchLog}
 use Rattle.store_files.specs.declared.batch_logs.BatchLogs.{BatchLogs}
+use Rattle.store_tables.specs.declared.error.EngineError.TheVariants as engine
 use Rattle.store_tables.specs.declared.error.EngineError.{EngineError}
 use Rattle.store_files.specs.declared.store_files.StoreFiles.{StoreFiles}
 use Rattle.store_files.specs.BatchLogs.{HoldsPart, IsWorking, LogsHold, end_of_log, first_number}
 use Rattle.store_files.specs.BatchLogs.{lines_of, next_number, oldest_first}
-use Rattle.store_tables.specs.Errors.{FailsDevice, IsEngineExternal, error_of_manifest}
+use Rattle.store_tables.specs.Errors.{error_of_manifest}
 use Rattle.store_tables.specs.LevelTables.{AreServed, AreTablesOf, table_lines}
 use Rattle.store_files.specs.OpenFiles.{AreUsableFiles, FilesHold, batch_count}
 use Rattle.store_files.specs.StoreFiles.{AreOrderedNumbers}
@@ -50,7 +51,7 @@ counts_none logs one alone first count =
 pub manifest_failed : {T U : Type 0} (called : Result T ManifestError) (e : ManifestError)
     (result : Result U EngineError) → called ≡ Err e →
     IsErrAnd result (λ s. s ≡ error_of_manifest e) →
-    ManifestFailsDevice called ↔ FailsDevice result
+    IsErrOf called manifest.Disk ↔ IsErrOf result engine.Disk
 manifest_failed called e (Ok x) is told = absurd told
 manifest_failed called manifest.Disk (Err s) is told = (λ _. ap (λ d. Err d) told, λ _. is)
 manifest_failed called manifest.Damaged (Err s) is told = (λ f. cc, λ f. cc)
@@ -59,8 +60,8 @@ manifest_failed called manifest.Memory (Err s) is told = (λ f. cc, λ f. cc)
 manifest_failed called manifest.Failed (Err s) is told = (λ f. cc, λ f. cc)
 
 -- an external refusal of a manifest is one of the engine
-pub manifest_is_external : (e : ManifestError) → IsManifestExternal e →
-    IsEngineExternal (error_of_manifest e)
+pub manifest_is_external : (e : ManifestError) → IsEnvironmental manifest.Disk manifest.Memory e →
+    IsEnvironmental engine.Disk engine.Memory (error_of_manifest e)
 manifest_is_external e (inl failed) = inl (ap error_of_manifest failed)
 manifest_is_external e (inr memory) = inr (ap error_of_manifest memory)
 

@@ -2,29 +2,31 @@
 use Rattle.std.proofs.Common.{◌≡◌, ◌⊎◌, ℕ, ◌≤◌, List, length, Result, Ok, Err, inl, inr, ap, arith}
 use Rattle.std.proofs.Common.{subst, sym}
 use Rattle.std.specs.Prelude.{IfErr, IsErrOf}
+use Rattle.disk.specs.{IsEnvironmental}
 use Rattle.disk.specs.declared.DiskError.TheVariants as disk
 use Rattle.record_log.specs.declared.LogError.{LogError}
 use Rattle.record_log.specs.declared.LogError.TheVariants as log
 use Rattle.record_log.specs.declared.Log.{Log}
-use Rattle.record_log.specs as log_stands
 use Rattle.store_tables.specs.declared.error.EngineError.{EngineError}
 use Rattle.store_tables.specs.declared.error.EngineError.TheVariants as engine
-use Rattle.store_tables.specs.Errors.{IsEnd, IsEngineExternal, error_of_log}
+use Rattle.store_tables.specs.Errors.{IsEnd, error_of_log}
 
 -- an external error of a log is one of the engine
-pub log_is_external : (e : LogError) → log_stands.IsExternal e → IsEngineExternal (error_of_log e)
+pub log_is_external : (e : LogError) → IsEnvironmental (log.Disk disk.Failed) log.Memory e →
+    IsEnvironmental engine.Disk engine.Memory (error_of_log e)
 log_is_external e (inl failed) = inl (ap error_of_log failed)
 log_is_external e (inr memory) = inr (ap error_of_log memory)
 
-pub working_log : (e : LogError) → log_stands.IsExternal e ⊎ (e ≡ log.Failed) →
-    (e ≡ log.Failed → ⊥) → IsEngineExternal (error_of_log e)
+pub working_log : (e : LogError) →
+    IsEnvironmental (log.Disk disk.Failed) log.Memory e ⊎ (e ≡ log.Failed) →
+    (e ≡ log.Failed → ⊥) → IsEnvironmental engine.Disk engine.Memory (error_of_log e)
 working_log e (inl external) works = log_is_external e external
 working_log e (inr failed) works = absurd (works failed)
 
 -- a refusal that is no damage is external
 pub undamaged : {T : Type 0} (result : Result T EngineError) →
     IfErr result (λ e. (e ≡ engine.Damaged) ⊎ (e ≡ engine.Memory)) →
-    (IsErrOf result engine.Damaged → ⊥) → IfErr result IsEngineExternal
+    (IsErrOf result engine.Damaged → ⊥) → IfErr result (IsEnvironmental engine.Disk engine.Memory)
 undamaged (Ok x) only whole = tt
 undamaged (Err e) (inl damaged) whole = absurd (whole (ap (λ d. Err d) damaged))
 undamaged (Err e) (inr memory) whole = inr memory
@@ -56,7 +58,8 @@ none_counted limit log.Failed old new one tells = ap log_stands.count_of tells.1
 -- a log that works, with a record that fits, reports external errors alone
 pub met : (limit : ℕ) (e : LogError) (old new : Log) (one : List ℕ) →
     log_stands.AppendOutcome {T = Unit {0}} limit (Err e) old new one → length one ≤ limit →
-    (log_stands.HasFailed old → ⊥) → log_stands.IsExpected e → IsEngineExternal (error_of_log e)
+    (log_stands.HasFailed old → ⊥) → log_stands.IsExpected e →
+    IsEnvironmental engine.Disk engine.Memory (error_of_log e)
 met limit e old new one tells fits works (inl external) = log_is_external e external
 met limit (log.Disk e) old new one tells fits works (inr own) =
     elim own [ inl long ↦ absurd cc | inr failed ↦ absurd cc ]

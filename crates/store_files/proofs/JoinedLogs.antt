@@ -9,7 +9,7 @@ use Rattle.std.proofs.lemmas.List.Elements.{All-contains, All-cons, All-head, Al
 use Rattle.std.proofs.lemmas.List.Elements.{Contains-append_left, Contains-push}
 use Rattle.std.proofs.lemmas.List.Elements.{All-tail, All-weaker}
 use Rattle.kv_types.specs.{BatchContent, IsBatch, SpellingsDiffer, batch_bytes}
-use Rattle.disk.specs.{State}
+use Rattle.disk.specs.{IsEnvironmental, State}
 use Rattle.record_log.specs.{LogHolds}
 use Rattle.store_files.specs.declared.batch_logs.BatchLog.{BatchLog}
 use Rattle.store_files.specs.declared.batch_logs.BatchLogs.{BatchLogs}
@@ -18,7 +18,6 @@ use Rattle.store_tables.specs.declared.error.EngineError.TheVariants as engine
 use Rattle.store_files.specs.BatchLogs.{AreJoined, AreParted}
 use Rattle.store_files.specs.BatchLogs.{HoldsPart, LogsHold, oldest_first}
 use Rattle.store_files.specs.BatchLogs.{end_of_log}
-use Rattle.store_tables.specs.Errors.{IsEngineExternal}
 use Rattle.store_files.specs.Layout.{batch_record, records_from}
 use Rattle.store_files.proofs.Causes.{undamaged}
 use Rattle.store_files.proofs.Records.{numbered_at}
@@ -52,7 +51,7 @@ pub batch_of_part : SpellingsDiffer → (first number i : ℕ) (here : List Batc
     (IsErrOf result engine.Damaged → (b : BatchContent) → IsBatch b →
     bytes ≡ batch_record number b → ⊥) →
     IfErr result (λ e. (e ≡ engine.Damaged) ⊎ (e ≡ engine.Memory)) →
-    MatchResult result (λ b. slice_get here i ≡ Some b) IsEngineExternal
+    MatchResult result (λ b. slice_get here i ≡ Some b) (IsEnvironmental engine.Disk engine.Memory)
 batch_of_part law first number i here bytes (Ok b) at each got found damaged only =
     batch_placed law first here i b each found.1
     (got ∙ ap (λ (r : List ℕ). Some r) (found.0 ∙ ap (λ (n : ℕ). batch_record n b) at))
@@ -174,8 +173,10 @@ placed_behind (x ∷ before) here i b got =
 pub batch_among : (disk : State) (first number : ℕ) (batches : List BatchContent) (one : BatchLog)
     (part : PartOf disk first batches one) (result : Result BatchContent EngineError) →
     one.first ≤ number →
-    MatchResult result (λ b. slice_get part.here (number - one.first) ≡ Some b) IsEngineExternal →
-    MatchResult result (λ b. slice_get batches (number - first) ≡ Some b) IsEngineExternal
+    MatchResult result (λ b. slice_get part.here (number - one.first) ≡ Some b)
+    (IsEnvironmental engine.Disk engine.Memory) →
+    MatchResult result (λ b. slice_get batches (number - first) ≡ Some b)
+    (IsEnvironmental engine.Disk engine.Memory)
 batch_among disk first number batches one part (Ok b) behind got =
     let at : number - first ≡ length part.before + (number - one.first) =
     omega (arith, part.first, behind) in

@@ -7,7 +7,7 @@ use Rattle.std.specs.Option.{option_flatten, option_map}
 use Rattle.std.proofs.lemmas.List.Elements.{All-contains}
 use Rattle.kv_types.specs.declared.bounds.TheConstants.{MAX_VALUE}
 use Rattle.kv_types.specs.{BatchContent, Entry, IsUnseen, map_of}
-use Rattle.disk.specs.{Contents}
+use Rattle.disk.specs.{Contents, IsEnvironmental}
 use Rattle.memtable.specs.declared.Memtable.{Memtable}
 use Rattle.memtable.specs.{TableHolds}
 use Rattle.table_format.specs.{IsTableEntry, TableRepresents}
@@ -20,7 +20,6 @@ use Rattle.store_model.specs.{LevelTable, NewestHas, StoreRepresents, StoreState
 use Rattle.manifest.specs.declared.TableLine.{TableLine}
 use Rattle.store_tables.specs.declared.error.EngineError.{EngineError}
 use Rattle.store_tables.specs.declared.error.EngineError.TheVariants as engine
-use Rattle.store_tables.specs.Errors.{IsEngineExternal}
 use Rattle.store_tables.specs.LevelTables.{AreTablesOf, IsTableOf, TableLookUpsAreMaps, TablesFind}
 use Rattle.store_tables.specs.LevelTables.{found_value}
 use Rattle.store_files.proofs.Entries.{newest_in, unseen_in}
@@ -102,7 +101,7 @@ pub never_long : (found : Option FoundVersion) (result : Result (Option (List �
     → IfErr result (λ e. (e ≡ engine.Damaged)
     × IsSomeAnd (option_flatten (found_value found)) (λ bytes. MAX_VALUE < length bytes))
     → (IsSomeAnd (option_flatten (found_value found)) (λ bytes. MAX_VALUE < length bytes) → ⊥)
-    → IfErr result IsEngineExternal
+    → IfErr result (IsEnvironmental engine.Disk engine.Memory)
 never_long found (Ok value) damaged short = tt
 never_long found (Err e) damaged short = absurd (short damaged.1)
 
@@ -117,8 +116,9 @@ placed (x ∷ list) (suc i) batch got = placed list i batch got
 
 pub batch_found : (list : List BatchContent) (number : ℕ)
     (result : Result BatchContent EngineError) → 0 < number →
-    MatchResult result (λ b. slice_get list (number - 1) ≡ Some b) IsEngineExternal →
-    MatchResult result (λ b. place list number ≡ Some b) IsEngineExternal
+    MatchResult result (λ b. slice_get list (number - 1) ≡ Some b)
+    (IsEnvironmental engine.Disk engine.Memory) →
+    MatchResult result (λ b. place list number ≡ Some b) (IsEnvironmental engine.Disk engine.Memory)
 batch_found list number (Ok b) some found =
     let next : number ≡ suc (number - 1) = omega (arith, some) in
     ap (place list) next ∙ placed list (number - 1) b found
@@ -128,8 +128,9 @@ batch_found list number (Err e) some machine = machine
 pub found_behind : (list : List BatchContent) (trimmed number : ℕ)
     (result : Result BatchContent EngineError) → trimmed < number
     → MatchResult result (λ b. slice_get (drop trimmed list) (number - suc trimmed) ≡ Some b)
-    IsEngineExternal
-    → MatchResult result (λ b. place list number ≡ Some b) IsEngineExternal
+    (IsEnvironmental engine.Disk engine.Memory)
+    → MatchResult result (λ b. place list number ≡ Some b)
+    (IsEnvironmental engine.Disk engine.Memory)
 found_behind list trimmed number (Ok b) behind found =
     let there : trimmed + (number - suc trimmed) ≡ number - 1 = omega (arith, behind) in
     let is = ap (slice_get list) (sym there)

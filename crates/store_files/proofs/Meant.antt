@@ -7,7 +7,7 @@ use Rattle.std.proofs.lemmas.Bool.Decides.{eqb_tells}
 use Rattle.std.proofs.lemmas.List.Elements.{All-contains, All-contains_itself, All-head, All-nil}
 use Rattle.std.proofs.lemmas.List.Elements.{All-cons, All-tail, All-weaker}
 use Rattle.kv_types.specs.{BatchContent, Entry, IsBatch}
-use Rattle.disk.specs.{IsDurable, IsSame, IsSameBut, Slot, State, contents}
+use Rattle.disk.specs.{IsDurable, IsEnvironmental, IsSame, IsSameBut, Slot, State, contents}
 use Rattle.memtable.specs.declared.Memtable.{Memtable}
 use Rattle.memtable.specs.{TableHolds}
 use Rattle.sorted_table.specs.{AreAsMeant, as_meant_itself, index_lines, table_file}
@@ -18,11 +18,11 @@ use Rattle.manifest.specs.declared.LogLine.{LogLine}
 use Rattle.manifest.specs.declared.TableLine.{TableLine}
 use Rattle.manifest.specs.{HeldVersionStays, StoreVersion}
 use Rattle.store_files.specs.declared.batch_logs.BatchLogs.{BatchLogs}
+use Rattle.store_tables.specs.declared.error.EngineError.TheVariants as engine
 use Rattle.store_tables.specs.declared.error.EngineError.{EngineError}
 use Rattle.store_tables.specs.declared.levels.OpenTable.{OpenTable}
 use Rattle.store_files.specs.declared.store_files.StoreFiles.{StoreFiles}
 use Rattle.store_files.specs.BatchLogs.{LogsHold, lines_of, newest_file}
-use Rattle.store_tables.specs.Errors.{IsEngineExternal}
 use Rattle.store_tables.specs.LevelTables.{AreTablesOf, HasMeantBlocks, IsServed, IsTableAsMeant}
 use Rattle.store_tables.specs.LevelTables.{IsTableOf, WasServed}
 use Rattle.store_tables.specs.declared.levels.LevelTables.{LevelTables}
@@ -229,9 +229,9 @@ module _ (disk : State) (files : StoreFiles) (list : List BatchContent)
         → MatchResult result (λ _. AreUsableFiles (after_append files logs memtable)
         × (batch_count (after_append files logs memtable) ≡ batch_count files + 1)) Q
         → MatchResult result (λ _. LogsHold new logs (suc (trimmed_count files))
-        (drop (trimmed_count files) list ++ batch ∷ [])) IsEngineExternal
+        (drop (trimmed_count files) list ++ batch ∷ [])) (IsEnvironmental engine.Disk engine.Memory)
         → MatchResult result (λ _. WereMeantToHold new (after_append files logs memtable)
-        (list ++ batch ∷ [])) IsEngineExternal
+        (list ++ batch ∷ [])) (IsEnvironmental engine.Disk engine.Memory)
     appended_as_meant batch is logs memtable lines keeps stays entries Q (Ok x) counts held =
         let mine : LogsHold later logs (suc (trimmed_count files))
         (drop (trimmed_count files) list ++ batch ∷ []) =

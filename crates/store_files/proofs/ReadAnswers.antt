@@ -2,7 +2,7 @@
 use Rattle.std.proofs.Common.{◌≡◌, ℕ, suc, ◌+◌, ◌-◌, List}
 use Rattle.std.proofs.Common.{arith, drop, length, refl, subst, sym}
 use Rattle.kv_types.specs.{BatchContent}
-use Rattle.disk.specs.{Contents, State, contents}
+use Rattle.disk.specs.{Contents, IsEnvironmental, State, contents}
 use Rattle.manifest.specs.declared.Manifest.{Manifest}
 use Rattle.manifest.specs.Holds.{SparesOthers}
 use Rattle.manifest.specs.{IsVersion, NodeVersion}
@@ -13,7 +13,7 @@ use Rattle.manifest.specs.Manifests.{ManifestRefusal}
 use Rattle.manifest.specs.{version_of}
 use Rattle.store_tables.specs.declared.error.EngineError.{EngineError}
 use Rattle.store_tables.specs.declared.error.EngineError.TheVariants as engine
-use Rattle.store_tables.specs.Errors.{IsEnd, IsEngineExternal, error_of_manifest}
+use Rattle.store_tables.specs.Errors.{IsEnd, error_of_manifest}
 use Rattle.store_files.specs.declared.opening.ReadParts.{ReadParts}
 use Rattle.store_files.specs.BatchLogs.{first_number}
 use Rattle.store_files.specs.Files.{Facts}
@@ -109,7 +109,8 @@ parts_then s0 s1 spares facts count o is =
 -- a refusal after the manifest was opened is of a store that was created, and of files that open as
 -- nothing
 pub end_explained : (e : EngineError) (left : Contents) → IsEnd e → (IsNotCreated left → ⊥)
-    → ((facts : Facts) (count : ℕ) → OpensAs left facts count → IsEngineExternal e)
+    → ((facts : Facts) (count : ℕ) → OpensAs left facts count →
+    IsEnvironmental engine.Disk engine.Memory e)
     → OpeningRefusal e left
 end_explained engine.Disk left ends created opens = tt
 end_explained engine.Damaged left ends created opens =

@@ -7,7 +7,7 @@ use Rattle.std.proofs.lemmas.Bool.{cases_eq}
 use Rattle.std.proofs.lemmas.List.{length-drop}
 use Rattle.std.proofs.lemmas.List.Elements.{All-contains, All-contains_itself, All-drop, All-weaker}
 use Rattle.kv_types.specs.{BatchContent, Entry, IsBatch}
-use Rattle.disk.specs.{Contents, IsDurable, Kept, State, contents, seen}
+use Rattle.disk.specs.{Contents, IsDurable, IsEnvironmental, Kept, State, contents, seen}
 use Rattle.memtable.specs.{TableHolds}
 use Rattle.record_log.specs.{IsDurableAs}
 use Rattle.store_model.specs.Claims.{ReplaysAgree}
@@ -21,7 +21,6 @@ use Rattle.manifest.specs.{HeldVersionStays, IsSlotFile, IsVersion, ManifestHold
 use Rattle.manifest.specs.{StoreVersion}
 use Rattle.manifest.specs.{SlotsRead, other_slot, version_of}
 use Rattle.store_tables.specs.declared.error.EngineError.TheVariants as engine
-use Rattle.store_tables.specs.Errors.{IsEngineExternal}
 use Rattle.store_files.specs.declared.opening.ReadParts.{ReadParts}
 use Rattle.store_files.specs.declared.store_files.StoreFiles.{StoreFiles}
 use Rattle.store_files.specs.BatchLogs.{LogsHold, first_number}
@@ -162,7 +161,7 @@ module _ (version : StoreVersion) (is : IsVersion version) (old new : State)
       (All-contains_itself version.tables)
 
 -- damage is no external refusal
-pub damage_is_own : IsEngineExternal engine.Damaged → ⊥
+pub damage_is_own : IsEnvironmental engine.Disk engine.Memory engine.Damaged → ⊥
 damage_is_own (inl is) = cc
 damage_is_own (inr is) = cc
 

@@ -1,20 +1,22 @@
 -- What a read of a page makes of the files, and why it is refused.
+use Rattle.std.specs.Prelude.{IsErrOf}
 use Rattle.std.proofs.Common.{◌≡◌, ℕ, List, Result, Ok, Err, inl, inr, refl}
 use Rattle.disk.specs.declared.Disk.{Ghosts}
-use Rattle.disk.specs.{IsSame, KeepsDisk}
+use Rattle.disk.specs.{IsEnvironmental, IsSame, KeepsDisk}
 use Rattle.kv_types.specs.Pages.{IsPage, OnePage, PagesAgree, page_of}
 use Rattle.kv_types.specs.{BatchContent, Rows, Span, map_of}
 use Rattle.merge_iter.specs.declared.CursorError.{CursorError}
 use Rattle.merge_iter.specs.declared.CursorError.TheVariants as cursor
 use Rattle.merge_iter.specs.{ErrorCauses, reports}
 use Rattle.sorted_table.specs.MovedFiles.{MovesFiles}
-use Rattle.store_tables.specs.Errors.{FailsDevice, IsEngineExternal, error_of_cursor}
+use Rattle.store_tables.specs.declared.error.EngineError.TheVariants as engine
+use Rattle.store_tables.specs.Errors.{error_of_cursor}
 use Rattle.store_tables.specs.KeepingLemmas.{kept_as}
 
 -- files that a read moved are kept
 pub kept_answered : {D R T : Type 0} (g : Ghosts D) (old new : D) (result : Result R CursorError)
     (x : R) (y : T) → result ≡ Ok x → MovesFiles g (reports result) old new
-    → KeepsDisk g old new (FailsDevice {T = T} (Ok y)) ⊥ IsSame
+    → KeepsDisk g old new (IsErrOf {T = T} (Ok y) engine.Disk) ⊥ IsSame
 kept_answered g old new (Ok z) x y is moved =
     kept_as g ((λ told. absurd cc), (λ told. absurd cc)) (λ a b h. h) moved.disk
 kept_answered g old new (Err e) x y is moved = absurd cc
@@ -22,7 +24,8 @@ kept_answered g old new (Err e) x y is moved = absurd cc
 -- of undamaged tables a read is refused for the device or memory
 pub refusal_external : {R : Type 0} {sound may : Type 0} {before now : ℕ}
     (result : Result R CursorError) (e : CursorError) → result ≡ Err e
-    → ErrorCauses sound ⊥ may before now result → sound → IsEngineExternal (error_of_cursor e)
+    → ErrorCauses sound ⊥ may before now result → sound →
+    IsEnvironmental engine.Disk engine.Memory (error_of_cursor e)
 refusal_external result cursor.Disk is causes sound = inl refl
 refusal_external result cursor.Damaged is causes sound = absurd (causes.damaged is sound)
 refusal_external result cursor.Memory is causes sound = inr refl

@@ -9,15 +9,16 @@ use Rattle.disk.specs.declared.Disk.{Ghosts}
 use Rattle.disk.specs.declared.DiskError.{DiskError}
 use Rattle.disk.specs.declared.DiskError.TheVariants as disk
 use Rattle.disk.specs.{Absent, Fresh, IsSameBut, IsStill, Kept, KeepsDisk, Passes, Slot, State}
-use Rattle.disk.specs.{SyncOutcome, seen, synced}
+use Rattle.disk.specs.{IsEnvironmental, SyncOutcome, seen, synced}
 use Rattle.disk.specs.Calls.{IsRefusalOf}
 use Rattle.disk.specs.MomentsLemmas.{sync_narrows}
 use Rattle.disk.specs.States.{ChangesSlot}
 use Rattle.disk.specs.StillLemmas.{still, still_sync}
 use Rattle.manifest.specs.declared.TableLine.{TableLine}
 use Rattle.record_log.specs.{IsDurableAs}
+use Rattle.store_tables.specs.declared.error.EngineError.TheVariants as engine
 use Rattle.store_tables.specs.declared.error.EngineError.{EngineError}
-use Rattle.store_tables.specs.Errors.{FailsDevice, IsEngineExternal, error_of_disk}
+use Rattle.store_tables.specs.Errors.{error_of_disk}
 use Rattle.store_tables.specs.KeepingLemmas.{kept_as, kept_behind, neither, unchanged}
 use Rattle.store_files.specs.Settling.{AddsNothing, AreSynced, SlotSettles}
 
@@ -39,7 +40,8 @@ files_told g kept files = record {
 -- a failure of the device is told as one of the disk
 pub disk_failed : {T U : Type 0} (called : Result T DiskError) (e : DiskError)
     (result : Result U EngineError) → called ≡ Err e →
-    IsErrAnd result (λ s. s ≡ error_of_disk e) → IsErrOf called disk.Failed ↔ FailsDevice result
+    IsErrAnd result (λ s. s ≡ error_of_disk e) →
+    IsErrOf called disk.Failed ↔ IsErrOf result engine.Disk
 disk_failed called e (Ok x) is told = absurd told
 disk_failed called disk.Failed (Err s) is told = (λ _. ap (λ d. Err d) told, λ _. is)
 disk_failed called disk.NoFile (Err s) is told = (λ f. cc, λ f. cc)
@@ -163,7 +165,7 @@ not_shorter (Some bytes) short = omega (arith, short)
 
 -- a refused sync of a file that is there is external
 pub there_machine : (e : DiskError) (disk : State) (file : ℕ) → IsSome (seen (disk file)) →
-    IsRefusalOf e disk file 0 → IsEngineExternal (error_of_disk e)
+    IsRefusalOf e disk file 0 → IsEnvironmental engine.Disk engine.Memory (error_of_disk e)
 there_machine disk.Failed disk file there refusal = inl refl
 there_machine disk.NoFile disk file there refusal =
     absurd (not_gone (seen (disk file)) there refusal)

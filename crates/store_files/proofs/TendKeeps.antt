@@ -1,16 +1,16 @@
 -- What the calls of a tend keep, one behind another.
 use Rattle.std.proofs.Common.{◌≡◌, ◌↔◌, List, Result, Ok, Err, inl, inr, refl, subst, sym}
-use Rattle.std.specs.Prelude.{IfOk, IsErrAnd, MatchOption, MatchResult, OnOk, Option, Some}
+use Rattle.std.specs.Prelude.{IfOk, IsErrAnd, IsErrOf, MatchOption, MatchResult, OnOk, Option, Some}
 use Rattle.kv_types.specs.{BatchContent}
 use Rattle.disk.specs.declared.Disk.{Ghosts}
-use Rattle.disk.specs.{DurableFileIsLeft, IsSameBut, KeepsDisk, LeavesSince, State}
+use Rattle.disk.specs.{DurableFileIsLeft, IsEnvironmental, IsSameBut, KeepsDisk, LeavesSince, State}
 use Rattle.disk.specs.MomentsLemmas.{join}
 use Rattle.manifest.specs.{HasFullSlot, HeldVersionIsLeft}
 use Rattle.store_tables.specs.declared.error.EngineError.{EngineError}
 use Rattle.store_tables.specs.declared.error.EngineError.TheVariants as engine
 use Rattle.store_files.specs.declared.flushing.Flushed.{Flushed}
 use Rattle.store_files.specs.declared.store_files.StoreFiles.{StoreFiles}
-use Rattle.store_tables.specs.Errors.{FailsDevice, IsEnd, IsEngineExternal}
+use Rattle.store_tables.specs.Errors.{IsEnd}
 use Rattle.store_files.specs.Files.{IsOwned}
 use Rattle.store_tables.specs.KeepingLemmas.{kept_as, kept_behind, kept_but, neither, unchanged}
 use Rattle.store_files.specs.OpenFiles.{AreUsableFiles, FilesHold, WereMeantToHold, known_facts}
@@ -29,7 +29,7 @@ module _ {T : Type 0} (Did : T → Type 0) where
   -- a lack of memory is external
   pub external_or : (result : Result T EngineError) (P : Type 0) → P →
       MatchResult result Did (λ e. e ≡ engine.Memory) →
-      MatchResult result (λ _. P) IsEngineExternal
+      MatchResult result (λ _. P) (IsEnvironmental engine.Disk engine.Memory)
   external_or (Ok x) P p did = p
   external_or (Err e) P p why = inr why
 
@@ -41,7 +41,7 @@ module _ {T : Type 0} (Did : T → Type 0) where
 
   -- and it is no failure of the device
   pub no_device : (result : Result T EngineError) →
-      MatchResult result Did (λ e. e ≡ engine.Memory) → FailsDevice result → ⊥
+      MatchResult result Did (λ e. e ≡ engine.Memory) → IsErrOf result engine.Disk → ⊥
   no_device (Ok x) did fails = cc
   no_device (Err e) why fails = cc
 
@@ -64,7 +64,7 @@ no_answer (Err e) P is told = cc
 
 -- one for memory is no failure of the device
 pub refused_device : {T : Type 0} (result : Result T EngineError) {e : EngineError} →
-    IsErrAnd result (λ s. s ≡ e) → e ≡ engine.Memory → FailsDevice result → ⊥
+    IsErrAnd result (λ s. s ≡ e) → e ≡ engine.Memory → IsErrOf result engine.Disk → ⊥
 refused_device (Ok y) told memory fails = told
 refused_device (Err s) told memory fails = cc
 
@@ -113,7 +113,7 @@ module _ {T U : Type 0} where
   passed_ok (Err e) (Err s) passed P p = tt
 
   pub passed_device : (called : Result T EngineError) (result : Result U EngineError) →
-      IsPassedOn called result → FailsDevice called ↔ FailsDevice result
+      IsPassedOn called result → IsErrOf called engine.Disk ↔ IsErrOf result engine.Disk
   passed_device (Ok x) (Ok y) passed = (λ f. cc, λ f. cc)
   passed_device (Ok x) (Err e) passed = absurd passed
   passed_device (Err e) (Ok y) passed = absurd passed
@@ -166,13 +166,14 @@ module _ {D T : Type 0} (g : Ghosts D) {cause : Type 0} {Did : T → Type 0} whe
         usable = refusal_on_ok result _ _ told;
         did = ends_or Did result did;
         tended = λ list honest h. record {
-          list = refuses result (λ _. FilesHold (g.state disk) files list) IsEngineExternal told
+          list = refuses result (λ _. FilesHold (g.state disk) files list)
+          (IsEnvironmental engine.Disk engine.Memory) told
               (inr refl);
           any_moment = held list h;
         };
         meant = λ list honest w. record {
           list = refuses result (λ _. WereMeantToHold (g.state disk) files list)
-              IsEngineExternal told (inr refl);
+              (IsEnvironmental engine.Disk engine.Memory) told (inr refl);
           any_moment = were list w;
         };
       }
@@ -272,7 +273,8 @@ module _ {D T U : Type 0} (g : Ghosts D) {Did : T → Type 0} {Does : U → Type
               record {
                 list = passed_match called result passed
                     (λ _. FilesHold (g.state later) new list)
-                    (λ _. FilesHold (g.state later) new list) IsEngineExternal
+                    (λ _. FilesHold (g.state later) new list)
+                    (IsEnvironmental engine.Disk engine.Memory)
                     (λ x y was is held. held) then.list;
                 any_moment = join (FilesRepresent (known_facts files) list) (g.state disk)
                     (g.state mid) (g.state later) (g.past disk) (g.past mid) (g.past later)
@@ -285,7 +287,8 @@ module _ {D T U : Type 0} (g : Ghosts D) {Did : T → Type 0} {Does : U → Type
               record {
                 list = passed_match called result passed
                     (λ _. WereMeantToHold (g.state later) new list)
-                    (λ _. WereMeantToHold (g.state later) new list) IsEngineExternal
+                    (λ _. WereMeantToHold (g.state later) new list)
+                    (IsEnvironmental engine.Disk engine.Memory)
                     (λ x y was is held. held) then.list;
                 any_moment = join (WereMeant (known_facts files) list) (g.state disk)
                     (g.state mid) (g.state later) (g.past disk) (g.past mid) (g.past later)

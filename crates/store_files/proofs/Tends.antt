@@ -2,8 +2,9 @@
 use Rattle.std.proofs.Common.{◌≤◌, ℕ, List, Contains, ap, arith, inl, inr, refl, subst, sym}
 use Rattle.std.proofs.lemmas.List.Elements.{All-contains}
 use Rattle.std.proofs.Common.{◌≡◌, ◌↔◌, Err}
-use Rattle.std.specs.Prelude.{IsNone}
+use Rattle.std.specs.Prelude.{IsErrOf, IsNone}
 use Rattle.kv_types.specs.{BatchContent}
+use Rattle.disk.specs.{IsEnvironmental}
 use Rattle.disk.specs.{DurableFileIsLeft, IsSameBut, LeavesSince, Slot, State, seen}
 use Rattle.disk.specs.MomentsLemmas.{none_yet, weaker}
 use Rattle.manifest.specs.declared.LogLine.{LogLine}
@@ -11,14 +12,15 @@ use Rattle.manifest.specs.declared.Manifest.{Manifest}
 use Rattle.manifest.specs.declared.ManifestError.{ManifestError}
 use Rattle.manifest.specs.declared.TableLine.{TableLine}
 use Rattle.manifest.specs.Lawful.{IsAllocated}
-use Rattle.manifest.specs.{HeldVersionIsLeft, IsManifestExternal, IsSlotFile, ManifestHolds}
+use Rattle.manifest.specs.{HeldVersionIsLeft, IsSlotFile, ManifestHolds}
 use Rattle.manifest.specs.declared.ManifestError.TheVariants as manifest
-use Rattle.manifest.specs.{IsVersion, ManifestFailsDevice, ManifestHasFailed}
+use Rattle.manifest.specs.{IsVersion, ManifestHasFailed}
 use Rattle.manifest.specs.{ManifestRepresents, NodeVersion, SlotsAreLeft, StoreVersion, version_of}
 use Rattle.store_files.specs.declared.store_files.StoreFiles.{StoreFiles}
+use Rattle.store_tables.specs.declared.error.EngineError.TheVariants as engine
 use Rattle.store_tables.specs.declared.error.EngineError.{EngineError}
 use Rattle.store_files.specs.BatchLogs.{lines_of}
-use Rattle.store_tables.specs.Errors.{FailsDevice, IsEnd, IsEngineExternal, error_of_edit}
+use Rattle.store_tables.specs.Errors.{IsEnd, error_of_edit}
 use Rattle.store_tables.specs.LevelTables.{table_lines}
 use Rattle.store_files.specs.OpenFiles.{AreUsableFiles, FilesHold, batch_count, known_facts}
 use Rattle.store_files.specs.OpenFiles.{known_version, trimmed_count}
@@ -32,8 +34,8 @@ use Rattle.store_files.proofs.NamedHolds.{facts_of}
 -- ---- refusals
 
 -- an external refusal of a manifest is one of the engine
-pub edit_is_external : (e : ManifestError) → IsManifestExternal e →
-    IsEngineExternal (error_of_edit e)
+pub edit_is_external : (e : ManifestError) → IsEnvironmental manifest.Disk manifest.Memory e →
+    IsEnvironmental engine.Disk engine.Memory (error_of_edit e)
 edit_is_external e (inl failed) = inl (ap error_of_edit failed)
 edit_is_external e (inr memory) = inr (ap error_of_edit memory)
 
@@ -46,7 +48,7 @@ edit_ends manifest.Memory = tt
 edit_ends manifest.Failed = tt
 
 pub edit_failed : {T U : Type 0} (e : ManifestError) (s : EngineError) → s ≡ error_of_edit e →
-    ManifestFailsDevice {T = T} (Err e) ↔ FailsDevice {T = U} (Err s)
+    IsErrOf {T = T} (Err e) manifest.Disk ↔ IsErrOf {T = U} (Err s) engine.Disk
 edit_failed manifest.Disk s is = (λ f. ap (λ d. Err d) is, λ f. refl)
 edit_failed manifest.Damaged s is = (λ f. absurd cc, λ f. absurd cc)
 edit_failed manifest.NotCreated s is = (λ f. absurd cc, λ f. absurd cc)

@@ -3,7 +3,7 @@ use Rattle.std.specs.Prelude.{◌≡◌, ◌≢◌, ◌⊎◌, ℕ, ◌+◌, ◌
 use Rattle.std.specs.Prelude.{MatchResult, Result, Some, slice_get}
 use Rattle.kv_types.specs.{BatchContent}
 use Rattle.disk.specs.declared.Disk.{Ghosts}
-use Rattle.disk.specs.{Contents, EndsOutOfRange, IsFileOutcome, State}
+use Rattle.disk.specs.{Contents, EndsOutOfRange, IsEnvironmental, IsFileOutcome, State}
 use Rattle.record_log.specs.declared.log.TheConstants.{MAX_RECORD}
 use Rattle.record_log.specs.{HasFailed, LogHolds, count_of, file_of, gate_of, start_of}
 use Rattle.version_edits.specs.declared.line.LogLine.{LogLine}
@@ -11,8 +11,8 @@ use Rattle.store_files.specs.declared.batch_logs.BatchLog.{BatchLog}
 use Rattle.store_files.specs.declared.batch_logs.BatchLogs.{BatchLogs}
 use Rattle.store_files.specs.Files.{IsLog}
 use Rattle.store_files.specs.Layout.{records_from}
+use Rattle.store_tables.specs.declared.error.EngineError.TheVariants as engine
 use Rattle.store_tables.specs.declared.error.EngineError.{EngineError}
-use Rattle.store_tables.specs.Errors.{IsEngineExternal}
 
 -- ---- the batches of files
 
@@ -132,4 +132,5 @@ IfLogsHold g disk logs IsSaid = (first : ℕ) (batches : List BatchContent) → 
 -- refusal is external
 abbrev pub IsBatchAnswer : ℕ → List BatchContent → ℕ → Result BatchContent EngineError → Type 0
 IsBatchAnswer first batches number result =
-    MatchResult result (λ batch. slice_get batches (number - first) ≡ Some batch) IsEngineExternal
+    MatchResult result (λ batch. slice_get batches (number - first) ≡ Some batch)
+    (IsEnvironmental engine.Disk engine.Memory)

@@ -1,11 +1,11 @@
 -- The open files of a store with tables: what they hold in memory, and what their disk represents.
 use Rattle.std.specs.Prelude.{◌≡◌, ◌≢◌, ◌⊎◌, ◌↔◌, ℕ, suc, ◌+◌, ◌-◌, ◌≤◌, List, [], ◌∷◌, ◌++◌}
-use Rattle.std.specs.Prelude.{length, drop}
+use Rattle.std.specs.Prelude.{IsErrOf, length, drop}
 use Rattle.std.specs.Prelude.{All, IfOk, IsNone, MatchResult, Result}
 use Rattle.kv_types.specs.declared.bounds.TheConstants.{MAX_NUMBER}
 use Rattle.kv_types.specs.{BatchContent, Entry, IsBatch}
 use Rattle.disk.specs.declared.Disk.{Ghosts}
-use Rattle.disk.specs.{Contents, IsDurable, KeepsDisk, State, contents, seen}
+use Rattle.disk.specs.{Contents, IsDurable, IsEnvironmental, KeepsDisk, State, contents, seen}
 use Rattle.memtable.specs.declared.Memtable.{Memtable}
 use Rattle.memtable.specs.{TableHolds}
 use Rattle.store_model.specs.{LevelTable, StoreRepresents, StoreState, memory_entries}
@@ -25,7 +25,6 @@ use Rattle.store_tables.specs.LevelTables.{IsTableAsMeant, table_lines}
 use Rattle.store_tables.specs.declared.levels.LevelTables.{LevelTables}
 use Rattle.store_files.specs.Lists.{ListFollowsOn}
 use Rattle.store_files.specs.Stores.{IsNumberedTo}
-use Rattle.store_tables.specs.Errors.{FailsDevice, IsEngineExternal}
 use Rattle.store_files.specs.StoreFiles.{AreOrderedNumbers, FilesRepresent, OpensAs, WereMeant}
 use Rattle.store_files.specs.StoreFiles.{store_of_version}
 
@@ -223,7 +222,8 @@ pub record OpensFor (facts : Facts) (list : List BatchContent) (left : Contents)
     (have were_meant_to_have : StoreFiles → Type 0) (result : Result StoreFiles EngineError)
     : Type 0 where
   pub whole : FilesRepresent facts list left → MatchResult result
-      (λ files. (known_facts files ≡ facts) × have files) IsEngineExternal
+      (λ files. (known_facts files ≡ facts) × have files)
+      (IsEnvironmental engine.Disk engine.Memory)
   pub meant : WereMeant facts list left → IfOk result
       (λ files. (known_facts files ≡ facts) × were_meant_to_have files)
 
@@ -233,7 +233,7 @@ pub record OpensStore {D : Type 0} (g : Ghosts D)
     (Hold WereMeant : State → StoreFiles → List BatchContent → Type 0) (old new : D)
     (result : Result StoreFiles EngineError) : Type 0 where
   -- a device that works never fails; any file may change
-  pub kept : KeepsDisk g old new (FailsDevice result) ⊥ IsOwned
+  pub kept : KeepsDisk g old new (IsErrOf result engine.Disk) ⊥ IsOwned
   -- files that represent facts and a list, or were meant to, are opened as both
   pub opened : (facts : Facts) (list : List BatchContent) → g.is_honest old →
       OpensFor facts list (contents (g.state old)) (λ files. Hold (g.state new) files list)

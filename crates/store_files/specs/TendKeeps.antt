@@ -1,11 +1,12 @@
 -- What the calls of a tend keep of a store: its device, its other files, and its list.
-use Rattle.std.specs.Prelude.{◌≡◌, List, MatchResult, OnOk, Result}
+use Rattle.std.specs.Prelude.{◌≡◌, IsErrOf, List, MatchResult, OnOk, Result}
 use Rattle.kv_types.specs.{BatchContent}
 use Rattle.disk.specs.declared.Disk.{Ghosts}
 use Rattle.disk.specs.{KeepsDisk, State}
+use Rattle.store_tables.specs.declared.error.EngineError.TheVariants as engine
 use Rattle.store_tables.specs.declared.error.EngineError.{EngineError}
 use Rattle.store_files.specs.declared.store_files.StoreFiles.{StoreFiles}
-use Rattle.store_tables.specs.Errors.{FailsDevice, IsEnd}
+use Rattle.store_tables.specs.Errors.{IsEnd}
 use Rattle.store_files.specs.Files.{IsOwned}
 use Rattle.store_files.specs.Lists.{ListFollowsOn}
 use Rattle.store_files.specs.OpenFiles.{AreUsableFiles, FilesHold, WereMeantToHold, batch_count}
@@ -19,7 +20,7 @@ pub record TendKeeps {D T : Type 0} (g : Ghosts D)
     (Held WereHeld : State → List BatchContent → Type 0) (cause : Type 0) (Did : T → Type 0)
     (disk later : D) (old new : StoreFiles) (result : Result T EngineError) : Type 0 where
   -- a device that works fails only for this cause
-  pub kept : KeepsDisk g disk later (FailsDevice result) cause IsOwned
+  pub kept : KeepsDisk g disk later (IsErrOf result engine.Disk) cause IsOwned
   -- each file but those of a tend is as it was
   pub touches : g.is_honest disk →
       IsSameBeside (tended_files old) (g.state disk) (g.state later)

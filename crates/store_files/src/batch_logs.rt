@@ -1,11 +1,11 @@
 //! The logs of a store's batches, in order: the newest takes appends, and a batch is read from the
 //! log that has its number.
-ghost use Rattle.std.specs.Prelude.{◌≡◌, ◌≢◌, ℕ, ◌+◌, ◌-◌, ◌<◌, ◌≤◌, ◌∷◌, [], ◌++◌, List};
+ghost use Rattle.std.specs.Prelude.{◌≡◌, ◌≢◌, IsErrOf, ℕ, ◌+◌, ◌-◌, ◌<◌, ◌≤◌, ◌∷◌, [], ◌++◌, List};
 ghost use Rattle.std.specs.Prelude.{All, Contains, MatchResult, Some, ◌⊎◌};
 ghost use Rattle.kv_types.specs.declared.bounds.TheConstants.{MAX_NUMBER};
 ghost use Rattle.kv_types.specs.{BatchContent, IsBatch};
 ghost use Rattle.disk.specs.{AlwaysLeaves, IsLeftAt, IsSame, IsSameBut, KeepsDisk, State};
-ghost use Rattle.disk.specs.{seen};
+ghost use Rattle.disk.specs.{IsEnvironmental, seen};
 ghost use Rattle.record_log.specs.{EndsInRange, LogHolds};
 ghost use Rattle.store_files.specs.BatchLogs.{AreBeside, AreJoined, AreLeftWith, AreUsable};
 ghost use Rattle.store_files.specs.BatchLogs.{HasFullLog, IfLogsHold, IsBatchAnswer};
@@ -13,7 +13,8 @@ ghost use Rattle.store_files.specs.BatchLogs.{IsWorking, LogsHold, first_number,
 ghost use Rattle.store_files.specs.BatchLogs.{line_of};
 ghost use Rattle.store_files.specs.BatchLogs.{lines_of, newest_file, newest_length, next_number};
 ghost use Rattle.store_files.specs.BatchLogs.{end_of_log, with_line};
-ghost use Rattle.store_tables.specs.Errors.{FailsDevice, IsEnd, IsEngineExternal};
+ghost use Rattle.store_tables.specs.declared.error.EngineError.TheVariants.{Disk, Memory};
+ghost use Rattle.store_tables.specs.Errors.{IsEnd};
 ghost use Rattle.store_files.specs.Layout.{records_from};
 ghost use Rattle.store_files.specs.Lists.{ListFollowsOn};
 ghost use Rattle.store_files.specs.Reads.{OnlyReads};
@@ -134,7 +135,8 @@ impl BatchLogs {
     ) -> Result<(), EngineError>
         requires usable { AreUsable self.old }
         requires next { number ≡ next_number self.old }
-        ensures kept { KeepsDisk D.Disk disk.old disk.new (FailsDevice result) (HasFullLog self.old)
+        ensures kept { KeepsDisk D.Disk disk.old disk.new
+            (IsErrOf result Disk) (HasFullLog self.old)
             (IsSameBut (newest_file self.old)) }
         ensures appended { IfLogsHold D.Disk disk.old self.old (λ first batches. ListFollowsOn
             D.Disk (λ _ state. LogsHold state self.new first (batches ++ batch.now ∷ []))
@@ -181,12 +183,12 @@ impl BatchLogs {
         requires usable { AreUsable self.old }
         requires few { next_number self.old ≤ MAX_NUMBER + 1 }
         requires new { AreBeside file self.old.older.items × (newest_file self.old ≢ file) }
-        ensures kept { KeepsDisk D.Disk disk.old disk.new (FailsDevice result) ⊥ (IsSameBut file) }
+        ensures kept { KeepsDisk D.Disk disk.old disk.new (IsErrOf result Disk) ⊥ (IsSameBut file) }
         ensures begun { (first : ℕ) (batches : List BatchContent) → D.is_honest disk.old →
             EndsInRange (seen (D.state disk.old file)) →
             LogsHold (D.state disk.old) self.old first batches →
             MatchResult result (λ _. LogsHold (D.state disk.new) self.new first batches)
-            IsEngineExternal }
+            (IsEnvironmental Disk Memory) }
         ensures told { MatchResult result
             (λ _. AreUsable self.new × (next_number self.new ≡ next_number self.old)
             × (lines_of self.new ≡ with_line self.old file))

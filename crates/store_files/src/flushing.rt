@@ -1,10 +1,11 @@
 // A flush: the entries in memory become a table of level 0, and a new log takes the next batches.
-ghost use Rattle.std.specs.Prelude.{◌≡◌, ◌↔◌, ◌≤◌, IfErr, IfOk, IsTrue, MatchOption};
+ghost use Rattle.std.specs.Prelude.{◌≡◌, ◌↔◌, ◌≤◌, IfErr, IfOk, IsErrOf, IsTrue, MatchOption};
 ghost use Rattle.std.specs.Prelude.{MatchResult};
 ghost use Rattle.disk.specs.{IsSameBut, KeepsDisk};
 ghost use Rattle.manifest.specs.{HasFullSlot, IsChange, IsFit};
 ghost use Rattle.memtable.specs.{HasFailedAdd};
-ghost use Rattle.store_tables.specs.Errors.{FailsDevice, IsEnd};
+ghost use Rattle.store_tables.specs.declared.error.EngineError.TheVariants.{Disk};
+ghost use Rattle.store_tables.specs.Errors.{IsEnd};
 ghost use Rattle.store_files.specs.OpenFiles.{AreUsableFiles, FilesHold};
 ghost use Rattle.store_tables.specs.TableWriting.{HasEntry, IsTooLarge};
 ghost use Rattle.store_files.specs.OpenFiles.{WereMeantToHold, known_version};
@@ -103,7 +104,7 @@ impl StoreFiles {
         requires usable { AreUsableFiles self.now }
         requires some { HasEntry self.now.memtable }
         requires place { LacksPlace (known_version self.now).version self.now.free_file → ⊥ }
-        ensures kept { KeepsDisk D.Disk disk.old disk.new (FailsDevice result)
+        ensures kept { KeepsDisk D.Disk disk.old disk.new (IsErrOf result Disk)
             (TendMayFail D.Disk disk.old self.now) (IsSameBut self.now.free_file) }
         ensures spilled { ListIsSpilled FilesHold FilesRepresent D.Disk self.now disk.old disk.new
             result }

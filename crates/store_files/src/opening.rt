@@ -1,9 +1,9 @@
 //! Creating and opening the files of a store.
-ghost use Rattle.std.specs.Prelude.{◌≡◌, ◌↔◌, ◌-◌, [], IsTrue, List, IfOk, OnOk};
+ghost use Rattle.std.specs.Prelude.{◌≡◌, ◌↔◌, ◌-◌, [], IsErrOf, IsTrue, List, IfOk, OnOk};
+ghost use Rattle.store_tables.specs.declared.error.EngineError.TheVariants.{Disk, Memory};
 ghost use Rattle.std.specs.Prelude.{IfErr, MatchResult};
 ghost use Rattle.kv_types.specs.{BatchContent};
-ghost use Rattle.disk.specs.{IsStill, KeepsDisk, contents};
-ghost use Rattle.store_tables.specs.Errors.{FailsDevice, IsEngineExternal};
+ghost use Rattle.disk.specs.{IsEnvironmental, IsStill, KeepsDisk, contents};
 ghost use Rattle.store_files.specs.Files.{Facts, IsOwned};
 ghost use Rattle.store_files.specs.StoreFiles.{StillLeavesOneOf, before_newest};
 ghost use Rattle.store_files.specs.StoreFiles.{AreOrderedNumbers, HasFirstFiles};
@@ -99,13 +99,14 @@ fn read_parts<D: Disk>(
     ensures reads { OnlyReads D.Disk disk.old disk.new IsOwned result }
     ensures opened { IfParts D.Disk disk.old version.now.version (λ first batches tables.
         MatchResult result (PartsHold (D.state disk.new) version.now.version first batches tables)
-        IsEngineExternal) }
+        (IsEnvironmental Disk Memory)) }
     ensures meant { IfMeantParts D.Disk disk.old version.now.version
         (λ meant first batches tables. IfOk result
         (PartsWereMeant (D.state disk.new) meant version.now.version first batches tables)) }
     ensures told { D.is_honest disk.old → MatchResult result
         (WereParts (D.state disk.old) (D.state disk.new) version.now.version)
-        (λ e. HasParts (contents (D.state disk.old)) version.now.version → IsEngineExternal e) }
+        (λ e. HasParts (contents (D.state disk.old)) version.now.version →
+        IsEnvironmental Disk Memory e) }
     ensures usable { IfOk result (AreParts version.now.version) }
 {
     sync_tables(disk, &version.tables)?;
@@ -162,9 +163,9 @@ impl StoreFiles {
         id: NodeId,
         config: &Config,
     ) -> Result<StoreFiles, EngineError>
-        ensures kept { KeepsDisk D.Disk disk.old disk.new (FailsDevice result) ⊥ IsOwned }
+        ensures kept { KeepsDisk D.Disk disk.old disk.new (IsErrOf result Disk) ⊥ IsOwned }
         ensures created { D.is_honest disk.old → MatchResult result
-            (λ files. FilesHold (D.state disk.new) files []) IsEngineExternal }
+            (λ files. FilesHold (D.state disk.new) files []) (IsEnvironmental Disk Memory) }
         ensures begun { IfOk result (AreNewFiles id config.now) }
         ensures first { D.is_honest disk.old →
             OnOk result (HasFirstFiles (D.state disk.new) id config.now) }
@@ -199,7 +200,7 @@ impl StoreFiles {
             (kept_files (known_version files).version) (D.state disk.old) (D.state disk.new)) }
 
         // What is refused for its files is left as it was.
-        ensures still { IfErr result (λ e. (IsEngineExternal e → ⊥) →
+        ensures still { IfErr result (λ e. (IsEnvironmental Disk Memory e → ⊥) →
             IsStill D.Disk disk.old disk.new) }
     {
         held_versions_are_left(); // law: a crash leaves the version of an open manifest

@@ -1,12 +1,12 @@
 // Reading the logs that a version names, and the entries that no table has yet.
 ghost use Rattle.std.specs.Prelude.{◌≡◌, ◌⊎◌, ℕ, suc, ◌+◌, ◌-◌, ◌<◌, ◌≤◌, List, length, All, OnOk};
+ghost use Rattle.store_tables.specs.declared.error.EngineError.TheVariants.{Disk, Memory};
 ghost use Rattle.std.specs.Prelude.{IfOk, IfErr, MatchResult};
 ghost use Rattle.kv_types.specs.declared.bounds.TheConstants.{MAX_NUMBER};
 ghost use Rattle.kv_types.specs.{BatchContent, IsBatch};
-ghost use Rattle.disk.specs.{AddsNoOutcome, contents, seen};
+ghost use Rattle.disk.specs.{AddsNoOutcome, IsEnvironmental, contents, seen};
 ghost use Rattle.record_log.specs.{HasRead, count_of};
 ghost use Rattle.store_files.specs.BatchLogs.{HaveBatches, LogsHold};
-ghost use Rattle.store_tables.specs.Errors.{IsEngineExternal};
 ghost use Rattle.store_files.specs.Files.{IsLog};
 ghost use Rattle.store_files.specs.Layout.{batch_record, records_from};
 ghost use Rattle.store_files.specs.OpenFiles.{AreBatchesOf, AreOpenLogs, AreReplayed, HasReplayed};
@@ -42,7 +42,7 @@ fn replay_record(
     ensures taken { OnOk result (IsBatchAdded bytes.now number flushed memtable.old memtable.new) }
     ensures numbered { OnOk result (IsNumberedTo memtable.new number) }
     ensures damaged { (batch : BatchContent) → IsBatch batch →
-        bytes.now ≡ batch_record number batch → IfErr result IsEngineExternal }
+        bytes.now ≡ batch_record number batch → IfErr result (IsEnvironmental Disk Memory) }
     ensures only { IfErr result (λ e. (e ≡ EngineError.Damaged) ⊎ (e ≡ EngineError.Memory)) }
 {
     let batch = batch_of(alloc, number.get(), bytes)?;
@@ -68,7 +68,7 @@ fn replay(
         × (before + count_of opened.now.log ≤ MAX_NUMBER)) }
     ensures damaged { (batches : List BatchContent) →
         HasRead opened.now (records_from (suc before) batches) → All IsBatch batches →
-        before + length batches ≤ MAX_NUMBER → IfErr result IsEngineExternal }
+        before + length batches ≤ MAX_NUMBER → IfErr result (IsEnvironmental Disk Memory) }
     ensures only { IfErr result (λ e. (e ≡ EngineError.Damaged) ⊎ (e ≡ EngineError.Memory)) }
 {
     let count = opened.log.len();
@@ -97,7 +97,8 @@ fn open_log<D: Disk>(
     ensures reads { OnlyReads D.Disk disk.old disk.new (AddsNoOutcome file) result }
     ensures opened { (batches : List BatchContent) → D.is_honest disk.old →
         IsLog (seen (D.state disk.old file)) (records_from (suc before) batches) →
-        All IsBatch batches → before + length batches ≤ MAX_NUMBER → IfErr result IsEngineExternal }
+        All IsBatch batches → before + length batches ≤ MAX_NUMBER → IfErr result
+        (IsEnvironmental Disk Memory) }
     ensures read { D.is_honest disk.old → IfOk result (λ one. IsReadLog (D.state disk.old)
         (D.state disk.new) file before flushed one memtable.old memtable.new) }
     ensures told { IfOk result (λ one. IsOpenedBehind file before one memtable.new) }
@@ -124,7 +125,8 @@ fn read_logs<D: Disk>(
     ensures reads { OnlyReads D.Disk disk.old disk.new AddsNothing result }
     ensures opened { (batches : List BatchContent) → D.is_honest disk.old →
         HaveBatches (contents (D.state disk.old)) (suc before) lines.now batches →
-        All IsBatch batches → before + length batches ≤ MAX_NUMBER → IfErr result IsEngineExternal }
+        All IsBatch batches → before + length batches ≤ MAX_NUMBER → IfErr result
+        (IsEnvironmental Disk Memory) }
     ensures read { D.is_honest disk.old → IfOk result (λ it.
         SparesAllBut lines.now (D.state disk.old) (D.state disk.new) × (count : ℕ) × AreReadLogs
         (D.state disk.old) (D.state disk.new) lines.now before flushed count it.0.items it.1) }
@@ -160,7 +162,8 @@ pub(crate) fn open_logs<D: Disk>(
     ensures opened { (first : ℕ) (batches : List BatchContent) → D.is_honest disk.old →
         AreBatchesOf (contents (D.state disk.old)) version.now.version.logs first batches →
         MatchResult result (λ it. LogsHold (D.state disk.new) it.0 first batches
-        × HasReplayed it.1 first version.now.version.flushed batches) IsEngineExternal }
+        × HasReplayed it.1 first version.now.version.flushed batches)
+        (IsEnvironmental Disk Memory) }
     ensures told { D.is_honest disk.old → IfOk result (λ it.
         AreReplayed (contents (D.state disk.old)) version.now.version.logs
         version.now.version.flushed it.0 it.1) }

@@ -2,9 +2,9 @@
 ghost use Rattle.std.specs.Prelude.{◌≡◌, ◌≤◌, List, take, All, IfErr, IfOk};
 ghost use Rattle.kv_types.specs.Pages.{page_of};
 ghost use Rattle.kv_types.specs.{BatchContent, map_of};
-ghost use Rattle.disk.specs.{IsSame, State};
+ghost use Rattle.disk.specs.{IsEnvironmental, IsSame, State};
 ghost use Rattle.row_pages.specs.{HasRowsOf};
-ghost use Rattle.store_tables.specs.Errors.{IsEngineExternal};
+ghost use Rattle.store_tables.specs.declared.error.EngineError.TheVariants.{Disk, Memory};
 ghost use Rattle.store_tables.specs.LevelTables.{HasMeantBlocks};
 ghost use Rattle.store_files.specs.OpenFiles.{AreUsableFiles, FilesHold};
 ghost use Rattle.store_files.specs.OpenFiles.{IfHeld, IfMeant, batch_count, known_facts};
@@ -63,7 +63,7 @@ impl StoreFiles {
             IfOk result (λ page. page ≡ page_of (take at list) range.now)) }
         ensures intact { IfHeld ⟦<Files<D> as Disk>⟧ files.old self.now (λ list.
             (known_facts self.now).floor ≤ at → at ≤ batch_count self.now →
-            IfErr result IsEngineExternal) }
+            IfErr result (IsEnvironmental Disk Memory)) }
     {
         pages_agree(); // law: a map has one page in a range
         let mut rows = self.rows_in(alloc, at, range)?;

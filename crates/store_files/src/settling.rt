@@ -1,7 +1,8 @@
 // What an opening does to the files of a store: it syncs tables, and removes what nothing names.
-ghost use Rattle.std.specs.Prelude.{IfErr, OnOk, MatchResult};
-ghost use Rattle.disk.specs.{AlwaysLeaves, KeepsDisk};
-ghost use Rattle.store_tables.specs.Errors.{FailsDevice, IsEnd, IsEngineExternal};
+ghost use Rattle.std.specs.Prelude.{IfErr, IsErrOf, OnOk, MatchResult};
+ghost use Rattle.disk.specs.{AlwaysLeaves, IsEnvironmental, KeepsDisk};
+ghost use Rattle.store_tables.specs.declared.error.EngineError.TheVariants.{Disk, Memory};
+ghost use Rattle.store_tables.specs.Errors.{IsEnd};
 ghost use Rattle.store_files.specs.Reads.{OnlyReads};
 ghost use Rattle.store_files.specs.Settling.{AddsNothing, AreAlone, AreLeftOf, AreSynced, AreThere};
 ghost use Rattle.store_files.specs.Settling.{SparesFiles};
@@ -17,7 +18,7 @@ pub(crate) fn sync_tables<D: Disk>(disk: &mut D, lines: &[TableLine]) -> Result<
     ensures synced { D.is_honest disk.old →
         OnOk result (AreSynced (D.state disk.old) (D.state disk.new) lines.now) }
     ensures there { D.is_honest disk.old → AreThere (D.state disk.old) lines.now →
-        IfErr result IsEngineExternal }
+        IfErr result (IsEnvironmental Disk Memory) }
 {
     for line in lines {
         disk.sync(line.file)?;
@@ -27,10 +28,11 @@ pub(crate) fn sync_tables<D: Disk>(disk: &mut D, lines: &[TableLine]) -> Result<
 
 /// Removes each file but these.
 pub(crate) fn remove_others<D: Disk>(disk: &mut D, kept: &[u64]) -> Result<(), EngineError>
-    ensures kept { KeepsDisk D.Disk disk.old disk.new (FailsDevice result) ⊥
+    ensures kept { KeepsDisk D.Disk disk.old disk.new (IsErrOf result Disk) ⊥
         (SparesFiles kept.now) }
     ensures alone { D.is_honest disk.old →
-        MatchResult result (λ _. AreAlone kept.now (D.state disk.new)) IsEngineExternal }
+        MatchResult result (λ _. AreAlone kept.now (D.state disk.new))
+        (IsEnvironmental Disk Memory) }
 
     // A crash at any moment since the call began leaves these files as it might have before.
     ensures any_moment { D.is_honest disk.old →

@@ -1,13 +1,14 @@
 //! The open files of a store: manifest, logs and tables, and the entries that no table has yet.
-ghost use Rattle.std.specs.Prelude.{◌≡◌, ◌+◌, ◌<◌, ◌≤◌, take, Some};
+ghost use Rattle.std.specs.Prelude.{◌≡◌, ◌+◌, ◌<◌, ◌≤◌, take, IsErrOf, Some};
 ghost use Rattle.std.specs.Prelude.{length, IfErr, IfOk, IsSomeAnd, MatchResult};
 ghost use Rattle.std.specs.Option.{option_flatten};
 ghost use Rattle.kv_types.specs.declared.bounds.TheConstants.{MAX_VALUE};
 ghost use Rattle.kv_types.specs.{map_of};
-ghost use Rattle.disk.specs.{IsSame, IsSameBut, KeepsDisk};
+ghost use Rattle.disk.specs.{IsEnvironmental, IsSame, IsSameBut, KeepsDisk};
 ghost use Rattle.chain_model.specs.{place};
 ghost use Rattle.store_files.specs.BatchLogs.{HasFullLog, newest_file};
-ghost use Rattle.store_tables.specs.Errors.{FailsDevice, IsEnd, IsEngineExternal};
+ghost use Rattle.store_tables.specs.declared.error.EngineError.TheVariants.{Disk, Memory};
+ghost use Rattle.store_tables.specs.Errors.{IsEnd};
 ghost use Rattle.store_files.specs.OpenFiles.{AreUsableFiles, FilesHold, batch_count, known_facts};
 ghost use Rattle.store_files.specs.OpenFiles.{IfHeld, IfMeant, ListGrows, WereMeantToHold};
 ghost use Rattle.store_files.specs.OpenFiles.{trimmed_count};
@@ -96,7 +97,7 @@ impl StoreFiles {
     ) -> Result<(), EngineError>
         requires usable { AreUsableFiles self.old }
         requires next { number ≡ batch_count self.old + 1 }
-        ensures kept { KeepsDisk D.Disk disk.old disk.new (FailsDevice result)
+        ensures kept { KeepsDisk D.Disk disk.old disk.new (IsErrOf result Disk)
             (HasFullLog self.old.logs) (IsSameBut (newest_file self.old.logs)) }
         ensures appended { ListGrows FilesHold FilesRepresent D.Disk batch.now disk.old disk.new
             self.old self.new result }
@@ -129,7 +130,8 @@ impl StoreFiles {
         requires there { (trimmed_count self.now < number) × (number ≤ batch_count self.now) }
         ensures reads { OnlyReads D.Disk disk.old disk.new IsSame result }
         ensures found { IfMeant D.Disk disk.old self.now (λ list.
-            MatchResult result (λ batch. place list number ≡ Some batch) IsEngineExternal) }
+            MatchResult result (λ batch. place list number ≡ Some batch)
+            (IsEnvironmental Disk Memory)) }
     {
         self.logs.batch(alloc, disk, number)
     }
@@ -149,7 +151,7 @@ impl StoreFiles {
             (known_facts self.now).floor ≤ at → at ≤ batch_count self.now →
             IfOk result (λ value. value ≡ map_of (take at list) key.now)) }
         ensures intact { IfHeld ⟦<Files<D> as Disk>⟧ files.old self.now (λ list.
-            IfErr result IsEngineExternal) }
+            IfErr result (IsEnvironmental Disk Memory)) }
     {
         levels_rise(); // law: tables stand in order of level
         // laws: what memory or else the tables have of a key is what the map has

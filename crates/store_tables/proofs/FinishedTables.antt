@@ -7,7 +7,7 @@ use Rattle.std.specs.Option.{option_map}
 use Rattle.std.specs.Prelude.{IsSomeAnd, MatchResult, ◌↔◌}
 use Rattle.std.specs.Ordering.{nat_cmp, ordering_reverse, ordering_then}
 use Rattle.std.specs.declared.cmp.Ordering.TheVariants.{Greater, Less}
-use Rattle.disk.specs.{Slot, State, seen, IsDurable}
+use Rattle.disk.specs.{IsEnvironmental, Slot, State, seen, IsDurable}
 use Rattle.kv_types.specs.declared.bounds.TheConstants.{MAX_KEY, MAX_NUMBER}
 use Rattle.kv_types.specs.ByteOrderLemmas.{Less-below}
 use Rattle.kv_types.specs.OrderLemmas.{Among, Rises, among_from_Contains, among_of_All}
@@ -32,7 +32,6 @@ use Rattle.manifest.specs.declared.TableLine.{TableLine}
 use Rattle.manifest.specs.{IsTableLine}
 use Rattle.store_tables.specs.declared.error.EngineError.{EngineError}
 use Rattle.store_tables.specs.declared.error.EngineError.TheVariants as engine
-use Rattle.store_tables.specs.Errors.{IsEngineExternal}
 use Rattle.store_tables.specs.LevelTables.{least_key, line_range}
 use Rattle.store_tables.specs.TableWriting.{IsWrittenTable}
 use Rattle.store_tables.specs.TableWriting.{finished_line}
@@ -187,6 +186,6 @@ written_table disk memtable file entries done named f alike =
 pub line_told : (P : TableLine → Type 0) (line : TableLine) (result : Result TableLine EngineError)
     → MatchResult result (λ told. (told ≡ line) × IsTableLine told)
     (λ e. (e ≡ engine.Damaged) × (IsTableLine line → ⊥)) → IsTableLine line → P line
-    → MatchResult result P IsEngineExternal
+    → MatchResult result P (IsEnvironmental engine.Disk engine.Memory)
 line_told P line (Ok one) told proper has = subst P (sym told.0) has
 line_told P line (Err e) told proper has = absurd (told.1 proper)

@@ -2,12 +2,14 @@
 use Rattle.std.proofs.Common.{◌≡◌, ◌<◌, ◌^◌, ℕ, List, length, Option, Some, None, inl, inr, sym}
 use Rattle.std.proofs.Common.{◌∙◌, ap, subst, Contains}
 use Rattle.std.specs.Prelude.{IsSomeAnd}
+use Rattle.disk.specs.{IsEnvironmental}
 use Rattle.disk.specs.declared.Disk.{Ghosts}
 use Rattle.disk.specs.{Contents, contents, IsSame, IsStill, KeepsDisk, Slot, State, seen}
 use Rattle.disk.specs.StillLemmas.{still, still_more}
 use Rattle.kv_types.specs.{Entry}
-use Rattle.table_format.specs.{IsEnvironmentError, TableRepresents}
-use Rattle.table_format.specs.declared.TableError.{TableError}
+use Rattle.table_format.specs.declared.FileError.TheVariants as reading
+use Rattle.table_format.specs.{TableRepresents}
+use Rattle.table_format.specs.declared.FileError.{FileError}
 use Rattle.sorted_table.specs.{AreAsMeant, CanBeOpen, FileRepresents, HasItsLines, HasTail}
 use Rattle.sorted_table.specs.{LookupFinds, TableServes}
 use Rattle.table_format.specs.declared.IndexLine.{IndexLine}
@@ -18,16 +20,17 @@ use Rattle.table_files.specs.{inner_disk}
 use Rattle.table_files.specs.declared.Files.{Files}
 use Rattle.store_model.specs.{LevelTable}
 use Rattle.manifest.specs.declared.TableLine.{TableLine}
+use Rattle.store_tables.specs.declared.error.EngineError.TheVariants as engine
 use Rattle.store_tables.specs.declared.levels.OpenTable.{OpenTable}
 use Rattle.store_tables.specs.KeepingLemmas.{kept_as, kept_behind, neither, same_files}
 use Rattle.store_tables.specs.KeepingLemmas.{same_then_same}
 use Rattle.store_tables.specs.KeepingLemmas.{unchanged}
-use Rattle.store_tables.specs.Errors.{IsEngineExternal}
 use Rattle.store_tables.specs.LevelTables.{EntriesFind, FileFits, FitsLine, IsServed, IsTableOf}
 use Rattle.store_tables.specs.LevelTables.{WasServed, error_of_table, line_range}
 
 -- a refusal that says nothing of a file
-pub of_table : (e : TableError) → IsEnvironmentError e → IsEngineExternal (error_of_table e)
+pub of_table : (e : FileError) → IsEnvironmental reading.Disk reading.Memory e →
+    IsEnvironmental engine.Disk engine.Memory (error_of_table e)
 of_table e (inl failed) = inl (ap error_of_table failed)
 of_table e (inr memory) = inr (ap error_of_table memory)
 

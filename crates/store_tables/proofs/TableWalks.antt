@@ -2,7 +2,7 @@
 use Rattle.std.proofs.Common.{◌≡◌, ◌<◌, List, [], ◌∷◌, ◌++◌, All, Contains, IfSome, sym, subst}
 use Rattle.std.proofs.Common.{inl, inr, Result, Ok, Err, arith, refl}
 use Rattle.std.proofs.Common.{◌∙◌, ap}
-use Rattle.std.specs.Prelude.{Bool, true, false, IfOk, IsErr, IsErrAnd, MatchResult}
+use Rattle.std.specs.Prelude.{Bool, true, false, IfOk, IsErr, IsErrAnd, IsErrOf, MatchResult}
 use Rattle.std.proofs.lemmas.List.Elements.{All-contains, All-nil, All-push, Contains-append_left}
 use Rattle.std.proofs.lemmas.List.Elements.{Contains-push}
 use Rattle.kv_types.specs.{Entry}
@@ -16,12 +16,11 @@ use Rattle.merge_iter.specs.{WalkStart}
 use Rattle.table_format.specs.declared.sizes.TheConstants.{MAX_DATA}
 use Rattle.table_format.specs.RisingLemmas.{last_push, rising_push}
 use Rattle.table_format.specs.{AreRising, CanFollow}
-use Rattle.disk.specs.{Slot}
+use Rattle.disk.specs.{IsEnvironmental, Slot}
 use Rattle.table_builder.specs.declared.Builder.{Builder}
 use Rattle.table_builder.specs.{Builds, HoldsEntries, data_size}
 use Rattle.store_tables.specs.declared.error.EngineError.{EngineError}
 use Rattle.store_tables.specs.declared.error.EngineError.TheVariants as engine
-use Rattle.store_tables.specs.Errors.{FailsDevice, IsEngineExternal}
 use Rattle.store_tables.specs.Errors.{error_of_cursor}
 use Rattle.store_tables.specs.TableWriting.{HasAddedAll, PassesLimit, IsRoomAnswer}
 
@@ -78,7 +77,8 @@ for_memory S B result cursor.Memory is sound unbroken t = refl
 for_memory S B result cursor.Failed is sound unbroken t = absurd (unbroken (t.failed.0 is))
 
 pub memory_answer : {U : Type 0} (result : Result U EngineError) (e : CursorError)
-    → e ≡ cursor.Memory → IsErrAnd result (λ s. s ≡ error_of_cursor e) → FailsDevice result → ⊥
+    → e ≡ cursor.Memory → IsErrAnd result (λ s. s ≡ error_of_cursor e) →
+    IsErrOf result engine.Disk → ⊥
 memory_answer (Ok x) e is told fails = absurd told
 memory_answer (Err s) e is told fails =
     let memory : s ≡ engine.Memory = told ∙ ap error_of_cursor is in
@@ -211,8 +211,8 @@ limit_like own has alike it = record {
 -- what was added of one set was added of another with the same entries
 pub added_like : (own has : Entry → Type 0) → IsAlike own has → (slot : Slot) (builder : Builder)
     (result : Result Bool EngineError)
-    → MatchResult result (HasAddedAll own slot builder) IsEngineExternal
-    → MatchResult result (HasAddedAll has slot builder) IsEngineExternal
+    → MatchResult result (HasAddedAll own slot builder) (IsEnvironmental engine.Disk engine.Memory)
+    → MatchResult result (HasAddedAll has slot builder) (IsEnvironmental engine.Disk engine.Memory)
 added_like own has alike slot builder (Ok true) it = record {
   entries = it.entries;
   builds = it.builds;

@@ -55,14 +55,6 @@ error_of_cursor cursor.Damaged = engine.Damaged
 error_of_cursor cursor.Memory = engine.Memory
 error_of_cursor cursor.Failed = engine.Failed
 
--- the refusals that say nothing of the files: the device failed, or memory is out
-abbrev pub IsEngineExternal : EngineError → Type 0
-IsEngineExternal e = (e ≡ engine.Disk) ⊎ (e ≡ engine.Memory)
-
--- the call was refused because the device failed
-abbrev pub FailsDevice : {T : Type 0} → Result T EngineError → Type 0
-FailsDevice result = result ≡ Err engine.Disk
-
 -- an external refusal or damage, after which an engine has to be opened again
 abbrev pub IsEnd : EngineError → Type 0
 IsEnd engine.Disk = Unit {0}

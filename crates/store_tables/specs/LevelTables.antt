@@ -8,8 +8,8 @@ use Rattle.kv_types.specs.{BatchContent, Entry, IsNewest, IsUnseen, StoredKey, m
 use Rattle.table_builder.specs.{first_entry}
 use Rattle.table_format.specs.{TableRepresents}
 use Rattle.table_format.specs.declared.IndexLine.{IndexLine}
-use Rattle.table_format.specs.declared.TableError.{TableError}
-use Rattle.table_format.specs.declared.TableError.TheVariants as table
+use Rattle.table_format.specs.declared.FileError.{FileError}
+use Rattle.table_format.specs.declared.FileError.TheVariants as reading
 use Rattle.sorted_table.specs.{AreAsMeant, FileRepresents, HasTail, IsOpenOn, TableServes}
 use Rattle.sorted_table.specs.{found_entry, greatest_key, index_lines, last_line_key, table_file}
 use Rattle.sorted_table.specs.declared.Table.{Table}
@@ -24,14 +24,11 @@ use Rattle.store_tables.specs.declared.error.EngineError.TheVariants as engine
 use Rattle.store_tables.specs.declared.levels.OpenTable.{OpenTable}
 use Rattle.store_tables.specs.declared.levels.LevelTables.{LevelTables}
 
--- as an engine tells it; an opening or a lookup never meets the errors of a builder
-abbrev pub error_of_table : TableError → EngineError
-error_of_table table.Disk = engine.Disk
-error_of_table table.Damaged = engine.Damaged
-error_of_table table.Memory = engine.Memory
-error_of_table table.Order = engine.Failed
-error_of_table table.TooLarge = engine.Failed
-error_of_table table.Failed = engine.Failed
+-- the error of an engine for that of a table's file
+abbrev pub error_of_table : FileError → EngineError
+error_of_table reading.Disk = engine.Disk
+error_of_table reading.Damaged = engine.Damaged
+error_of_table reading.Memory = engine.Memory
 
 -- ---- the tables that lines of a manifest name
 

@@ -1,9 +1,8 @@
 -- What a refusal says of the call whose refusal it passes on.
 use Rattle.std.proofs.Common.{◌≡◌, ◌↔◌, Result, Ok, Err, subst, sym}
-use Rattle.std.specs.Prelude.{IfErr, IfOk, IsErrAnd, MatchResult, OnOk}
+use Rattle.std.specs.Prelude.{IfErr, IfOk, IsErrAnd, IsErrOf, MatchResult, OnOk}
 use Rattle.store_tables.specs.declared.error.EngineError.{EngineError}
 use Rattle.store_tables.specs.declared.error.EngineError.TheVariants as engine
-use Rattle.store_tables.specs.Errors.{FailsDevice}
 
 -- a property of every result holds of an answer
 pub on_ok : {T E P : Type 0} (result : Result T E) → P → OnOk result P
@@ -31,23 +30,24 @@ answers_nothing (Err s) P Q told = tt
 -- a refusal is passed on
 pub passed_on : {T U : Type 0} (called : Result T EngineError) (e : EngineError)
     (result : Result U EngineError) →
-    called ≡ Err e → IsErrAnd result (λ s. s ≡ e) → FailsDevice called ↔ FailsDevice result
+    called ≡ Err e → IsErrAnd result (λ s. s ≡ e) →
+    IsErrOf called engine.Disk ↔ IsErrOf result engine.Disk
 passed_on called e (Ok x) is told = absurd told
 passed_on called e (Err s) is told = (λ f. cc, λ f. cc)
 
 -- a refusal for another cause is none
 pub refused_otherwise : {T : Type 0} {e : EngineError} → (e ≡ engine.Disk → ⊥) →
-    FailsDevice {T = T} (Err e) → ⊥
+    IsErrOf {T = T} (Err e) engine.Disk → ⊥
 refused_otherwise {e = e} other fails =
     let is : e ≡ engine.Disk = cc in
     other is
 
 -- want of memory is no failure of the device
 pub lacks_memory : {U : Type 0} (result : Result U EngineError) →
-    IsErrAnd result (λ s. s ≡ engine.Memory) → FailsDevice result → ⊥
+    IsErrAnd result (λ s. s ≡ engine.Memory) → IsErrOf result engine.Disk → ⊥
 lacks_memory (Ok x) told fails = absurd told
 lacks_memory (Err s) told fails = cc
 
 -- an answer is no failure of the device
-pub done : {U : Type 0} {x : U} → FailsDevice (Ok x) → ⊥
+pub done : {U : Type 0} {x : U} → IsErrOf (Ok x) engine.Disk → ⊥
 done fails = cc

@@ -53,14 +53,6 @@ pub record IsNewLine (number : ℕ) (line : TableLine) : Type 0 where
 
 -- ---- the calls
 
--- Calls that write to one file. They fail only for this cause or where an armed fault struck. A
--- crash at any moment since they began leaves each other file as it was.
-pub record WritesInto {D : Type 0} (g : Ghosts D) (file : ℕ) (old new : D)
-    (has_failed cause : Type 0) : Type 0 where
-  pub kept : KeepsDisk g old new has_failed cause (IsSameBut file)
-  pub any_moment : g.is_honest old → AlwaysLeaves g old new (IsLeftAt (g.state old) file
-      (λ left. Unit {0}))
-
 -- the entry was added behind these, or with it they would pass the limit of a table's data
 abbrev pub HasAddedOne : List Entry → Entry → Slot → Builder → Bool → Type 0
 HasAddedOne entries entry slot builder true = Builds slot builder (entries ++ entry ∷ [])

@@ -1,17 +1,18 @@
 //! Open tables, level by level, and lookups in them.
 ghost use Rattle.std.specs.Prelude.{◌≡◌, ◌⊎◌, ◌↔◌, ℕ, List, IfOk, IfErr, IsTrue, MatchResult};
-ghost use Rattle.std.specs.Prelude.{◌<◌, All, OnOk, Some, slice_index};
+ghost use Rattle.std.specs.Prelude.{◌<◌, All, IsErrOf, OnOk, Some, slice_index};
 ghost use Rattle.std.specs.List.{prefix_len};
 ghost use Rattle.std.specs.Prelude.{Contains, [], ◌∷◌, ◌++◌};
 ghost use Rattle.bloom.specs.{hashes_of};
-ghost use Rattle.disk.specs.{IsSame, IsStill, KeepsDisk, Slot, State, contents};
+ghost use Rattle.disk.specs.{IsEnvironmental, IsSame, IsStill, KeepsDisk, Slot, State, contents};
 ghost use Rattle.kv_types.specs.{Entry};
 ghost use Rattle.kv_types.specs.Pages.{IsWithin};
 ghost use Rattle.merge_iter.specs.{AreDisjoint, AreSound, IsAlike, union_of};
 ghost use Rattle.sorted_table.specs.{TableServes, greatest_key, index_lines, last_line_key};
 ghost use Rattle.store_model.specs.{AreLeveled, FitsRange, LevelTable, RangeHolds};
 ghost use Rattle.store_model.specs.{level_entries, tables_entries};
-ghost use Rattle.store_tables.specs.Errors.{FailsDevice, IsEnd, IsEngineExternal};
+ghost use Rattle.store_tables.specs.declared.error.EngineError.TheVariants.{Disk, Memory};
+ghost use Rattle.store_tables.specs.Errors.{IsEnd};
 ghost use Rattle.store_tables.specs.LevelTables.{AreServed, AreTablesOf, EntriesFind, FileFits};
 ghost use Rattle.store_tables.specs.LevelTables.{IsServed, IsTableOf, LevelsRise, TablesFind};
 ghost use Rattle.store_tables.specs.LevelTables.{IsTableAsMeant, WasServed, WereServed};
@@ -30,17 +31,16 @@ use sorted_table::{FoundVersion, Table};
 use std::alloc::Global;
 use store_cursors::StoreCursor;
 use table_files::Files;
-use table_format::TableError;
+use table_format::FileError;
 
-impl From<TableError> for EngineError {
+impl From<FileError> for EngineError {
     ghost from_gives = { λ t e. e ≡ error_of_table t };
 
-    fn from(e: TableError) -> EngineError {
+    fn from(e: FileError) -> EngineError {
         match e {
-            TableError::Disk => EngineError::Disk,
-            TableError::Damaged => EngineError::Damaged,
-            TableError::Memory => EngineError::Memory,
-            TableError::Order | TableError::TooLarge | TableError::Failed => EngineError::Failed,
+            FileError::Disk => EngineError::Disk,
+            FileError::Damaged => EngineError::Damaged,
+            FileError::Memory => EngineError::Memory,
         }
     }
 }
@@ -73,10 +73,11 @@ impl OpenTable {
         disk: &mut D,
         line: &TableLine,
     ) -> Result<OpenTable, EngineError>
-        ensures kept { KeepsDisk D.Disk disk.old disk.new (FailsDevice result) ⊥ IsSame }
+        ensures kept { KeepsDisk D.Disk disk.old disk.new (IsErrOf result Disk) ⊥ IsSame }
         ensures opened { (table : LevelTable) → D.is_honest disk.old →
             IsTableOf (contents (D.state disk.old)) line.now table →
-            MatchResult result (λ it. IsServed (D.state disk.new) it table) IsEngineExternal }
+            MatchResult result (λ it. IsServed (D.state disk.new) it table)
+            (IsEnvironmental Disk Memory) }
         ensures meant { (meant : State) (table : LevelTable) → D.is_honest disk.old →
             IsTableOf (contents meant) line.now table →
             IsTableAsMeant (D.state disk.old line.now.file) (meant line.now.file) →
@@ -84,7 +85,7 @@ impl OpenTable {
         ensures line { IfOk result (λ it. it.line ≡ line.now) }
         ensures fits { D.is_honest disk.old → MatchResult result
             (λ _. FileFits (contents (D.state disk.old)) line.now)
-            (λ e. FileFits (contents (D.state disk.old)) line.now → IsEngineExternal e) }
+            (λ e. FileFits (contents (D.state disk.old)) line.now → IsEnvironmental Disk Memory e) }
         ensures causes { IfErr result IsEnd }
         ensures still { IsStill D.Disk disk.old disk.new }
     {
@@ -141,7 +142,7 @@ impl OpenTable {
         at: Number,
     ) -> Result<Option<FoundVersion>, EngineError>
         requires { hashes ≡ hashes_of key.now }
-        ensures kept { KeepsDisk ⟦<Files<D> as Disk>⟧ files.old files.new (FailsDevice result) ⊥
+        ensures kept { KeepsDisk ⟦<Files<D> as Disk>⟧ files.old files.new (IsErrOf result Disk) ⊥
             IsSame }
         ensures found { (meant : State) (table : LevelTable) →
             ⟦<Files<D> as Disk>⟧.is_honest files.old →
@@ -150,7 +151,7 @@ impl OpenTable {
             IfOk result (EntriesFind at (Contains table.entries) key.now) }
         ensures intact { (table : LevelTable) → ⟦<Files<D> as Disk>⟧.is_honest files.old →
             IsServed (⟦<Files<D> as Disk>⟧.state files.old) self.now table →
-            IfErr result IsEngineExternal }
+            IfErr result (IsEnvironmental Disk Memory) }
         ensures causes { IfErr result IsEnd }
         ensures still { IsStill ⟦<Files<D> as Disk>⟧ files.old files.new }
     {
@@ -197,10 +198,11 @@ impl LevelTables {
         disk: &mut D,
         lines: &[TableLine],
     ) -> Result<LevelTables, EngineError>
-        ensures kept { KeepsDisk D.Disk disk.old disk.new (FailsDevice result) ⊥ IsSame }
+        ensures kept { KeepsDisk D.Disk disk.old disk.new (IsErrOf result Disk) ⊥ IsSame }
         ensures opened { (tables : List LevelTable) → D.is_honest disk.old →
             AreTablesOf (contents (D.state disk.old)) lines.now tables →
-            MatchResult result (λ it. AreServed (D.state disk.new) it tables) IsEngineExternal }
+            MatchResult result (λ it. AreServed (D.state disk.new) it tables)
+            (IsEnvironmental Disk Memory) }
         ensures meant { (meant : State) (tables : List LevelTable) → D.is_honest disk.old →
             AreTablesOf (contents meant) lines.now tables →
             All (λ line. IsTableAsMeant (D.state disk.old line.file) (meant line.file)) lines.now →
@@ -208,7 +210,8 @@ impl LevelTables {
         ensures lines { IfOk result (λ it. table_lines it ≡ lines.now) }
         ensures fits { D.is_honest disk.old → MatchResult result
             (λ _. All (FileFits (contents (D.state disk.old))) lines.now)
-            (λ e. All (FileFits (contents (D.state disk.old))) lines.now → IsEngineExternal e) }
+            (λ e. All (FileFits (contents (D.state disk.old))) lines.now →
+            IsEnvironmental Disk Memory e) }
         ensures causes { IfErr result IsEnd }
         ensures still { IsStill D.Disk disk.old disk.new }
     {
@@ -271,7 +274,7 @@ impl LevelTables {
         key: &StoredKey,
         at: Number,
     ) -> Result<Option<FoundVersion>, EngineError>
-        ensures kept { KeepsDisk ⟦<Files<D> as Disk>⟧ files.old files.new (FailsDevice result) ⊥
+        ensures kept { KeepsDisk ⟦<Files<D> as Disk>⟧ files.old files.new (IsErrOf result Disk) ⊥
             IsSame }
         ensures found { (meant : State) (tables : List LevelTable) (flushed : ℕ) →
             ⟦<Files<D> as Disk>⟧.is_honest files.old →
@@ -280,7 +283,7 @@ impl LevelTables {
             IfOk result (TablesFind at tables key.now) }
         ensures intact { (tables : List LevelTable) → ⟦<Files<D> as Disk>⟧.is_honest files.old →
             AreServed (⟦<Files<D> as Disk>⟧.state files.old) self.now tables →
-            IfErr result IsEngineExternal }
+            IfErr result (IsEnvironmental Disk Memory) }
         ensures causes { IfErr result IsEnd }
         ensures still { IsStill ⟦<Files<D> as Disk>⟧ files.old files.new }
     {

@@ -1,7 +1,8 @@
 //! Writing a table from the entries of a memtable.
 ghost use Rattle.std.specs.Prelude.{◌≡◌, ◌≤◌, List, [], IfErr, IsNone, MatchOption, MatchResult};
-ghost use Rattle.std.specs.Prelude.{IfOk, OnOk};
-ghost use Rattle.disk.specs.{AlwaysLeaves, IsLeftAt, IsSameBut, KeepsDisk, seen};
+ghost use Rattle.std.specs.Prelude.{IfOk, IsErrOf, OnOk};
+ghost use Rattle.disk.specs.{AlwaysLeaves, IsEnvironmental, IsLeftAt, IsSameBut, KeepsDisk, seen};
+ghost use Rattle.disk.specs.{WritesInto};
 ghost use Rattle.kv_types.specs.declared.bounds.TheConstants.{MAX_NUMBER};
 ghost use Rattle.kv_types.specs.{Entry};
 ghost use Rattle.merge_iter.specs.{IfOn, IsOn};
@@ -10,11 +11,12 @@ ghost use Rattle.memtable.specs.declared.Memtable.{Memtable};
 ghost use Rattle.memtable.specs.{HasFailedAdd, TableHolds};
 ghost use Rattle.table_format.specs.{CanFollow, IsTableEntry, lent_entry};
 ghost use Rattle.table_builder.specs.{Builds, BuildsNothing, HoldsEntries, IsFresh, builder_file};
-ghost use Rattle.store_tables.specs.Errors.{FailsDevice, IsEnd, IsEngineExternal};
+ghost use Rattle.store_tables.specs.declared.error.EngineError.TheVariants.{Disk, Memory};
+ghost use Rattle.store_tables.specs.Errors.{IsEnd};
 ghost use Rattle.store_tables.specs.TableWriting.{HasEntry, IsTooLarge, IsWrittenTable};
 ghost use Rattle.store_tables.specs.TableWriting.{BuildsAll, HasAddedAll, HasAddedOne};
 ghost use Rattle.store_tables.specs.TableWriting.{HoldsOneMore};
-ghost use Rattle.store_tables.specs.TableWriting.{IsNewLine, IsRoomAnswer, WritesInto};
+ghost use Rattle.store_tables.specs.TableWriting.{IsNewLine, IsRoomAnswer};
 ghost use Rattle.store_tables.specs.TableWriting.{error_of_writing};
 ghost use Rattle.store_tables.specs.TableWriting.{finished_line};
 
@@ -51,13 +53,13 @@ fn add_one<D: Disk>(
 ) -> Result<bool, EngineError>
     requires { IsTableEntry (lent_entry entry) }
     ensures writes { WritesInto D.Disk (builder_file builder.old) disk.old disk.new
-        (FailsDevice result) (BuildsNothing builder.old) }
+        (IsErrOf result Disk) (BuildsNothing builder.old) }
     ensures file { OnOk result (builder_file builder.new ≡ builder_file builder.old) }
     ensures added { (entries : List Entry) → D.is_honest disk.old →
         Builds (D.state disk.old (builder_file builder.old)) builder.old entries →
         CanFollow entries (lent_entry entry.entry) → MatchResult result
         (HasAddedOne entries (lent_entry entry.entry) (D.state disk.new (builder_file builder.old))
-        builder.new) IsEngineExternal }
+        builder.new) (IsEnvironmental Disk Memory) }
     ensures held { (entries : List Entry) → HoldsEntries builder.old entries →
         CanFollow entries (lent_entry entry.entry) →
         IfOk result (HoldsOneMore entries (lent_entry entry.entry) builder.new) }
@@ -91,13 +93,13 @@ fn add_all<'a, D: Disk>(
     cursor: &mut MemCursor<'a>,
 ) -> Result<bool, EngineError>
     ensures writes { WritesInto D.Disk (builder_file builder.old) disk.old disk.new
-        (FailsDevice result) (D.is_honest disk.old ×
+        (IsErrOf result Disk) (D.is_honest disk.old ×
         Builds (D.state disk.old (builder_file builder.old)) builder.old [] → ⊥) }
     ensures file { OnOk result (builder_file builder.new ≡ builder_file builder.old) }
     ensures added { D.is_honest disk.old →
         Builds (D.state disk.old (builder_file builder.old)) builder.old [] → MatchResult result
         (HasAddedAll (⟦<MemCursor<'a> as Cursor>⟧.holds tt cursor.old tt)
-        (D.state disk.new (builder_file builder.old)) builder.new) IsEngineExternal }
+        (D.state disk.new (builder_file builder.old)) builder.new) (IsEnvironmental Disk Memory) }
     ensures room { HoldsEntries builder.old [] →
         IfOk result (IsRoomAnswer (⟦<MemCursor<'a> as Cursor>⟧.holds tt cursor.old tt)) }
     ensures causes { IfErr result IsEnd }
@@ -122,13 +124,13 @@ fn add_memtable<D: Disk>(
 ) -> Result<bool, EngineError>
     requires { HasFailedAdd memtable.now → ⊥ }
     ensures writes { WritesInto D.Disk (builder_file builder.old) disk.old disk.new
-        (FailsDevice result) (D.is_honest disk.old ×
+        (IsErrOf result Disk) (D.is_honest disk.old ×
         Builds (D.state disk.old (builder_file builder.old)) builder.old [] → ⊥) }
     ensures file { OnOk result (builder_file builder.new ≡ builder_file builder.old) }
     ensures added { D.is_honest disk.old →
         Builds (D.state disk.old (builder_file builder.old)) builder.old [] → MatchResult result
         (HasAddedAll (TableHolds memtable.now) (D.state disk.new (builder_file builder.old))
-        builder.new) IsEngineExternal }
+        builder.new) (IsEnvironmental Disk Memory) }
     ensures room { HoldsEntries builder.old [] →
         IfOk result (IsRoomAnswer (TableHolds memtable.now)) }
     ensures causes { IfErr result IsEnd }
@@ -166,11 +168,12 @@ fn finish_table<D: Disk>(
 ) -> Result<TableLine, EngineError>
     requires file { builder_file builder ≡ file }
     requires named { file ≤ MAX_NUMBER }
-    ensures writes { WritesInto D.Disk file disk.old disk.new (FailsDevice result)
+    ensures writes { WritesInto D.Disk file disk.old disk.new (IsErrOf result Disk)
         (BuildsNothing builder) }
     ensures written { (memtable : Memtable) → HasEntry memtable → D.is_honest disk.old →
         BuildsAll (TableHolds memtable) (D.state disk.old file) builder →
-        MatchResult result (IsWrittenTable (D.state disk.new) memtable file) IsEngineExternal }
+        MatchResult result (IsWrittenTable (D.state disk.new) memtable file)
+        (IsEnvironmental Disk Memory) }
     ensures line { IfOk result (IsNewLine file) }
     ensures causes { IfErr result IsEnd }
 {
@@ -185,9 +188,10 @@ fn finish_table<D: Disk>(
 
 // Removes a file, if there is one.
 fn remove_file<D: Disk>(disk: &mut D, file: u64) -> Result<(), EngineError>
-    ensures writes { WritesInto D.Disk file disk.old disk.new (FailsDevice result) ⊥ }
+    ensures writes { WritesInto D.Disk file disk.old disk.new (IsErrOf result Disk) ⊥ }
     ensures removed { D.is_honest disk.old →
-        MatchResult result (λ _. IsNone (seen (D.state disk.new file))) IsEngineExternal }
+        MatchResult result (λ _. IsNone (seen (D.state disk.new file)))
+        (IsEnvironmental Disk Memory) }
     ensures causes { IfErr result IsEnd }
 {
     match disk.remove(file) {
@@ -207,12 +211,12 @@ pub fn write_table<D: Disk>(
     requires works { HasFailedAdd memtable.now → ⊥ }
     requires some { HasEntry memtable.now }
     requires named { file ≤ MAX_NUMBER }
-    ensures kept { KeepsDisk D.Disk disk.old disk.new (FailsDevice result)
+    ensures kept { KeepsDisk D.Disk disk.old disk.new (IsErrOf result Disk)
         (D.is_honest disk.old × IsFresh (D.state disk.old file) [] → ⊥) (IsSameBut file) }
     ensures written { D.is_honest disk.old → IsFresh (D.state disk.old file) [] →
         MatchResult result (λ line. MatchOption line
         (IsTooLarge memtable.now × IsNone (seen (D.state disk.new file)))
-        (IsWrittenTable (D.state disk.new) memtable.now file)) IsEngineExternal }
+        (IsWrittenTable (D.state disk.new) memtable.now file)) (IsEnvironmental Disk Memory) }
     ensures line { MatchResult result
         (λ line. MatchOption line (IsTooLarge memtable.now) (IsNewLine file)) IsEnd }
 

@@ -1,12 +1,14 @@
 -- What a builder holds of its entries, and one entry further on.
 use Rattle.std.proofs.Common.{◌≡◌, ◌+◌, ◌*◌, ◌≤◌, ◌<◌}
+use Rattle.disk.specs.{IsEnvironmental}
 use Rattle.std.proofs.Common.{List, [], ◌∷◌, ◌++◌, length, Option, IfSome}
 use Rattle.std.proofs.Common.{inl, inr, sym, ap, subst, ◌∙◌, arith, length-append}
 use Rattle.std.proofs.lemmas.List.Elements.{All-push, recursion_from_All}
 use Rattle.kv_types.specs.{Entry}
-use Rattle.table_format.specs.declared.TableError.{TableError}
+use Rattle.table_format.specs.declared.FileError.TheVariants as reading
+use Rattle.table_format.specs.declared.FileError.{FileError}
 use Rattle.table_format.specs.declared.sizes.TheConstants.{BLOCK_SIZE, MAX_DATA}
-use Rattle.table_format.specs.{IsEnvironmentError, IsTableEntry, block_content}
+use Rattle.table_format.specs.{IsTableEntry, block_content, table_error}
 use Rattle.table_format.specs.{block_lines, entries_of_blocks, entry_bytes, line_bytes}
 use Rattle.table_format.specs.FrontsLemmas.{length-block_content, length-block_part}
 use Rattle.table_format.specs.RisingLemmas.{last_push, rising_push}
@@ -114,9 +116,10 @@ held_more old new entries entry h is can knows parts works = record {
 }
 
 -- an error of the environment refuses any entry
-pub refused : (e : TableError) (entries : List Entry) (entry : Entry) → IsEnvironmentError e
-    → AddRefusal e entries entry
+pub refused : (e : FileError) (entries : List Entry) (entry : Entry) →
+    IsEnvironmental reading.Disk reading.Memory e
+    → AddRefusal (table_error e) entries entry
 refused e entries entry (inl is) =
-    subst (λ (x : TableError). AddRefusal x entries entry) (sym is) tt
+    subst (λ (x : FileError). AddRefusal (table_error x) entries entry) (sym is) tt
 refused e entries entry (inr is) =
-    subst (λ (x : TableError). AddRefusal x entries entry) (sym is) tt
+    subst (λ (x : FileError). AddRefusal (table_error x) entries entry) (sym is) tt

@@ -1,14 +1,12 @@
 -- The steps of a builder: an entry is checked, a block is closed, the table is ended.
 use Rattle.std.specs.Prelude.{◌≡◌, ℕ, ◌<◌, ◌≤◌, ◌*◌, ◌+◌, ◌^◌, List, [], ◌∷◌, ◌++◌, length, All}
-use Rattle.std.specs.Prelude.{IfErr, Result, Ok, Err}
-use Rattle.disk.specs.declared.Disk.{Ghosts}
-use Rattle.disk.specs.{AlwaysLeaves, IsLeftAt, IsSameBut, KeepsDisk}
+use Rattle.std.specs.Prelude.{Result, Ok, Err}
 use Rattle.kv_types.specs.{Entry}
 use Rattle.table_format.specs.declared.TableError.{TableError}
 use Rattle.table_format.specs.declared.TableError.TheVariants as table
 use Rattle.table_format.specs.declared.sizes.TheConstants.{MAX_DATA}
-use Rattle.table_format.specs.{AreRising, Block, CanFollow, IsBuilderError, IsTableEntry}
-use Rattle.table_format.specs.{ReportsDevice, block_bytes, block_entries, data_bytes}
+use Rattle.table_format.specs.{AreRising, Block, CanFollow, IsTableEntry}
+use Rattle.table_format.specs.{block_bytes, block_entries, data_bytes}
 use Rattle.table_format.specs.{block_lines, entries_of_blocks, entry_bytes, line_bytes}
 use Rattle.table_builder.specs.declared.builder.Builder.{Builder}
 use Rattle.table_builder.specs.Builders.{HasBuilderFailed, HoldsBlocks}
@@ -76,14 +74,3 @@ pub record CanEnd (it : Builder) (blocks : List Block) (entries : List Entry) : 
   pub size : length (data_bytes blocks) ≤ MAX_DATA
   pub small : All (λ block. length (block_bytes block) < 2 ^ 32) blocks
   pub long : 4104 * length blocks ≤ length (data_bytes blocks) + 4104
-
--- ---- the device
-
--- A call that writes to one file. It refuses no entry, and fails only for this cause or where an
--- armed fault struck. A crash in it leaves the other files as they were.
-pub record WritesFile {D T : Type 0} (g : Ghosts D) (file : ℕ) (old new : D)
-    (result : Result T TableError) (cause : Type 0) : Type 0 where
-  pub kept : KeepsDisk g old new (ReportsDevice result) cause (IsSameBut file)
-  pub not_own : IfErr result (λ e. IsBuilderError e → ⊥)
-  pub any_moment : g.is_honest old → AlwaysLeaves g old new (IsLeftAt (g.state old) file
-      (λ left. Unit {0}))

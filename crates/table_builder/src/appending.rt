@@ -3,10 +3,10 @@ ghost use Rattle.table_builder.specs.Calls.{AppendsBytes};
 ghost use Rattle.table_builder.specs.Fresh.{IsFresh, IsSynced};
 
 use disk::Disk;
-use table_format::TableError;
+use table_format::FileError;
 
 /// Appends bytes.
-pub fn append<D: Disk>(disk: &mut D, file: u64, at: u64, bytes: &[u8]) -> Result<(), TableError>
+pub fn append<D: Disk>(disk: &mut D, file: u64, at: u64, bytes: &[u8]) -> Result<(), FileError>
     ensures { AppendsBytes D.Disk file at bytes.now IsFresh disk.old disk.new result }
 {
     disk.write_at(file, at, bytes)?;
@@ -19,7 +19,7 @@ pub fn append_last<D: Disk>(
     file: u64,
     at: u64,
     bytes: &[u8],
-) -> Result<(), TableError>
+) -> Result<(), FileError>
     ensures { AppendsBytes D.Disk file at bytes.now IsSynced disk.old disk.new result }
 {
     disk.write_at(file, at, bytes)?;

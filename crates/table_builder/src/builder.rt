@@ -8,7 +8,7 @@ use disk::Disk;
 use kv_types::StoredKey;
 use std::alloc::{AllocError, Global};
 use table_format::sizes::{BLOCK_SIZE, MAX_DATA};
-use table_format::{IndexLine, LentEntry, TableError, entry_len};
+use table_format::{FileError, IndexLine, LentEntry, TableError, entry_len};
 
 /// The bytes of a digest.
 const DIGEST_SIZE: usize = 8;
@@ -36,16 +36,17 @@ pub struct Finished {
 
 impl Builder {
     ghost use Rattle.std.specs.Prelude.{◌≡◌, ◌≤◌, ◌<◌, ◌+◌, ◌^◌, ℕ, List, [], ◌∷◌, ◌++◌, length};
-    ghost use Rattle.std.specs.Prelude.{IfErr, IfOk, MatchResult, OnOk};
-    ghost use Rattle.disk.specs.{Slot};
+    ghost use Rattle.std.specs.Prelude.{IfErr, IfOk, IsErrOf, MatchResult, OnOk};
+    ghost use Rattle.disk.specs.{IsEnvironmental, Slot, WritesInto};
     ghost use Rattle.kv_types.specs.{Entry};
-    ghost use Rattle.table_format.specs.{Block, IsEnvironmentError, IsTableEntry, TableRepresents};
+    ghost use Rattle.table_format.specs.declared.FileError.TheVariants.{Disk, Memory};
+    ghost use Rattle.table_format.specs.{Block, IsTableEntry, TableRepresents};
     ghost use Rattle.table_format.specs.{data_bytes, entry_bytes, lent_entry};
     ghost use Rattle.table_builder.specs.Builders.{AddRefusal, Builds, HoldsDivision, HoldsEntries};
     ghost use Rattle.table_builder.specs.Builders.{IsFinishedTable, builder_file, entry_count};
     ghost use Rattle.table_builder.specs.Calls.{AddsEntry, FinishesTable, WritesBlocks};
     ghost use Rattle.table_builder.specs.Closing.{CanAdd, CanClose, CanEnd, CheckStatus};
-    ghost use Rattle.table_builder.specs.Closing.{HasClosed, HasSealed, KeepsKeys, WritesFile};
+    ghost use Rattle.table_builder.specs.Closing.{HasClosed, HasSealed, KeepsKeys};
     ghost use Rattle.table_builder.specs.Divisions.{Division, data_size, division};
     ghost use Rattle.table_builder.specs.Divisions.{finished_blocks, with_entry};
     ghost use Rattle.table_builder.specs.Fresh.{IsFresh};
@@ -165,8 +166,9 @@ impl Builder {
     }
 
     // Writes the open block behind the others.
-    fn close<D: Disk>(&mut self, alloc: Global, disk: &mut D) -> Result<(), TableError>
-        ensures device { WritesFile D.Disk (builder_file self.old) disk.old disk.new result
+    fn close<D: Disk>(&mut self, alloc: Global, disk: &mut D) -> Result<(), FileError>
+        ensures device { WritesInto D.Disk (builder_file self.old) disk.old disk.new
+            (IsErrOf result Disk)
             ((blocks : List Block) (one : Block) → CanClose self.old blocks one → ⊥) }
         ensures keys { KeepsKeys self.old self.new }
         ensures closed { (blocks : List Block) (one : Block) → CanClose self.old blocks one →
@@ -184,8 +186,9 @@ impl Builder {
     }
 
     // Closes the open block if it is full.
-    fn close_full<D: Disk>(&mut self, alloc: Global, disk: &mut D) -> Result<(), TableError>
-        ensures device { WritesFile D.Disk (builder_file self.old) disk.old disk.new result
+    fn close_full<D: Disk>(&mut self, alloc: Global, disk: &mut D) -> Result<(), FileError>
+        ensures device { WritesInto D.Disk (builder_file self.old) disk.old disk.new
+            (IsErrOf result Disk)
             ((blocks : List Block) (one : Block) → CanClose self.old blocks one → ⊥) }
         ensures keys { KeepsKeys self.old self.new }
         ensures closed { (parts : Division) (entry : Entry) →
@@ -223,8 +226,9 @@ impl Builder {
     }
 
     // Closes the open block if it has entries.
-    fn close_rest<D: Disk>(&mut self, alloc: Global, disk: &mut D) -> Result<(), TableError>
-        ensures device { WritesFile D.Disk (builder_file self.old) disk.old disk.new result
+    fn close_rest<D: Disk>(&mut self, alloc: Global, disk: &mut D) -> Result<(), FileError>
+        ensures device { WritesInto D.Disk (builder_file self.old) disk.old disk.new
+            (IsErrOf result Disk)
             ((entries : List Entry) → HoldsEntries self.old entries → ⊥) }
         ensures file { self.new.file ≡ self.old.file }
         ensures closed { (entries : List Entry) → HoldsEntries self.old entries →
@@ -241,9 +245,8 @@ impl Builder {
     }
 
     // The bytes behind the blocks: filter, index and footer.
-    fn tail(&mut self, alloc: Global) -> Result<Vec<u8>, TableError>
+    fn tail(&mut self, alloc: Global) -> Result<Vec<u8>, AllocError>
         ensures keys { self.new.keys ≡ self.old.keys }
-        ensures memory { IfErr result (λ e. e ≡ TableError.Memory) }
         ensures tail { (blocks : List Block) (entries : List Entry)
             → CanEnd self.old blocks entries →
             IfOk result (λ tail.
@@ -257,14 +260,15 @@ impl Builder {
     }
 
     // Writes what stands behind the blocks, and makes the file durable.
-    fn end<D: Disk>(mut self, alloc: Global, disk: &mut D) -> Result<Finished, TableError>
-        ensures device { WritesFile D.Disk (builder_file self) disk.old disk.new result
+    fn end<D: Disk>(mut self, alloc: Global, disk: &mut D) -> Result<Finished, FileError>
+        ensures device { WritesInto D.Disk (builder_file self) disk.old disk.new
+            (IsErrOf result Disk)
             ((blocks : List Block) (entries : List Entry) → CanEnd self blocks entries → ⊥) }
         ensures ended { (blocks : List Block) (entries : List Entry) → CanEnd self blocks entries →
             D.is_honest disk.old →
             IsFresh (D.state disk.old (builder_file self)) (data_bytes blocks) →
             MatchResult result (IsFinishedTable (D.state disk.new (builder_file self)) entries)
-            IsEnvironmentError }
+            (IsEnvironmental Disk Memory) }
     {
         let (file, place) = (self.file, self.written);
         let tail = self.tail(alloc)?;
@@ -288,6 +292,6 @@ impl Builder {
             return Err(TableError::Failed);
         }
         self.close_rest(alloc, disk)?;
-        self.end(alloc, disk)
+        Ok(self.end(alloc, disk)?)
     }
 }

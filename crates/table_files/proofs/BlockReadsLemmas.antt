@@ -12,8 +12,8 @@ use Rattle.disk.specs.{State, seen}
 use Rattle.disk.specs.Calls.{IsRefusalOf}
 use Rattle.disk.specs.declared.DiskError.{DiskError}
 use Rattle.disk.specs.declared.DiskError.TheVariants.{Failed, NoFile, Short, Memory}
-use Rattle.table_format.specs.{IsBlock, IsCheckedBlock, table_error}
-use Rattle.table_format.specs.declared.TableError.{TableError}
+use Rattle.table_format.specs.{IsBlock, IsCheckedBlock, file_error}
+use Rattle.table_format.specs.declared.FileError.{FileError}
 use Rattle.table_files.specs.BlockReads.{IsPartAt, BlockAnswer}
 
 -- what never holds has one proof at most
@@ -71,14 +71,14 @@ short_file (Some bytes) place part short at checked =
 
 -- what a refused read says
 pub refused : (e : DiskError) (disk : State) (file place len : ℕ)
-    (result : Result (RcSlice ℕ Global) TableError) → result ≡ Err (table_error e)
+    (result : Result (RcSlice ℕ Global) FileError) → result ≡ Err (file_error e)
     → IsRefusalOf e disk file (place + len) → BlockAnswer disk file place len result
 refused e disk file place len result is refusal =
-    subst (λ (r : Result (RcSlice ℕ Global) TableError). BlockAnswer disk file place len r)
+    subst (λ (r : Result (RcSlice ℕ Global) FileError). BlockAnswer disk file place len r)
     (sym is) (answer e refusal)
   where
     answer : (e : DiskError) → IsRefusalOf e disk file (place + len)
-        → BlockAnswer disk file place len (Err (table_error e))
+        → BlockAnswer disk file place len (Err (file_error e))
     answer Failed refusal = tt
     answer NoFile refusal = λ part length at. no_file (seen (disk file)) place part refusal at.0
     answer Short refusal = λ part len_is at.

@@ -7,11 +7,11 @@ use Rattle.std.specs.Option.{option_map}
 use Rattle.std.specs.Rc.{rc_slice_items}
 use Rattle.std.specs.declared.rc.RcSlice.{RcSlice}
 use Rattle.std.specs.Global.{Global}
-use Rattle.disk.specs.{State, seen}
+use Rattle.disk.specs.{IsEnvironmental, State, seen}
 use Rattle.kv_types.specs.{Entry}
-use Rattle.table_format.specs.{IsBlock, IsCheckedBlock, IsEnvironmentError}
-use Rattle.table_format.specs.declared.TableError.{TableError}
-use Rattle.table_format.specs.declared.TableError.TheVariants as table
+use Rattle.table_format.specs.{IsBlock, IsCheckedBlock}
+use Rattle.table_format.specs.declared.FileError.{FileError}
+use Rattle.table_format.specs.declared.FileError.TheVariants as reading
 use Rattle.table_files.specs.declared.cache.BlockCache.{BlockCache}
 use Rattle.table_files.specs.Caches.{CacheHolds}
 
@@ -32,16 +32,13 @@ AreBlocksAt disk cache = (file place : ℕ) (part : List ℕ) → CacheHolds cac
 
 -- The answers of a read of a block of this length: the block that the file has there, or `Damaged`
 -- where it has none.
-abbrev pub BlockAnswer : State → ℕ → ℕ → ℕ → Result (RcSlice ℕ Global) TableError → Type 0
+abbrev pub BlockAnswer : State → ℕ → ℕ → ℕ → Result (RcSlice ℕ Global) FileError → Type 0
 BlockAnswer disk file place len (Ok block) =
     (length (rc_slice_items block) ≡ len) × IsBlockAt disk file place (rc_slice_items block)
-BlockAnswer disk file place len (Err table.Damaged) =
+BlockAnswer disk file place len (Err reading.Damaged) =
     (part : List ℕ) → length part ≡ len → IsBlockAt disk file place part → ⊥
-BlockAnswer disk file place len (Err table.Disk) = Unit {0}
-BlockAnswer disk file place len (Err table.Memory) = Unit {0}
-BlockAnswer disk file place len (Err table.Order) = ⊥
-BlockAnswer disk file place len (Err table.TooLarge) = ⊥
-BlockAnswer disk file place len (Err table.Failed) = ⊥
+BlockAnswer disk file place len (Err reading.Disk) = Unit {0}
+BlockAnswer disk file place len (Err reading.Memory) = Unit {0}
 
 -- ---- files whose bytes are known
 
@@ -49,11 +46,11 @@ BlockAnswer disk file place len (Err table.Failed) = ⊥
 -- block, but for the device and want of memory.
 abbrev pub KnownBlocksAreAnswered : Type 0
 KnownBlocksAreAnswered = (disk : State) (file place len : ℕ)
-    (result : Result (RcSlice ℕ Global) TableError) (bytes : List ℕ) (entries : List Entry) →
+    (result : Result (RcSlice ℕ Global) FileError) (bytes : List ℕ) (entries : List Entry) →
     BlockAnswer disk file place len result → seen (disk file) ≡ Some bytes →
     place + len ≤ length bytes → IsBlock (take len (drop place bytes)) entries →
     MatchResult result (λ block. rc_slice_items block ≡ take len (drop place bytes))
-    IsEnvironmentError
+    (IsEnvironmental reading.Disk reading.Memory)
 
 -- the part of this length that the file has there
 part_of : (file : Option (List ℕ)) (bytes part : List ℕ) (place len : ℕ) → file ≡ Some bytes →
@@ -75,18 +72,12 @@ is_part file bytes place len is size =
 pub known_block_answered : KnownBlocksAreAnswered
 known_block_answered disk file place len (Ok block) bytes entries answer is within known =
     part_of (seen (disk file)) bytes (rc_slice_items block) place len is answer.0 answer.1.0
-known_block_answered disk file place len (Err table.Damaged) bytes entries answer is within known =
+known_block_answered disk file place len (Err reading.Damaged) bytes entries answer is within known =
     let size : length (take len (drop place bytes)) ≡ len =
     omega (arith, within, length-take len (drop place bytes), length-drop place bytes) in
     absurd (answer (take len (drop place bytes)) size
     (is_part (seen (disk file)) bytes place len is size, ∣ (entries, known) ∣₁))
-known_block_answered disk file place len (Err table.Disk) bytes entries answer is within known =
+known_block_answered disk file place len (Err reading.Disk) bytes entries answer is within known =
     inl refl
-known_block_answered disk file place len (Err table.Memory) bytes entries answer is within known =
+known_block_answered disk file place len (Err reading.Memory) bytes entries answer is within known =
     inr refl
-known_block_answered disk file place len (Err table.Order) bytes entries answer is within known =
-    absurd answer
-known_block_answered disk file place len (Err table.TooLarge) bytes entries answer is within known =
-    absurd answer
-known_block_answered disk file place len (Err table.Failed) bytes entries answer is within known =
-    absurd answer

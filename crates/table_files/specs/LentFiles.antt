@@ -1,6 +1,6 @@
 -- What calls that only read make of a disk: a relation that adds up over any number of them.
 use Rattle.disk.specs.declared.Disk.{Ghosts}
-use Rattle.std.specs.Prelude.{◌≡◌, ◌↔◌, ◌⊎◌, ℕ, ◌-◌, ◌^◌, ◌<◌, ◌≤◌, List, length}
+use Rattle.std.specs.Prelude.{◌≡◌, ◌↔◌, ◌⊎◌, IsErrOf, ℕ, ◌-◌, ◌^◌, ◌<◌, ◌≤◌, List, length}
 use Rattle.std.specs.Prelude.{Option, Some, None}
 use Rattle.std.specs.Prelude.{Result, Ok, Err, IsSomeAnd}
 use Rattle.std.proofs.Common.{ap, inl, inr, refl, sym, subst, ◌∙◌, arith, ⊎_elim}
@@ -10,9 +10,8 @@ use Rattle.disk.specs.{HasStruck, HasStruckBy, RisesByOne, fault_of}
 use Rattle.disk.specs.{AllLeave}
 use Rattle.disk.specs.Moments.{AllLeave as later}
 use Rattle.disk.specs.StillLemmas.{still, still_more}
-use Rattle.table_format.specs.{ReportsDevice}
-use Rattle.table_format.specs.declared.TableError.{TableError}
-use Rattle.table_format.specs.declared.TableError.TheVariants as table
+use Rattle.table_format.specs.declared.FileError.{FileError}
+use Rattle.table_format.specs.declared.FileError.TheVariants as reading
 
 -- the count of failures shows that no call failed: it stayed, below its last value
 abbrev pub ShowsNoFailure : ℕ → ℕ → Type 0
@@ -133,17 +132,14 @@ module _ {D : Type 0} (g : Ghosts D) where
   }
 
 -- a call reports a failure of the device or not
-pub reports_or_not : {T : Type 0} (result : Result T TableError) →
-    ReportsDevice result ⊎ (ReportsDevice result → ⊥)
+pub reports_or_not : {T : Type 0} (result : Result T FileError) →
+    IsErrOf result reading.Disk ⊎ (IsErrOf result reading.Disk → ⊥)
 reports_or_not (Ok x) = inr (λ e. cc)
-reports_or_not (Err table.Disk) = inl refl
-reports_or_not (Err table.Damaged) = inr (λ e. cc)
-reports_or_not (Err table.Order) = inr (λ e. cc)
-reports_or_not (Err table.Memory) = inr (λ e. cc)
-reports_or_not (Err table.TooLarge) = inr (λ e. cc)
-reports_or_not (Err table.Failed) = inr (λ e. cc)
+reports_or_not (Err reading.Disk) = inl refl
+reports_or_not (Err reading.Damaged) = inr (λ e. cc)
+reports_or_not (Err reading.Memory) = inr (λ e. cc)
 
 -- so a call of `Files::block`, by its clauses `kept` and `still`
-pub keeps_files_after : {D T : Type 0} (g : Ghosts D) (a b : D) (result : Result T TableError) →
-    KeepsDisk g a b (ReportsDevice result) ⊥ IsSame → IsStill g a b → KeepsFiles g a b
+pub keeps_files_after : {D T : Type 0} (g : Ghosts D) (a b : D) (result : Result T FileError) →
+    KeepsDisk g a b (IsErrOf result reading.Disk) ⊥ IsSame → IsStill g a b → KeepsFiles g a b
 keeps_files_after g a b result k calm = keeps_files_by g a b (reports_or_not result) k calm

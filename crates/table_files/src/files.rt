@@ -1,8 +1,8 @@
 //! A disk with a cache of its blocks.
-ghost use Rattle.std.specs.Prelude.{◌≡◌, ◌<◌, ◌≤◌, IfErr, IfOk, length};
+ghost use Rattle.std.specs.Prelude.{◌≡◌, ◌<◌, ◌≤◌, IfErr, IfOk, IsErrOf, length};
 ghost use Rattle.std.specs.Rc.{rc_slice_items};
 ghost use Rattle.disk.specs.{IsSame, IsStill, KeepsDisk};
-ghost use Rattle.table_format.specs.{IsBuilderError, ReportsDevice};
+ghost use Rattle.table_format.specs.declared.FileError.TheVariants.{Disk};
 ghost use Rattle.table_files.specs.BlockReads.{AreBlocksAt, BlockAnswer};
 
 use crate::cache::BlockCache;
@@ -11,7 +11,7 @@ use disk::{Crash, Disk, DiskError, Fault, Junk};
 use std::alloc::{AllocFailed, Global};
 use std::num::NonZeroUsize;
 use std::rc::RcSlice;
-use table_format::TableError;
+use table_format::FileError;
 
 /// The most blocks that a cache keeps.
 pub const MAX_BLOCKS: usize = 65_536;
@@ -70,13 +70,12 @@ impl<D: Disk + Drop> Files<D> {
         file: u64,
         place: u64,
         len: usize,
-    ) -> Result<RcSlice<u8>, TableError>
-        ensures kept { KeepsDisk ⟦<Files<D> as Disk>⟧ self.old self.new (ReportsDevice result) ⊥
+    ) -> Result<RcSlice<u8>, FileError>
+        ensures kept { KeepsDisk ⟦<Files<D> as Disk>⟧ self.old self.new (IsErrOf result Disk) ⊥
             IsSame }
         ensures answers { ⟦<Files<D> as Disk>⟧.is_honest self.old →
             BlockAnswer (⟦<Files<D> as Disk>⟧.state self.old) file place len result }
         ensures len { IfOk result (λ block. length (rc_slice_items block) ≡ len) }
-        ensures refusals { IfErr result (λ e. IsBuilderError e → ⊥) }
         ensures still { IsStill ⟦<Files<D> as Disk>⟧ self.old self.new }
     {
         if let Some(block) = self.cache.get(file, place)? {

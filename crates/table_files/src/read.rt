@@ -1,14 +1,14 @@
 //! Reading a block of a file.
-ghost use Rattle.std.specs.Prelude.{◌≡◌, IfErr, IfOk, length};
+ghost use Rattle.std.specs.Prelude.{◌≡◌, IfErr, IfOk, IsErrOf, length};
 ghost use Rattle.std.specs.Rc.{rc_slice_items};
 ghost use Rattle.disk.specs.{IsSame, IsStill, KeepsDisk};
-ghost use Rattle.table_format.specs.{IsBuilderError, ReportsDevice};
+ghost use Rattle.table_format.specs.declared.FileError.TheVariants.{Disk};
 ghost use Rattle.table_files.specs.BlockReads.{BlockAnswer};
 
 use disk::Disk;
 use std::alloc::Global;
 use std::rc::RcSlice;
-use table_format::{TableError, entries_of};
+use table_format::{FileError, entries_of};
 
 /// The bytes from a place of the file on, if they are a block. It needs one device call.
 pub fn read_block<D: Disk>(
@@ -17,17 +17,16 @@ pub fn read_block<D: Disk>(
     file: u64,
     place: u64,
     len: usize,
-) -> Result<RcSlice<u8>, TableError>
-    ensures kept { KeepsDisk D.Disk disk.old disk.new (ReportsDevice result) ⊥ IsSame }
+) -> Result<RcSlice<u8>, FileError>
+    ensures kept { KeepsDisk D.Disk disk.old disk.new (IsErrOf result Disk) ⊥ IsSame }
     ensures answers { D.is_honest disk.old → BlockAnswer (D.state disk.old) file place len result }
     ensures len { IfOk result (λ block. length (rc_slice_items block) ≡ len) }
-    ensures refusals { IfErr result (λ e. IsBuilderError e → ⊥) }
     ensures still { IsStill D.Disk disk.old disk.new }
 {
     let mut bytes = vec![in alloc; 0u8; len]?;
     disk.read(file, place, &mut bytes)?;
     if entries_of(&bytes).is_none() {
-        return Err(TableError::Damaged);
+        return Err(FileError::Damaged);
     }
     Ok(RcSlice::from_vec(bytes)?)
 }

@@ -20,8 +20,7 @@ pub use Rattle.table_format.specs.Blocks.{IsCheckedBlock, last_entry}
 pub use Rattle.table_format.specs.Blocks.{IsStoredKey, IsTableEntry, be32, be64, block_content}
 pub use Rattle.table_format.specs.Blocks.{block_part, entries_bytes, entry_bytes, sealed}
 unfoldable pub use Rattle.table_format.specs.Blocks.{digest}
-pub use Rattle.table_format.specs.Errors.{IsBuilderError, IsEnvironmentError, ReportsDevice}
-pub use Rattle.table_format.specs.Errors.{table_error}
+pub use Rattle.table_format.specs.Errors.{file_error, table_error}
 pub use Rattle.table_format.specs.Parts.{FillsPlaces, IsFilterPart, IsFooter, IsIndex, IsIndexLine}
 pub use Rattle.table_format.specs.Parts.{ReadsPart, ReadsPartOr, end_spot}
 pub use Rattle.table_format.specs.Reading.{lent_entry}

@@ -4,8 +4,8 @@ use Rattle.std.specs.Prelude.{Option, Some, None, Result, Ok, Err}
 use Rattle.kv_types.specs.declared.bounds.TheConstants.{MAX_NUMBER}
 use Rattle.kv_types.specs.{Entry}
 use Rattle.merge_iter.specs.{spot}
-use Rattle.table_format.specs.declared.error.TableError.{TableError}
-use Rattle.table_format.specs.declared.error.TableError.TheVariants.{Memory, Damaged}
+use Rattle.table_format.specs.declared.error.FileError.{FileError}
+use Rattle.table_format.specs.declared.error.FileError.TheVariants.{Memory, Damaged}
 use Rattle.table_format.specs.declared.line.IndexLine.{IndexLine}
 use Rattle.table_format.specs.declared.footer.Footer.{Footer}
 use Rattle.table_format.specs.Blocks.{IsStoredKey, AreRising}
@@ -19,7 +19,7 @@ ReadsPart {A} Is view (Some x) = Is (view x) × ((a : A) → Is a → a ≡ view
 ReadsPart {A} Is view None = (a : A) → Is a → ⊥
 
 -- the same, unless memory runs out
-abbrev pub ReadsPartOr : {A X : Type 0} → (A → Type 0) → (X → A) → Result X TableError → Type 0
+abbrev pub ReadsPartOr : {A X : Type 0} → (A → Type 0) → (X → A) → Result X FileError → Type 0
 ReadsPartOr {A} Is view (Ok x) = Is (view x) × ((a : A) → Is a → a ≡ view x)
 ReadsPartOr {A} Is view (Err e) = (e ≡ Memory) ⊎ ((e ≡ Damaged) × ((a : A) → Is a → ⊥))
 

@@ -1,20 +1,60 @@
-//! The errors of tables.
+//! The errors of tables: of what reads or writes a table's file, and of a builder.
 ghost use Rattle.std.specs.Prelude.{◌≡◌};
-ghost use Rattle.table_format.specs.declared.error.TableError.TheVariants.{Memory};
-ghost use Rattle.table_format.specs.Errors.{table_error};
+ghost use Rattle.table_format.specs.declared.error.FileError.TheVariants.{Memory};
+ghost use Rattle.table_format.specs.declared.error.TableError.TheVariants as table;
+ghost use Rattle.table_format.specs.Errors.{file_error, table_error};
 
-use bloom::BloomError;
 use disk::DiskError;
 use std::alloc::{AllocError, AllocFailed};
 use thiserror::Error;
 
-/// Why a table was not built, opened or read. A builder answers `Failed` after `Disk`, `Damaged`
-/// and `Memory`.
+/// Why the file of a table was not opened, read or written. Its numbers are those of `TableError`.
+#[derive(Clone, Copy, Debug, PartialEq, Eq, Error)]
+pub enum FileError {
+    #[error("the device failed")]
+    Disk = 1,
+    /// The file does not exist, or its bytes represent no table.
+    #[error("the file is no table")]
+    Damaged = 2,
+    #[error("out of memory")]
+    Memory = 4,
+}
+
+impl From<DiskError> for FileError {
+    ghost from_gives = { λ d e. e ≡ file_error d };
+
+    fn from(e: DiskError) -> FileError {
+        match e {
+            DiskError::Failed => FileError::Disk,
+            DiskError::Memory => FileError::Memory,
+            DiskError::NoFile | DiskError::Short => FileError::Damaged,
+        }
+    }
+}
+
+impl From<AllocError> for FileError {
+    ghost from_gives = { λ _ e. e ≡ Memory };
+
+    fn from(_e: AllocError) -> FileError {
+        FileError::Memory
+    }
+}
+
+impl<T: Drop> From<AllocFailed<T>> for FileError {
+    ghost from_gives = { λ _ e. e ≡ Memory };
+
+    fn from(_e: AllocFailed<T>) -> FileError {
+        FileError::Memory
+    }
+}
+
+/// Why an entry was not added to a table, or the table was not finished. A builder answers
+/// `Failed` after `Disk`, `Damaged` and `Memory`.
 #[derive(Clone, Copy, Debug, PartialEq, Eq, Error)]
 pub enum TableError {
     #[error("the device failed")]
     Disk = 1,
-    /// The file does not exist, or its bytes represent no table.
+    /// The file lacks bytes that were written to it.
     #[error("the file is no table")]
     Damaged,
     /// The entry does not come behind the last that was added. The builder is unchanged.
@@ -30,38 +70,22 @@ pub enum TableError {
     Failed,
 }
 
-impl From<DiskError> for TableError {
-    ghost from_gives = { λ d e. e ≡ table_error d };
+impl From<FileError> for TableError {
+    ghost from_gives = { λ f e. e ≡ table_error f };
 
-    fn from(e: DiskError) -> TableError {
+    fn from(e: FileError) -> TableError {
         match e {
-            DiskError::Failed => TableError::Disk,
-            DiskError::Memory => TableError::Memory,
-            DiskError::NoFile | DiskError::Short => TableError::Damaged,
+            FileError::Disk => TableError::Disk,
+            FileError::Damaged => TableError::Damaged,
+            FileError::Memory => TableError::Memory,
         }
     }
 }
 
 impl From<AllocError> for TableError {
-    ghost from_gives = { λ _ e. e ≡ Memory };
+    ghost from_gives = { λ _ e. e ≡ table.Memory };
 
     fn from(_e: AllocError) -> TableError {
-        TableError::Memory
-    }
-}
-
-impl<T: Drop> From<AllocFailed<T>> for TableError {
-    ghost from_gives = { λ _ e. e ≡ Memory };
-
-    fn from(_e: AllocFailed<T>) -> TableError {
-        TableError::Memory
-    }
-}
-
-impl From<BloomError> for TableError {
-    ghost from_gives = { λ _ e. e ≡ Memory };
-
-    fn from(_e: BloomError) -> TableError {
         TableError::Memory
     }
 }

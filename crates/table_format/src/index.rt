@@ -4,7 +4,7 @@ ghost use Rattle.table_format.specs.Blocks.{CanFollow};
 ghost use Rattle.table_format.specs.Parts.{ReadsPartOr, IsIndex, end_spot};
 ghost use Rattle.table_format.specs.Reading.{lent_line};
 
-use crate::TableError;
+use crate::FileError;
 use crate::line::{IndexLine, LentLine, copied, line_of};
 use crate::part::unsealed;
 use byte_fields::read_u32;
@@ -23,31 +23,31 @@ fn rises(lines: &[IndexLine], line: LentLine) -> bool
 }
 
 /// The lines of an index, if the bytes are one whose blocks fill the file up to this place.
-pub fn lines_of(alloc: Global, part: &[u8], end: u64) -> Result<Vec<IndexLine>, TableError>
+pub fn lines_of(alloc: Global, part: &[u8], end: u64) -> Result<Vec<IndexLine>, FileError>
     ensures { ReadsPartOr (IsIndex part.now end) (λ lines. lines.items) result }
 {
     let Some(content) = unsealed(part) else {
-        return Err(TableError::Damaged);
+        return Err(FileError::Damaged);
     };
     let Some((count, text)) = read_u32(content) else {
-        return Err(TableError::Damaged);
+        return Err(FileError::Damaged);
     };
     let mut lines: Vec<IndexLine> = Vec::new(alloc);
     let mut place = 0;
     let mut rest = text;
     while !rest.is_empty() {
         let Some((line, after)) = line_of(rest) else {
-            return Err(TableError::Damaged);
+            return Err(FileError::Damaged);
         };
         if line.place != place || line.len as u64 > end - place || !rises(&lines, line) {
-            return Err(TableError::Damaged);
+            return Err(FileError::Damaged);
         }
         lines.push(copied(alloc, line)?)?;
         place += line.len as u64;
         rest = after;
     }
     if place != end || lines.len() != count as usize || text.is_empty() {
-        return Err(TableError::Damaged);
+        return Err(FileError::Damaged);
     }
     Ok(lines)
 }

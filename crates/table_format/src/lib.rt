@@ -16,7 +16,7 @@ mod writing;
 
 pub use block::{entries_in, entries_of};
 pub use entry::{LentEntry, entry_of};
-pub use error::TableError;
+pub use error::{FileError, TableError};
 pub use filter::{filter_of, filter_part_of};
 pub use footer::{Footer, footer_of, footer_part_of};
 pub use index::lines_of;

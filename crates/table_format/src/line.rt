@@ -1,15 +1,14 @@
 //! Lines of an index.
-ghost use Rattle.std.specs.Prelude.{◌≡◌, ◌≤◌, length, IfSome, IfOk, IfErr};
+ghost use Rattle.std.specs.Prelude.{◌≡◌, ◌≤◌, length, IfSome, IfOk};
 ghost use Rattle.kv_types.specs.declared.bounds.TheConstants.{MAX_KEY};
 ghost use Rattle.kv_types.specs.{lent_key};
 ghost use Rattle.byte_fields.specs.{ReadsFront};
 ghost use Rattle.table_format.specs.Reading.{lent_line, line_at};
 
-use crate::TableError;
 use crate::entry::{key_of, number_of};
 use byte_fields::{read_u32, read_u64};
 use kv_types::{LentKey, StoredKey};
-use std::alloc::Global;
+use std::alloc::{AllocError, Global};
 
 /// A line of an index: the place of a block in the file, its length with its digest, and key and
 /// number of its last entry.
@@ -50,10 +49,9 @@ pub fn line_of(bytes: &[u8]) -> Option<(LentLine<'_>, &[u8])>
 }
 
 /// A copy of a line.
-pub fn copied(alloc: Global, line: LentLine) -> Result<IndexLine, TableError>
+pub fn copied(alloc: Global, line: LentLine) -> Result<IndexLine, AllocError>
     requires { length (lent_key line.key) ≤ MAX_KEY }
-    ensures copied { IfOk result (λ copy. copy ≡ lent_line line.entry) }
-    ensures memory { IfErr result (λ e. e ≡ TableError.Memory) }
+    ensures { IfOk result (λ copy. copy ≡ lent_line line.entry) }
 {
     let key = line.key.to_stored(alloc)?;
     Ok(IndexLine {

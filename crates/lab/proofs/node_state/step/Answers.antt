@@ -1,9 +1,11 @@
+use Rattle.std.specs.Prelude.{IsErrOf}
 use Rattle.std.proofs.Common.{false, Err, Result, inr, refl, sym, ap, subst, rules}
 use Rattle.chain_core.specs.{answer_to}
 use Rattle.disk.specs.{KeepsDisk, State}
+use Rattle.node.specs.declared.Stop.TheVariants as stop
 use Rattle.node.specs.declared.Output.{Output}
 use Rattle.node.specs.declared.Stop.{Stop as Cause}
-use Rattle.node.specs.{HasLongFile, IsDeviceStop, IsNearlyFull, IsOwned, StopRefines}
+use Rattle.node.specs.{HasLongFile, IsNearlyFull, IsOwned, StopRefines}
 use Rattle.node.specs.{disk_of, engine_of}
 use Rattle.lab.specs.declared.input.NodeInput.TheVariants as to_node
 use Rattle.lab.specs.declared.node_state.NodeState.TheVariants.{Up}
@@ -46,12 +48,13 @@ returns-in-Err g c = λ limits.
     let ended : Result Output Cause = Err c.in-Err.stop in
     let full = IsNearlyFull (engine_of c.arm.new.self) in
     let same = sym c.into_disk.ensures.disk in
-    let kept = subst (λ d. KeepsDisk g.D.Disk (disk_of c.arm.new.self) d (IsDeviceStop ended) full
+    let kept = subst (λ d. KeepsDisk g.D.Disk (disk_of c.arm.new.self) d
+    (IsErrOf ended stop.Disk) full
     IsOwned) same c.in-Err.ensures.kept.disk in
     let e = c.stop_by_itself.ensures in
     halted g.D.Disk c.args.fault (Up c.args.node) c.stop_by_itself.result.0
     c.stop_by_itself.result.1 (disk_of c.arm.new.self) c.into_disk.result c.in-Err.stop
-    (IsDeviceStop ended) full IsOwned c.arm.ensures.armed kept (λ fails. cc)
+    (IsErrOf ended stop.Disk) full IsOwned c.arm.ensures.armed kept (λ fails. cc)
     (λ is. ap (λ (e : Cause). Err e) is) e.told e.crashes limits (to_node.Step c.args.input) refl
     e.ready e.marked e.forgets (e.limits limits)
     (λ x n r.
@@ -60,7 +63,7 @@ returns-in-Err g c = λ limits.
     Ends r.core.running
     (halts_so g.D.Disk c.args.fault (Up c.args.node) c.stop_by_itself.result.0
     c.stop_by_itself.result.1 (disk_of c.arm.new.self) c.into_disk.result c.in-Err.stop
-    (IsDeviceStop ended) full IsOwned c.arm.ensures.armed kept (λ fails. cc)
+    (IsErrOf ended stop.Disk) full IsOwned c.arm.ensures.armed kept (λ fails. cc)
     (λ is. ap (λ (e : Cause). Err e) is) e.told e.crashes r.honest ends.done)
     (e.refines x n a (subst g.D.Disk.is_honest same ends.honest)
     (subst (λ d. StopRefines (g.D.Disk.state d) x n a) same ends.any_moment.now)))

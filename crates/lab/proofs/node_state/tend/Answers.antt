@@ -1,10 +1,12 @@
+use Rattle.std.specs.Prelude.{IsErrOf}
 use Rattle.std.proofs.Common.{false, ◌⊎◌, Err, Result, inl, inr, refl, sym, ap, subst, rules}
 use Rattle.chain_model.specs.{silent, stopped}
 use Rattle.disk.specs.{KeepsDisk, State}
 use Rattle.engine.specs.{IsAdrift}
 use Rattle.engine.specs.Tended.{Tended}
+use Rattle.node.specs.declared.Stop.TheVariants as stop
 use Rattle.node.specs.declared.Stop.{Stop as Cause}
-use Rattle.node.specs.{HasLongFile, IsDeviceStop, IsNearlyFull, IsOwned, StopRefines}
+use Rattle.node.specs.{HasLongFile, IsNearlyFull, IsOwned, StopRefines}
 use Rattle.node.specs.{disk_of, engine_of}
 use Rattle.lab.specs.declared.input.NodeInput.TheVariants as to_node
 use Rattle.lab.specs.declared.node_state.NodeState.TheVariants.{Up}
@@ -47,12 +49,13 @@ returns-in-Err g c = λ limits.
     let may : Type 0 = IsNearlyFull (engine_of c.arm.new.self)
     ⊎ IsAdrift g.D.Disk (engine_of c.arm.new.self) in
     let same = sym c.into_disk.ensures.disk in
-    let kept = subst (λ d. KeepsDisk g.D.Disk (disk_of c.arm.new.self) d (IsDeviceStop ended) may
+    let kept = subst (λ d. KeepsDisk g.D.Disk (disk_of c.arm.new.self) d
+    (IsErrOf ended stop.Disk) may
     IsOwned) same c.in-Err.ensures.kept in
     let e = c.stop_by_itself.ensures in
     halted g.D.Disk c.args.fault (Up c.args.node) c.stop_by_itself.result.0
     c.stop_by_itself.result.1 (disk_of c.arm.new.self) c.into_disk.result c.in-Err.stop
-    (IsDeviceStop ended) may IsOwned c.arm.ensures.armed kept (λ fails. cc)
+    (IsErrOf ended stop.Disk) may IsOwned c.arm.ensures.armed kept (λ fails. cc)
     (λ is. ap (λ (e : Cause). Err e) is) e.told e.crashes limits to_node.Tend refl
     e.ready e.marked e.forgets (e.limits limits)
     (λ x n r.
@@ -60,7 +63,7 @@ returns-in-Err g c = λ limits.
     Halts r.core.running
     (halts_so g.D.Disk c.args.fault (Up c.args.node) c.stop_by_itself.result.0
     c.stop_by_itself.result.1 (disk_of c.arm.new.self) c.into_disk.result c.in-Err.stop
-    (IsDeviceStop ended) may IsOwned c.arm.ensures.armed kept (λ fails. cc)
+    (IsErrOf ended stop.Disk) may IsOwned c.arm.ensures.armed kept (λ fails. cc)
     (λ is. ap (λ (e : Cause). Err e) is) e.told e.crashes r.honest ends.done)
     (elim (e.refines x n (silent n) (subst g.D.Disk.is_honest same ends.honest)
     (subst (λ d. StopRefines (g.D.Disk.state d) x n (silent n)) same ends.any_moment.now)) as

@@ -1,4 +1,5 @@
 use Rattle.std.proofs.Common.{rules, ◌≡◌, ◌+◌, ◌-◌, ◌<◌, ◌++◌, suc, ap, ◌∙◌, sym, subst, arith, inr}
+use Rattle.disk.specs.{IsEnvironmental}
 use Rattle.std.proofs.Common.{refl}
 use Rattle.std.specs.Prelude.{option_to_list}
 use Rattle.std.proofs.lemmas.Result.{err_from_is_err_and}
@@ -6,7 +7,7 @@ use Rattle.chain_model.specs.{forward, forwards}
 use Rattle.chain_core.specs.{AreFrames}
 use Rattle.engine.specs.KeepingLemmas.{answered, neither}
 use Rattle.engine.specs.{LookUps}
-use Rattle.node.specs.Stops.{IsEnvironmental}
+use Rattle.node.specs.declared.stop.Stop.TheVariants as stop
 use Rattle.node.proofs.Causes.{done_told, env_of, memory_told, refuses, still_works}
 use Rattle.node.proofs.Causes.{stop_passed}
 use Rattle.node.proofs.Running.{read_more, unread}
@@ -47,13 +48,14 @@ batch-requires g c =
 pub returns-in_err-batch-clause-sent : goal.returns-in_err-batch-clause-sent
 returns-in_err-batch-clause-sent g c = λ n is holds.
     let was = c.loop-number.invariant in
-    refuses c.from_residual.result _ IsEnvironmental c.from_residual.ensures.1
+    refuses c.from_residual.result _
+    (IsEnvironmental stop.Disk stop.Memory) c.from_residual.ensures.1
     (env_of c.in_err-batch.field-0.0
     (c.in_err-batch.ensures.found.reads n.list (was.sent n is holds).0.reads))
 
 pub returns-in_err-push_some-clause-sent : goal.returns-in_err-push_some-clause-sent
 returns-in_err-push_some-clause-sent g c = λ n is holds.
-    refuses c.from_residual-in_err-push_some.result _ IsEnvironmental
+    refuses c.from_residual-in_err-push_some.result _ (IsEnvironmental stop.Disk stop.Memory)
     c.from_residual-in_err-push_some.ensures.1 (inr refl)
 
 -- the engine was only read

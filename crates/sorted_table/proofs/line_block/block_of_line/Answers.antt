@@ -2,7 +2,7 @@ use Rattle.std.proofs.Common.{List, length, refl, rules, sym, subst}
 use Rattle.std.proofs.lemmas.Option.{slice_get_read}
 use Rattle.std.proofs.lemmas.Result.{err_from_is_err_and}
 use Rattle.table_format.specs.{IsBlock}
-use Rattle.table_format.specs.declared.TableError.TheVariants as table
+use Rattle.table_format.specs.declared.FileError.TheVariants as reading
 use Rattle.sorted_table.proofs.KeptDisk.{kept_alike}
 use Rattle.sorted_table.proofs.MeantLemmas.{misplaced, placed, unread_line}
 use Rattle.sorted_table.proofs.line_block.block_of_line.Goals as goal
@@ -23,7 +23,6 @@ pub returns-then-not-is_at_line-clause-device : goal.returns-then-not-is_at_line
 returns-then-not-is_at_line-clause-device g c = record {
   kept = kept_alike _ _ (λ e. cc) (λ e. cc) c.in_ok-block.ensures.kept;
   still = search rules;
-  refusals = search rules;
 }
 
 pub returns-then-not-is_at_line-clause-answers : goal.returns-then-not-is_at_line-clause-answers
@@ -37,7 +36,7 @@ returns-then-not-is_at_line-clause-answers g c = λ honest.
     (λ entries is lies.
     let yes = (c.is_at_line.ensures entries
     (subst (λ (b : List _). IsBlock b entries) (sym c.deref.ensures.value) is)).1 lies in
-    absurd cc) table.Damaged
+    absurd cc) reading.Damaged
 
 pub returns-clause-answers : goal.returns-clause-answers
 returns-clause-answers g c = λ honest.

@@ -3,7 +3,7 @@ use Rattle.std.specs.Rc.{rc_slice_items}
 use Rattle.std.specs.List.{slice_get}
 use Rattle.std.proofs.lemmas.Result.{err_from_is_err_and}
 use Rattle.table_format.specs.{block_entries}
-use Rattle.table_format.specs.declared.TableError.TheVariants as table
+use Rattle.table_format.specs.declared.FileError.TheVariants as reading
 use Rattle.disk.specs.{State}
 use Rattle.sorted_table.specs.BlockPlaces.{PlaceReads}
 use Rattle.sorted_table.specs.Meant.{IsBlockAtLine, LineBlockAnswer}
@@ -22,7 +22,7 @@ returns-in_err-block-clause-damaged g c = λ is honest t.
     let at = some_of lines n c.requires in
     let p = err_from_is_err_and c.from_residual.result c.from_residual.ensures.1 in
     let e = c.in_err-block.field-0.0 in
-    let damaged : e ≡ table.Damaged = cc (p.1, p.2) in
+    let damaged : e ≡ reading.Damaged = cc (p.1, p.2) in
     never_damaged (disk c.args.file) lines t n at.0 e
     (block_of_line disk c.args.file lines n at.0 t c.requires at.1) at.1
     (subst (λ l. LineBlockAnswer l n (disk c.args.file) (Err e)) c.deref.ensures.value

@@ -10,7 +10,6 @@ returns-in_err-length-clause-device g c = record {
   still = λ honest.
       still_same (still (g.D.Disk.state c.args.disk.now) (g.D.Disk.past c.args.disk.now))
       (c.length.ensures.passes honest).moment (c.length.ensures.kept.disk.files honest);
-  refusals = search rules;
 }
 
 pub returns-then-length-clause-device : goal.returns-then-length-clause-device
@@ -19,7 +18,6 @@ returns-then-length-clause-device g c = record {
   still = λ honest.
       still_same (still (g.D.Disk.state c.args.disk.now) (g.D.Disk.past c.args.disk.now))
       (c.length.ensures.passes honest).moment (c.length.ensures.kept.disk.files honest);
-  refusals = search rules;
 }
 
 pub returns-in_err-read-clause-device : goal.returns-in_err-read-clause-device
@@ -31,7 +29,6 @@ returns-in_err-read-clause-device g c = record {
       (g.D.Disk.past c.args.disk.now))
       (c.length.ensures.passes honest).moment (c.length.ensures.kept.disk.files honest))
       (c.read.ensures.passes honest').moment (c.read.ensures.kept.disk.files honest');
-  refusals = search rules;
 }
 
 pub returns-clause-device : goal.returns-clause-device
@@ -43,7 +40,6 @@ returns-clause-device g c = record {
       (g.D.Disk.past c.args.disk.now))
       (c.length.ensures.passes honest).moment (c.length.ensures.kept.disk.files honest))
       (c.read.ensures.passes honest').moment (c.read.ensures.kept.disk.files honest');
-  refusals = search rules;
 }
 
 -- a file with a length is there

@@ -7,7 +7,6 @@ pub returns-in_err-part-clause-device : goal.returns-in_err-part-clause-device
 returns-in_err-part-clause-device g c = record {
   kept = search rules;
   still = λ honest. still _ _;
-  refusals = search rules;
 }
 
 pub returns-in_err-read-clause-device : goal.returns-in_err-read-clause-device
@@ -16,7 +15,6 @@ returns-in_err-read-clause-device g c = record {
   still = λ honest.
       still_same (still (g.D.Disk.state c.args.disk.now) (g.D.Disk.past c.args.disk.now))
       (c.read.ensures.passes honest).moment (c.read.ensures.kept.disk.files honest);
-  refusals = search rules;
 }
 
 pub returns-clause-device : goal.returns-clause-device
@@ -25,5 +23,4 @@ returns-clause-device g c = record {
   still = λ honest.
       still_same (still (g.D.Disk.state c.args.disk.now) (g.D.Disk.past c.args.disk.now))
       (c.read.ensures.passes honest).moment (c.read.ensures.kept.disk.files honest);
-  refusals = search rules;
 }

@@ -52,7 +52,6 @@ returns-in_err-bytes-clause-device g c = record {
   still = λ honest.
       still_more (c.read_footer.ensures.device.still honest)
       (c.read_part.ensures.device.still (c.read_footer.ensures.device.kept.honest.1 honest));
-  refusals = search rules;
 }
 
 pub returns-clause-device : goal.returns-clause-device
@@ -61,7 +60,6 @@ returns-clause-device g c = record {
   still = λ honest.
       still_more (c.read_footer.ensures.device.still honest)
       (c.read_part.ensures.device.still (c.read_footer.ensures.device.kept.honest.1 honest));
-  refusals = search rules;
 }
 
 -- the footer says where the content stands that was read

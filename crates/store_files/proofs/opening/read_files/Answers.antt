@@ -1,13 +1,13 @@
 use Rattle.std.proofs.Common.{◌∙◌, ℕ, suc, drop, subst, sym, Ok, rules}
-use Rattle.disk.specs.{contents}
+use Rattle.disk.specs.{IsEnvironmental, contents}
 use Rattle.disk.specs.StillLemmas.{still_more}
 use Rattle.manifest.specs.{NodeVersion, version_of}
-use Rattle.store_tables.specs.Errors.{IsEngineExternal}
 use Rattle.store_files.specs.OpenFiles.{AreUsableFiles, FilesAreRead, FilesOpenAs, OpeningRefusal}
 use Rattle.store_files.specs.OpenFiles.{OpensFor, WereMeantToRead}
 use Rattle.store_files.specs.Openings.{AreParts, HasParts, PartsHold, PartsWereMeant, WereParts}
 use Rattle.store_files.specs.StoreFiles.{durably}
 use Rattle.store_files.proofs.BegunFiles.{manifest_is_external}
+use Rattle.store_tables.specs.declared.error.EngineError.TheVariants as engine
 use Rattle.store_tables.specs.RefusalLemmas.{answers_nothing, refuses}
 use Rattle.store_files.proofs.MeantOpenings.{asked_as_meant, read_as_meant, slots_are_meant}
 use Rattle.store_files.proofs.ReadFiles.{files_with}
@@ -22,7 +22,8 @@ pub returns-in_err-manifest-clause-opens : goal.returns-in_err-manifest-clause-o
 returns-in_err-manifest-clause-opens g c = record {
   kept = search rules;
   opened = λ facts list honest. record {
-    whole = λ h. refuses c.from_residual.result _ IsEngineExternal c.from_residual.ensures.1
+    whole = λ h. refuses c.from_residual.result _
+    (IsEnvironmental engine.Disk engine.Memory) c.from_residual.ensures.1
         (manifest_is_external c.in_err-manifest.field-0.0 (c.in_err-manifest.ensures.opened
         (record { id = facts.id; version = h.version }) honest h.manifest));
     meant = λ w. answers_nothing c.from_residual.result _ _ c.from_residual.ensures.1;
@@ -50,7 +51,7 @@ returns-in_err-parts-clause-opens g c = record {
         let spares = c.open.ensures.reads.kept.files honest in
         let ask = asked s0 s1 spares facts list h is c.state.result.now
         (c.state.ensures ∙ held.knows) in
-        refuses c.from_residual-in_err-parts.result _ IsEngineExternal
+        refuses c.from_residual-in_err-parts.result _ (IsEnvironmental engine.Disk engine.Memory)
         c.from_residual-in_err-parts.ensures.1 (c.in_err-parts.ensures.opened (suc facts.kept)
         (drop facts.kept list) h.tables (c.open.ensures.reads.kept.honest.1 honest) ask.0 ask.1
         ask.2);

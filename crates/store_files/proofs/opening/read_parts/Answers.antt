@@ -1,9 +1,9 @@
 use Rattle.std.proofs.Common.{◌≡◌, ◌-◌, ◌+◌, ℕ, List, length, sym, ap, arith, subst, ◌∙◌, rules}
-use Rattle.disk.specs.{Slot, contents}
+use Rattle.disk.specs.{IsEnvironmental, Slot, contents}
 use Rattle.disk.specs.StillLemmas.{still_more}
 use Rattle.manifest.specs.declared.TableLine.{TableLine}
 use Rattle.manifest.specs.{IsVersion, NodeVersion}
-use Rattle.store_tables.specs.Errors.{IsEngineExternal}
+use Rattle.store_tables.specs.declared.error.EngineError.TheVariants as engine
 use Rattle.store_tables.specs.LevelTables.{AreTablesOf, FileFits, IsTableAsMeant}
 use Rattle.store_files.specs.StoreFiles.{AreOrderedNumbers, durably}
 use Rattle.store_files.specs.Settling.{AreSynced, AreThere}
@@ -25,7 +25,8 @@ returns-in_err-sync_tables-clause-opened g c = λ first batches tables honest ha
     let disk = g.D.Disk.state c.args.disk.now in
     let lines : c.deref.result.now ≡ c.args.version.now.version.tables =
     c.deref.ensures.value ∙ ap (λ (v : NodeVersion). v.version.tables) c.version.view_is in
-    refuses c.from_residual.result _ IsEngineExternal c.from_residual.ensures.1
+    refuses c.from_residual.result _
+    (IsEnvironmental engine.Disk engine.Memory) c.from_residual.ensures.1
     (c.in_err-sync_tables.ensures.there honest
     (subst (AreThere disk) (sym lines)
     (tables_are_there disk c.args.version.now.version.tables tables read)))
@@ -37,7 +38,7 @@ returns-in_err-logs-clause-opened g c = λ first batches tables honest had read 
     let s2 = g.D.Disk.state c.sync_tables.new.disk in
     let honest2 = c.sync_tables.ensures.reads.kept.honest.1 honest in
     let same = synced_reads s1 s2 c.deref.result.now (c.in_ok-sync_tables.ensures.synced honest) in
-    refuses c.from_residual-in_err-logs.result _ IsEngineExternal
+    refuses c.from_residual-in_err-logs.result _ (IsEnvironmental engine.Disk engine.Memory)
     c.from_residual-in_err-logs.ensures.1 (c.in_err-logs.ensures.opened first batches honest2
     (batches_same (contents s1) (contents s2) same c.args.version.now.version.logs first batches
     had))
@@ -100,7 +101,7 @@ returns-in_err-tables-clause-opened g c = λ first batches tables honest had rea
     let lines2 : c.deref-2.result.now ≡ version.tables =
     c.deref-2.ensures.value ∙ ap (λ (v : NodeVersion). v.version.tables) c.version.view_is in
     let synced = subst (AreSynced s1 s2) lines (c.in_ok-sync_tables.ensures.synced honest) in
-    refuses c.from_residual-in_err-tables.result _ IsEngineExternal
+    refuses c.from_residual-in_err-tables.result _ (IsEnvironmental engine.Disk engine.Memory)
     c.from_residual-in_err-tables.ensures.1 (c.in_err-tables.ensures.opened tables honest3
     (subst (λ (l : List TableLine). AreTablesOf (contents s3) l tables) (sym lines2)
     (tables_then version is s1 s2 s3 synced

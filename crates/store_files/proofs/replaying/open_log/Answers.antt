@@ -1,7 +1,8 @@
 use Rattle.std.proofs.Common.{List, ℕ, suc, arith, inr, subst, rules}
-use Rattle.disk.specs.{seen}
+use Rattle.disk.specs.{IsEnvironmental, seen}
 use Rattle.record_log.specs.{LogHolds}
-use Rattle.store_tables.specs.Errors.{IsEnd, IsEngineExternal}
+use Rattle.store_tables.specs.declared.error.EngineError.TheVariants as engine
+use Rattle.store_tables.specs.Errors.{IsEnd}
 use Rattle.store_files.specs.Files.{IsLog}
 use Rattle.store_tables.specs.KeepingLemmas.{answered, kept_as, neither}
 use Rattle.store_files.specs.Layout.{records_from}
@@ -48,7 +49,8 @@ returns-clause-reads g c = record {
 -- the file was a log of batches, so it was opened and its batches were read
 pub returns-in_err-opened-clause-opened : goal.returns-in_err-opened-clause-opened
 returns-in_err-opened-clause-opened g c = λ batches honest stood each few.
-    refuses c.from_residual.result _ IsEngineExternal c.from_residual.ensures.1
+    refuses c.from_residual.result _
+    (IsEnvironmental engine.Disk engine.Memory) c.from_residual.ensures.1
     (log_is_external c.in_err-opened.field-0.0
     (c.in_err-opened.ensures.opened (records_from (suc c.args.before) batches) honest stood))
 
@@ -56,7 +58,7 @@ pub returns-in_err-replay-clause-opened : goal.returns-in_err-replay-clause-open
 returns-in_err-replay-clause-opened g c = λ batches honest stood each few.
     let read = (c.in_ok-opened.ensures.opened (records_from (suc c.args.before) batches) honest
     stood).1 in
-    refuses c.from_residual-in_err-replay.result _ IsEngineExternal
+    refuses c.from_residual-in_err-replay.result _ (IsEnvironmental engine.Disk engine.Memory)
     c.from_residual-in_err-replay.ensures.1
     (c.in_err-replay.ensures.damaged batches read each few)
 

@@ -1,12 +1,12 @@
 use Rattle.std.proofs.Common.{◌≡◌, ◌-◌, ◌∷◌, ◌++◌, ◌∙◌, [], List, ℕ, suc, ap, arith, subst, sym}
-use Rattle.disk.specs.{contents}
+use Rattle.disk.specs.{IsEnvironmental, contents}
 use Rattle.manifest.specs.declared.LogLine.{LogLine}
 use Rattle.manifest.specs.{NodeVersion}
 use Rattle.store_files.specs.declared.batch_logs.BatchLog.{BatchLog}
 use Rattle.store_files.specs.BatchLogs.{HaveBatches}
-use Rattle.store_tables.specs.Errors.{IsEngineExternal}
 use Rattle.store_files.specs.Replaying.{AreInLine, AreOfDifferentFiles, AreReadLogs}
 use Rattle.store_files.specs.Settling.{SparesAllBut}
+use Rattle.store_tables.specs.declared.error.EngineError.TheVariants as engine
 use Rattle.store_tables.specs.RefusalLemmas.{refuses}
 use Rattle.store_files.proofs.OpenLogs.{are_replayed, begins, different_files, open_logs_are}
 use Rattle.store_files.proofs.OpenLogs.{were_read}
@@ -32,7 +32,8 @@ returns-in_err-older-clause-opened g c = λ first batches honest had.
     let positive = had.positive in
     let few = had.few in
     let next : first ≡ suc (c.index.result.now.first - 1) = omega (arith, at, positive) in
-    refuses c.from_residual.result _ IsEngineExternal c.from_residual.ensures.1
+    refuses c.from_residual.result _
+    (IsEnvironmental engine.Disk engine.Memory) c.from_residual.ensures.1
     (c.in_err-older.ensures.opened batches honest
     (subst (λ (n : ℕ). HaveBatches left n c.deref.result.now batches) next
     (subst (λ (l : List LogLine). HaveBatches left first l batches)

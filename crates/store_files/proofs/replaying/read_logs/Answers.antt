@@ -1,9 +1,10 @@
 use Rattle.std.proofs.Common.{◌+◌, List, ℕ, suc, ap, arith, drop, subst, take, rules}
 use Rattle.std.proofs.lemmas.List.{take_all}
-use Rattle.disk.specs.{contents}
+use Rattle.disk.specs.{IsEnvironmental, contents}
 use Rattle.manifest.specs.declared.LogLine.{LogLine}
 use Rattle.store_files.specs.BatchLogs.{HaveBatches}
-use Rattle.store_tables.specs.Errors.{IsEnd, IsEngineExternal}
+use Rattle.store_tables.specs.declared.error.EngineError.TheVariants as engine
+use Rattle.store_tables.specs.Errors.{IsEnd}
 use Rattle.store_tables.specs.KeepingLemmas.{answered, kept_as, neither}
 use Rattle.store_files.specs.Replaying.{AreInLine, AreReadLogs}
 use Rattle.store_files.specs.Settling.{SparesAllBut}
@@ -101,7 +102,8 @@ returns-in_err-one-clause-opened g c = λ batches honest have each few.
     c.loop-line.memtable batches (before.read honest) same
     (subst (λ (l : List LogLine). HaveBatches (contents s0) (suc c.args.before) l batches) at have)
     each few in
-    refuses c.from_residual.result _ IsEngineExternal c.from_residual.ensures.1
+    refuses c.from_residual.result _
+    (IsEnvironmental engine.Disk engine.Memory) c.from_residual.ensures.1
     (c.in_err-one.ensures.opened has.here (before.synced.kept.honest.1 honest) has.stood has.each
     has.few)
 

@@ -1,8 +1,9 @@
 use Rattle.std.proofs.Common.{◌≡◌, ◌+◌, ℕ, suc, ap, arith, subst, ◌∙◌, length}
+use Rattle.disk.specs.{IsEnvironmental}
 use Rattle.record_log.specs.{count_of}
-use Rattle.store_tables.specs.Errors.{IsEngineExternal}
 use Rattle.store_files.specs.Layout.{batch_record, records_from}
 use Rattle.store_files.specs.Stores.{IsNumberedTo}
+use Rattle.store_tables.specs.declared.error.EngineError.TheVariants as engine
 use Rattle.store_tables.specs.RefusalLemmas.{refuses}
 use Rattle.store_files.proofs.Records.{length-ends, length-records, made_of, numbered_at}
 use Rattle.store_files.proofs.Replays.{all_taken, none_taken, taken_next}
@@ -49,7 +50,8 @@ returns-in_err-replay_record-clause-damaged c = λ batches read each few.
     let number : suc c.args.before + c.loop-index.index ≡ c.unwrap-number.result =
     omega (arith, number_is) in
     let spelled = at.spelled ∙ ap (λ n. batch_record n at.batch) number in
-    refuses c.from_residual.result _ IsEngineExternal c.from_residual.ensures.1
+    refuses c.from_residual.result _
+    (IsEnvironmental engine.Disk engine.Memory) c.from_residual.ensures.1
     (c.in_err-replay_record.ensures.damaged at.batch at.is_batch spelled)
 
 -- one more was taken

@@ -1,7 +1,8 @@
 use Rattle.std.proofs.Common.{ℕ, List, subst, sym}
+use Rattle.disk.specs.{IsEnvironmental}
 use Rattle.disk.specs.Calls.{ListsFiles}
 use Rattle.store_model.specs.PlacesLemmas.{contains_head}
-use Rattle.store_tables.specs.Errors.{IsEngineExternal}
+use Rattle.store_tables.specs.declared.error.EngineError.TheVariants as engine
 use Rattle.store_tables.specs.KeepingLemmas.{kept_as, neither}
 use Rattle.store_tables.specs.RefusalLemmas.{refuses}
 use Rattle.store_tables.specs.RefusalLemmas.{done}
@@ -69,7 +70,7 @@ returns-in_err-remove-clause-alone g c = λ honest.
     let before = c.loop-file.invariant.done in
     let left = subst (λ (l : List ℕ). AreLeft s1 c.args.kept.now l) c.in-Some.ensures.steps.0
     (before.rest honest) in
-    refuses c.from_residual-in_err-remove.result _ IsEngineExternal
+    refuses c.from_residual-in_err-remove.result _ (IsEnvironmental engine.Disk engine.Memory)
     c.from_residual-in_err-remove.ensures.1
     (there_machine c.in_err-remove.field-0.0 s1 file
     (left.there file (contains_head file c.next.new.self.rest.items))

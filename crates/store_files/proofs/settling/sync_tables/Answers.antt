@@ -2,9 +2,9 @@ use Rattle.std.proofs.Common.{List, refl, subst, sym, rules}
 use Rattle.std.specs.Prelude.{IsSome}
 use Rattle.std.proofs.lemmas.List.{take_all}
 use Rattle.std.proofs.lemmas.List.Elements.{All-get_or}
-use Rattle.disk.specs.{seen}
+use Rattle.disk.specs.{IsEnvironmental, seen}
 use Rattle.manifest.specs.declared.TableLine.{TableLine}
-use Rattle.store_tables.specs.Errors.{IsEngineExternal}
+use Rattle.store_tables.specs.declared.error.EngineError.TheVariants as engine
 use Rattle.store_tables.specs.KeepingLemmas.{kept_as, neither}
 use Rattle.store_files.specs.Settling.{AreSynced}
 use Rattle.store_tables.specs.RefusalLemmas.{refuses}
@@ -43,7 +43,8 @@ returns-in_err-sync-clause-there g c = λ honest there.
     let was : is_there line = subst is_there (sym c.line-item.is)
     (All-get_or is_there c.args.lines.now c.loop-line.line-index line c.loop-line-test.true there)
     in
-    refuses c.from_residual.result _ IsEngineExternal c.from_residual.ensures.1
+    refuses c.from_residual.result _
+    (IsEnvironmental engine.Disk engine.Memory) c.from_residual.ensures.1
     (there_machine c.in_err-sync.field-0.0 s1 line.file
     (settled_there s0 s1 line.file ((before.synced honest).each line.file) was)
     (c.in_err-sync.ensures.syncs (before.kept.honest.1 honest)).1)

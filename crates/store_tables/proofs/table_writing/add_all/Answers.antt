@@ -1,14 +1,16 @@
+use Rattle.std.specs.Prelude.{IsErrOf}
 use Rattle.std.proofs.Common.{ℕ, [], ◌∷◌, ◌++◌, ◌∙◌, refl, subst, sym}
-use Rattle.store_tables.specs.Errors.{FailsDevice, IsEngineExternal}
+use Rattle.disk.specs.{IsEnvironmental, WritesInto}
+use Rattle.store_tables.specs.declared.error.EngineError.TheVariants as engine
 use Rattle.store_tables.specs.KeepingLemmas.{answered}
 use Rattle.memtable.specs.CursorLaws.{MemCursorHolds, cursor_fits, cursor_laws, mem_position}
 use Rattle.merge_iter.specs.{IsOn, IsTableEntry}
 use Rattle.table_format.specs.{lent_entry}
 use Rattle.table_builder.specs.{Builds, BuildsNothing, builder_file}
-use Rattle.store_tables.specs.TableWriting.{HasAddedAll, HasAddedOne, HoldsOneMore, WritesInto}
+use Rattle.store_tables.specs.TableWriting.{HasAddedAll, HasAddedOne, HoldsOneMore}
 use Rattle.store_tables.specs.RefusalLemmas.{done, passed_on}
 use Rattle.store_tables.specs.RefusalLemmas.{refuses}
-use Rattle.store_tables.proofs.TableCalls.{writes_as, writes_behind, writes_done, writes_nothing}
+use Rattle.disk.specs.WritesLemmas.{writes_as, writes_behind, writes_done, writes_nothing}
 use Rattle.store_tables.proofs.TableWalks.{added_here, alike_through, for_memory, is_answer}
 use Rattle.store_tables.proofs.TableWalks.{memory_answer, true_here, walk_begins, walk_ends}
 use Rattle.store_tables.proofs.TableWalks.{walk_goes, walk_limit}
@@ -55,7 +57,7 @@ returns-in_err-add_one-clause-writes g c =
     let i = c.loop-alloc.invariant in
     let file = builder_file c.args.builder.now in
     let called = subst (λ (f : ℕ). WritesInto g.D.Disk f c.loop-alloc.disk c.add_one.new.disk
-    (FailsDevice c.add_one.result) (BuildsNothing c.loop-alloc.builder)) i.file
+    (IsErrOf c.add_one.result engine.Disk) (BuildsNothing c.loop-alloc.builder)) i.file
     c.add_one.ensures.writes in
     let result = c.from_residual-in_err-add_one.result in
     let same = passed_on c.add_one.result c.in_err-add_one.field-0.0 result c.in_err-add_one.was
@@ -80,7 +82,7 @@ returns-in_err-add_one-clause-added g c = λ honest begun.
     refuses c.from_residual-in_err-add_one.result
     (HasAddedAll (MemCursorHolds c.args.cursor.now)
     (g.D.Disk.state c.add_one.new.disk (builder_file c.args.builder.now)) c.add_one.new.builder)
-    IsEngineExternal
+    (IsEnvironmental engine.Disk engine.Memory)
     c.from_residual-in_err-add_one.ensures.1 why
 
 -- ---- there is no room for it
@@ -90,7 +92,7 @@ returns-then-not-branch-clause-writes g c =
     let i = c.loop-alloc.invariant in
     let file = builder_file c.args.builder.now in
     let called = subst (λ (f : ℕ). WritesInto g.D.Disk f c.loop-alloc.disk c.add_one.new.disk
-    (FailsDevice c.add_one.result) (BuildsNothing c.loop-alloc.builder)) i.file
+    (IsErrOf c.add_one.result engine.Disk) (BuildsNothing c.loop-alloc.builder)) i.file
     c.add_one.ensures.writes in
     writes_behind g.D.Disk file (λ fails. fails) (λ cause. cause) i.writes
     (writes_done g.D.Disk file (answered c.add_one.result c.in_ok-add_one.was) done called)
@@ -148,7 +150,7 @@ loop-alloc-preserved g c =
     let on = c.valid.ensures.0 c.loop-alloc-test.true in
     let here = added_here has at _ _ _ _ entry on c.entry_at.ensures i.added in
     let called = subst (λ (f : ℕ). WritesInto g.D.Disk f c.loop-alloc.disk c.add_one.new.disk
-    (FailsDevice c.add_one.result) (BuildsNothing c.loop-alloc.builder)) i.file
+    (IsErrOf c.add_one.result engine.Disk) (BuildsNothing c.loop-alloc.builder)) i.file
     c.add_one.ensures.writes in
     record {
       file = c.in_ok-add_one.ensures.file ∙ i.file;
@@ -186,7 +188,7 @@ returns-in_err-next-clause-writes g c =
     let i = c.loop-alloc.invariant in
     let file = builder_file c.args.builder.now in
     let called = subst (λ (f : ℕ). WritesInto g.D.Disk f c.loop-alloc.disk c.add_one.new.disk
-    (FailsDevice c.add_one.result) (BuildsNothing c.loop-alloc.builder)) i.file
+    (IsErrOf c.add_one.result engine.Disk) (BuildsNothing c.loop-alloc.builder)) i.file
     c.add_one.ensures.writes in
     let memory = for_memory _ _ c.next.result c.in_err-next.field-0.0 c.in_err-next.was (tt, tt, tt)
     i.unbroken c.next.ensures.causes in

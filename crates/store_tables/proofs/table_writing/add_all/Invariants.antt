@@ -3,7 +3,7 @@ use Rattle.memtable.specs.CursorLaws.{MemCursorHolds, mem_left, mem_position}
 use Rattle.merge_iter.specs.declared.Direction.TheVariants.{Forward}
 use Rattle.merge_iter.specs.{IsAlike, IsBroken}
 use Rattle.table_builder.specs.{Builds, HoldsEntries, builder_file}
-use Rattle.store_tables.specs.TableWriting.{WritesInto}
+use Rattle.disk.specs.{WritesInto}
 use Rattle.store_tables.proofs.TableWalks.{AddsUpTo}
 use Rattle.store_tables.proofs.table_writing.add_all.Given as goal
 

@@ -4,7 +4,7 @@ use Rattle.store_tables.specs.TableWriting.{IsWrittenTable}
 use Rattle.store_tables.specs.TableWriting.{finished_line}
 use Rattle.store_tables.proofs.FinishedTables.{line_told, written_table}
 use Rattle.store_tables.specs.RefusalLemmas.{refused_otherwise}
-use Rattle.store_tables.proofs.TableCalls.{writes_nothing}
+use Rattle.disk.specs.WritesLemmas.{writes_nothing}
 use Rattle.store_tables.proofs.table_writing.finish_table.Goals as goal
 
 pub returns-then-len-eq0-clause-writes : goal.returns-then-len-eq0-clause-writes

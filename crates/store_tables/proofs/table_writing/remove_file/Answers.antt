@@ -1,6 +1,7 @@
 use Rattle.std.proofs.Common.{rules}
 use Rattle.store_tables.specs.RefusalLemmas.{done}
-use Rattle.store_tables.proofs.TableCalls.{call_writes, removal_failed, writes_as, writes_done}
+use Rattle.disk.specs.WritesLemmas.{call_writes, writes_as, writes_done}
+use Rattle.store_tables.proofs.TableCalls.{removal_failed}
 use Rattle.store_tables.proofs.table_writing.remove_file.Goals as goal
 
 pub returns-in-Err-clause-writes : goal.returns-in-Err-clause-writes

@@ -4,7 +4,7 @@ use Rattle.memtable.specs.{TableHolds}
 use Rattle.store_tables.specs.Errors.{IsEnd}
 use Rattle.store_tables.specs.TableWriting.{IsRoomAnswer}
 use Rattle.store_tables.specs.RefusalLemmas.{refuses}
-use Rattle.store_tables.proofs.TableCalls.{moments_join}
+use Rattle.disk.specs.WritesLemmas.{moments_join}
 use Rattle.store_tables.proofs.table_writing.write_table.Goals as goal
 
 -- ---- the table is finished

@@ -9,7 +9,6 @@ pub returns-in_err-write_at : goal.returns-in_err-write_at
 returns-in_err-write_at g c = record {
   device = record {
     kept = first_of (search rules, grind (arith, common_steps));
-    not_own = first_of (search rules, grind (arith, common_steps));
     any_moment = λ honest.
         spared_more g.D.Disk.state g.D.Disk.past c.args.file c.args.disk.now c.args.disk.now
         c.write_at.new.self (spared g.D.Disk.state g.D.Disk.past c.args.file c.args.disk.now)
@@ -22,7 +21,6 @@ pub returns : goal.returns
 returns g c = record {
   device = record {
     kept = first_of (search rules, grind (arith, common_steps));
-    not_own = first_of (search rules, grind (arith, common_steps));
     any_moment = λ honest.
         spared_more g.D.Disk.state g.D.Disk.past c.args.file c.args.disk.now c.args.disk.now
         c.write_at.new.self (spared g.D.Disk.state g.D.Disk.past c.args.file c.args.disk.now)

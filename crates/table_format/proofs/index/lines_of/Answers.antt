@@ -102,7 +102,7 @@ loop-rest-preserved c =
     let fits = c.if-line-end.false in
     let more : c.push.new.self.items ≡ lines ++ line ∷ [] =
     c.in_ok-push.ensures.items
-    ∙ ap (λ (x : IndexLine). lines ++ x ∷ []) c.in_ok-copied.ensures.copied in
+    ∙ ap (λ (x : IndexLine). lines ++ x ∷ []) c.in_ok-copied.ensures in
     let follows : CanFollow (map end_spot lines) (end_spot line) =
     subst (λ (l : List IndexLine). CanFollow (map end_spot l) (end_spot line)) c.deref.ensures.value
     (c.rises.ensures.0 c.if-not-rises.false) in

@@ -1,4 +1,5 @@
 use Rattle.std.proofs.Common.{◌≡◌, ◌+◌, ◌++◌, ◌∷◌, [], ap, arith, length, suc, sym, subst, ℕ, inl}
+use Rattle.disk.specs.{IsEnvironmental}
 use Rattle.std.proofs.Common.{inr, ◌∙◌, List, if◌then◌else◌}
 use Rattle.std.proofs.lemmas.Result.{err_from_is_err_and}
 use Rattle.kv_types.specs.{BatchContent}
@@ -7,9 +8,9 @@ use Rattle.chain_core.specs as core
 use Rattle.chain_core.specs.{done_of, responses_after}
 use Rattle.engine.specs.KeepingLemmas.{answered, kept_as, kept_but, neither}
 use Rattle.engine.specs.{LookUps, engine_disk, look_ups}
+use Rattle.node.specs.declared.stop.Stop.TheVariants as stop
 use Rattle.node.specs.Outputs.{AlwaysRefines, acks_after}
 use Rattle.node.specs.Steps.{disk_of}
-use Rattle.node.specs.Stops.{IsEnvironmental}
 use Rattle.node.proofs.Causes.{append_env, env_of, memory_told, on_ok}
 use Rattle.node.proofs.Causes.{only_memory, still_works, stop_passed}
 use Rattle.node.proofs.Counts.{counts_appended, frames_of, keeps_kept, number_taken, same_ids}
@@ -42,7 +43,7 @@ returns-in_err-append g c =
           (c.in_err-append.ensures.met.reads n.list r.store.reads)
           (omega (arith, c.requires.room, c.requires.may.count)) in
           ends_stopped g.D.Disk old _ x n a _ result p.0 p.1
-          (subst IsEnvironmental (sym p.2) (env_of e why))
+          (subst (IsEnvironmental stop.Disk stop.Memory) (sym p.2) (env_of e why))
           (c.append.ensures.changes.keeps.disk.honest.1 r.honest)
           (appends g.D.Disk old (engine_disk c.append.new.self) x n batch c.args.done a leaves
           c.requires.done r (c.append.ensures.changes.any_moment n.list r.store));

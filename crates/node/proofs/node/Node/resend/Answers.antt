@@ -1,10 +1,11 @@
 use Rattle.std.proofs.Common.{ℕ, ap, refl, sym, subst}
+use Rattle.disk.specs.{IsEnvironmental}
 use Rattle.std.specs.Prelude.{IfOk}
 use Rattle.std.proofs.lemmas.Result.{err_from_is_err_and}
 use Rattle.chain_model.specs.{resend}
 use Rattle.engine.specs.{LookUps, engine_disk}
+use Rattle.node.specs.declared.stop.Stop.TheVariants as stop
 use Rattle.node.specs.Outputs.{OutputRefines}
-use Rattle.node.specs.Stops.{IsEnvironmental}
 use Rattle.node.proofs.Ends.{ends, ends_stopped}
 use Rattle.engine.specs.KeepingLemmas.{answered, neither}
 use Rattle.node.proofs.Causes.{on_ok, only_memory, same_stop}
@@ -25,7 +26,8 @@ returns-in_err-sent g c =
       ends = λ x n input any r.
           let a = resend x n in
           ends_stopped g.D.Disk old _ x n a _ result p.0 p.1
-          (subst IsEnvironmental (sym p.2) (c.in_err-sent.ensures.sent n r.core r.store))
+          (subst (IsEnvironmental stop.Disk stop.Memory) (sym p.2)
+          (c.in_err-sent.ensures.sent n r.core r.store))
           (read.keeps.honest.1 r.honest)
           (still_refines g.D.Disk old (engine_disk c.resent.new.engine) x n a.node r
           (read.still r.honest));

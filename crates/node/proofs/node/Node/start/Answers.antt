@@ -1,8 +1,8 @@
 use Rattle.std.proofs.Common.{subst, sym}
-use Rattle.disk.specs.{contents}
+use Rattle.disk.specs.{IsEnvironmental, contents}
+use Rattle.node.specs.declared.stop.Stop.TheVariants as stop
 use Rattle.node.specs.Outputs.{AlwaysRefines}
 use Rattle.node.specs.Steps.{facts_for}
-use Rattle.node.specs.Stops.{IsEnvironmental}
 use Rattle.engine.specs.KeepingLemmas.{kept_as}
 use Rattle.node.proofs.Causes.{device_told, env_of}
 use Rattle.node.proofs.Starts.{not_for_files, started_from, started_or_memory}
@@ -17,7 +17,7 @@ returns-in-Ok-clause-started g c = λ x n honest read.
 
 pub returns-in-Err-clause-started : goal.returns-in-Err-clause-started
 returns-in-Err-clause-started g c = λ x n honest read.
-    subst IsEnvironmental (sym c.from.ensures) (env_of c.in-Err.e
+    subst (IsEnvironmental stop.Disk stop.Memory) (sym c.from.ensures) (env_of c.in-Err.e
     ((c.in-Err.ensures.opened (facts_for x n) n.list honest).whole read))
 
 -- a refused opening leaves at every moment what the disk left before
@@ -29,7 +29,8 @@ returns-in-Err-clause-any_moment g c = λ x n m honest rests.
 pub returns-in-Err-clause-still : goal.returns-in-Err-clause-still
 returns-in-Err-clause-still g c = λ other.
     c.in-Err.ensures.still (λ machine.
-    other (subst IsEnvironmental (sym c.from.ensures) (env_of c.in-Err.e machine)))
+    other (subst
+    (IsEnvironmental stop.Disk stop.Memory) (sym c.from.ensures) (env_of c.in-Err.e machine)))
 
 pub returns-in-Ok-clause-still : goal.returns-in-Ok-clause-still
 returns-in-Ok-clause-still g c =

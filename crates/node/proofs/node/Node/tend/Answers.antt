@@ -1,9 +1,10 @@
 use Rattle.std.proofs.Common.{ap, refl, subst, sym, ◌∙◌}
+use Rattle.disk.specs.{IsEnvironmental}
 use Rattle.std.proofs.lemmas.Result.{err_from_is_err_and}
 use Rattle.chain_model.specs.{silent}
 use Rattle.engine.specs.KeepingLemmas.{answered, kept_as, neither}
 use Rattle.engine.specs.{LookUps, engine_disk}
-use Rattle.node.specs.Stops.{IsEnvironmental}
+use Rattle.node.specs.declared.stop.Stop.TheVariants as stop
 use Rattle.node.proofs.Causes.{done_told, env_of, still_works, stop_passed}
 use Rattle.node.proofs.Ends.{ends_stopped}
 use Rattle.node.proofs.Running.{still_runs, tends}
@@ -17,7 +18,9 @@ returns-in_err-tend-clause-ends g c = λ x n r.
     let why = env_of c.in_err-tend.field-0.0
     (c.in_err-tend.ensures.work.reads n.list r.store.reads) in
     ends_stopped g.D.Disk old _ x n (silent n) _ c.from_residual.result p.0 p.1
-    (subst IsEnvironmental (sym p.2) why) (c.tend.ensures.changes.keeps.disk.honest.1 r.honest)
+    (subst
+    (IsEnvironmental stop.Disk stop.Memory) (sym p.2) why)
+    (c.tend.ensures.changes.keeps.disk.honest.1 r.honest)
     (tends g.D.Disk old (engine_disk c.tend.new.self) x n r
     (c.tend.ensures.changes.any_moment n.list r.store))
 

@@ -3,9 +3,11 @@ use Rattle.std.proofs.lemmas.Result.{err_from_is_err_and}
 use Rattle.std.specs.Rc.{rc_slice_items}
 use Rattle.bloom.specs.{CoversHashed, hashes_of}
 use Rattle.kv_types.specs.{lent_key}
+use Rattle.disk.specs.{IsEnvironmental}
 use Rattle.disk.specs.StillLemmas.{still}
 use Rattle.merge_iter.specs.{spot}
-use Rattle.table_format.specs.{IsBlock, IsEnvironmentError}
+use Rattle.table_format.specs.declared.FileError.TheVariants as reading
+use Rattle.table_format.specs.{IsBlock}
 use Rattle.sorted_table.specs.Meant.{IsBlockAtLine}
 use Rattle.sorted_table.specs.Open.{LookupFinds}
 use Rattle.sorted_table.proofs.BlockNumbers.{some_of}
@@ -44,7 +46,6 @@ returns-then-denies g c = record {
       (subst (λ (h : ℕ × ℕ). CoversHashed c.args.self.now.filter.items h → ⊥) c.requires
       (c.denies.ensures.denied.0 c.if-denies.true)));
   unread = search rules;
-  refusals = search rules;
   still = λ honest. still _ _;
 }
 
@@ -75,7 +76,6 @@ returns-then-number-lines g c = record {
       (λ rising. lines_early lines (spot (lent_key c.args.key) c.args.at) c.line_place-number.result
       (omega (arith, c.if-number-lines.true)) (c.line_place-number.ensures.place rising));
   unread = search rules;
-  refusals = search rules;
   still = λ honest. still _ _;
 }
 
@@ -91,7 +91,7 @@ returns-in_err-block g c = record {
       let t = lines_of file c.args.self.now entries lines s c.deref-lines.ensures.value in
       let b = block_at file lines t n at.0 at.1 in
       let e = c.in_err-block.field-0.0 in
-      let why = environmental e c.in_err-block.ensures.device.refusals
+      let why = environmental e
       (never_damaged file lines t n at.0 e b at.1 (c.in_err-block.ensures.answers honest)) in
       let p = err_from_is_err_and c.from_residual.result c.from_residual.ensures.1 in
       rw (p.1, p.2) why;
@@ -111,7 +111,6 @@ returns-in_err-block g c = record {
       rw (p.1, p.2) why;
   meant = search rules;
   unread = search rules;
-  refusals = search rules;
   still = search rules;
 }
 
@@ -154,7 +153,8 @@ returns g c = record {
       c.deref-lines.ensures.value (c.in_ok-block.ensures.answers honest) in
       let here : IsBlockAtLine lines n meant part = subst (λ l. IsBlockAtLine l n meant part)
       (sym c.deref-lines.ensures.value) (agree n part read) in
-      ok_part (LookupFinds entries (lent_key c.args.key) c.args.at) IsEnvironmentError
+      ok_part (LookupFinds entries (lent_key c.args.key) c.args.at)
+      (IsEnvironmental reading.Disk reading.Memory)
       c.find_in.result
       (found_as meant c.args.self.now entries s
       lines n (lent_key c.args.key) c.args.at c.in_ok-block.block
@@ -164,6 +164,5 @@ returns g c = record {
       (λ mine is. c.find_in.ensures.found mine
       (subst (λ (p : List ℕ). IsBlock p mine) (sym c.deref.ensures.value) is)));
   unread = search rules;
-  refusals = search rules;
   still = search rules;
 }

@@ -1,8 +1,9 @@
 use Rattle.std.proofs.Common.{◌≡◌, ◌+◌, length, ap, inr, refl, ◌∙◌}
+use Rattle.disk.specs.{IsEnvironmental}
 use Rattle.store_files.specs.BatchLogs.{next_number}
-use Rattle.store_tables.specs.Errors.{IsEngineExternal}
 use Rattle.store_files.specs.Layout.{batch_record, records_from}
 use Rattle.store_files.proofs.Causes.{log_ends, met, none_counted}
+use Rattle.store_tables.specs.declared.error.EngineError.TheVariants as engine
 use Rattle.store_tables.specs.RefusalLemmas.{refuses}
 use Rattle.store_files.proofs.Parts.{crashed_more, held_more, none_more}
 use Rattle.store_files.proofs.Records.{spelled_fits}
@@ -11,7 +12,8 @@ use Rattle.store_files.proofs.batch_logs.BatchLogs.append.Goals as goal
 -- nothing was written
 pub returns-in_err-record-clause-appended : goal.returns-in_err-record-clause-appended
 returns-in_err-record-clause-appended g c = λ first batches honest h. record {
-  list = refuses c.from_residual.result _ IsEngineExternal c.from_residual.ensures.1 (inr refl);
+  list = refuses c.from_residual.result _
+  (IsEnvironmental engine.Disk engine.Memory) c.from_residual.ensures.1 (inr refl);
   any_moment = none_more c.durable_file_is_left.ensures (g.D.Disk.state c.args.disk.now)
       c.args.self.now first batches c.args.batch.now h c.requires.usable.apart
       (g.D.Disk.past c.args.disk.now);
@@ -33,7 +35,8 @@ returns-in_err-append-clause-appended g c = λ first batches honest h.
     c.in_ok-record.ensures.1 in
     let records = records_from (first + length h.before) h.here in
     record {
-      list = refuses c.from_residual-in_err-append.result _ IsEngineExternal
+      list = refuses c.from_residual-in_err-append.result _
+      (IsEnvironmental engine.Disk engine.Memory)
           c.from_residual-in_err-append.ensures.1
           (met 16777216 c.in_err-append.field-0.0 self.newest.log c.append.new.self
           c.deref.result.now c.in_err-append.ensures.told.1 fits c.requires.usable.newest

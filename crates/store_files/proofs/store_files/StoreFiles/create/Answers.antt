@@ -1,9 +1,9 @@
 use Rattle.std.proofs.Common.{◌≡◌, ℕ, List, [], ◌∙◌, ap, refl, subst, sym, rules}
-use Rattle.disk.specs.{contents}
+use Rattle.disk.specs.{IsEnvironmental, contents}
 use Rattle.record_log.specs.{LogHolds}
 use Rattle.manifest.specs.declared.TableLine.{TableLine}
 use Rattle.manifest.specs.{IsVersion, NodeVersion}
-use Rattle.store_tables.specs.Errors.{IsEngineExternal}
+use Rattle.store_tables.specs.declared.error.EngineError.TheVariants as engine
 use Rattle.store_tables.specs.LevelTables.{AreTablesOf}
 use Rattle.store_files.proofs.BegunFiles.{counts_none, first_hold, first_line, log_is_spared}
 use Rattle.store_files.proofs.BegunFiles.{no_file_ends, no_slot_yet}
@@ -23,7 +23,7 @@ returns-in_err-tables-clause-created g c = λ honest.
     (c.state.view_is ∙ c.state-state.ensures ∙ c.in_ok-manifest.ensures.works.0) in
     let read = subst (λ (lines : List TableLine).
     AreTablesOf (contents (g.D.Disk.state c.create-2.new.disk)) lines []) (sym none) tt in
-    refuses c.from_residual-in_err-tables.result _ IsEngineExternal
+    refuses c.from_residual-in_err-tables.result _ (IsEnvironmental engine.Disk engine.Memory)
     c.from_residual-in_err-tables.ensures.1 (c.in_err-tables.ensures.opened [] honest3 read)
 
 -- the new log has no batch

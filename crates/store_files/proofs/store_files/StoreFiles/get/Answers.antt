@@ -1,10 +1,10 @@
 use Rattle.std.proofs.Common.{◌≤◌, ℕ, List, Option, subst, rules}
-use Rattle.disk.specs.{contents}
+use Rattle.disk.specs.{IsEnvironmental, contents}
 use Rattle.disk.specs.StillLemmas.{still}
 use Rattle.memtable.specs.{TableHolds}
+use Rattle.store_tables.specs.declared.error.EngineError.TheVariants as engine
 use Rattle.store_tables.specs.LevelTables.{EntriesHave}
 use Rattle.store_files.specs.OpenFiles.{known_store}
-use Rattle.store_tables.specs.Errors.{IsEngineExternal}
 use Rattle.store_tables.specs.RefusalLemmas.{if_refuses}
 use Rattle.store_files.proofs.LookUps.{found_short, memory_shows, never_long, tables_show, told_as}
 use Rattle.store_files.proofs.Meant.{own_blocks, zip_was}
@@ -82,6 +82,6 @@ returns-clause-intact g c = λ list honest h.
 -- undamaged tables are read
 pub returns-in_err-get-clause-intact : goal.returns-in_err-get-clause-intact
 returns-in_err-get-clause-intact g c = λ list honest h.
-    if_refuses c.from_residual-in_err-get.result IsEngineExternal
+    if_refuses c.from_residual-in_err-get.result (IsEnvironmental engine.Disk engine.Memory)
     c.from_residual-in_err-get.ensures.1
     (c.in_err-get.ensures.intact h.known.tables honest h.known.served)

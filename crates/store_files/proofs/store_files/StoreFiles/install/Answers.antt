@@ -1,4 +1,5 @@
 use Rattle.std.proofs.Common.{◌+◌, ◌-◌, ℕ, ap, drop, inr, refl, subst, suc, sym, ◌∙◌}
+use Rattle.disk.specs.{IsEnvironmental}
 use Rattle.kv_types.specs.{Entry}
 use Rattle.manifest.specs.declared.TableLine.{TableLine}
 use Rattle.manifest.specs.{IsFit, NodeVersion}
@@ -6,7 +7,8 @@ use Rattle.memtable.specs.declared.Memtable.{Memtable}
 use Rattle.memtable.specs.{HasFailedAdd, TableHolds}
 use Rattle.sorted_table.specs.{as_meant_itself, index_lines, table_file}
 use Rattle.store_files.specs.declared.store_files.StoreFiles.{StoreFiles}
-use Rattle.store_tables.specs.Errors.{IsEnd, IsEngineExternal}
+use Rattle.store_tables.specs.declared.error.EngineError.TheVariants as engine
+use Rattle.store_tables.specs.Errors.{IsEnd}
 use Rattle.store_tables.specs.KeepingLemmas.{answered, kept_as, kept_behind, kept_but, neither}
 use Rattle.store_tables.specs.LevelTables.{table_lines, with_flushed, with_flushed_line}
 use Rattle.store_files.specs.OpenFiles.{batch_count, known_version, trimmed_count}
@@ -94,7 +96,7 @@ returns-in_err-begin g c =
       usable = refusal_on_ok result _ _ told;
       did = refuses result _ IsEnd told begun.2;
       tended = λ list honest hs. record {
-        list = refuses result _ IsEngineExternal told
+        list = refuses result _ (IsEnvironmental engine.Disk engine.Memory) told
             (c.in_err-begin.ensures.begun (suc trimmed) (drop trimmed list) honest
             (new_ends so s1 list c.args.made.table hs)
             (spilled_named so s1 list c.args.made.table hs).held);
@@ -102,7 +104,7 @@ returns-in_err-begin g c =
             p1 p2 s2 (c.begin.ensures.any_moment honest);
       };
       meant = λ list honest ms. record {
-        list = refuses result _ IsEngineExternal told
+        list = refuses result _ (IsEnvironmental engine.Disk engine.Memory) told
             (c.in_err-begin.ensures.begun (suc trimmed) (drop trimmed list) honest
             (meant_ends so s1 list c.args.made.table ms)
             (meant_logs so s1 list c.args.made.table ms));
@@ -168,7 +170,8 @@ returns-in-Err g c =
           let held =
           manifest_begun so s1 list table hs s2 spares logs begun.2 began keeps stays in
           record {
-            list = subst IsEngineExternal (sym why) (edit_is_external c.in-Err.e
+            list = subst
+            (IsEnvironmental engine.Disk engine.Memory) (sym why) (edit_is_external c.in-Err.e
                 (c.in-Err.ensures.changes.changed (known_version files) honest2 held));
             any_moment = edit_is_recorded so s1 list table hs s2 spares logs begun.2 began
                 keeps law left stays edits p1 p2 p3 s3 (c.begin.ensures.any_moment honest)
@@ -183,7 +186,8 @@ returns-in-Err g c =
           let held =
           manifest_was_begun so s1 list table ms s2 spares logs begun.2 began keeps stays in
           record {
-            list = subst IsEngineExternal (sym why) (edit_is_external c.in-Err.e
+            list = subst
+            (IsEnvironmental engine.Disk engine.Memory) (sym why) (edit_is_external c.in-Err.e
                 (c.in-Err.ensures.changes.changed (known_version files) honest2 held));
             any_moment = edit_was_recorded so s1 list table ms s2 spares logs begun.2 began
                 keeps law left stays edits p1 p2 p3 s3 (c.begin.ensures.any_moment honest)
@@ -250,7 +254,7 @@ returns-in_err-add g c =
           let held =
           manifest_begun so s1 list table hs s2 spares logs begun.2 began keeps stays in
           record {
-            list = refuses result _ IsEngineExternal told (inr memory);
+            list = refuses result _ (IsEnvironmental engine.Disk engine.Memory) told (inr memory);
             any_moment = edit_is_recorded so s1 list table hs s2 spares logs begun.2 began
                 keeps law left stays edits p1 p2 p3 s3 (c.begin.ensures.any_moment honest)
                 (c.record.ensures.changes.any_moment (known_version files) honest2 held);
@@ -264,7 +268,7 @@ returns-in_err-add g c =
           let held =
           manifest_was_begun so s1 list table ms s2 spares logs begun.2 began keeps stays in
           record {
-            list = refuses result _ IsEngineExternal told (inr memory);
+            list = refuses result _ (IsEnvironmental engine.Disk engine.Memory) told (inr memory);
             any_moment = edit_was_recorded so s1 list table ms s2 spares logs begun.2 began
                 keeps law left stays edits p1 p2 p3 s3 (c.begin.ensures.any_moment honest)
                 (c.record.ensures.changes.any_moment (known_version files) honest2 held);

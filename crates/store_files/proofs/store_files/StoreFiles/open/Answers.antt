@@ -1,11 +1,11 @@
 use Rattle.std.proofs.Common.{◌∙◌, ℕ, List, ap, inl, inr, refl, subst, sym, rules}
 use Rattle.manifest.specs.{NodeVersion}
-use Rattle.store_tables.specs.Errors.{IsEngineExternal}
+use Rattle.store_tables.specs.declared.error.EngineError.TheVariants as engine
 use Rattle.store_tables.specs.KeepingLemmas.{answered, kept_as, kept_behind, neither}
 use Rattle.store_tables.specs.declared.error.EngineError.{EngineError}
 use Rattle.store_files.specs.OpenFiles.{AreUsableFiles, FilesOpenAs, OpeningRefusal}
 use Rattle.store_files.specs.Openings.{kept_files}
-use Rattle.disk.specs.{Contents, contents, seen}
+use Rattle.disk.specs.{Contents, IsEnvironmental, contents, seen}
 use Rattle.store_files.specs.Settling.{AreSwept, IsReadAlike}
 use Rattle.store_files.specs.StoreFiles.{IsOneOf, WereOneOf}
 use Rattle.store_tables.specs.RefusalLemmas.{answers_nothing, done, if_refuses, lacks_memory}
@@ -20,7 +20,8 @@ pub returns-in_err-files-clause-opens : goal.returns-in_err-files-clause-opens
 returns-in_err-files-clause-opens g c = record {
   kept = search rules;
   opened = λ facts list honest. record {
-    whole = λ represents. refuses c.from_residual.result _ IsEngineExternal
+    whole = λ represents. refuses c.from_residual.result _
+    (IsEnvironmental engine.Disk engine.Memory)
         c.from_residual.ensures.1
         ((c.in_err-files.ensures.opens.opened facts list honest).whole represents);
     meant = λ were. answers_nothing c.from_residual.result _ _ c.from_residual.ensures.1;
@@ -30,7 +31,8 @@ returns-in_err-files-clause-opens g c = record {
 }
 
 -- an external refusal says nothing of the files
-external : (e : EngineError) (left : Contents) → IsEngineExternal e → OpeningRefusal e left
+external : (e : EngineError) (left : Contents) → IsEnvironmental engine.Disk engine.Memory e →
+    OpeningRefusal e left
 external e left (inl is) = subst (λ (s : EngineError). OpeningRefusal s left) (sym is) tt
 external e left (inr is) = subst (λ (s : EngineError). OpeningRefusal s left) (sym is) tt
 
@@ -44,7 +46,8 @@ returns-in_err-kept-clause-opens g c =
       kept = kept_as g.D.Disk (neither (answered c.read_files.result c.in_ok-files.was)
           (lacks_memory result refused)) (λ a b same. tt) c.read_files.ensures.opens.kept;
       opened = λ facts list honest. record {
-        whole = λ represents. refuses result _ IsEngineExternal refused (inr refl);
+        whole = λ represents. refuses result _
+        (IsEnvironmental engine.Disk engine.Memory) refused (inr refl);
         meant = λ were. answers_nothing result _ _ refused;
       };
       told = λ honest. refuses result (FilesOpenAs left) (λ e. OpeningRefusal e left) refused tt;
@@ -65,7 +68,7 @@ returns-in_err-remove_others-clause-opens g c =
           (passed_on c.remove_others.result e result c.in_err-remove_others.was refused)
           (λ a b spares. spares) c.remove_others.ensures.kept);
       opened = λ facts list honest. record {
-        whole = λ represents. refuses result _ IsEngineExternal refused
+        whole = λ represents. refuses result _ (IsEnvironmental engine.Disk engine.Memory) refused
             (c.in_err-remove_others.ensures.alone (before.honest.1 honest));
         meant = λ were. answers_nothing result _ _ refused;
       };

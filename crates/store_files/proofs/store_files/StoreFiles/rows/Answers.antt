@@ -1,12 +1,13 @@
 use Rattle.std.proofs.Common.{refl, subst, sym, take, rules}
+use Rattle.disk.specs.{IsEnvironmental}
 use Rattle.disk.specs.StillLemmas.{still}
 use Rattle.kv_types.specs.{map_of}
 use Rattle.kv_types.specs.Pages.{page_of}
 use Rattle.row_pages.specs.ViewRowsLemmas.{walk_of_page}
-use Rattle.store_tables.specs.Errors.{IsEngineExternal}
 use Rattle.store_files.proofs.Meant.{own_blocks}
 use Rattle.store_files.proofs.RowReads.{kept_answered, page_is, refusal_external}
 use Rattle.store_files.proofs.store_files.StoreFiles.rows.Goals as goal
+use Rattle.store_tables.specs.declared.error.EngineError.TheVariants as engine
 
 -- no call of the disk
 pub returns-in_err-rows-clause-reads : goal.returns-in_err-rows-clause-reads
@@ -43,6 +44,6 @@ returns-clause-intact g c = λ list honest h floor count.
     let disk = g.D.Disk.state c.args.files.now.disk in
     let shows = c.in_ok-rows.ensures.shows disk c.args.files.now list honest h
     (own_blocks disk c.args.self.now.tables.tables.items) floor count in
-    subst IsEngineExternal (sym c.from.ensures)
+    subst (IsEnvironmental engine.Disk engine.Memory) (sym c.from.ensures)
     (refusal_external c.read_page.result c.in-Err.e c.in-Err.is c.read_page.ensures.moved.causes
     (disk, shows.0, λ honest file. refl))

@@ -1,6 +1,8 @@
 use Rattle.std.proofs.Common.{Ok, arith, refl, subst, sym}
+use Rattle.disk.specs.{IsEnvironmental}
 use Rattle.store_files.specs.declared.tended.Tended.TheVariants as tended
-use Rattle.store_tables.specs.Errors.{IsEnd, IsEngineExternal}
+use Rattle.store_tables.specs.declared.error.EngineError.TheVariants as engine
+use Rattle.store_tables.specs.Errors.{IsEnd}
 use Rattle.store_tables.specs.KeepingLemmas.{kept_as, neither}
 use Rattle.store_files.specs.OpenFiles.{known_version}
 use Rattle.store_files.proofs.MeantTends.{manifest_holds, rewritten_as_meant, slots_were_written}
@@ -76,7 +78,8 @@ returns-in-Err g c =
       usable = tt;
       did = subst IsEnd (sym is) (edit_ends c.in-Err.e);
       tended = λ list honest h. record {
-        list = subst IsEngineExternal (sym is) (edit_is_external c.in-Err.e
+        list = subst
+        (IsEnvironmental engine.Disk engine.Memory) (sym is) (edit_is_external c.in-Err.e
             (c.in-Err.ensures.changes.changed known honest h.known.manifest));
         any_moment = slots_are_written disk files list h law past since new
             (c.rewrite.ensures.changes.any_moment known honest h.known.manifest);
@@ -84,7 +87,8 @@ returns-in-Err g c =
       meant = λ list honest w.
           let held = manifest_holds disk files list w c.held_versions_are_left.ensures.same in
           record {
-            list = subst IsEngineExternal (sym is) (edit_is_external c.in-Err.e
+            list = subst
+            (IsEnvironmental engine.Disk engine.Memory) (sym is) (edit_is_external c.in-Err.e
                 (c.in-Err.ensures.changes.changed known honest held));
             any_moment = slots_were_written disk files list w law past since new
                 (c.rewrite.ensures.changes.any_moment known honest held);

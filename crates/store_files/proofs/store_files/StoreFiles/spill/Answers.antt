@@ -1,9 +1,10 @@
 use Rattle.std.proofs.Common.{◌<◌, ◌+◌, Option, arith, inr, refl, subst}
 use Rattle.std.specs.Prelude.{IsNone, MatchOption}
-use Rattle.disk.specs.{seen}
+use Rattle.disk.specs.{IsEnvironmental, seen}
 use Rattle.version_edits.specs.declared.line.TheConstants.{MAX_NEXT}
 use Rattle.manifest.specs.declared.TableLine.{TableLine}
-use Rattle.store_tables.specs.Errors.{IsEnd, IsEngineExternal}
+use Rattle.store_tables.specs.declared.error.EngineError.TheVariants as engine
+use Rattle.store_tables.specs.Errors.{IsEnd}
 use Rattle.store_tables.specs.TableWriting.{IsTooLarge, IsWrittenTable}
 use Rattle.store_tables.specs.TableWriting.{IsNewLine}
 use Rattle.store_tables.specs.RefusalLemmas.{refuses}
@@ -50,7 +51,8 @@ returns-in_err-line-clause-spilled g c = λ list honest h.
     let files = c.args.self.now in
     let next = files.free_file in
     record {
-      list = refuses c.from_residual.result _ IsEngineExternal c.from_residual.ensures.1
+      list = refuses c.from_residual.result _
+      (IsEnvironmental engine.Disk engine.Memory) c.from_residual.ensures.1
           (c.in_err-line.ensures.written honest (next_is_fresh disk files list h next refl));
       any_moment = next_is_written disk files list h next refl
           c.held_versions_are_left.ensures.left c.durable_file_is_left.ensures
@@ -91,7 +93,8 @@ returns-in_err-table-clause-spilled g c = λ list honest h.
     (IsWrittenTable mid files.memtable next)) c.in-Some.is
     (c.in_ok-line.ensures.written honest (next_is_fresh disk files list h next refl)) in
     record {
-      list = refuses c.from_residual-in_err-table.result _ IsEngineExternal
+      list = refuses c.from_residual-in_err-table.result _
+      (IsEnvironmental engine.Disk engine.Memory)
           c.from_residual-in_err-table.ensures.1
           (c.in_err-table.ensures.opened told.table between told.is);
       any_moment = next_is_opened disk files list h next refl
@@ -132,7 +135,8 @@ returns-in_err-line-clause-meant g c = λ list honest w.
     let files = c.args.self.now in
     let next = files.free_file in
     record {
-      list = refuses c.from_residual.result _ IsEngineExternal c.from_residual.ensures.1
+      list = refuses c.from_residual.result _
+      (IsEnvironmental engine.Disk engine.Memory) c.from_residual.ensures.1
           (c.in_err-line.ensures.written honest (next_was_fresh disk files list w next refl));
       any_moment = next_was_written disk files list w next refl c.durable_file_is_left.ensures
           c.held_versions_are_left.ensures.left c.held_versions_are_left.ensures.same
@@ -171,7 +175,8 @@ returns-in_err-table-clause-meant g c = λ list honest w.
     (IsWrittenTable mid files.memtable next)) c.in-Some.is
     (c.in_ok-line.ensures.written honest (next_was_fresh disk files list w next refl)) in
     record {
-      list = refuses c.from_residual-in_err-table.result _ IsEngineExternal
+      list = refuses c.from_residual-in_err-table.result _
+      (IsEnvironmental engine.Disk engine.Memory)
           c.from_residual-in_err-table.ensures.1
           (c.in_err-table.ensures.opened told.table between told.is);
       any_moment = next_was_opened disk files list w next refl c.durable_file_is_left.ensures

@@ -1,9 +1,10 @@
 use Rattle.std.proofs.Common.{◌+◌, ◌≡◌, ◌⊎◌, ℕ, List, [], None, inl, inr, drop}
+use Rattle.disk.specs.{IsEnvironmental}
 use Rattle.std.proofs.Common.{subst, sym, take, ◌∙◌}
 use Rattle.std.specs.List.{AllZip}
 use Rattle.store_model.specs.{LevelTable}
+use Rattle.store_tables.specs.declared.error.EngineError.TheVariants as engine
 use Rattle.store_tables.specs.declared.levels.OpenTable.{OpenTable}
-use Rattle.store_tables.specs.Errors.{IsEngineExternal}
 use Rattle.store_tables.specs.KeepingLemmas.{answered}
 use Rattle.store_tables.specs.LevelTables.{IsServed, TablesFind, WasServed}
 use Rattle.store_tables.specs.RefusalLemmas.{if_refuses}
@@ -106,7 +107,8 @@ returns-in_err-found-clause-intact g c = λ tables honest served.
     (sym c.deref-open-items.ensures.value) served in
     let b = beside (IsServed s0) c.deref-open-items.result.now tables c.loop-open.open-index one zip
     c.loop-open-test.true c.open-item.is in
-    if_refuses c.from_residual.result IsEngineExternal c.from_residual.ensures.1
+    if_refuses c.from_residual.result
+    (IsEnvironmental engine.Disk engine.Memory) c.from_residual.ensures.1
     (c.in_err-found.ensures.intact b.other (before.honest.1 honest)
     (served_same s0 s1 one b.other (before.files honest) b.related))
 

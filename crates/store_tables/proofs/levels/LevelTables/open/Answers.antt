@@ -2,11 +2,11 @@ use Rattle.std.proofs.Common.{◌+◌, All, List, [], ◌∷◌, ◌++◌, ap, m
 use Rattle.std.specs.List.{AllZip}
 use Rattle.std.proofs.lemmas.List.{take_all}
 use Rattle.std.proofs.lemmas.List.Elements.{All-more, All-nil}
-use Rattle.disk.specs.{Slot, contents}
+use Rattle.disk.specs.{IsEnvironmental, Slot, contents}
 use Rattle.manifest.specs.declared.TableLine.{TableLine}
 use Rattle.store_model.specs.{LevelTable}
+use Rattle.store_tables.specs.declared.error.EngineError.TheVariants as engine
 use Rattle.store_tables.specs.declared.levels.OpenTable.{OpenTable}
-use Rattle.store_tables.specs.Errors.{IsEngineExternal}
 use Rattle.store_tables.specs.KeepingLemmas.{answered}
 use Rattle.store_tables.specs.LevelTables.{FileFits, IsServed, IsTableAsMeant, IsTableOf, WasServed}
 use Rattle.store_tables.specs.RefusalLemmas.{refuses}
@@ -97,7 +97,8 @@ returns-in_err-open-clause-opened g c = λ tables honest are.
     let before = c.loop-line.invariant.read.kept in
     let b = beside (IsTableOf (contents s0)) c.args.lines.now tables c.loop-line.line-index line are
     c.loop-line-test.true c.line-item.is in
-    refuses c.from_residual.result _ IsEngineExternal c.from_residual.ensures.1
+    refuses c.from_residual.result _
+    (IsEnvironmental engine.Disk engine.Memory) c.from_residual.ensures.1
     (c.in_err-open.ensures.opened b.other (before.honest.1 honest)
     (lines_same s0 s1 line b.other (before.files honest) b.related))
 

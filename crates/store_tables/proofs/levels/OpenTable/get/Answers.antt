@@ -1,8 +1,9 @@
 use Rattle.std.proofs.Common.{ℕ, subst, Contains}
 use Rattle.kv_types.specs.{StoredKey, lent_key}
+use Rattle.disk.specs.{IsEnvironmental}
 use Rattle.disk.specs.StillLemmas.{still}
-use Rattle.store_tables.specs.Errors.{IsEngineExternal}
 use Rattle.sorted_table.specs.{table_file}
+use Rattle.store_tables.specs.declared.error.EngineError.TheVariants as engine
 use Rattle.store_tables.specs.LevelTables.{EntriesFind}
 use Rattle.store_tables.specs.RefusalLemmas.{if_refuses}
 use Rattle.store_tables.proofs.OpenTables.{found_in, of_table}
@@ -15,7 +16,8 @@ returns-then-not-may_have-clause-still g c = λ honest. still _ _
 -- the table was not read
 pub returns-in_err-get_hashed-clause-intact : goal.returns-in_err-get_hashed-clause-intact
 returns-in_err-get_hashed-clause-intact g c = λ table honest served.
-    if_refuses c.from_residual.result IsEngineExternal c.from_residual.ensures.1
+    if_refuses c.from_residual.result
+    (IsEnvironmental engine.Disk engine.Memory) c.from_residual.ensures.1
     (of_table c.in_err-get_hashed.field-0.0
     (c.in_err-get_hashed.ensures.found table.entries honest served.serves))
 

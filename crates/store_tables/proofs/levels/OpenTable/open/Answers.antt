@@ -1,11 +1,11 @@
 use Rattle.std.proofs.Common.{◌≡◌, ◌∙◌, ℕ, Bool, IsTrue, List, Option, ap, false, inl, inr, refl}
 use Rattle.std.proofs.Common.{subst, sym}
 use Rattle.std.specs.Prelude.{IsSomeAnd}
-use Rattle.disk.specs.{Slot, contents, seen}
+use Rattle.disk.specs.{IsEnvironmental, Slot, contents, seen}
 use Rattle.disk.specs.StillLemmas.{still, still_more, still_same}
 use Rattle.sorted_table.specs.{AreAsMeant, HasTail, IsOpenOn, TableServes, as_meant_itself}
 use Rattle.sorted_table.specs.{index_lines, table_filter}
-use Rattle.store_tables.specs.Errors.{IsEngineExternal}
+use Rattle.store_tables.specs.declared.error.EngineError.TheVariants as engine
 use Rattle.store_tables.specs.RefusalLemmas.{refuses}
 use Rattle.store_tables.proofs.OpenTables.{file_represents, fit_read, fits_last, fits_length}
 use Rattle.store_tables.proofs.OpenTables.{fits_opens, of_table, opened_as_meant}
@@ -62,7 +62,7 @@ returns-in_err-table-clause-opened g c = λ table honest is.
     let has = file_represents (contents old) line table
     (g.D.Disk.state c.length.new.self line.file) is
     (ap seen (c.length.ensures.kept.disk.files honest line.file)) in
-    refuses c.from_residual-in_err-table.result _ IsEngineExternal
+    refuses c.from_residual-in_err-table.result _ (IsEnvironmental engine.Disk engine.Memory)
     c.from_residual-in_err-table.ensures.1 (of_table c.in_err-table.field-0.0
     (c.in_err-table.ensures.opened table.entries (c.length.ensures.kept.disk.honest.1 honest) has))
 

@@ -1,16 +1,21 @@
 use Rattle.std.proofs.Common.{◌++◌, ◌∷◌, [], ℕ, List, rules, sym, subst, arith, false}
 use Rattle.std.proofs.lemmas.Grind.{common_steps}
 use Rattle.std.proofs.lemmas.Result.{err_from_is_err_and}
+use Rattle.std.specs.Prelude.{IsErrOf}
+use Rattle.disk.specs.{WritesInto}
+use Rattle.disk.specs.WritesLemmas.{writes_as}
 use Rattle.kv_types.specs.{Entry}
+use Rattle.table_format.specs.declared.FileError.TheVariants as reading
+use Rattle.table_format.specs.declared.TableError.TheVariants as table
 use Rattle.table_format.specs.{data_bytes, lent_entry}
 use Rattle.table_builder.specs.declared.builder.Builder.{Builder}
 use Rattle.table_builder.specs.Builders.{BuildsNothing, HoldsDivision, HoldsEntries}
-use Rattle.table_builder.specs.Closing.{CanClose, WritesFile}
+use Rattle.table_builder.specs.Closing.{CanClose}
 use Rattle.table_builder.specs.Divisions.{division, with_entry}
 use Rattle.table_builder.specs.Fresh.{IsFresh}
 use Rattle.table_builder.specs.Keys.{KnowsKeys}
 use Rattle.table_builder.proofs.BuildersLemmas.{bounds, can_close, held_more, refused}
-use Rattle.table_builder.proofs.DeviceLemmas.{not_own_on, passed_on, writes_as}
+use Rattle.table_builder.proofs.DeviceLemmas.{passed_up}
 use Rattle.table_builder.proofs.DivisionsLemmas.{division_push}
 use Rattle.table_builder.proofs.FreshLemmas.{spared}
 use Rattle.table_builder.proofs.builder.Builder.add.Goals as goal
@@ -50,13 +55,12 @@ returns-in_err-close_full g c =
     let result = c.from_residual-in_err-close_full.result in
     let reported = c.from_residual-in_err-close_full.ensures.1 in
     let device = subst
-    (λ (f : ℕ). WritesFile g.D.Disk f c.args.disk.now c.close_full.new.disk called
-    ((blocks : List _) (one : _) → CanClose mid blocks one
+    (λ (f : ℕ). WritesInto g.D.Disk f c.args.disk.now c.close_full.new.disk
+    (IsErrOf called reading.Disk) ((blocks : List _) (one : _) → CanClose mid blocks one
     → ⊥)) same.0 c.close_full.ensures.device in
-    let wrote : WritesFile g.D.Disk old.file c.args.disk.now c.close_full.new.disk result
-    (BuildsNothing old) = writes_as g.D.Disk old.file {result =
-    result} (passed_on called e result c.in_err-close_full.was reported)
-    (not_own_on called e result c.in_err-close_full.was reported device.not_own)
+    let wrote : WritesInto g.D.Disk old.file c.args.disk.now c.close_full.new.disk
+    (IsErrOf result table.Disk) (BuildsNothing old) = writes_as g.D.Disk old.file
+    (passed_up called e result c.in_err-close_full.was reported)
     (λ none slot entries b.
     let m = bounds old entries b.holds in
     let has = c.in_ok-hold.ensures.block (division entries).opened b.holds.parts.block

@@ -1,6 +1,7 @@
 use Rattle.std.proofs.Common.{◌≡◌, length, ap, ◌∙◌, arith}
 use Rattle.table_format.specs.{block_bytes}
-use Rattle.table_builder.proofs.DeviceLemmas.{not_own_on, passed_on, wants_memory, writes_as}
+use Rattle.disk.specs.WritesLemmas.{writes_as}
+use Rattle.table_builder.proofs.DeviceLemmas.{passed_on, wants_memory}
 use Rattle.table_builder.proofs.builder.Builder.close.Goals as goal
 
 pub returns-in_err-seal-clause-device : goal.returns-in_err-seal-clause-device
@@ -16,7 +17,6 @@ returns-in_err-append-clause-device g c =
     let reported = c.from_residual-in_err-append.ensures.1 in
     let device = c.append.ensures.device in
     writes_as g.D.Disk c.args.self.now.file (passed_on called e result c.in_err-append.was reported)
-    (not_own_on called e result c.in_err-append.was reported device.not_own)
     (λ out blocks one can.
     let is : c.deref.result.now ≡ block_bytes one =
     c.deref.ensures.value ∙ (c.in_ok-seal.ensures.sealed blocks one can).bytes in

@@ -1,17 +1,19 @@
 use Rattle.std.proofs.Common.{◌≤◌, ◌++◌, ◌∷◌, [], length, sym, subst, arith, MatchResult}
+use Rattle.disk.specs.{IsEnvironmental}
+use Rattle.table_format.specs.declared.FileError.TheVariants as reading
 use Rattle.table_format.specs.declared.sizes.TheConstants.{BLOCK_SIZE}
-use Rattle.table_format.specs.{IsEnvironmentError, block_content, data_bytes}
+use Rattle.table_format.specs.{block_content, data_bytes}
 use Rattle.table_builder.specs.Builders.{HoldsDivision}
 use Rattle.table_builder.specs.Divisions.{Division}
 use Rattle.table_builder.specs.Fresh.{IsFresh}
 use Rattle.table_builder.proofs.ClosingLemmas.{on_ok_map}
-use Rattle.table_builder.proofs.DeviceLemmas.{writes_nothing}
+use Rattle.disk.specs.WritesLemmas.{writes_nothing}
 use Rattle.table_builder.proofs.DivisionsLemmas.{with_entry_full}
 use Rattle.table_builder.proofs.builder.Builder.close_full.Goals as goal
 
 pub returns-then-len-lt-BLOCK_SIZE-clause-device : goal.returns-then-len-lt-BLOCK_SIZE-clause-device
 returns-then-len-lt-BLOCK_SIZE-clause-device g c =
-    writes_nothing g.D.Disk c.args.self.now.file c.args.disk.now (λ fails. absurd cc) tt
+    writes_nothing g.D.Disk c.args.self.now.file c.args.disk.now (λ fails. absurd cc)
 
 -- the entry filled its block
 pub returns-clause-closed : goal.returns-clause-closed
@@ -37,6 +39,6 @@ returns-clause-written g c = λ parts entry can honest fresh.
     ) in
     subst (λ (it : Division). MatchResult c.close.result
     (λ _. IsFresh (g.D.Disk.state c.close.new.disk c.args.self.now.file) (data_bytes it.closed))
-    IsEnvironmentError) (sym (with_entry_full parts entry full))
+    (IsEnvironmental reading.Disk reading.Memory)) (sym (with_entry_full parts entry full))
     (c.close.ensures.written parts.closed (record { front = parts.opened; last = entry }) can honest
     fresh)

@@ -1,5 +1,7 @@
 use Rattle.std.proofs.Common.{◌≡◌, ◌<◌, List, length, refl, sym, subst, arith, MatchResult}
-use Rattle.table_format.specs.{Block, IsEnvironmentError, data_bytes}
+use Rattle.disk.specs.{IsEnvironmental}
+use Rattle.table_format.specs.declared.FileError.TheVariants as reading
+use Rattle.table_format.specs.{Block, data_bytes}
 use Rattle.table_builder.specs.Builders.{HoldsBlocks}
 use Rattle.table_builder.specs.Divisions.{block_from, division}
 use Rattle.table_builder.specs.Fresh.{IsFresh}
@@ -7,13 +9,13 @@ use Rattle.table_builder.proofs.ClosingLemmas.{can_close_last, can_end, finished
 use Rattle.table_builder.proofs.ClosingLemmas.{finished_some}
 use Rattle.table_builder.proofs.ClosingLemmas.{on_ok_map}
 use Rattle.table_builder.proofs.ClosingLemmas.{opened_some}
-use Rattle.table_builder.proofs.DeviceLemmas.{writes_as, writes_nothing}
+use Rattle.disk.specs.WritesLemmas.{writes_as, writes_nothing}
 use Rattle.table_builder.proofs.builder.Builder.close_rest.Goals as goal
 
 -- no block is open
 pub returns-then-self-eq0-clause-device : goal.returns-then-self-eq0-clause-device
 returns-then-self-eq0-clause-device g c =
-    writes_nothing g.D.Disk c.args.self.now.file c.args.disk.now (λ fails. absurd cc) tt
+    writes_nothing g.D.Disk c.args.self.now.file c.args.disk.now (λ fails. absurd cc)
 
 pub returns-then-self-eq0-clause-closed : goal.returns-then-self-eq0-clause-closed
 returns-then-self-eq0-clause-closed g c = λ entries h some.
@@ -27,7 +29,6 @@ returns-then-self-eq0-clause-closed g c = λ entries h some.
 pub returns-clause-device : goal.returns-clause-device
 returns-clause-device g c =
     writes_as g.D.Disk c.args.self.now.file (λ fails. fails, λ fails. fails)
-    c.close.ensures.device.not_own
     (λ none entries h.
     let opened = h.parts.block.count in
     let some : 0 < length (division entries).opened = omega (arith, opened, c.if-self-eq0.false) in
@@ -59,7 +60,8 @@ returns-clause-written g c = λ entries h honest fresh.
     let o = opened_some parts.opened some in
     let all = finished_some parts o.0 o.1 o.2 in
     subst (λ (blocks : List Block). MatchResult c.close.result
-    (λ _. IsFresh (g.D.Disk.state c.close.new.disk it.file) (data_bytes blocks)) IsEnvironmentError)
+    (λ _. IsFresh (g.D.Disk.state c.close.new.disk it.file) (data_bytes blocks))
+    (IsEnvironmental reading.Disk reading.Memory))
     (sym all)
     (c.close.ensures.written parts.closed (block_from o.0 o.1)
     (can_close_last it entries o.0 o.1 h o.2) honest fresh)

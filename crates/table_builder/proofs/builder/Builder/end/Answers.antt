@@ -1,19 +1,16 @@
 use Rattle.std.proofs.Common.{◌≡◌, ◌++◌, ℕ, List, length, ap, sym, subst, ◌∙◌, arith, length-append}
 use Rattle.std.proofs.Common.{IfSome}
-use Rattle.std.specs.Prelude.{IsErrAnd}
-use Rattle.table_format.specs.declared.TableError.{TableError}
 use Rattle.table_format.specs.{TableRepresents, data_bytes, last_entry}
 use Rattle.table_builder.specs.Keys.{first_entry}
 use Rattle.table_builder.proofs.ClosingLemmas.{last_key}
-use Rattle.table_builder.proofs.DeviceLemmas.{not_own_on, passed_on, wants_memory, writes_as}
+use Rattle.disk.specs.WritesLemmas.{writes_as}
+use Rattle.table_builder.proofs.DeviceLemmas.{passed_on, wants_memory}
 use Rattle.table_builder.proofs.builder.Builder.end.Goals as goal
 
 pub returns-in_err-tail-clause-device : goal.returns-in_err-tail-clause-device
 returns-in_err-tail-clause-device g c =
-    let result = c.from_residual.result in
-    wants_memory g.D.Disk c.args.self.file c.args.disk.now result
-    (subst (λ (m : TableError). IsErrAnd result (λ s. s ≡ m)) c.in_err-tail.ensures.memory
-    c.from_residual.ensures.1)
+    wants_memory g.D.Disk c.args.self.file c.args.disk.now c.from_residual.result
+    c.from_residual.ensures.1
 
 pub returns-in_err-append_last-clause-device : goal.returns-in_err-append_last-clause-device
 returns-in_err-append_last-clause-device g c =
@@ -24,7 +21,6 @@ returns-in_err-append_last-clause-device g c =
     let device = c.append_last.ensures.device in
     writes_as g.D.Disk c.args.self.file
     (passed_on called e result c.in_err-append_last.was reported)
-    (not_own_on called e result c.in_err-append_last.was reported device.not_own)
     (λ out blocks entries can.
     let t = (c.in_ok-tail.ensures.tail blocks entries can).1 in
     let size = can.size in
