@@ -23,11 +23,12 @@ AlwaysLeaves g old new P = LeavesSince (g.state old) (g.past old) (g.state new) 
 abbrev pub IsStill : {D : Type 0} → Ghosts D → (old new : D) → Type 0
 IsStill g old new = g.is_honest old → AlwaysLeaves g old new (IsCrashOutcome (g.state old))
 
--- Calls that write to one file. They fail only for this cause or where an armed fault struck. A
--- crash at any moment since they began leaves each other file as it was.
+-- what calls promise that write to one file
 pub record WritesInto {D : Type 0} (g : Ghosts D) (file : ℕ) (old new : D)
     (has_failed cause : Type 0) : Type 0 where
+  -- no other file changes, and a device that works fails only for this cause
   pub kept : KeepsDisk g old new has_failed cause (IsSameBut file)
+  -- a crash at any moment since they began leaves each other file as it was
   pub any_moment : g.is_honest old → AlwaysLeaves g old new (IsLeftAt (g.state old) file
       (λ left. Unit {0}))
 

@@ -2,7 +2,7 @@
 use Rattle.std.specs.Prelude.{ℕ}
 use Rattle.kv_types.specs.{Entry}
 use Rattle.memtable.specs.declared.MemCursor.{MemCursor}
-use Rattle.merge_iter.specs.{Position}
+use Rattle.merge_iter.specs.{IsAlike, Position}
 use Rattle.merge_iter.specs.declared.Cursor.{Ghosts}
 use Rattle.merge_iter.specs.declared.Direction.{Direction}
 use Rattle.sorted_table.specs.declared.TableCursor.{TableCursor}
@@ -40,3 +40,11 @@ module _ {D S : Type 0} (m : Ghosts MemCursor (Unit {0})) (t : Ghosts (TableCurs
   abbrev pub store_most : StoreCursor D → ℕ
   store_most (Memory cursor) = m.most cursor
   store_most (Table cursor) = t.most cursor
+
+-- what a cursor goes through, where its source serves it as it was meant
+pub record HasEntries {C S : Type 0} (g : Ghosts C S) (meant : g.Meant) (source : S) (cursor : C)
+    (has : Entry → Type 0) : Type 0 where
+  -- it is sound
+  pub sound : g.is_sound meant cursor source
+  -- it has exactly the entries of this set
+  pub holds : IsAlike (g.holds meant cursor source) has

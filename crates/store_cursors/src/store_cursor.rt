@@ -3,8 +3,9 @@ ghost use Rattle.std.specs.Prelude.{◌≡◌, ◌↔◌, List, Contains, Err, I
 ghost use Rattle.disk.specs.{State};
 ghost use Rattle.kv_types.specs.{Entry};
 ghost use Rattle.memtable.specs.{HasFailedAdd, TableHolds};
-ghost use Rattle.merge_iter.specs.{IsAlike, Off};
+ghost use Rattle.merge_iter.specs.{Off};
 ghost use Rattle.sorted_table.specs.{AreAsMeant, TableServes, index_lines, table_file};
+ghost use Rattle.store_cursors.specs.StoreCursors.{HasEntries};
 
 use disk::Disk;
 use kv_types::LentKey;
@@ -28,10 +29,8 @@ impl<'a, D: Disk + Drop> StoreCursor<'a, D> {
     pub fn of_memtable(memtable: &'a Memtable) -> Result<StoreCursor<'a, D>, MemtableError>
         ensures off { IfOk result (λ cursor.
             ⟦<StoreCursor<'a, D> as Cursor>⟧.position cursor ≡ Off) }
-        ensures serves { IfOk result (λ cursor. (meant : State) (files : _) →
-            ⟦<StoreCursor<'a, D> as Cursor>⟧.is_sound meant cursor files
-            × IsAlike (⟦<StoreCursor<'a, D> as Cursor>⟧.holds meant cursor files)
-            (TableHolds memtable.now)) }
+        ensures serves { IfOk result (λ cursor. (meant : State) (files : _) → HasEntries
+            ⟦<StoreCursor<'a, D> as Cursor>⟧ meant files cursor (TableHolds memtable.now)) }
         ensures suits { IfOk result (λ cursor. (a b : _) →
             ⟦<StoreCursor<'a, D> as Cursor>⟧.suits cursor a b) }
         ensures failed { (result ≡ Err MemtableError.Failed) ↔ HasFailedAdd memtable.now }
@@ -49,9 +48,7 @@ impl<'a, D: Disk + Drop> StoreCursor<'a, D> {
             TableServes (meant (table_file table.now)) table.now entries →
             AreAsMeant (⟦<Files<D> as Disk>⟧.state files (table_file table.now))
             (meant (table_file table.now)) (index_lines table.now) →
-            ⟦<StoreCursor<'a, D> as Cursor>⟧.is_sound meant cursor files
-            × IsAlike (⟦<StoreCursor<'a, D> as Cursor>⟧.holds meant cursor files)
-            (Contains entries)) }
+            HasEntries ⟦<StoreCursor<'a, D> as Cursor>⟧ meant files cursor (Contains entries)) }
         ensures suits { IfOk result (λ cursor. (a b : _) → (⟦<Files<D> as Disk>⟧.is_honest a →
             ⟦<Files<D> as Disk>⟧.is_honest b × (⟦<Files<D> as Disk>⟧.state b (table_file table.now)
             ≡ ⟦<Files<D> as Disk>⟧.state a (table_file table.now))) →

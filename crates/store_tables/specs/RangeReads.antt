@@ -1,15 +1,16 @@
 -- The tables that a read of a range asks, and the cursors over them.
-use Rattle.std.specs.Prelude.{◌≢◌, List, Bool, true, not, ◌&&◌, Contains}
+use Rattle.std.specs.Prelude.{◌≢◌, ◌↔◌, ℕ, List, Bool, true, not, ◌&&◌, Contains}
 use Rattle.std.specs.List.{AllPairs, filter}
 use Rattle.std.specs.Option.{option_map_or}
 use Rattle.std.specs.Ordering.{is_lt}
-use Rattle.kv_types.specs.{Span, stored_cmp}
-use Rattle.merge_iter.specs.{IsAlike}
+use Rattle.kv_types.specs.{Entry, Span, stored_cmp}
+use Rattle.kv_types.specs.Pages.{IsWithin}
+use Rattle.merge_iter.specs.{AreDisjoint, AreSound, IsAlike, union_of}
 use Rattle.merge_iter.specs.declared.Cursor.{Ghosts}
 use Rattle.disk.specs.{Contents}
 use Rattle.manifest.specs.{IsVersion, StoreVersion}
-use Rattle.store_model.specs.{KeyRange, LevelTable}
-use Rattle.store_tables.specs.LevelTables.{AreTablesOf}
+use Rattle.store_model.specs.{AreLeveled, KeyRange, LevelTable, tables_entries}
+use Rattle.store_cursors.specs.StoreCursors.{HasEntries}
 use Rattle.store_tables.specs.LevelTables.{AreTablesOf}
 
 -- the keys from the least to the greatest meet the span: they end no sooner than it begins, and
@@ -34,7 +35,20 @@ VersionsNameOwnFiles =
     → AreTablesOf left version.tables tables → HaveOwnFiles tables
 
 -- the cursor is sound, and has the entries of the table
-pub record HasTable {C S : Type 0} (g : Ghosts C S) (meant : g.Meant) (source : S) (cursor : C)
-    (table : LevelTable) : Type 0 where
-  pub sound : g.is_sound meant cursor source
-  pub holds : IsAlike (g.holds meant cursor source) (Contains table.entries)
+abbrev pub HasTable : {C S : Type 0} (g : Ghosts C S) → g.Meant → S → C → LevelTable → Type 0
+HasTable g meant source cursor table = HasEntries g meant source cursor (Contains table.entries)
+
+-- the cursors of a read of the span, over open tables that were meant to serve these
+pub record AreRangeCursors {C S : Type 0} (g : Ghosts C S) (meant : g.Meant) (source : S)
+    (span : Span) (tables : List LevelTable) (cursors : List C) : Type 0 where
+  -- each of them is sound
+  pub sound : AreSound g meant cursors source
+  -- together they have exactly the entries of the tables whose keys meet the span
+  pub entries : IsAlike (union_of g meant cursors source) (tables_entries (tables_in span tables))
+  -- of entries with a key in the span they have exactly those of all tables
+  pub within : (flushed : ℕ) → AreLeveled flushed tables → (entry : Entry) →
+      IsWithin span entry.key →
+      union_of g meant cursors source entry ↔ tables_entries tables entry
+  -- no two have entries of one key and number, where no two tables have one file
+  pub disjoint : (flushed : ℕ) → AreLeveled flushed tables → HaveOwnFiles tables →
+      AreDisjoint g meant cursors source

@@ -1,9 +1,9 @@
 -- The calls that write a table from sorted entries.
 use Rattle.std.specs.Prelude.{◌≡◌, ◌↔◌, ℕ, ◌<◌, List, [], ◌∷◌, ◌++◌, All, Bool, true, false}
-use Rattle.std.specs.Prelude.{Contains}
+use Rattle.std.specs.Prelude.{Contains, IsErrOf, Result, IfErr, IfOk, MatchResult, OnOk}
 use Rattle.disk.specs.declared.Disk.{Ghosts}
-use Rattle.disk.specs.{AlwaysLeaves, IsDurable, IsLeftAt, IsSameBut, KeepsDisk, Slot, State}
-use Rattle.disk.specs.{contents}
+use Rattle.disk.specs.{IsDurable, Slot, State, WritesInto}
+use Rattle.disk.specs.{IsEnvironmental, contents}
 use Rattle.kv_types.specs.{Entry}
 use Rattle.memtable.specs.declared.Memtable.{Memtable}
 use Rattle.memtable.specs.{TableHolds}
@@ -17,9 +17,10 @@ use Rattle.manifest.specs.{IsTableLine}
 use Rattle.store_model.specs.{FitsRange, LevelTable}
 use Rattle.table_builder.specs.declared.Builder.{Builder}
 use Rattle.table_builder.specs.declared.Finished.{Finished}
-use Rattle.table_builder.specs.{Builds, HoldsEntries, data_size}
+use Rattle.table_builder.specs.{Builds, HoldsEntries, builder_file, data_size}
 use Rattle.store_tables.specs.declared.error.EngineError.{EngineError}
 use Rattle.store_tables.specs.declared.error.EngineError.TheVariants as engine
+use Rattle.store_tables.specs.Errors.{IsEnd}
 use Rattle.store_tables.specs.LevelTables.{IsTableOf}
 
 -- ---- refusals
@@ -86,6 +87,25 @@ HasAddedAll has slot builder false = PassesLimit has
 abbrev pub IsRoomAnswer : (Entry → Type 0) → Bool → Type 0
 IsRoomAnswer has true = Unit {0}
 IsRoomAnswer has false = PassesLimit has
+
+-- What a call promises that adds all entries of a set to a builder that has none, and answers
+-- whether there was room for them.
+pub record AddsAll {D : Type 0} (g : Ghosts D) (disk later : D) (builder after : Builder)
+    (has : Entry → Type 0) (result : Result Bool EngineError) : Type 0 where
+  -- no other file changes, and a device that works fails only where the builder is not begun in it
+  pub writes : WritesInto g (builder_file builder) disk later (IsErrOf result engine.Disk)
+      (g.is_honest disk × Builds (g.state disk (builder_file builder)) builder [] → ⊥)
+  -- the builder writes to the same file as before
+  pub file : OnOk result (builder_file after ≡ builder_file builder)
+  -- where the builder is begun in its file, all entries are in it then, or they pass the limit of a
+  -- table's data, or the refusal is external
+  pub added : g.is_honest disk → Builds (g.state disk (builder_file builder)) builder [] →
+      MatchResult result (HasAddedAll has (g.state later (builder_file builder)) after)
+      (IsEnvironmental engine.Disk engine.Memory)
+  -- of any disk: where the answer is that there is no room, they pass the limit
+  pub room : HoldsEntries builder [] → IfOk result (IsRoomAnswer has)
+  -- it is refused for the device, for damage or for want of memory
+  pub causes : IfErr result IsEnd
 
 -- ---- a table that was written
 

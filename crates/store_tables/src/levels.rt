@@ -1,25 +1,22 @@
 //! Open tables, level by level, and lookups in them.
 ghost use Rattle.std.specs.Prelude.{◌≡◌, ◌⊎◌, ◌↔◌, ℕ, List, IfOk, IfErr, IsTrue, MatchResult};
-ghost use Rattle.std.specs.Prelude.{◌<◌, All, IsErrOf, OnOk, Some, slice_index};
+ghost use Rattle.std.specs.Prelude.{◌<◌, OnOk, Some, slice_index};
 ghost use Rattle.std.specs.List.{prefix_len};
 ghost use Rattle.std.specs.Prelude.{Contains, [], ◌∷◌, ◌++◌};
 ghost use Rattle.bloom.specs.{hashes_of};
-ghost use Rattle.disk.specs.{IsEnvironmental, IsSame, IsStill, KeepsDisk, Slot, State, contents};
+ghost use Rattle.disk.specs.{IsEnvironmental, Slot, State};
 ghost use Rattle.kv_types.specs.{Entry};
-ghost use Rattle.kv_types.specs.Pages.{IsWithin};
-ghost use Rattle.merge_iter.specs.{AreDisjoint, AreSound, IsAlike, union_of};
 ghost use Rattle.sorted_table.specs.{TableServes, greatest_key, index_lines, last_line_key};
-ghost use Rattle.store_model.specs.{AreLeveled, FitsRange, LevelTable, RangeHolds};
-ghost use Rattle.store_model.specs.{level_entries, tables_entries};
+ghost use Rattle.store_model.specs.{AreLeveled, FitsRange, LevelTable, RangeHolds, level_entries};
 ghost use Rattle.store_tables.specs.declared.error.EngineError.TheVariants.{Disk, Memory};
-ghost use Rattle.store_tables.specs.Errors.{IsEnd};
-ghost use Rattle.store_tables.specs.LevelTables.{AreServed, AreTablesOf, EntriesFind, FileFits};
-ghost use Rattle.store_tables.specs.LevelTables.{IsServed, IsTableOf, LevelsRise, TablesFind};
-ghost use Rattle.store_tables.specs.LevelTables.{IsTableAsMeant, WasServed, WereServed};
+ghost use Rattle.store_tables.specs.LevelTables.{AreServed, EntriesFind, IsServed, LevelsRise};
+ghost use Rattle.store_tables.specs.LevelTables.{TablesFind, WasServed, WereServed};
 ghost use Rattle.store_tables.specs.LevelTables.{error_of_table, is_flushed, level_count};
 ghost use Rattle.store_tables.specs.LevelTables.{line_range};
 ghost use Rattle.store_tables.specs.LevelTables.{table_lines, with_flushed, with_flushed_line};
-ghost use Rattle.store_tables.specs.RangeReads.{HasTable, HaveOwnFiles, meets_span, tables_in};
+ghost use Rattle.store_tables.specs.RangeReads.{AreRangeCursors, HasTable, meets_span};
+ghost use Rattle.store_tables.specs.TableReads.{OpensTables, ReadsTables, by_all_lines};
+ghost use Rattle.store_tables.specs.TableReads.{by_one_line};
 
 use crate::EngineError;
 use bloom::KeyHashes;
@@ -28,7 +25,7 @@ use kv_types::{Number, Range, StoredKey};
 use manifest::TableLine;
 use merge_iter::Cursor;
 use sorted_table::{FoundVersion, Table};
-use std::alloc::Global;
+use std::alloc::{AllocError, Global};
 use store_cursors::StoreCursor;
 use table_files::Files;
 use table_format::FileError;
@@ -73,21 +70,8 @@ impl OpenTable {
         disk: &mut D,
         line: &TableLine,
     ) -> Result<OpenTable, EngineError>
-        ensures kept { KeepsDisk D.Disk disk.old disk.new (IsErrOf result Disk) ⊥ IsSame }
-        ensures opened { (table : LevelTable) → D.is_honest disk.old →
-            IsTableOf (contents (D.state disk.old)) line.now table →
-            MatchResult result (λ it. IsServed (D.state disk.new) it table)
-            (IsEnvironmental Disk Memory) }
-        ensures meant { (meant : State) (table : LevelTable) → D.is_honest disk.old →
-            IsTableOf (contents meant) line.now table →
-            IsTableAsMeant (D.state disk.old line.now.file) (meant line.now.file) →
-            IfOk result (λ it. WasServed (D.state disk.new) meant it table) }
-        ensures line { IfOk result (λ it. it.line ≡ line.now) }
-        ensures fits { D.is_honest disk.old → MatchResult result
-            (λ _. FileFits (contents (D.state disk.old)) line.now)
-            (λ e. FileFits (contents (D.state disk.old)) line.now → IsEnvironmental Disk Memory e) }
-        ensures causes { IfErr result IsEnd }
-        ensures still { IsStill D.Disk disk.old disk.new }
+        ensures reads { ReadsTables D.Disk disk.old disk.new result }
+        ensures opens { OpensTables by_one_line D.Disk disk.old disk.new line.now result }
     {
         if disk.length(line.file)? != line.length {
             return Err(EngineError::Damaged);
@@ -121,12 +105,11 @@ impl OpenTable {
     }
 
     // A cursor over the entries of the table.
-    fn cursor<'a, D: Disk + Drop>(&self, alloc: Global) -> Result<StoreCursor<'a, D>, EngineError>
-        ensures has { IfOk result (λ cursor. (meant : State) (files : _) (table : LevelTable) →
+    fn cursor<'a, D: Disk + Drop>(&self, alloc: Global) -> Result<StoreCursor<'a, D>, AllocError>
+        ensures { IfOk result (λ cursor. (meant : State) (files : _) (table : LevelTable) →
             ⟦<Files<D> as Disk>⟧.is_honest files →
             WasServed (⟦<Files<D> as Disk>⟧.state files) meant self.now table →
             HasTable ⟦<StoreCursor<'a, D> as Cursor>⟧ meant files cursor table) }
-        ensures memory { IfErr result (λ e. e ≡ EngineError.Memory) }
     {
         Ok(StoreCursor::of_table(alloc, &self.table)?)
     }
@@ -142,8 +125,7 @@ impl OpenTable {
         at: Number,
     ) -> Result<Option<FoundVersion>, EngineError>
         requires { hashes ≡ hashes_of key.now }
-        ensures kept { KeepsDisk ⟦<Files<D> as Disk>⟧ files.old files.new (IsErrOf result Disk) ⊥
-            IsSame }
+        ensures reads { ReadsTables ⟦<Files<D> as Disk>⟧ files.old files.new result }
         ensures found { (meant : State) (table : LevelTable) →
             ⟦<Files<D> as Disk>⟧.is_honest files.old →
             WasServed (⟦<Files<D> as Disk>⟧.state files.old) meant self.now table →
@@ -152,8 +134,6 @@ impl OpenTable {
         ensures intact { (table : LevelTable) → ⟦<Files<D> as Disk>⟧.is_honest files.old →
             IsServed (⟦<Files<D> as Disk>⟧.state files.old) self.now table →
             IfErr result (IsEnvironmental Disk Memory) }
-        ensures causes { IfErr result IsEnd }
-        ensures still { IsStill ⟦<Files<D> as Disk>⟧ files.old files.new }
     {
         if !self.may_have(key) {
             return Ok(None);
@@ -198,22 +178,8 @@ impl LevelTables {
         disk: &mut D,
         lines: &[TableLine],
     ) -> Result<LevelTables, EngineError>
-        ensures kept { KeepsDisk D.Disk disk.old disk.new (IsErrOf result Disk) ⊥ IsSame }
-        ensures opened { (tables : List LevelTable) → D.is_honest disk.old →
-            AreTablesOf (contents (D.state disk.old)) lines.now tables →
-            MatchResult result (λ it. AreServed (D.state disk.new) it tables)
-            (IsEnvironmental Disk Memory) }
-        ensures meant { (meant : State) (tables : List LevelTable) → D.is_honest disk.old →
-            AreTablesOf (contents meant) lines.now tables →
-            All (λ line. IsTableAsMeant (D.state disk.old line.file) (meant line.file)) lines.now →
-            IfOk result (λ it. WereServed (D.state disk.new) meant it tables) }
-        ensures lines { IfOk result (λ it. table_lines it ≡ lines.now) }
-        ensures fits { D.is_honest disk.old → MatchResult result
-            (λ _. All (FileFits (contents (D.state disk.old))) lines.now)
-            (λ e. All (FileFits (contents (D.state disk.old))) lines.now →
-            IsEnvironmental Disk Memory e) }
-        ensures causes { IfErr result IsEnd }
-        ensures still { IsStill D.Disk disk.old disk.new }
+        ensures reads { ReadsTables D.Disk disk.old disk.new result }
+        ensures opens { OpensTables by_all_lines D.Disk disk.old disk.new lines.now result }
     {
         let mut tables = Vec::new(alloc);
         for line in lines {
@@ -250,14 +216,13 @@ impl LevelTables {
     }
 
     /// Adds an open table behind those of level 0. A refusal changes nothing.
-    pub fn add(&mut self, opened: OpenTable) -> Result<(), EngineError>
+    pub fn add(&mut self, opened: OpenTable) -> Result<(), AllocError>
         ensures added { (disk meant : State) (tables : List LevelTable) (table : LevelTable) →
             WereServed disk meant self.old tables → WasServed disk meant opened table →
             MatchResult result (λ _. WereServed disk meant self.new (with_flushed tables table))
             (λ _. WereServed disk meant self.new tables) }
         ensures lines { OnOk result (table_lines self.new
             ≡ with_flushed_line (table_lines self.old) opened.line) }
-        ensures memory { IfErr result (λ e. e ≡ EngineError.Memory) }
     {
         let place = self.flushed();
         self.tables.insert(place, opened)?;
@@ -274,8 +239,7 @@ impl LevelTables {
         key: &StoredKey,
         at: Number,
     ) -> Result<Option<FoundVersion>, EngineError>
-        ensures kept { KeepsDisk ⟦<Files<D> as Disk>⟧ files.old files.new (IsErrOf result Disk) ⊥
-            IsSame }
+        ensures reads { ReadsTables ⟦<Files<D> as Disk>⟧ files.old files.new result }
         ensures found { (meant : State) (tables : List LevelTable) (flushed : ℕ) →
             ⟦<Files<D> as Disk>⟧.is_honest files.old →
             WereServed (⟦<Files<D> as Disk>⟧.state files.old) meant self.now tables →
@@ -284,8 +248,6 @@ impl LevelTables {
         ensures intact { (tables : List LevelTable) → ⟦<Files<D> as Disk>⟧.is_honest files.old →
             AreServed (⟦<Files<D> as Disk>⟧.state files.old) self.now tables →
             IfErr result (IsEnvironmental Disk Memory) }
-        ensures causes { IfErr result IsEnd }
-        ensures still { IsStill ⟦<Files<D> as Disk>⟧ files.old files.new }
     {
         let hashes = KeyHashes::of(key.as_bytes());
         let mut level = 0;
@@ -307,28 +269,11 @@ impl LevelTables {
         &self,
         alloc: Global,
         range: &Range,
-    ) -> Result<Vec<StoreCursor<'a, D>>, EngineError>
-        ensures sound { IfOk result (λ cursors. (meant : State) (files : _)
+    ) -> Result<Vec<StoreCursor<'a, D>>, AllocError>
+        ensures { IfOk result (λ cursors. (meant : State) (files : _)
             (tables : List LevelTable) → ⟦<Files<D> as Disk>⟧.is_honest files →
-            WereServed (⟦<Files<D> as Disk>⟧.state files) meant self.now tables →
-            AreSound ⟦<StoreCursor<'a, D> as Cursor>⟧ meant cursors.items files) }
-        ensures entries { IfOk result (λ cursors. (meant : State) (files : _)
-            (tables : List LevelTable) → ⟦<Files<D> as Disk>⟧.is_honest files →
-            WereServed (⟦<Files<D> as Disk>⟧.state files) meant self.now tables →
-            IsAlike (union_of ⟦<StoreCursor<'a, D> as Cursor>⟧ meant cursors.items files)
-            (tables_entries (tables_in range.now tables))) }
-        ensures within { IfOk result (λ cursors. (meant : State) (files : _)
-            (tables : List LevelTable) (flushed : ℕ) → ⟦<Files<D> as Disk>⟧.is_honest files →
-            WereServed (⟦<Files<D> as Disk>⟧.state files) meant self.now tables →
-            AreLeveled flushed tables → (entry : Entry) → IsWithin range.now entry.key →
-            union_of ⟦<StoreCursor<'a, D> as Cursor>⟧ meant cursors.items files entry
-            ↔ tables_entries tables entry) }
-        ensures disjoint { IfOk result (λ cursors. (meant : State) (files : _)
-            (tables : List LevelTable) (flushed : ℕ) → ⟦<Files<D> as Disk>⟧.is_honest files →
-            WereServed (⟦<Files<D> as Disk>⟧.state files) meant self.now tables →
-            AreLeveled flushed tables → HaveOwnFiles tables →
-            AreDisjoint ⟦<StoreCursor<'a, D> as Cursor>⟧ meant cursors.items files) }
-        ensures memory { IfErr result (λ e. e ≡ EngineError.Memory) }
+            WereServed (⟦<Files<D> as Disk>⟧.state files) meant self.now tables → AreRangeCursors
+            ⟦<StoreCursor<'a, D> as Cursor>⟧ meant files range.now tables cursors.items) }
     {
         let mut cursors = Vec::new(alloc);
         for open in &self.tables {

@@ -1,8 +1,7 @@
 //! Writing a table from the entries of a memtable.
 ghost use Rattle.std.specs.Prelude.{◌≡◌, ◌≤◌, List, [], IfErr, IsNone, MatchOption, MatchResult};
 ghost use Rattle.std.specs.Prelude.{IfOk, IsErrOf, OnOk};
-ghost use Rattle.disk.specs.{AlwaysLeaves, IsEnvironmental, IsLeftAt, IsSameBut, KeepsDisk, seen};
-ghost use Rattle.disk.specs.{WritesInto};
+ghost use Rattle.disk.specs.{IsEnvironmental, WritesInto, seen};
 ghost use Rattle.kv_types.specs.declared.bounds.TheConstants.{MAX_NUMBER};
 ghost use Rattle.kv_types.specs.{Entry};
 ghost use Rattle.merge_iter.specs.{IfOn, IsOn};
@@ -13,11 +12,9 @@ ghost use Rattle.table_format.specs.{CanFollow, IsTableEntry, lent_entry};
 ghost use Rattle.table_builder.specs.{Builds, BuildsNothing, HoldsEntries, IsFresh, builder_file};
 ghost use Rattle.store_tables.specs.declared.error.EngineError.TheVariants.{Disk, Memory};
 ghost use Rattle.store_tables.specs.Errors.{IsEnd};
-ghost use Rattle.store_tables.specs.TableWriting.{HasEntry, IsTooLarge, IsWrittenTable};
-ghost use Rattle.store_tables.specs.TableWriting.{BuildsAll, HasAddedAll, HasAddedOne};
-ghost use Rattle.store_tables.specs.TableWriting.{HoldsOneMore};
-ghost use Rattle.store_tables.specs.TableWriting.{IsNewLine, IsRoomAnswer};
-ghost use Rattle.store_tables.specs.TableWriting.{error_of_writing};
+ghost use Rattle.store_tables.specs.TableWriting.{AddsAll, BuildsAll, HasAddedOne, HasEntry};
+ghost use Rattle.store_tables.specs.TableWriting.{HoldsOneMore, IsNewLine, IsTooLarge};
+ghost use Rattle.store_tables.specs.TableWriting.{IsWrittenTable, error_of_writing};
 ghost use Rattle.store_tables.specs.TableWriting.{finished_line};
 
 use crate::EngineError;
@@ -92,17 +89,8 @@ fn add_all<'a, D: Disk>(
     builder: &mut Builder,
     cursor: &mut MemCursor<'a>,
 ) -> Result<bool, EngineError>
-    ensures writes { WritesInto D.Disk (builder_file builder.old) disk.old disk.new
-        (IsErrOf result Disk) (D.is_honest disk.old ×
-        Builds (D.state disk.old (builder_file builder.old)) builder.old [] → ⊥) }
-    ensures file { OnOk result (builder_file builder.new ≡ builder_file builder.old) }
-    ensures added { D.is_honest disk.old →
-        Builds (D.state disk.old (builder_file builder.old)) builder.old [] → MatchResult result
-        (HasAddedAll (⟦<MemCursor<'a> as Cursor>⟧.holds tt cursor.old tt)
-        (D.state disk.new (builder_file builder.old)) builder.new) (IsEnvironmental Disk Memory) }
-    ensures room { HoldsEntries builder.old [] →
-        IfOk result (IsRoomAnswer (⟦<MemCursor<'a> as Cursor>⟧.holds tt cursor.old tt)) }
-    ensures causes { IfErr result IsEnd }
+    ensures { AddsAll D.Disk disk.old disk.new builder.old builder.new
+        (⟦<MemCursor<'a> as Cursor>⟧.holds tt cursor.old tt) result }
 {
     let mut source = ();
     cursor.first(&mut source)?;
@@ -123,17 +111,8 @@ fn add_memtable<D: Disk>(
     memtable: &Memtable,
 ) -> Result<bool, EngineError>
     requires { HasFailedAdd memtable.now → ⊥ }
-    ensures writes { WritesInto D.Disk (builder_file builder.old) disk.old disk.new
-        (IsErrOf result Disk) (D.is_honest disk.old ×
-        Builds (D.state disk.old (builder_file builder.old)) builder.old [] → ⊥) }
-    ensures file { OnOk result (builder_file builder.new ≡ builder_file builder.old) }
-    ensures added { D.is_honest disk.old →
-        Builds (D.state disk.old (builder_file builder.old)) builder.old [] → MatchResult result
-        (HasAddedAll (TableHolds memtable.now) (D.state disk.new (builder_file builder.old))
-        builder.new) (IsEnvironmental Disk Memory) }
-    ensures room { HoldsEntries builder.old [] →
-        IfOk result (IsRoomAnswer (TableHolds memtable.now)) }
-    ensures causes { IfErr result IsEnd }
+    ensures { AddsAll D.Disk disk.old disk.new builder.old builder.new
+        (TableHolds memtable.now) result }
 {
     let mut cursor = memtable.cursor()?;
     add_all(alloc, disk, builder, &mut cursor)
@@ -211,18 +190,14 @@ pub fn write_table<D: Disk>(
     requires works { HasFailedAdd memtable.now → ⊥ }
     requires some { HasEntry memtable.now }
     requires named { file ≤ MAX_NUMBER }
-    ensures kept { KeepsDisk D.Disk disk.old disk.new (IsErrOf result Disk)
-        (D.is_honest disk.old × IsFresh (D.state disk.old file) [] → ⊥) (IsSameBut file) }
+    ensures writes { WritesInto D.Disk file disk.old disk.new (IsErrOf result Disk)
+        (D.is_honest disk.old × IsFresh (D.state disk.old file) [] → ⊥) }
     ensures written { D.is_honest disk.old → IsFresh (D.state disk.old file) [] →
         MatchResult result (λ line. MatchOption line
         (IsTooLarge memtable.now × IsNone (seen (D.state disk.new file)))
         (IsWrittenTable (D.state disk.new) memtable.now file)) (IsEnvironmental Disk Memory) }
     ensures line { MatchResult result
         (λ line. MatchOption line (IsTooLarge memtable.now) (IsNewLine file)) IsEnd }
-
-    // A crash at any moment since the call began leaves each other file as it was.
-    ensures any_moment { D.is_honest disk.old → AlwaysLeaves D.Disk disk.old disk.new
-        (IsLeftAt (D.state disk.old) file (λ left. Unit {0})) }
 {
     let mut builder = Builder::new(alloc, file);
     if add_memtable(alloc, disk, &mut builder, memtable)? {

@@ -60,7 +60,7 @@ returns-in_err-tables-clause-reads g c = record {
       let honest2 = c.sync_tables.ensures.reads.kept.honest.1 honest in
       still_more (still_more (c.sync_tables.ensures.reads.still honest)
       (c.open_logs.ensures.reads.still honest2))
-      (c.open.ensures.still (c.open_logs.ensures.reads.kept.honest.1 honest2));
+      (c.open.ensures.reads.still (c.open_logs.ensures.reads.kept.honest.1 honest2));
 }
 
 pub returns-then-not-are_ordered-clause-reads : goal.returns-then-not-are_ordered-clause-reads
@@ -71,7 +71,7 @@ returns-then-not-are_ordered-clause-reads g c = record {
       let honest2 = c.sync_tables.ensures.reads.kept.honest.1 honest in
       still_more (still_more (c.sync_tables.ensures.reads.still honest)
       (c.open_logs.ensures.reads.still honest2))
-      (c.open.ensures.still (c.open_logs.ensures.reads.kept.honest.1 honest2));
+      (c.open.ensures.reads.still (c.open_logs.ensures.reads.kept.honest.1 honest2));
 }
 
 pub returns-clause-reads : goal.returns-clause-reads
@@ -82,7 +82,7 @@ returns-clause-reads g c = record {
       let honest2 = c.sync_tables.ensures.reads.kept.honest.1 honest in
       still_more (still_more (c.sync_tables.ensures.reads.still honest)
       (c.open_logs.ensures.reads.still honest2))
-      (c.open.ensures.still (c.open_logs.ensures.reads.kept.honest.1 honest2));
+      (c.open.ensures.reads.still (c.open_logs.ensures.reads.kept.honest.1 honest2));
 }
 
 -- the logs' syncs leave the tables as they are
@@ -102,7 +102,7 @@ returns-in_err-tables-clause-opened g c = λ first batches tables honest had rea
     c.deref-2.ensures.value ∙ ap (λ (v : NodeVersion). v.version.tables) c.version.view_is in
     let synced = subst (AreSynced s1 s2) lines (c.in_ok-sync_tables.ensures.synced honest) in
     refuses c.from_residual-in_err-tables.result _ (IsEnvironmental engine.Disk engine.Memory)
-    c.from_residual-in_err-tables.ensures.1 (c.in_err-tables.ensures.opened tables honest3
+    c.from_residual-in_err-tables.ensures.1 (c.in_err-tables.ensures.opens.opened tables honest3
     (subst (λ (l : List TableLine). AreTablesOf (contents s3) l tables) (sym lines2)
     (tables_then version is s1 s2 s3 synced
     (c.in_ok-logs.ensures.settled honest2).others tables read)))
@@ -153,9 +153,9 @@ returns-clause-told g c = λ honest.
           (λ file. sym (synced_reads s1 s2 version.tables synced file)) version.logs version.flushed
           c.in_ok-logs.logs c.in_ok-logs.memtable (c.in_ok-logs.ensures.told honest2);
       fits = were_fit version is s1 s2 s3 synced others
-          (subst (All (FileFits (contents s3))) lines2 (c.in_ok-tables.ensures.fits honest3));
+          (subst (All (FileFits (contents s3))) lines2 (c.in_ok-tables.ensures.opens.fits honest3));
       each = parts_settle s1 s2 s3 s4 synced.each (c.in_ok-logs.ensures.settled honest2).each
-          (c.open.ensures.kept.files honest3);
+          (c.open.ensures.reads.kept.files honest3);
     }
 
 -- the parts hold what the files had
@@ -176,7 +176,7 @@ returns-clause-opened g c = λ first batches tables honest had read ordered.
     c.deref-2.ensures.value ∙ ap (λ (v : NodeVersion). v.version.tables) c.version.view_is in
     let synced = subst (AreSynced s1 s2) lines (c.in_ok-sync_tables.ensures.synced honest) in
     let others = (c.in_ok-logs.ensures.settled honest2).others in
-    let same = c.open.ensures.kept.files honest3 in
+    let same = c.open.ensures.reads.kept.files honest3 in
     let held = c.in_ok-logs.ensures.opened first batches honest2
     (batches_same (contents s1) (contents s2) (synced_reads s1 s2 version.tables synced)
     version.logs first batches had) in
@@ -184,7 +184,7 @@ returns-clause-opened g c = λ first batches tables honest had read ordered.
       logs = logs_in s3 s4 c.in_ok-logs.logs first batches same held.0;
       entries = held.1;
       read = tables_now version is s1 s2 s3 synced others s4 same tables read;
-      served = c.in_ok-tables.ensures.opened tables honest3
+      served = c.in_ok-tables.ensures.opens.opened tables honest3
           (subst (λ (l : List TableLine). AreTablesOf (contents s3) l tables) (sym lines2)
           (tables_then version is s1 s2 s3 synced others tables read));
       durable = tables_durable version is s1 s2 s3 synced others s4 same;
@@ -208,7 +208,7 @@ returns-clause-meant g c = λ meant first batches tables honest had read as_mean
     c.deref-2.ensures.value ∙ ap (λ (v : NodeVersion). v.version.tables) c.version.view_is in
     let synced = subst (AreSynced s1 s2) lines (c.in_ok-sync_tables.ensures.synced honest) in
     let others = (c.in_ok-logs.ensures.settled honest2).others in
-    let same = c.open.ensures.kept.files honest3 in
+    let same = c.open.ensures.reads.kept.files honest3 in
     let held = c.in_ok-logs.ensures.opened first batches honest2
     (batches_same (contents s1) (contents s2) (synced_reads s1 s2 version.tables synced)
     version.logs first batches had) in
@@ -222,7 +222,7 @@ returns-clause-meant g c = λ meant first batches tables honest had read as_mean
     record {
       logs = logs_in s3 s4 c.in_ok-logs.logs first batches same held.0;
       entries = held.1;
-      served = c.in_ok-tables.ensures.meant meant tables honest3
+      served = c.in_ok-tables.ensures.opens.meant meant tables honest3
           (subst (λ (l : List TableLine). AreTablesOf (contents meant) l tables) (sym lines2) read)
           (subst (All (λ line. IsTableAsMeant (s3 line.file) (meant line.file))) (sym lines2)
           files);
@@ -271,7 +271,7 @@ returns-in_err-tables-clause-told g c = λ honest.
     c.deref-2.ensures.value ∙ ap (λ (v : NodeVersion). v.version.tables) c.version.view_is in
     let synced = subst (AreSynced s1 s2) lines (c.in_ok-sync_tables.ensures.synced honest) in
     refuses c.from_residual-in_err-tables.result _ _
-    c.from_residual-in_err-tables.ensures.1 (λ has. c.in_err-tables.ensures.fits honest3
+    c.from_residual-in_err-tables.ensures.1 (λ has. c.in_err-tables.ensures.opens.fits honest3
     (subst (All (FileFits (contents s3))) (sym lines2)
     (will_fit version is s1 s2 s3 synced (c.in_ok-logs.ensures.settled honest2).others has.fits)))
 

@@ -1,5 +1,5 @@
 use Rattle.std.specs.Prelude.{IsErrOf}
-use Rattle.std.proofs.Common.{ℕ, [], ◌∷◌, ◌++◌, ◌∙◌, refl, subst, sym}
+use Rattle.std.proofs.Common.{ℕ, [], ◌∷◌, ◌++◌, ◌∙◌, refl, rules, subst, sym}
 use Rattle.disk.specs.{IsEnvironmental, WritesInto}
 use Rattle.store_tables.specs.declared.error.EngineError.TheVariants as engine
 use Rattle.store_tables.specs.KeepingLemmas.{answered}
@@ -18,13 +18,19 @@ use Rattle.store_tables.proofs.table_writing.add_all.Goals as goal
 
 -- ---- the first entry
 
-pub returns-in_err-first-clause-writes : goal.returns-in_err-first-clause-writes
-returns-in_err-first-clause-writes g c =
-    let memory = for_memory _ _ c.first.result c.in_err-first.field-0.0 c.in_err-first.was
-    (tt, tt, tt)
-    (λ never. never) c.first.ensures.causes in
-    writes_nothing g.D.Disk (builder_file c.args.builder.now) c.args.disk.now
-    (memory_answer c.from_residual.result c.in_err-first.field-0.0 memory c.from_residual.ensures.1)
+pub returns-in_err-first : goal.returns-in_err-first
+returns-in_err-first g c = record {
+  writes =
+      let memory = for_memory _ _ c.first.result c.in_err-first.field-0.0 c.in_err-first.was
+      (tt, tt, tt) (λ never. never) c.first.ensures.causes in
+      writes_nothing g.D.Disk (builder_file c.args.builder.now) c.args.disk.now
+      (memory_answer c.from_residual.result c.in_err-first.field-0.0 memory
+      c.from_residual.ensures.1);
+  file = search rules;
+  added = search rules;
+  room = search rules;
+  causes = search rules;
+}
 
 pub loop-alloc-init : goal.loop-alloc-init
 loop-alloc-init g c =
@@ -52,87 +58,87 @@ add_one-requires g c =
     true_here (mem_position c.loop-alloc.cursor) IsTableEntry (lent_entry c.entry_at.result)
     (c.valid.ensures.0 c.loop-alloc-test.true) c.entry_at.ensures (cursor_fits c.loop-alloc.cursor)
 
-pub returns-in_err-add_one-clause-writes : goal.returns-in_err-add_one-clause-writes
-returns-in_err-add_one-clause-writes g c =
-    let i = c.loop-alloc.invariant in
-    let file = builder_file c.args.builder.now in
-    let called = subst (λ (f : ℕ). WritesInto g.D.Disk f c.loop-alloc.disk c.add_one.new.disk
-    (IsErrOf c.add_one.result engine.Disk) (BuildsNothing c.loop-alloc.builder)) i.file
-    c.add_one.ensures.writes in
-    let result = c.from_residual-in_err-add_one.result in
-    let same = passed_on c.add_one.result c.in_err-add_one.field-0.0 result c.in_err-add_one.was
-    c.from_residual-in_err-add_one.ensures.1 in
-    writes_behind g.D.Disk file (λ fails. fails) (λ cause. cause) i.writes
-    (writes_as g.D.Disk file same
-    (λ nothing begun. nothing (g.D.Disk.state c.loop-alloc.disk file) i.added.entries
-    (i.added.built begun)) called)
-
-pub returns-in_err-add_one-clause-added : goal.returns-in_err-add_one-clause-added
-returns-in_err-add_one-clause-added g c = λ honest begun.
-    let i = c.loop-alloc.invariant in
-    let entry = lent_entry c.entry_at.result in
-    let on = c.valid.ensures.0 c.loop-alloc-test.true in
-    let here = added_here (MemCursorHolds c.args.cursor.now) (mem_position c.loop-alloc.cursor)
-    _ _ _ _ entry on c.entry_at.ensures i.added in
-    let builds = subst
-    (λ (f : ℕ). Builds (g.D.Disk.state c.loop-alloc.disk f) c.loop-alloc.builder i.added.entries)
-    (sym i.file) (i.added.built (honest, begun)) in
-    let why = c.in_err-add_one.ensures.added i.added.entries (i.writes.kept.honest.1 honest) builds
-    here.1 in
-    refuses c.from_residual-in_err-add_one.result
-    (HasAddedAll (MemCursorHolds c.args.cursor.now)
-    (g.D.Disk.state c.add_one.new.disk (builder_file c.args.builder.now)) c.add_one.new.builder)
-    (IsEnvironmental engine.Disk engine.Memory)
-    c.from_residual-in_err-add_one.ensures.1 why
+pub returns-in_err-add_one : goal.returns-in_err-add_one
+returns-in_err-add_one g c = record {
+  writes =
+      let i = c.loop-alloc.invariant in
+      let file = builder_file c.args.builder.now in
+      let called = subst (λ (f : ℕ). WritesInto g.D.Disk f c.loop-alloc.disk c.add_one.new.disk
+      (IsErrOf c.add_one.result engine.Disk) (BuildsNothing c.loop-alloc.builder)) i.file
+      c.add_one.ensures.writes in
+      let result = c.from_residual-in_err-add_one.result in
+      let same = passed_on c.add_one.result c.in_err-add_one.field-0.0 result c.in_err-add_one.was
+      c.from_residual-in_err-add_one.ensures.1 in
+      writes_behind g.D.Disk file (λ fails. fails) (λ cause. cause) i.writes
+      (writes_as g.D.Disk file same
+      (λ nothing begun. nothing (g.D.Disk.state c.loop-alloc.disk file) i.added.entries
+      (i.added.built begun)) called);
+  file = search rules;
+  added = λ honest begun.
+      let i = c.loop-alloc.invariant in
+      let entry = lent_entry c.entry_at.result in
+      let on = c.valid.ensures.0 c.loop-alloc-test.true in
+      let here = added_here (MemCursorHolds c.args.cursor.now) (mem_position c.loop-alloc.cursor)
+      _ _ _ _ entry on c.entry_at.ensures i.added in
+      let builds = subst
+      (λ (f : ℕ). Builds (g.D.Disk.state c.loop-alloc.disk f) c.loop-alloc.builder i.added.entries)
+      (sym i.file) (i.added.built (honest, begun)) in
+      let why = c.in_err-add_one.ensures.added i.added.entries
+      (i.writes.kept.honest.1 honest) builds here.1 in
+      refuses c.from_residual-in_err-add_one.result
+      (HasAddedAll (MemCursorHolds c.args.cursor.now)
+      (g.D.Disk.state c.add_one.new.disk (builder_file c.args.builder.now)) c.add_one.new.builder)
+      (IsEnvironmental engine.Disk engine.Memory)
+      c.from_residual-in_err-add_one.ensures.1 why;
+  room = search rules;
+  causes = search rules;
+}
 
 -- ---- there is no room for it
 
-pub returns-then-not-branch-clause-writes : goal.returns-then-not-branch-clause-writes
-returns-then-not-branch-clause-writes g c =
-    let i = c.loop-alloc.invariant in
-    let file = builder_file c.args.builder.now in
-    let called = subst (λ (f : ℕ). WritesInto g.D.Disk f c.loop-alloc.disk c.add_one.new.disk
-    (IsErrOf c.add_one.result engine.Disk) (BuildsNothing c.loop-alloc.builder)) i.file
-    c.add_one.ensures.writes in
-    writes_behind g.D.Disk file (λ fails. fails) (λ cause. cause) i.writes
-    (writes_done g.D.Disk file (answered c.add_one.result c.in_ok-add_one.was) done called)
-
-pub returns-then-not-branch-clause-file : goal.returns-then-not-branch-clause-file
-returns-then-not-branch-clause-file g c =
-    c.in_ok-add_one.ensures.file ∙ c.loop-alloc.invariant.file
-
-pub returns-then-not-branch-clause-added : goal.returns-then-not-branch-clause-added
-returns-then-not-branch-clause-added g c = λ honest begun.
-    let i = c.loop-alloc.invariant in
-    let has = MemCursorHolds c.args.cursor.now in
-    let at = mem_position c.loop-alloc.cursor in
-    let entries = i.added.entries in
-    let entry = lent_entry c.entry_at.result in
-    let on = c.valid.ensures.0 c.loop-alloc-test.true in
-    let here = added_here has at _ _ _ _ entry on c.entry_at.ensures i.added in
-    let builds = subst
-    (λ (f : ℕ). Builds (g.D.Disk.state c.loop-alloc.disk f) c.loop-alloc.builder entries)
-    (sym i.file) (i.added.built (honest, begun)) in
-    let large = subst
-    (λ b. HasAddedOne entries entry
-    (g.D.Disk.state c.add_one.new.disk (builder_file c.loop-alloc.builder)) c.add_one.new.builder
-    b) c.if-not-branch.true
-    (c.in_ok-add_one.ensures.added entries (i.writes.kept.honest.1 honest) builds here.1) in
-    walk_limit has entries at entry on c.entry_at.ensures i.added.walked builds.holds.rising large
-
-pub returns-then-not-branch-clause-room : goal.returns-then-not-branch-clause-room
-returns-then-not-branch-clause-room g c = λ empty.
-    let i = c.loop-alloc.invariant in
-    let has = MemCursorHolds c.args.cursor.now in
-    let at = mem_position c.loop-alloc.cursor in
-    let entries = i.added.entries in
-    let entry = lent_entry c.entry_at.result in
-    let on = c.valid.ensures.0 c.loop-alloc-test.true in
-    let here = added_here has at _ _ _ _ entry on c.entry_at.ensures i.added in
-    let held = i.added.held empty in
-    let large = subst (λ b. HoldsOneMore entries entry c.add_one.new.builder b)
-    c.if-not-branch.true (c.in_ok-add_one.ensures.held entries held here.1) in
-    walk_limit has entries at entry on c.entry_at.ensures i.added.walked held.rising large
+pub returns-then-not-branch : goal.returns-then-not-branch
+returns-then-not-branch g c = record {
+  writes =
+      let i = c.loop-alloc.invariant in
+      let file = builder_file c.args.builder.now in
+      let called = subst (λ (f : ℕ). WritesInto g.D.Disk f c.loop-alloc.disk c.add_one.new.disk
+      (IsErrOf c.add_one.result engine.Disk) (BuildsNothing c.loop-alloc.builder)) i.file
+      c.add_one.ensures.writes in
+      writes_behind g.D.Disk file (λ fails. fails) (λ cause. cause) i.writes
+      (writes_done g.D.Disk file (answered c.add_one.result c.in_ok-add_one.was) done called);
+  file = c.in_ok-add_one.ensures.file ∙ c.loop-alloc.invariant.file;
+  added = λ honest begun.
+      let i = c.loop-alloc.invariant in
+      let has = MemCursorHolds c.args.cursor.now in
+      let at = mem_position c.loop-alloc.cursor in
+      let entries = i.added.entries in
+      let entry = lent_entry c.entry_at.result in
+      let on = c.valid.ensures.0 c.loop-alloc-test.true in
+      let here = added_here has at _ _ _ _ entry on c.entry_at.ensures i.added in
+      let builds = subst
+      (λ (f : ℕ). Builds (g.D.Disk.state c.loop-alloc.disk f) c.loop-alloc.builder entries)
+      (sym i.file) (i.added.built (honest, begun)) in
+      let large = subst
+      (λ b. HasAddedOne entries entry
+      (g.D.Disk.state c.add_one.new.disk (builder_file c.loop-alloc.builder)) c.add_one.new.builder
+      b) c.if-not-branch.true
+      (c.in_ok-add_one.ensures.added entries (i.writes.kept.honest.1 honest) builds here.1) in
+      walk_limit has entries at entry on c.entry_at.ensures i.added.walked builds.holds.rising
+      large;
+  room = λ empty.
+      let i = c.loop-alloc.invariant in
+      let has = MemCursorHolds c.args.cursor.now in
+      let at = mem_position c.loop-alloc.cursor in
+      let entries = i.added.entries in
+      let entry = lent_entry c.entry_at.result in
+      let on = c.valid.ensures.0 c.loop-alloc-test.true in
+      let here = added_here has at _ _ _ _ entry on c.entry_at.ensures i.added in
+      let held = i.added.held empty in
+      let large = subst (λ b. HoldsOneMore entries entry c.add_one.new.builder b)
+      c.if-not-branch.true (c.in_ok-add_one.ensures.held entries held here.1) in
+      walk_limit has entries at entry on c.entry_at.ensures i.added.walked held.rising large;
+  causes = search rules;
+}
 
 -- ---- it was added, and the cursor moves on
 
@@ -183,38 +189,43 @@ loop-alloc-preserved g c =
       };
     }
 
-pub returns-in_err-next-clause-writes : goal.returns-in_err-next-clause-writes
-returns-in_err-next-clause-writes g c =
-    let i = c.loop-alloc.invariant in
-    let file = builder_file c.args.builder.now in
-    let called = subst (λ (f : ℕ). WritesInto g.D.Disk f c.loop-alloc.disk c.add_one.new.disk
-    (IsErrOf c.add_one.result engine.Disk) (BuildsNothing c.loop-alloc.builder)) i.file
-    c.add_one.ensures.writes in
-    let memory = for_memory _ _ c.next.result c.in_err-next.field-0.0 c.in_err-next.was (tt, tt, tt)
-    i.unbroken c.next.ensures.causes in
-    writes_behind g.D.Disk file (λ fails. fails) (λ cause. cause) i.writes
-    (writes_done g.D.Disk file (answered c.add_one.result c.in_ok-add_one.was)
-    (memory_answer c.from_residual-in_err-next.result c.in_err-next.field-0.0 memory
-    c.from_residual-in_err-next.ensures.1) called)
+pub returns-in_err-next : goal.returns-in_err-next
+returns-in_err-next g c = record {
+  writes =
+      let i = c.loop-alloc.invariant in
+      let file = builder_file c.args.builder.now in
+      let called = subst (λ (f : ℕ). WritesInto g.D.Disk f c.loop-alloc.disk c.add_one.new.disk
+      (IsErrOf c.add_one.result engine.Disk) (BuildsNothing c.loop-alloc.builder)) i.file
+      c.add_one.ensures.writes in
+      let memory = for_memory _ _ c.next.result c.in_err-next.field-0.0 c.in_err-next.was
+      (tt, tt, tt) i.unbroken c.next.ensures.causes in
+      writes_behind g.D.Disk file (λ fails. fails) (λ cause. cause) i.writes
+      (writes_done g.D.Disk file (answered c.add_one.result c.in_ok-add_one.was)
+      (memory_answer c.from_residual-in_err-next.result c.in_err-next.field-0.0 memory
+      c.from_residual-in_err-next.ensures.1) called);
+  file = search rules;
+  added = search rules;
+  room = search rules;
+  causes = search rules;
+}
 
 -- ---- all entries were added
 
-pub returns-clause-writes : goal.returns-clause-writes
-returns-clause-writes g c =
-    writes_done g.D.Disk (builder_file c.args.builder.now) (λ fails. fails) done
-    c.loop-alloc.invariant.writes
-
-pub returns-clause-file : goal.returns-clause-file
-returns-clause-file g c = c.loop-alloc.invariant.file
-
-pub returns-clause-added : goal.returns-clause-added
-returns-clause-added g c = λ honest begun.
-    let i = c.loop-alloc.invariant in
-    let off : IsOn (mem_position c.loop-alloc.cursor) → ⊥ = λ on. let z = c.valid.ensures.1 on in
-    let f = c.loop-alloc-test.false in cc in
-    record {
-      entries = i.added.entries;
-      builds = i.added.built (honest, begun);
-      alike = walk_ends (MemCursorHolds c.args.cursor.now) i.added.entries
-          (mem_position c.loop-alloc.cursor) off i.added.walked;
-    }
+pub returns : goal.returns
+returns g c = record {
+  writes = writes_done g.D.Disk (builder_file c.args.builder.now) (λ fails. fails) done
+      c.loop-alloc.invariant.writes;
+  file = c.loop-alloc.invariant.file;
+  added = λ honest begun.
+      let i = c.loop-alloc.invariant in
+      let off : IsOn (mem_position c.loop-alloc.cursor) → ⊥ = λ on. let z = c.valid.ensures.1 on in
+      let f = c.loop-alloc-test.false in cc in
+      record {
+        entries = i.added.entries;
+        builds = i.added.built (honest, begun);
+        alike = walk_ends (MemCursorHolds c.args.cursor.now) i.added.entries
+            (mem_position c.loop-alloc.cursor) off i.added.walked;
+      };
+  room = search rules;
+  causes = search rules;
+}

@@ -1,4 +1,4 @@
-use Rattle.std.proofs.Common.{None, refl, subst}
+use Rattle.std.proofs.Common.{None, refl, rules, subst}
 use Rattle.disk.specs.{Absent}
 use Rattle.memtable.specs.{TableHolds}
 use Rattle.store_tables.specs.Errors.{IsEnd}
@@ -9,29 +9,35 @@ use Rattle.store_tables.proofs.table_writing.write_table.Goals as goal
 
 -- ---- the table is finished
 
-pub returns-in_err-finish_table-clause-any_moment :
-    goal.returns-in_err-finish_table-clause-any_moment
-returns-in_err-finish_table-clause-any_moment g c =
-    moments_join g.D.Disk c.new-builder.ensures.file c.add_memtable.ensures.writes
-    c.finish_table.ensures.writes
+pub returns-in_err-finish_table-clause-writes : goal.returns-in_err-finish_table-clause-writes
+returns-in_err-finish_table-clause-writes g c = record {
+  kept = search rules;
+  any_moment = moments_join g.D.Disk c.new-builder.ensures.file c.add_memtable.ensures.writes
+      c.finish_table.ensures.writes;
+}
 
-pub returns-then-branch-clause-any_moment : goal.returns-then-branch-clause-any_moment
-returns-then-branch-clause-any_moment g c =
-    moments_join g.D.Disk c.new-builder.ensures.file c.add_memtable.ensures.writes
-    c.finish_table.ensures.writes
+pub returns-then-branch-clause-writes : goal.returns-then-branch-clause-writes
+returns-then-branch-clause-writes g c = record {
+  kept = search rules;
+  any_moment = moments_join g.D.Disk c.new-builder.ensures.file c.add_memtable.ensures.writes
+      c.finish_table.ensures.writes;
+}
 
 -- ---- the file is removed
 
-pub returns-in_err-remove_file-clause-any_moment :
-    goal.returns-in_err-remove_file-clause-any_moment
-returns-in_err-remove_file-clause-any_moment g c =
-    moments_join g.D.Disk c.new-builder.ensures.file c.add_memtable.ensures.writes
-    c.remove_file.ensures.writes
+pub returns-in_err-remove_file-clause-writes : goal.returns-in_err-remove_file-clause-writes
+returns-in_err-remove_file-clause-writes g c = record {
+  kept = search rules;
+  any_moment = moments_join g.D.Disk c.new-builder.ensures.file c.add_memtable.ensures.writes
+      c.remove_file.ensures.writes;
+}
 
-pub returns-clause-any_moment : goal.returns-clause-any_moment
-returns-clause-any_moment g c =
-    moments_join g.D.Disk c.new-builder.ensures.file c.add_memtable.ensures.writes
-    c.remove_file.ensures.writes
+pub returns-clause-writes : goal.returns-clause-writes
+returns-clause-writes g c = record {
+  kept = search rules;
+  any_moment = moments_join g.D.Disk c.new-builder.ensures.file c.add_memtable.ensures.writes
+      c.remove_file.ensures.writes;
+}
 
 -- it was not finished for want of room alone
 pub returns-clause-line : goal.returns-clause-line

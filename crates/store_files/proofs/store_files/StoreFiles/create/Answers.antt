@@ -24,7 +24,7 @@ returns-in_err-tables-clause-created g c = λ honest.
     let read = subst (λ (lines : List TableLine).
     AreTablesOf (contents (g.D.Disk.state c.create-2.new.disk)) lines []) (sym none) tt in
     refuses c.from_residual-in_err-tables.result _ (IsEnvironmental engine.Disk engine.Memory)
-    c.from_residual-in_err-tables.ensures.1 (c.in_err-tables.ensures.opened [] honest3 read)
+    c.from_residual-in_err-tables.ensures.1 (c.in_err-tables.ensures.opens.opened [] honest3 read)
 
 -- the new log has no batch
 pub returns-clause-begun : goal.returns-clause-begun
@@ -49,7 +49,7 @@ returns-clause-created g c = λ honest.
     let alone = c.in_ok-remove_others.ensures.alone honest in
     let log_kept = c.create.ensures.kept.files honest1 in
     let slots_kept = c.create-2.ensures.kept.files honest2 in
-    let same = c.open.ensures.kept.files honest3 in
+    let same = c.open.ensures.reads.kept.files honest3 in
     let none : c.deref.result.now ≡ [] = c.deref.ensures.value
     ∙ ap (λ (n : NodeVersion). n.version.tables)
     (c.state.view_is ∙ c.state-state.ensures ∙ c.in_ok-manifest.ensures.works.0) in
@@ -73,7 +73,7 @@ returns-clause-created g c = λ honest.
       line = c.new-logs.ensures.lines ∙ first_line log.file 1 at.in_file refl;
       first = refl;
       count = c.in_ok-log.ensures.empty.1;
-      tables = c.in_ok-tables.ensures.lines ∙ c.deref.ensures.value
+      tables = c.in_ok-tables.ensures.opens.lines ∙ c.deref.ensures.value
           ∙ ap (λ (n : NodeVersion). n.version.tables) (c.state.view_is ∙ c.state-state.ensures);
       memtable_works = c.new-memtable.ensures.works;
       empty = c.new-memtable.ensures.empty;
@@ -84,7 +84,7 @@ returns-clause-created g c = λ honest.
     (no_slot_yet s0 s1 1 log_kept alone (λ is. absurd cc))
     (no_slot_yet s0 s1 2 log_kept alone (λ is. absurd cc))).holds (λ slot is. same slot))
     (record { first = refl; from = at.from; log = holds_in s1 s3 log [] is_spared log_held })
-    (c.in_ok-tables.ensures.opened [] honest3 read)
+    (c.in_ok-tables.ensures.opens.opened [] honest3 read)
     (rest_is_unused s0 s1 s2 s3 alone log_kept slots_kept same)
 
 -- nor did those calls leave any
@@ -100,7 +100,7 @@ returns-clause-first g c = λ honest.
     let alone = c.in_ok-remove_others.ensures.alone honest in
     let log_kept = c.create.ensures.kept.files honest1 in
     let slots_kept = c.create-2.ensures.kept.files honest2 in
-    let same = c.open.ensures.kept.files honest3 in
+    let same = c.open.ensures.reads.kept.files honest3 in
     let made = c.in_ok-manifest.ensures.created honest2
     (no_slot_yet s0 s1 1 log_kept alone (λ is. absurd cc))
     (no_slot_yet s0 s1 2 log_kept alone (λ is. absurd cc)) in

@@ -206,7 +206,6 @@ returns-in_err-add g c =
     c.state.ensures c.last_number-count.ensures c.in_ok-edit.ensures.edit) in
     let result = c.from_residual-in_err-add.result in
     let told = c.from_residual-in_err-add.ensures.1 in
-    let memory = c.in_err-add.ensures.memory in
     let begun = c.in_ok-begin.ensures.told in
     let fit = c.in_ok-edit.ensures.fit in
     let fits = subst (λ (n : NodeVersion). IsFit n.version c.in_ok-edit.edit) c.state.ensures
@@ -233,7 +232,7 @@ returns-in_err-add g c =
       kept = kept_behind g.D.Disk (λ a b d before after. tt) c.begin.ensures.kept
           (answered c.begin.result c.in_ok-begin.was) (kept_but g.D.Disk
           (λ room. c.slots_reach_gates.ensures.full files.manifest c.in_ok-edit.edit fits fit.1
-          room) (kept_as g.D.Disk (neither (λ f. absurd cc) (refused_device result told memory))
+          room) (kept_as g.D.Disk (neither (λ f. absurd cc) (refused_device result told refl))
           (λ a b same. same) c.in_default.ensures.changes.kept));
       touches = λ honest. beside_both files s1 s2 s3
           (log_alone files s1 s2 (files.free_file + 1) refl (c.begin.ensures.kept.files honest))
@@ -244,7 +243,7 @@ returns-in_err-add g c =
         facts_kept so new c.in_default.ensures.told.0 begun.2,
       );
       usable = refusal_on_ok result _ _ told;
-      did = refuses result _ IsEnd told (subst IsEnd (sym memory) tt);
+      did = refuses result _ IsEnd told tt;
       tended = λ list honest hs.
           let spares = c.begin.ensures.kept.files honest in
           let honest2 = c.begin.ensures.kept.honest.1 honest in
@@ -254,7 +253,7 @@ returns-in_err-add g c =
           let held =
           manifest_begun so s1 list table hs s2 spares logs begun.2 began keeps stays in
           record {
-            list = refuses result _ (IsEnvironmental engine.Disk engine.Memory) told (inr memory);
+            list = refuses result _ (IsEnvironmental engine.Disk engine.Memory) told (inr refl);
             any_moment = edit_is_recorded so s1 list table hs s2 spares logs begun.2 began
                 keeps law left stays edits p1 p2 p3 s3 (c.begin.ensures.any_moment honest)
                 (c.record.ensures.changes.any_moment (known_version files) honest2 held);
@@ -268,7 +267,7 @@ returns-in_err-add g c =
           let held =
           manifest_was_begun so s1 list table ms s2 spares logs begun.2 began keeps stays in
           record {
-            list = refuses result _ (IsEnvironmental engine.Disk engine.Memory) told (inr memory);
+            list = refuses result _ (IsEnvironmental engine.Disk engine.Memory) told (inr refl);
             any_moment = edit_was_recorded so s1 list table ms s2 spares logs begun.2 began
                 keeps law left stays edits p1 p2 p3 s3 (c.begin.ensures.any_moment honest)
                 (c.record.ensures.changes.any_moment (known_version files) honest2 held);

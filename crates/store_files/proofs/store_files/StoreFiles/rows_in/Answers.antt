@@ -22,24 +22,24 @@ returns-clause-shows g c = λ meant files list honest hold blocks floor count.
     let G = ghosts g.row.D g.D.Disk no_dict no_dict in
     let cursors = c.in_ok-cursors.cursors.items in
     let memory = c.in_ok-of_memtable.field-0 in
-    let told = c.in_ok-cursors.ensures in
     let served = zip_was (g.D.Disk.state files.disk) meant self.tables.tables.items tables
     known.served blocks in
     let own = c.versions_name_own_files.ensures (known_version self).version known.usable.version
     (contents meant) tables known.read in
+    let told = c.in_ok-cursors.ensures meant files tables honest served in
     let mine = c.in_ok-of_memtable.ensures.serves meant files in
     let holds : IsAlike (G.holds meant memory files) (memory_entries list store) =
     λ entry. (
-      (λ h. (known.entries entry).0 ((mine.1 entry).0 h)),
-      (λ h. (mine.1 entry).1 ((known.entries entry).1 h)),
+      (λ h. (known.entries entry).0 ((mine.holds entry).0 h)),
+      (λ h. (mine.holds entry).1 ((known.entries entry).1 h)),
     ) in
-    let met = told.entries meant files tables honest served in
+    let met = told.entries in
     let sound = all_sound G meant files cursors memory list store known.store range met holds
-    (told.sound meant files tables honest served) mine.0 in
+    told.sound mine.sound in
     let apart = all_apart G meant files cursors memory list store known.store range met holds
-    (told.disjoint meant files tables store.flushed honest served known.store.tables own) in
+    (told.disjoint store.flushed known.store.tables own) in
     let has = all_in_range G meant files cursors memory list store known.store range met holds
-    (told.within meant files tables store.flushed honest served known.store.tables) in
+    (told.within store.flushed known.store.tables) in
     let pushed = sym c.in_ok-push.ensures.items in
     let within : c.args.at ≤ length list = subst (λ (n : ℕ). c.args.at ≤ n) known.count count in
     let few : length list ≤ MAX_NUMBER =

@@ -29,7 +29,7 @@ returns-in_err-line-clause-made g c =
 pub returns-in_err-table-clause-made : goal.returns-in_err-table-clause-made
 returns-in_err-table-clause-made g c =
     refuses c.from_residual-in_err-table.result _ IsEnd
-    c.from_residual-in_err-table.ensures.1 c.in_err-table.ensures.causes
+    c.from_residual-in_err-table.ensures.1 c.in_err-table.ensures.reads.causes
 
 pub returns-in_default-clause-made : goal.returns-in_default-clause-made
 returns-in_default-clause-made g c =
@@ -41,7 +41,7 @@ returns-clause-made g c =
     let line = subst (λ (o : Option TableLine). MatchOption o
     (IsTooLarge c.args.self.now.memtable) (IsNewLine c.args.self.now.free_file)) c.in-Some.is
     c.in_ok-line.ensures.line in
-    record { next = line; opened = c.in_ok-table.ensures.line }
+    record { next = line; opened = c.in_ok-table.ensures.opens.lines }
 
 -- ---- of files that hold a list
 
@@ -57,7 +57,7 @@ returns-in_err-line-clause-spilled g c = λ list honest h.
       any_moment = next_is_written disk files list h next refl
           c.held_versions_are_left.ensures.left c.durable_file_is_left.ensures
           (g.D.Disk.past c.args.disk.now) (g.D.Disk.past c.write_table.new.disk)
-          (g.D.Disk.state c.write_table.new.disk) (c.write_table.ensures.any_moment honest);
+          (g.D.Disk.state c.write_table.new.disk) (c.write_table.ensures.writes.any_moment honest);
     }
 
 -- it is too large, and gone
@@ -73,11 +73,11 @@ returns-in_default-clause-spilled g c = λ list honest h.
     (c.in_ok-line.ensures.written honest (next_is_fresh disk files list h next refl)) in
     record {
       list = held_again disk files list h next refl c.held_versions_are_left.ensures.same new
-          (c.write_table.ensures.kept.files honest) told.1;
+          (c.write_table.ensures.writes.kept.files honest) told.1;
       any_moment = next_is_written disk files list h next refl
           c.held_versions_are_left.ensures.left c.durable_file_is_left.ensures
           (g.D.Disk.past c.args.disk.now) (g.D.Disk.past c.write_table.new.disk) new
-          (c.write_table.ensures.any_moment honest);
+          (c.write_table.ensures.writes.any_moment honest);
     }
 
 -- it is opened, or not
@@ -87,7 +87,7 @@ returns-in_err-table-clause-spilled g c = λ list honest h.
     let files = c.args.self.now in
     let next = files.free_file in
     let mid = g.D.Disk.state c.write_table.new.disk in
-    let between = c.write_table.ensures.kept.honest.1 honest in
+    let between = c.write_table.ensures.writes.kept.honest.1 honest in
     let told = subst (λ (o : Option TableLine). MatchOption o
     (IsTooLarge files.memtable × IsNone (seen (mid next)))
     (IsWrittenTable mid files.memtable next)) c.in-Some.is
@@ -96,12 +96,12 @@ returns-in_err-table-clause-spilled g c = λ list honest h.
       list = refuses c.from_residual-in_err-table.result _
       (IsEnvironmental engine.Disk engine.Memory)
           c.from_residual-in_err-table.ensures.1
-          (c.in_err-table.ensures.opened told.table between told.is);
+          (c.in_err-table.ensures.opens.opened told.table between told.is);
       any_moment = next_is_opened disk files list h next refl
           c.held_versions_are_left.ensures.left c.durable_file_is_left.ensures
           (g.D.Disk.past c.args.disk.now) (g.D.Disk.past c.write_table.new.disk)
           (g.D.Disk.past c.open.new.disk) mid (g.D.Disk.state c.open.new.disk)
-          (c.write_table.ensures.any_moment honest) (c.open.ensures.still between);
+          (c.write_table.ensures.writes.any_moment honest) (c.open.ensures.reads.still between);
     }
 
 pub returns-clause-spilled : goal.returns-clause-spilled
@@ -111,20 +111,21 @@ returns-clause-spilled g c = λ list honest h.
     let next = files.free_file in
     let mid = g.D.Disk.state c.write_table.new.disk in
     let new = g.D.Disk.state c.open.new.disk in
-    let between = c.write_table.ensures.kept.honest.1 honest in
+    let between = c.write_table.ensures.writes.kept.honest.1 honest in
     let told = subst (λ (o : Option TableLine). MatchOption o
     (IsTooLarge files.memtable × IsNone (seen (mid next)))
     (IsWrittenTable mid files.memtable next)) c.in-Some.is
     (c.in_ok-line.ensures.written honest (next_is_fresh disk files list h next refl)) in
     record {
       list = has_spilled disk mid new files next c.in-Some.line c.in_ok-table.table refl
-          (c.write_table.ensures.kept.files honest) (c.open.ensures.kept.files between) told
-          (c.in_ok-table.ensures.opened told.table between told.is);
+          (c.write_table.ensures.writes.kept.files honest)
+          (c.open.ensures.reads.kept.files between) told
+          (c.in_ok-table.ensures.opens.opened told.table between told.is);
       any_moment = next_is_opened disk files list h next refl
           c.held_versions_are_left.ensures.left c.durable_file_is_left.ensures
           (g.D.Disk.past c.args.disk.now) (g.D.Disk.past c.write_table.new.disk)
           (g.D.Disk.past c.open.new.disk) mid new
-          (c.write_table.ensures.any_moment honest) (c.open.ensures.still between);
+          (c.write_table.ensures.writes.any_moment honest) (c.open.ensures.reads.still between);
     }
 
 -- ---- of files that were meant to
@@ -141,7 +142,7 @@ returns-in_err-line-clause-meant g c = λ list honest w.
       any_moment = next_was_written disk files list w next refl c.durable_file_is_left.ensures
           c.held_versions_are_left.ensures.left c.held_versions_are_left.ensures.same
           (g.D.Disk.past c.args.disk.now) (g.D.Disk.past c.write_table.new.disk)
-          (g.D.Disk.state c.write_table.new.disk) (c.write_table.ensures.any_moment honest);
+          (g.D.Disk.state c.write_table.new.disk) (c.write_table.ensures.writes.any_moment honest);
     }
 
 pub returns-in_default-clause-meant : goal.returns-in_default-clause-meant
@@ -157,10 +158,11 @@ returns-in_default-clause-meant g c = λ list honest w.
     (c.in_ok-line.ensures.written honest (next_was_fresh disk files list w next refl)) in
     record {
       list = meant_again disk files list w next refl stays new
-          (c.write_table.ensures.kept.files honest) told.1;
+          (c.write_table.ensures.writes.kept.files honest) told.1;
       any_moment = next_was_written disk files list w next refl c.durable_file_is_left.ensures
           c.held_versions_are_left.ensures.left stays (g.D.Disk.past c.args.disk.now)
-          (g.D.Disk.past c.write_table.new.disk) new (c.write_table.ensures.any_moment honest);
+          (g.D.Disk.past c.write_table.new.disk) new
+          (c.write_table.ensures.writes.any_moment honest);
     }
 
 pub returns-in_err-table-clause-meant : goal.returns-in_err-table-clause-meant
@@ -169,7 +171,7 @@ returns-in_err-table-clause-meant g c = λ list honest w.
     let files = c.args.self.now in
     let next = files.free_file in
     let mid = g.D.Disk.state c.write_table.new.disk in
-    let between = c.write_table.ensures.kept.honest.1 honest in
+    let between = c.write_table.ensures.writes.kept.honest.1 honest in
     let told = subst (λ (o : Option TableLine). MatchOption o
     (IsTooLarge files.memtable × IsNone (seen (mid next)))
     (IsWrittenTable mid files.memtable next)) c.in-Some.is
@@ -178,12 +180,12 @@ returns-in_err-table-clause-meant g c = λ list honest w.
       list = refuses c.from_residual-in_err-table.result _
       (IsEnvironmental engine.Disk engine.Memory)
           c.from_residual-in_err-table.ensures.1
-          (c.in_err-table.ensures.opened told.table between told.is);
+          (c.in_err-table.ensures.opens.opened told.table between told.is);
       any_moment = next_was_opened disk files list w next refl c.durable_file_is_left.ensures
           c.held_versions_are_left.ensures.left c.held_versions_are_left.ensures.same
           (g.D.Disk.past c.args.disk.now) (g.D.Disk.past c.write_table.new.disk)
           (g.D.Disk.past c.open.new.disk) mid (g.D.Disk.state c.open.new.disk)
-          (c.write_table.ensures.any_moment honest) (c.open.ensures.still between);
+          (c.write_table.ensures.writes.any_moment honest) (c.open.ensures.reads.still between);
     }
 
 pub returns-clause-meant : goal.returns-clause-meant
@@ -193,18 +195,19 @@ returns-clause-meant g c = λ list honest w.
     let next = files.free_file in
     let mid = g.D.Disk.state c.write_table.new.disk in
     let new = g.D.Disk.state c.open.new.disk in
-    let between = c.write_table.ensures.kept.honest.1 honest in
+    let between = c.write_table.ensures.writes.kept.honest.1 honest in
     let told = subst (λ (o : Option TableLine). MatchOption o
     (IsTooLarge files.memtable × IsNone (seen (mid next)))
     (IsWrittenTable mid files.memtable next)) c.in-Some.is
     (c.in_ok-line.ensures.written honest (next_was_fresh disk files list w next refl)) in
     record {
       list = has_spilled disk mid new files next c.in-Some.line c.in_ok-table.table refl
-          (c.write_table.ensures.kept.files honest) (c.open.ensures.kept.files between) told
-          (c.in_ok-table.ensures.opened told.table between told.is);
+          (c.write_table.ensures.writes.kept.files honest)
+          (c.open.ensures.reads.kept.files between) told
+          (c.in_ok-table.ensures.opens.opened told.table between told.is);
       any_moment = next_was_opened disk files list w next refl c.durable_file_is_left.ensures
           c.held_versions_are_left.ensures.left c.held_versions_are_left.ensures.same
           (g.D.Disk.past c.args.disk.now) (g.D.Disk.past c.write_table.new.disk)
-          (g.D.Disk.past c.open.new.disk) mid new (c.write_table.ensures.any_moment honest)
-          (c.open.ensures.still between);
+          (g.D.Disk.past c.open.new.disk) mid new (c.write_table.ensures.writes.any_moment honest)
+          (c.open.ensures.reads.still between);
     }

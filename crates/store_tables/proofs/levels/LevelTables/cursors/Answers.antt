@@ -41,58 +41,32 @@ loop-open-preserved g c = λ meant files tables honest served.
           (one_met R span (take i tables) (take (i + 1) tables) b.other b.taken
           c.loop-open.cursors.items w.push.new.self.items w.in_ok-cursor.field-0 before
           w.in_ok-push.ensures.items (meets ∙ w.if-meets.true)
-          (w.in_ok-cursor.ensures.has meant files b.other honest b.related))
+          (w.in_ok-cursor.ensures meant files b.other honest b.related))
       | else-meets w ↦ rw w.cursors-is
           (one_passed R span (take i tables) (take (i + 1) tables) b.other b.taken
           c.loop-open.cursors.items before (meets ∙ w.if-meets.false))
     ]
 
--- each is a cursor over a table
-pub returns-clause-sound : goal.returns-clause-sound
-returns-clause-sound g c = λ meant files tables honest served.
+-- each is a cursor over a table that meets the range, and a table that was passed over has no key
+-- of it
+pub returns : goal.returns
+returns g c = λ meant files tables honest served.
     let store = ghosts g.row.D g.D.Disk no_dict no_dict in
-    each_sound store meant files c.loop-open.cursors.items (tables_in c.args.range.now tables)
-    (all_asked (HasTable store meant files) c.args.range.now
+    let span = c.args.range.now in
+    let cursors = c.loop-open.cursors.items in
+    let met = tables_in span tables in
+    let asked = all_asked (HasTable store meant files) span
     (WasServed (g.D.Disk.state files.disk) meant) c.args.self.now.tables.items
-    c.deref-open-items.result.now tables c.loop-open.open-index c.loop-open.cursors.items
+    c.deref-open-items.result.now tables c.loop-open.open-index cursors
     c.deref-open-items.ensures.value served c.loop-open-test.false
-    (c.loop-open.invariant meant files tables honest served))
-
--- they have the entries of their tables
-pub returns-clause-entries : goal.returns-clause-entries
-returns-clause-entries g c = λ meant files tables honest served.
-    let store = ghosts g.row.D g.D.Disk no_dict no_dict in
-    all_entries_of store meant files c.loop-open.cursors.items
-    (tables_in c.args.range.now tables)
-    (all_asked (HasTable store meant files) c.args.range.now
-    (WasServed (g.D.Disk.state files.disk) meant) c.args.self.now.tables.items
-    c.deref-open-items.result.now tables c.loop-open.open-index c.loop-open.cursors.items
-    c.deref-open-items.ensures.value served c.loop-open-test.false
-    (c.loop-open.invariant meant files tables honest served))
-
--- a table that was passed over has no key of the range
-pub returns-clause-within : goal.returns-clause-within
-returns-clause-within g c = λ meant files tables flushed honest served leveled entry within.
-    let store = ghosts g.row.D g.D.Disk no_dict no_dict in
-    let alike = all_entries_of store meant files c.loop-open.cursors.items
-    (tables_in c.args.range.now tables)
-    (all_asked (HasTable store meant files) c.args.range.now
-    (WasServed (g.D.Disk.state files.disk) meant) c.args.self.now.tables.items
-    c.deref-open-items.result.now tables c.loop-open.open-index c.loop-open.cursors.items
-    c.deref-open-items.ensures.value served c.loop-open-test.false
-    (c.loop-open.invariant meant files tables honest served)) entry in
-    let asked = span_has c.args.range.now tables leveled.ranges entry within in
-    (λ held. asked.1 (alike.0 held), λ has. alike.1 (asked.0 has))
-
--- their tables share no key and number
-pub returns-clause-disjoint : goal.returns-clause-disjoint
-returns-clause-disjoint g c = λ meant files tables flushed honest served leveled own.
-    let store = ghosts g.row.D g.D.Disk no_dict no_dict in
-    all_apart store meant files c.loop-open.cursors.items (tables_in c.args.range.now tables)
-    (all_asked (HasTable store meant files) c.args.range.now
-    (WasServed (g.D.Disk.state files.disk) meant) c.args.self.now.tables.items
-    c.deref-open-items.result.now tables c.loop-open.open-index c.loop-open.cursors.items
-    c.deref-open-items.ensures.value served c.loop-open-test.false
-    (c.loop-open.invariant meant files tables honest served))
-    (span_unique c.args.range.now flushed tables leveled)
-    (span_own c.args.range.now tables own)
+    (c.loop-open.invariant meant files tables honest served) in
+    let alike = all_entries_of store meant files cursors met asked in
+    record {
+      sound = each_sound store meant files cursors met asked;
+      entries = alike;
+      within = λ flushed leveled entry within.
+          let both = span_has span tables leveled.ranges entry within in
+          (λ held. both.1 ((alike entry).0 held), λ has. (alike entry).1 (both.0 has));
+      disjoint = λ flushed leveled own. all_apart store meant files cursors met asked
+          (span_unique span flushed tables leveled) (span_own span tables own);
+    }

@@ -1,6 +1,6 @@
 use Rattle.std.proofs.Common.{◌+◌, ◌≡◌, ◌⊎◌, ℕ, List, [], None, inl, inr, drop}
 use Rattle.disk.specs.{IsEnvironmental}
-use Rattle.std.proofs.Common.{subst, sym, take, ◌∙◌}
+use Rattle.std.proofs.Common.{rules, subst, sym, take, ◌∙◌}
 use Rattle.std.specs.List.{AllZip}
 use Rattle.store_model.specs.{LevelTable}
 use Rattle.store_tables.specs.declared.error.EngineError.TheVariants as engine
@@ -68,8 +68,8 @@ loop-open-preserved g c =
     let now = c.newer_of-best.result in
     let before = c.loop-open.invariant in
     record {
-      read = read_more (files_ghosts g.D.Disk) first mid before.read c.get.ensures.kept
-          (answered c.get.result c.in_ok-found.was) c.get.ensures.still;
+      read = read_more (files_ghosts g.D.Disk) first mid before.read c.get.ensures.reads.kept
+          (answered c.get.result c.in_ok-found.was) c.get.ensures.reads.still;
       walked = λ meant tables flushed honest served leveled rise.
           let zip = subst (λ (l : List OpenTable). AllZip (WasServed s0 meant) l tables)
           (sym c.deref-open-items.ensures.value) served in
@@ -112,10 +112,13 @@ returns-in_err-found-clause-intact g c = λ tables honest served.
     (c.in_err-found.ensures.intact b.other (before.honest.1 honest)
     (served_same s0 s1 one b.other (before.files honest) b.related))
 
-pub returns-in_err-found-clause-still : goal.returns-in_err-found-clause-still
-returns-in_err-found-clause-still g c =
-    still_then (files_ghosts g.D.Disk) c.args.files.now c.loop-open.files
-    c.loop-open.invariant.read {new = c.get.new.files} c.get.ensures.still
+pub returns-in_err-found-clause-reads : goal.returns-in_err-found-clause-reads
+returns-in_err-found-clause-reads g c = record {
+  kept = search rules;
+  causes = search rules;
+  still = still_then (files_ghosts g.D.Disk) c.args.files.now c.loop-open.files
+      c.loop-open.invariant.read {new = c.get.new.files} c.get.ensures.reads.still;
+}
 
 -- all tables were passed
 pub returns-clause-found : goal.returns-clause-found

@@ -1,8 +1,6 @@
 use Rattle.store_tables.proofs.levels.OpenTable.cursor.Goals as goal
 
 -- it serves what the table was meant to serve
-pub returns-clause-has : goal.returns-clause-has
-returns-clause-has g c = λ meant files table honest was.
-    let it = c.in_ok-of_table.ensures.serves meant files table.entries honest was.serves.serves
-    was.blocks in
-    record { sound = it.0; holds = it.1 }
+pub returns : goal.returns
+returns g c = λ meant files table honest was.
+    c.in_ok-of_table.ensures.serves meant files table.entries honest was.serves.serves was.blocks

@@ -1,4 +1,4 @@
-use Rattle.std.proofs.Common.{ℕ, subst, Contains}
+use Rattle.std.proofs.Common.{ℕ, subst, Contains, rules}
 use Rattle.kv_types.specs.{StoredKey, lent_key}
 use Rattle.disk.specs.{IsEnvironmental}
 use Rattle.disk.specs.StillLemmas.{still}
@@ -10,8 +10,12 @@ use Rattle.store_tables.proofs.OpenTables.{found_in, of_table}
 use Rattle.store_tables.proofs.levels.OpenTable.get.Goals as goal
 
 -- no call of the disk is made
-pub returns-then-not-may_have-clause-still : goal.returns-then-not-may_have-clause-still
-returns-then-not-may_have-clause-still g c = λ honest. still _ _
+pub returns-then-not-may_have-clause-reads : goal.returns-then-not-may_have-clause-reads
+returns-then-not-may_have-clause-reads g c = record {
+  kept = search rules;
+  causes = search rules;
+  still = λ honest. still _ _;
+}
 
 -- the table was not read
 pub returns-in_err-get_hashed-clause-intact : goal.returns-in_err-get_hashed-clause-intact

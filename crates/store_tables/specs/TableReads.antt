@@ -1,0 +1,84 @@
+-- What the calls promise that read the files of tables: an opening, and a lookup.
+use Rattle.std.specs.Prelude.{◌≡◌, IsErrOf, List, map, All, Result, IfErr, IfOk, MatchResult}
+use Rattle.disk.specs.declared.Disk.{Ghosts}
+use Rattle.disk.specs.{Contents, IsEnvironmental, IsSame, IsStill, KeepsDisk, State, contents}
+use Rattle.store_model.specs.{LevelTable}
+use Rattle.manifest.specs.declared.TableLine.{TableLine}
+use Rattle.store_tables.specs.declared.error.EngineError.TheVariants as engine
+use Rattle.store_tables.specs.declared.error.EngineError.{EngineError}
+use Rattle.store_tables.specs.declared.levels.OpenTable.{OpenTable}
+use Rattle.store_tables.specs.declared.levels.LevelTables.{LevelTables}
+use Rattle.store_tables.specs.Errors.{IsEnd}
+use Rattle.store_tables.specs.LevelTables.{AreServed, AreTablesOf, FileFits, IsServed}
+use Rattle.store_tables.specs.LevelTables.{IsTableAsMeant, IsTableOf, WasServed, WereServed}
+use Rattle.store_tables.specs.LevelTables.{table_lines}
+
+-- what a call promises that reads the files of tables
+pub record ReadsTables {D T : Type 0} (g : Ghosts D) (disk later : D)
+    (result : Result T EngineError) : Type 0 where
+  -- no file changes, and a device that works never fails
+  pub kept : KeepsDisk g disk later (IsErrOf result engine.Disk) ⊥ IsSame
+  -- it is refused for the device, for damage or for want of memory
+  pub causes : IfErr result IsEnd
+  -- a crash at any moment leaves what it might have left before
+  pub still : IsStill g disk later
+
+-- ---- an opening
+
+-- what an opening by lines of a manifest is about: one table by its line, or several by theirs
+pub record TableOpening (Lines Opened Tables : Type 0) : Type 1 where
+  -- in these files the lines name the tables
+  pub are_named : Contents → Lines → Tables → Type 0
+  -- the files fit the lines
+  pub fit : Contents → Lines → Type 0
+  -- the files are as they were meant but for damaged blocks
+  pub are_as_meant : State → State → Lines → Type 0
+  -- what is opened serves the tables
+  pub are_served : State → Opened → Tables → Type 0
+  -- what is opened was meant to serve the tables
+  pub were_served : State → State → Opened → Tables → Type 0
+  -- the lines of what is opened
+  pub lines_of : Opened → Lines
+
+-- one table, by its line
+abbrev pub by_one_line : TableOpening TableLine OpenTable LevelTable
+by_one_line = record {
+  are_named = IsTableOf;
+  fit = FileFits;
+  are_as_meant = λ disk meant line. IsTableAsMeant (disk line.file) (meant line.file);
+  are_served = IsServed;
+  were_served = WasServed;
+  lines_of = λ it. it.line;
+}
+
+-- the tables of a store, by their lines
+abbrev pub by_all_lines : TableOpening (List TableLine) LevelTables (List LevelTable)
+by_all_lines = record {
+  are_named = AreTablesOf;
+  fit = λ left lines. All (FileFits left) lines;
+  are_as_meant = λ disk meant lines.
+      All (λ line. IsTableAsMeant (disk line.file) (meant line.file)) lines;
+  are_served = AreServed;
+  were_served = WereServed;
+  lines_of = table_lines;
+}
+
+-- what an opening by lines promises
+pub record OpensTables {Lines Opened Tables : Type 0} (how : TableOpening Lines Opened Tables)
+    {D : Type 0} (g : Ghosts D) (disk later : D) (given : Lines)
+    (result : Result Opened EngineError) : Type 0 where
+  -- what is opened serves the tables that the lines name, or the refusal says nothing of the files
+  pub opened : (tables : Tables) → g.is_honest disk →
+      how.are_named (contents (g.state disk)) given tables →
+      MatchResult result (λ it. how.are_served (g.state later) it tables)
+      (IsEnvironmental engine.Disk engine.Memory)
+  -- where the files are as they were meant but for damaged blocks, it was meant to serve them
+  pub meant : (meant : State) (tables : Tables) → g.is_honest disk →
+      how.are_named (contents meant) given tables → how.are_as_meant (g.state disk) meant given →
+      IfOk result (λ it. how.were_served (g.state later) meant it tables)
+  -- of any files, they fit where they are opened, and do not where they are refused as damaged
+  pub fits : g.is_honest disk → MatchResult result
+      (λ _. how.fit (contents (g.state disk)) given)
+      (λ e. how.fit (contents (g.state disk)) given → IsEnvironmental engine.Disk engine.Memory e)
+  -- its lines are those that were given
+  pub lines : IfOk result (λ it. how.lines_of it ≡ given)
