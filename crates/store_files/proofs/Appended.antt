@@ -94,6 +94,7 @@ usable_after files u logs memtable lines are next room numbered = record {
         few = omega (arith, next, room);
       });
   free = u.free;
+  free_few = u.free_few;
 }
 
 -- ---- what the disk represents

@@ -120,7 +120,8 @@ module _ (files : StoreFiles) (one : BatchLog) (id : ℕ) (ids : List ℕ)
     tables = f.tables;
     memtable = none_numbered files.memtable f.memtable_works f.empty (batch_count files);
     numbers = first_numbers;
-    free = f.free;
+    free = let same = f.free in omega (arith, same);
+    free_few = let same = f.free in let few = f.version.next_file in omega (arith, same, few);
   }
 
   first_store : EmptyRepresents → StoreRepresents [] (known_store files [])

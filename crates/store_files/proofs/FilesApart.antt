@@ -19,7 +19,7 @@ use Rattle.store_files.proofs.Records.{either}
 use Rattle.store_files.proofs.Records.{not_true}
 
 -- a number of the list passes the test
-any_at : (n : ℕ) (ns : List ℕ) → Contains ns n → list_any (λ other. other == n) ns ≡ true
+pub any_at : (n : ℕ) (ns : List ℕ) → Contains ns n → list_any (λ other. other == n) ns ≡ true
 any_at n [] has = let lt = has.1 in absurd (omega (arith, lt))
 any_at n (m ∷ ns) has = elim (contains_cases m ns n has) [
   | inl same ↦ rw (eq-eqb m n same) refl
@@ -34,7 +34,7 @@ and_right true q both = both
 and_right false q both = absurd (not_true both)
 
 -- of numbers that stand once, none stands in two parts
-once_apart : (xs ys : List ℕ) (a b : ℕ) → IsTrue (are_once (xs ++ ys)) → Contains xs a
+pub once_apart : (xs ys : List ℕ) (a b : ℕ) → IsTrue (are_once (xs ++ ys)) → Contains xs a
     → Contains ys b → a ≡ b → ⊥
 once_apart [] ys a b once in_first in_second same =
     let lt = in_first.1 in omega (arith, lt)

@@ -146,7 +146,7 @@ same_part : (ids : List ℕ) → is_part ids ids ≡ true
 same_part [] = refl
 same_part (x ∷ ids) = let rest = same_part ids in grind arith
 
-same_ids : (ids : List ℕ) → keeps_ids ids ids ≡ true
+pub same_ids : (ids : List ℕ) → keeps_ids ids ids ≡ true
 same_ids [] = refl
 same_ids (x ∷ ids) = same_part (x ∷ ids)
 

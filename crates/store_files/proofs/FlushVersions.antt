@@ -1,6 +1,6 @@
 -- The version that a flush makes, and the open files that know it.
 use Rattle.std.proofs.Common.{◌≡◌, ◌≢◌, ℕ, suc, ◌+◌, ◌-◌, ◌<◌, ◌≤◌, ◌∙◌, List, [], ◌∷◌, ◌++◌}
-use Rattle.std.proofs.Common.{map, arith, refl, subst, sym, ap}
+use Rattle.std.proofs.Common.{map, arith, inr, refl, subst, sym, ap}
 use Rattle.std.specs.Prelude.{All, Contains}
 use Rattle.std.proofs.lemmas.List.Elements.{All-contains_itself, All-map}
 use Rattle.std.proofs.lemmas.List.Elements.{All-push, All-weaker, Contains-append_left}
@@ -8,6 +8,7 @@ use Rattle.std.proofs.lemmas.List.Elements.{Contains-push}
 use Rattle.kv_types.specs.{Entry}
 use Rattle.memtable.specs.{HasFailedAdd, TableHolds}
 use Rattle.record_log.specs.{file_of}
+use Rattle.version_edits.specs.declared.line.TheConstants.{MAX_NEXT}
 use Rattle.manifest.specs.declared.LogLine.{LogLine}
 use Rattle.manifest.specs.declared.TableLine.{TableLine}
 use Rattle.manifest.specs.Lawful.{IsAllocated}
@@ -98,7 +99,7 @@ module _ {files : StoreFiles} {line : TableLine} {file : ℕ} {edit : Change}
 
     -- no file that was given is free
     pub free_above : version.next_file ≤ free
-    free_above = let same = u.free in omega (arith, same)
+    free_above = u.free
 
     abbrev after : StoreVersion
     after = changed version flush_of
@@ -234,5 +235,11 @@ module _ {files : StoreFiles} {line : TableLine} {file : ℕ} {edit : Change}
               numbers = subst (λ (n : NodeVersion).
                   AreOrderedNumbers n.version (trimmed_count new) (batch_count new)) was
                   numbers_after;
-              free = given ∙ ap (λ (n : NodeVersion). n.version.next_file) was;
+              free =
+                  let next : (known_version new).version.next_file ≡ free + 2 =
+                  ap (λ (n : NodeVersion). n.version.next_file) known in
+                  omega (arith, next, given);
+              free_few =
+                  let less : (MAX_NEXT < free + 2) → ⊥ = λ lt. place (inr lt) in
+                  omega (arith, less, given);
             }

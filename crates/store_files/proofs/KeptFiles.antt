@@ -321,6 +321,7 @@ module _ (disk : State) (files : StoreFiles) (list : List BatchContent)
             memtable = h.usable.memtable;
             numbers = h.usable.numbers;
             free = h.usable.free;
+            free_few = h.usable.free_few;
           };
           manifest = subst (λ (named : NodeVersion). ManifestHolds new (with_version manifest named)
               (known_version files)) holds.knows holds;

@@ -17,6 +17,7 @@ pub mod FilesApart
 pub mod Appended
 pub mod Settles
 pub mod Removals
+pub mod Removes
 pub mod Replays
 pub mod ReadLogs
 pub mod OpenLogs
@@ -31,6 +32,12 @@ pub mod ReadAnswers
 pub mod OneList
 pub mod Spills
 pub mod TendKeeps
+pub mod LeftLogs
+pub mod RaiseEdits
+pub mod TrimmedLogs
+pub mod Raised
+pub mod RaiseMoments
+pub mod MeantRaises
 pub mod TendedFiles
 pub mod Tends
 pub mod Meant

@@ -60,7 +60,8 @@ usable_of manifest parts works p = record {
   tables = p.tables;
   memtable = p.logs.numbered;
   numbers = p.numbers;
-  free = refl;
+  free = omega arith;
+  free_few = p.lawful.next_file;
 }
 
 pub opens_as : (s0 s1 s2 : State) → SparesOthers s0 s1 → (manifest : Manifest) (parts : ReadParts)

@@ -159,7 +159,7 @@ not_gone : (file : Option (List ℕ)) → IsSome file → IsNone file → ⊥
 not_gone None there gone = cc
 not_gone (Some bytes) there gone = cc
 
-not_shorter : (file : Option (List ℕ)) → IsSomeAnd file (λ bytes. length bytes < 0) → ⊥
+pub not_shorter : (file : Option (List ℕ)) → IsSomeAnd file (λ bytes. length bytes < 0) → ⊥
 not_shorter None short = absurd short
 not_shorter (Some bytes) short = omega (arith, short)
 

@@ -1,5 +1,5 @@
 -- What the calls of a tend keep, one behind another.
-use Rattle.std.proofs.Common.{◌≡◌, ◌↔◌, List, Result, Ok, Err, inl, inr, refl, subst, sym}
+use Rattle.std.proofs.Common.{◌≡◌, ◌↔◌, ℕ, List, Result, Ok, Err, inl, inr, refl, subst, sym}
 use Rattle.std.specs.Prelude.{IfOk, IsErrAnd, IsErrOf, MatchOption, MatchResult, OnOk, Option, Some}
 use Rattle.kv_types.specs.{BatchContent}
 use Rattle.disk.specs.declared.Disk.{Ghosts}
@@ -11,13 +11,14 @@ use Rattle.store_tables.specs.declared.error.EngineError.TheVariants as engine
 use Rattle.store_files.specs.declared.flushing.Flushed.{Flushed}
 use Rattle.store_files.specs.declared.store_files.StoreFiles.{StoreFiles}
 use Rattle.store_tables.specs.Errors.{IsEnd}
-use Rattle.store_files.specs.Files.{IsOwned}
+use Rattle.store_files.specs.Files.{Facts, IsOwned}
 use Rattle.store_tables.specs.KeepingLemmas.{kept_as, kept_behind, kept_but, neither, unchanged}
 use Rattle.store_files.specs.OpenFiles.{AreUsableFiles, FilesHold, WereMeantToHold, known_facts}
 use Rattle.store_files.specs.StoreFiles.{FilesRepresent, WereMeant}
 use Rattle.store_files.specs.Lists.{ListFollowsOn}
-use Rattle.store_files.specs.TendKeeps.{FilesAreTended, TendKeeps}
+use Rattle.store_files.specs.TendKeeps.{FilesAreTended, StoreKeeps, TendKeeps}
 use Rattle.store_files.specs.Tending.{HasSpilled, HeldAndSpilled, MeantAndSpilled, TendMayFail}
+use Rattle.store_files.specs.Tending.{tended_files}
 use Rattle.store_tables.specs.RefusalLemmas.{on_ok, refuses}
 use Rattle.store_files.proofs.MeantTends.{not_called}
 use Rattle.store_files.proofs.TendedFiles.{beside_both, table_alone}
@@ -145,24 +146,25 @@ module _ {D T : Type 0} (g : Ghosts D) {cause : Type 0} {Did : T → Type 0} whe
   }
 
   -- so it is where memory is out before the first call
-  pub refused_before : {Held WereHeld : State → List BatchContent → Type 0} → (disk : D)
-      (files : StoreFiles) (result : Result T EngineError) →
-      IsErrAnd result (λ e. e ≡ engine.Memory) →
+  pub refused_first : {Held WereHeld : State → List BatchContent → Type 0} → (touched : List ℕ)
+      (OfFacts : (Facts → Type 0) → Type 0) (disk : D) (files : StoreFiles)
+      (result : Result T EngineError) → IsErrAnd result (λ e. e ≡ engine.Memory) →
+      OfFacts (λ facts. known_facts files ≡ facts) →
       ((list : List BatchContent) → Held (g.state disk) list →
       LeavesSince (g.state disk) (g.past disk) (g.state disk) (g.past disk)
-      (FilesRepresent (known_facts files) list)) →
+      (λ left. OfFacts (λ facts. FilesRepresent facts list left))) →
       ((list : List BatchContent) → WereHeld (g.state disk) list →
       LeavesSince (g.state disk) (g.past disk) (g.state disk) (g.past disk)
-      (WereMeant (known_facts files) list)) →
-      TendKeeps g Held WereHeld cause Did disk disk files files result
-  refused_before disk files result told held were =
+      (λ left. OfFacts (λ facts. WereMeant facts list left))) →
+      StoreKeeps g Held WereHeld touched OfFacts cause Did disk disk files files result
+  refused_first touched OfFacts disk files result told facts held were =
       let did : MatchResult result Did (λ e. e ≡ engine.Memory) =
       refuses result Did (λ e. e ≡ engine.Memory) told refl in
       record {
         kept = kept_as g (neither (λ none. none) (no_device Did result did)) (λ a b owned. owned)
             (unchanged g {R = IsOwned} (λ a. tt));
         touches = λ honest file other. refl;
-        numbers = (refl, refl);
+        numbers = (refl, facts);
         usable = refusal_on_ok result _ _ told;
         did = ends_or Did result did;
         tended = λ list honest h. record {
@@ -177,6 +179,21 @@ module _ {D T : Type 0} (g : Ghosts D) {cause : Type 0} {Did : T → Type 0} whe
           any_moment = were list w;
         };
       }
+
+  -- where the facts stay
+  pub refused_before : {Held WereHeld : State → List BatchContent → Type 0} → (disk : D)
+      (files : StoreFiles) (result : Result T EngineError) →
+      IsErrAnd result (λ e. e ≡ engine.Memory) →
+      ((list : List BatchContent) → Held (g.state disk) list →
+      LeavesSince (g.state disk) (g.past disk) (g.state disk) (g.past disk)
+      (FilesRepresent (known_facts files) list)) →
+      ((list : List BatchContent) → WereHeld (g.state disk) list →
+      LeavesSince (g.state disk) (g.past disk) (g.state disk) (g.past disk)
+      (WereMeant (known_facts files) list)) →
+      TendKeeps g Held WereHeld cause Did disk disk files files result
+  refused_before disk files result told held were =
+      refused_first (tended_files files) (λ IsSaid. IsSaid (known_facts files)) disk files result
+      told refl held were
 
   -- what was done is a part of what a tend does, and fails for a cause of its causes
   pub tended_as : {other : Type 0} {Does : T → Type 0} → (cause → other) →

@@ -76,7 +76,8 @@ module _ (files : StoreFiles) (other : Manifest) (same : version_of other ≡ kn
       memtable = u.memtable;
       numbers = subst (λ (n : NodeVersion). AreOrderedNumbers n.version (trimmed_count files)
           (batch_count files)) (sym same) u.numbers;
-      free = subst (λ (n : NodeVersion). files.free_file ≡ n.version.next_file) (sym same) u.free;
+      free = subst (λ (n : NodeVersion). n.version.next_file ≤ files.free_file) (sym same) u.free;
+      free_few = u.free_few;
     }
 
 -- ---- the files

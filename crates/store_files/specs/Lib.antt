@@ -4,7 +4,6 @@ pub mod Reads
 pub mod Files
 pub mod BatchLogs
 pub mod StoreFiles
-pub mod LogExamples
 pub mod Stores
 pub mod Settling
 pub mod OpenFiles
@@ -13,5 +12,8 @@ pub mod Openings
 pub mod Replaying
 pub mod Tending
 pub mod TendKeeps
+pub mod Removing
+pub mod Raising
+pub mod LogExamples
 pub mod HeldFiles
 pub mod RangeEntries

@@ -4,6 +4,7 @@ use Rattle.std.specs.Prelude.{IsErrOf, length, drop}
 use Rattle.std.specs.Prelude.{All, IfOk, IsNone, MatchResult, Result}
 use Rattle.kv_types.specs.declared.bounds.TheConstants.{MAX_NUMBER}
 use Rattle.kv_types.specs.{BatchContent, Entry, IsBatch}
+use Rattle.version_edits.specs.declared.line.TheConstants.{MAX_NEXT}
 use Rattle.disk.specs.declared.Disk.{Ghosts}
 use Rattle.disk.specs.{Contents, IsDurable, IsEnvironmental, KeepsDisk, State, contents, seen}
 use Rattle.memtable.specs.declared.Memtable.{Memtable}
@@ -97,8 +98,8 @@ pub record AreCounted (store : StoreFiles) (number : ℕ) : Type 0 where
   pub committed : number ≤ batch_count store
   pub few : batch_count store ≤ MAX_NUMBER
 
--- The open files can take another batch. No file is under way: the first free one is that of the
--- version.
+-- The open files can take another batch. Files with numbers from the version's next one on, below
+-- the first free one, may be under way: no version names them yet.
 pub record AreUsableFiles (files : StoreFiles) : Type 0 where
   pub works : ManifestHasFailed files.manifest → ⊥
   pub version : IsVersion (known_version files).version
@@ -108,7 +109,8 @@ pub record AreUsableFiles (files : StoreFiles) : Type 0 where
   pub memtable : IsNumberedTo files.memtable (batch_count files)
   pub numbers : AreOrderedNumbers (known_version files).version (trimmed_count files)
       (batch_count files)
-  pub free : files.free_file ≡ (known_version files).version.next_file
+  pub free : (known_version files).version.next_file ≤ files.free_file
+  pub free_few : files.free_file ≤ MAX_NEXT
 
 -- ---- what the open files hold
 

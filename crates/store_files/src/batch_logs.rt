@@ -1,7 +1,7 @@
 //! The logs of a store's batches, in order: the newest takes appends, and a batch is read from the
 //! log that has its number.
 ghost use Rattle.std.specs.Prelude.{◌≡◌, ◌≢◌, IsErrOf, ℕ, ◌+◌, ◌-◌, ◌<◌, ◌≤◌, ◌∷◌, [], ◌++◌, List};
-ghost use Rattle.std.specs.Prelude.{All, Contains, MatchResult, Some, ◌⊎◌};
+ghost use Rattle.std.specs.Prelude.{All, Contains, MatchResult, Some, ◌⊎◌, drop, length};
 ghost use Rattle.kv_types.specs.declared.bounds.TheConstants.{MAX_NUMBER};
 ghost use Rattle.kv_types.specs.{BatchContent, IsBatch};
 ghost use Rattle.disk.specs.{AlwaysLeaves, IsLeftAt, IsSame, IsSameBut, KeepsDisk, State};
@@ -171,6 +171,15 @@ impl BatchLogs {
     {
         let one = log_with(&self.older, &self.newest, number.get());
         batch_in(alloc, disk, one, number)
+    }
+
+    /// Forgets so many of the oldest logs. Their files stay.
+    pub(crate) fn trim(&mut self, count: usize)
+        requires { count ≤ length self.old.older.items }
+        ensures older { self.new.older.items ≡ drop count self.old.older.items }
+        ensures newest { self.new.newest ≡ self.old.newest }
+    {
+        drop(self.older.drain(..count));
     }
 
     /// Begins a log in a new file, which takes the appends from now on. It needs two device calls.

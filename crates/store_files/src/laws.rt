@@ -6,7 +6,7 @@ ghost use Rattle.store_files.specs.StoreFiles.{FlushesRepresent};
 ghost use Rattle.store_files.specs.StoreFiles.{LongerLogsRepresent, StoreFilesAreNamed};
 ghost use Rattle.store_files.specs.StoreFiles.{StoreFilesAreOne};
 ghost use Rattle.store_files.specs.StoreFiles.{StoreFilesShowMaps};
-ghost use Rattle.store_files.specs.LogExamples.{LaterLogIsBehind, TwoLogsHaveThree};
+ghost use Rattle.store_files.specs.LogExamples.{FloorsPassLogs, LaterLogIsBehind, TwoLogsHaveThree};
 
 use disk::laws::{durable_file_is_left, reads_are_outcomes};
 use kv_types::laws::spellings_differ;
@@ -84,8 +84,10 @@ pub fn longer_logs_represent()
     appends_keep();
 }
 
-/// Two logs with three batches, and two of which the second begins with batch 4.
+/// Two logs with three batches, two of which the second begins with batch 4, and which of three
+/// are obsolete at a floor.
 pub fn log_examples()
     ensures three { TwoLogsHaveThree }
     ensures behind { LaterLogIsBehind }
+    ensures obsolete { FloorsPassLogs }
 {}

@@ -6,6 +6,8 @@ mod flushing;
 pub mod laws;
 mod layout;
 mod opening;
+mod raising;
+mod removing;
 mod replaying;
 mod rows;
 mod settling;
