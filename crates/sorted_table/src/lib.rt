@@ -17,4 +17,4 @@ pub use table::Table;
 pub use table_builder::{Builder, Finished};
 pub use table_cursor::TableCursor;
 pub use table_files::{Files, MAX_BLOCKS};
-pub use table_format::{FileError, LentEntry};
+pub use table_format::{FileError, LentEntry, TableError};

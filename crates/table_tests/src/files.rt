@@ -9,7 +9,7 @@ use kv_types::LentKey;
 use std::alloc::Global;
 use std::process::Abort;
 use table_files::Files;
-use table_format::{LentEntry, TableError, put_entry, seal};
+use table_format::{FileError, LentEntry, put_entry, seal};
 
 /// The length of a block whose one entry has a key and a value of one byte.
 const BLOCK: usize = 27;
@@ -81,7 +81,7 @@ fn each_file_answers_its_own_block(rt: HostRuntime) {
 }
 
 /// The refusal of a read of the file's first block.
-fn refusal_of(alloc: Global, files: &mut Files<MemDisk>, file: u64) -> Option<TableError> {
+fn refusal_of(alloc: Global, files: &mut Files<MemDisk>, file: u64) -> Option<FileError> {
     files.block(alloc, file, 0, BLOCK).err()
 }
 
@@ -134,7 +134,7 @@ fn is_damaged(rt: &impl Abort, alloc: Global, files: &mut Files<MemDisk>) -> boo
     first && again && right && refusal_of(alloc, files, 1) == DAMAGE
 }
 
-const DAMAGE: Option<TableError> = Some(TableError::Damaged);
+const DAMAGE: Option<FileError> = Some(FileError::Damaged);
 
 #[test]
 fn a_changed_byte_is_damage(rt: HostRuntime) {

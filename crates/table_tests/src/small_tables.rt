@@ -4,7 +4,7 @@ use crate::parts::{BLOCK, FILTER, FOOTER, INDEX};
 use crate::tables::{FILE, build, bytes_of, entry_of, table_in, with_cache};
 use disk::{Disk, MemDisk};
 use kv_types::LentKey;
-use sorted_table::{Table, TableError};
+use sorted_table::{FileError, Table};
 use std::alloc::Global;
 use std::process::Abort;
 use table_builder::Finished;
@@ -65,7 +65,7 @@ fn files_with(rt: &impl Abort, alloc: Global, bytes: &[u8]) -> Files<MemDisk> {
 }
 
 /// Opens the table of the file, looks its only key up, and answers the refusal.
-fn refusal_of(alloc: Global, files: &mut Files<MemDisk>) -> Option<TableError> {
+fn refusal_of(alloc: Global, files: &mut Files<MemDisk>) -> Option<FileError> {
     match Table::open(alloc, files, FILE) {
         Ok(table) => table.get(alloc, files, LentKey::new(b"a"), 1).err(),
         Err(e) => Some(e),
@@ -74,7 +74,7 @@ fn refusal_of(alloc: Global, files: &mut Files<MemDisk>) -> Option<TableError> {
 
 /// Whether the opening or a lookup says that these bytes are damaged.
 fn is_damaged(rt: &impl Abort, alloc: Global, bytes: &[u8]) -> bool {
-    refusal_of(alloc, &mut files_with(rt, alloc, bytes)) == Some(TableError::Damaged)
+    refusal_of(alloc, &mut files_with(rt, alloc, bytes)) == Some(FileError::Damaged)
 }
 
 /// The smallest table with a bit of one byte turned.
@@ -109,7 +109,7 @@ fn damage_and_short_files_are_found(rt: HostRuntime) {
 fn is_refused_twice(alloc: Global, table: &Table, files: &mut Files<MemDisk>) -> bool {
     let first = table.get(alloc, files, LentKey::new(b"a"), 1).err();
     let second = table.get(alloc, files, LentKey::new(b"a"), 1).err();
-    first == Some(TableError::Damaged) && second == Some(TableError::Damaged)
+    first == Some(FileError::Damaged) && second == Some(FileError::Damaged)
 }
 
 /// Whether it does in a table that opens.

@@ -9,7 +9,7 @@ use crate::tables::{FILE, build, entry_of, table_in, with_cache};
 use disk::{Disk, MemDisk};
 use kv_types::LentKey;
 use merge_iter::{AtNumber, Cursor, CursorError, Merged, OwnedEntry};
-use sorted_table::{Files, TableCursor, TableError};
+use sorted_table::{FileError, Files, TableCursor};
 use std::alloc::Global;
 use std::process::Abort;
 use table_format::{Footer, IndexLine, footer_part_of, put_line, seal};
@@ -326,6 +326,6 @@ fn a_block_that_ends_before_its_line_says(rt: HostRuntime) {
     assert!(rt; refused && !cursor.valid(), "the first");
     let table = table_in(&rt, alloc, &mut files, FILE);
     let refused = table.get(alloc, &mut files, LentKey::new(b"a"), 1).err()
-        == Some(TableError::Damaged);
+        == Some(FileError::Damaged);
     assert!(rt; refused, "a lookup");
 }
