@@ -11,6 +11,7 @@ use Rattle.compaction.specs.Outputs.{IsOwnFile}
 use Rattle.compaction.specs.Walks.{AdvancesWalk, IsIntactOn, IsWalking, StepRefusal, table_files}
 use Rattle.compaction.proofs.Calls.{done, writes_behind, writes_nothing, writes_wider}
 use Rattle.compaction.proofs.Steps.{refusal_same, rules_through}
+use Rattle.compaction.proofs.Writing.{uses_none, uses_then}
 
 -- a refusal that is passed on is the same
 pub same_refusal : (called : Result (Unit {0}) MergeError) (e : MergeError)
@@ -49,8 +50,7 @@ module _ {U F : Type 0} (u : CursorGhosts U F) (d : Ghosts F) (tables : ℕ) whe
   advances_none files next union writer = record {
     writes = writes_nothing d (IsOwnFile writer next) files done;
     rules = record { floor = refl; target = refl; level = refl; deeper = refl };
-    own = λ file mine. mine;
-    number = omega arith;
+    numbers = uses_none writer writer next (λ file is. is) (λ file output. output);
     walks = λ meant inputs w. (w, omega arith, λ intact. intact);
   }
 
@@ -86,10 +86,10 @@ module _ {U F : Type 0} (u : CursorGhosts U F) (d : Ghosts F) (tables : ℕ) whe
     advances_then result next = record {
       writes = writes_behind d (IsOwnFile w n) done
           (λ lost meant inputs walk. lost meant inputs (first.walks meant inputs walk).0)
-          first.writes (writes_wider d (IsOwnFile w n) (IsOwnFile v m) first.own next.writes);
+          first.writes
+          (writes_wider d (IsOwnFile w n) (IsOwnFile v m) first.numbers.own next.writes);
       rules = rules_through w v q first.rules next.rules;
-      own = λ file mine. first.own file (next.own file mine);
-      number = let low = first.number in let high = next.number in omega (arith, low, high);
+      numbers = uses_then w v q n m p first.numbers next.numbers;
       walks = λ meant inputs walk. walks_then meant inputs walk result
           (next.walks meant inputs (first.walks meant inputs walk).0);
     }

@@ -15,6 +15,7 @@ use Rattle.store_model.specs.{LevelTable, tables_entries}
 use Rattle.compaction.specs.declared.writer.OutputWriter.{OutputWriter}
 use Rattle.compaction.specs.Outputs.{IsOwnFile, open_file}
 use Rattle.compaction.specs.Walks.{IsWalking}
+use Rattle.compaction.proofs.Numbers.{begun_more}
 use Rattle.compaction.proofs.Walks.{alike_through}
 use Rattle.compaction.proofs.Writing.{outputs_kept}
 use Rattle.std.proofs.lemmas.List.Elements.{All-weaker}
@@ -76,6 +77,7 @@ module _ {U F : Type 0} (u : CursorGhosts U F) (d : Ghosts F)
           numbered = record {
             closed = All-weaker (λ line. line.file < next_file) (λ line. line.file < later)
                 (λ line lt. omega (arith, lt, le)) writer.closed.items w.writes.numbered.closed;
+            once = w.writes.numbered.once;
             current = below_more (open_file writer)
                 (λ file. All (λ line. line.file ≢ file) writer.closed.items) next_file later le
                 w.writes.numbered.current;
@@ -89,19 +91,22 @@ module _ {D F : Type 0} (u : CursorGhosts (Merged (TableCursor D)) F) (d : Ghost
     u.most) where
   -- a merge under way stays so while other calls leave its files as they were
   pub merge_left : MergesOutliveCalls u d
-  merge_left meant old new next_file later it plan floor m left = (
-    record {
-      works = m.works;
-      walk = walk_left u d laws meant plan.inputs old new next_file later it.union it.writer m.walk
-          left;
-      deeper = m.deeper;
-      level = m.level;
-      same_floor = m.same_floor;
-      gone = m.gone;
-    },
-    λ intact other at. intact other (
-      at.0,
-      λ file there.
-          at.1 file there ∙ left.sources.1 file there,
-    ),
-  )
+  merge_left meant old new next_file later it plan floor m left =
+      let walk = walk_left u d laws meant plan.inputs old new next_file later it.union it.writer
+      m.walk left in (
+        record {
+          works = m.works;
+          walk = walk;
+          deeper = m.deeper;
+          level = m.level;
+          same_floor = m.same_floor;
+          gone = m.gone;
+          numbers = begun_more it.first next_file later it.writer it.writer plan.inputs left.number
+              (λ file output. inl output) walk.writes.numbered m.numbers;
+        },
+        λ intact other at. intact other (
+          at.0,
+          λ file there.
+              at.1 file there ∙ left.sources.1 file there,
+        ),
+      )

@@ -1,4 +1,5 @@
 mod Lists
+mod Once
 mod Orders
 mod Dropping
 mod Cutting
@@ -11,6 +12,9 @@ mod Writing
 mod Walks
 mod Steps
 mod Advances
+mod Numbers
 mod Merging
+mod EditedTables
+mod Fits
 mod Lasting
 mod Leaving

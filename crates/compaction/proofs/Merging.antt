@@ -21,7 +21,8 @@ use Rattle.store_model.specs.{IsMerged, MergePlan}
 use Rattle.compaction.specs.declared.merge.Merge.{Merge}
 use Rattle.compaction.specs.declared.error.MergeError.TheVariants as merge
 use Rattle.compaction.specs.Errors.{merge_error_of_cursor}
-use Rattle.compaction.specs.Merges.{HasTooManyTables, IsMergeEdit, IsMerging, merge_change}
+use Rattle.compaction.specs.Merges.{IsNumberedFrom, HasTooManyTables, HaveNewFiles, IsMergeEdit}
+use Rattle.compaction.specs.Merges.{IsMerging, merge_change}
 use Rattle.std.proofs.lemmas.Bool.{cases_lt}
 use Rattle.std.proofs.lemmas.List.{length-map}
 use Rattle.version_edits.specs.declared.TableName.{TableName}
@@ -42,25 +43,20 @@ use Rattle.compaction.specs.declared.plan.Plan.{Plan}
 use Rattle.compaction.specs.declared.writer.OutputWriter.{OutputWriter}
 use Rattle.compaction.specs.Inputs.{line_name}
 use Rattle.compaction.specs.Merges.{IsOutputTable, table_name}
-use Rattle.compaction.specs.Outputs.{AreUnused, IsOutput, WriterHolds, open_file}
+use Rattle.compaction.specs.Outputs.{AreUnused, HaveOwnNumbers, IsOutput}
+use Rattle.compaction.specs.Outputs.{WriterHolds, open_file}
 use Rattle.compaction.specs.Plans.{IsLineOf, is_input, is_line_input, model_plan}
 use Rattle.compaction.specs.Survivors.{AreDeeperLines, key_range}
 use Rattle.compaction.specs.Walks.{IsIntactOn, IsWalking, ReadsOnly, table_files}
 use Rattle.compaction.specs.WrittenTables.{IsTableOver, Written, nothing_written, tables_of}
 use Rattle.compaction.proofs.Lists.{among_filter, filter_among, zip_back, zip_there}
+use Rattle.compaction.proofs.Once.{map_among}
 use Rattle.compaction.proofs.Steps.{intact_moved}
 use Rattle.compaction.proofs.Walks.{alike_through, walk_begins, walk_ends}
 use Rattle.compaction.proofs.Writing.{same_unused}
 use Rattle.std.proofs.Common.{All, ◌⊎◌}
 
 -- ---- lines and tables
-
-map_among : {A B : Type 0} (f : A → B) (xs : List A) (y : B) → Among y (map f xs)
-    → (x : A) × Among x xs × (f x ≡ y)
-map_among f [] y a = absurd a
-map_among f (x ∷ xs) y (inl is) = (x, inl refl, is)
-map_among f (x ∷ xs) y (inr later) =
-    let it = map_among f xs y later in (it.0, inr it.1, it.2)
 
 module _ (plan : Plan) (range : KeyRange) where
   -- the names of the inputs, by their lines
@@ -217,8 +213,8 @@ pub all_closed : (slots : State) (next_file : ℕ) (writer : OutputWriter) (it :
     (IsEnvironmental merge.Disk merge.Memory))
     → (it.opened ≡ [] → IsOkAnd result (λ _. WriterHolds slots next_file writer it))
     → MatchResult result
-    (λ _. AllZip (IsOutput slots writer.level) writer.closed.items (tables_of it))
-    (IsEnvironmental merge.Disk merge.Memory)
+    (λ _. AllZip (IsOutput slots writer.level) writer.closed.items (tables_of it)
+    × HaveOwnNumbers writer next_file) (IsEnvironmental merge.Disk merge.Memory)
 all_closed slots next_file writer it {R = R} result some none = by_open it.opened refl
   where
     closes : (e : Entry) (es : List Entry) → it.opened ≡ e ∷ es → (r : Result R MergeError)
@@ -226,32 +222,38 @@ all_closed slots next_file writer it {R = R} result some none = by_open it.opene
         (record it { closed = it.closed ++ it.opened ∷ []; opened = [] }))
         (IsEnvironmental merge.Disk merge.Memory)
         → MatchResult r
-        (λ _. AllZip (IsOutput slots writer.level) writer.closed.items (tables_of it))
-        (IsEnvironmental merge.Disk merge.Memory)
-    closes e es is (Ok x) w = subst (λ (opened : List Entry).
-        AllZip (IsOutput slots writer.level) writer.closed.items
-        (tables_of (record it { opened = opened }))) (sym is)
-        (subst (λ (opened : List Entry).
-        AllZip (IsOutput slots writer.level) writer.closed.items (it.closed ++ opened ∷ [])) is
-        w.closed)
+        (λ _. AllZip (IsOutput slots writer.level) writer.closed.items (tables_of it)
+        × HaveOwnNumbers writer next_file) (IsEnvironmental merge.Disk merge.Memory)
+    closes e es is (Ok x) w = (
+      subst (λ (opened : List Entry).
+          AllZip (IsOutput slots writer.level) writer.closed.items
+          (tables_of (record it { opened = opened }))) (sym is)
+          (subst (λ (opened : List Entry).
+          AllZip (IsOutput slots writer.level) writer.closed.items (it.closed ++ opened ∷ [])) is
+          w.closed),
+      w.numbered,
+    )
     closes e es is (Err error) external = external
 
     stays : it.opened ≡ [] → (r : Result R MergeError)
         → IsOkAnd r (λ _. WriterHolds slots next_file writer it)
         → MatchResult r
-        (λ _. AllZip (IsOutput slots writer.level) writer.closed.items (tables_of it))
-        (IsEnvironmental merge.Disk merge.Memory)
-    stays is (Ok x) w = subst (λ (opened : List Entry).
-        AllZip (IsOutput slots writer.level) writer.closed.items
-        (tables_of (record it { opened = opened }))) (sym is)
-        (subst (λ (l : List (List Entry)).
-        AllZip (IsOutput slots writer.level) writer.closed.items l) (sym (append-nil it.closed))
-        w.closed)
+        (λ _. AllZip (IsOutput slots writer.level) writer.closed.items (tables_of it)
+        × HaveOwnNumbers writer next_file) (IsEnvironmental merge.Disk merge.Memory)
+    stays is (Ok x) w = (
+      subst (λ (opened : List Entry).
+          AllZip (IsOutput slots writer.level) writer.closed.items
+          (tables_of (record it { opened = opened }))) (sym is)
+          (subst (λ (l : List (List Entry)).
+          AllZip (IsOutput slots writer.level) writer.closed.items l) (sym (append-nil it.closed))
+          w.closed),
+      w.numbered,
+    )
     stays is (Err error) never = absurd never
 
     by_open : (opened : List Entry) → it.opened ≡ opened → MatchResult result
-        (λ _. AllZip (IsOutput slots writer.level) writer.closed.items (tables_of it))
-        (IsEnvironmental merge.Disk merge.Memory)
+        (λ _. AllZip (IsOutput slots writer.level) writer.closed.items (tables_of it)
+        × HaveOwnNumbers writer next_file) (IsEnvironmental merge.Disk merge.Memory)
     by_open [] is = stays is result (none is)
     by_open (e ∷ es) is = closes e es is result
         (some (subst (λ (l : List Entry). 0 < length l) (sym is) (omega arith)))
@@ -335,15 +337,16 @@ pub closed_all : {F : Type 0} (d : Ghosts F) (old new : F) (next_file : ℕ)
     → ((slots : State) (n : ℕ) (it : Written) → WriterHolds slots n was it → it.opened ≡ []
     → (new ≡ old) × IsOkAnd result (λ _. WriterHolds slots n now it))
     → MatchResult result
-    (λ _. AllZip (IsOutput (d.state new) now.level) now.closed.items (tables_of it))
-    (IsEnvironmental merge.Disk merge.Memory)
+    (λ _. AllZip (IsOutput (d.state new) now.level) now.closed.items (tables_of it)
+    × HaveOwnNumbers now next_file) (IsEnvironmental merge.Disk merge.Memory)
 closed_all {F} d old new next_file was now it result w some none =
     all_closed (d.state new) next_file now it result some (λ is.
     let e = none (d.state old) next_file it w is in
     subst (λ (f : F). IsOkAnd result (λ _. WriterHolds (d.state f) next_file now it)) (sym e.0)
     e.1)
 
-module _ (slots : State) (version : StoreVersion) (next_file : ℕ) (plan : MergePlan) (floor : ℕ)
+module _ (slots : State) (version : StoreVersion) (first next_file : ℕ) (writer : OutputWriter)
+    (plan : MergePlan) (floor : ℕ)
     (gone : List TableName) (added : List TableLine) (outputs : List LevelTable)
     (merged : IsMerged floor plan outputs)
     (holds : AllZip (IsOutputTable slots (suc plan.level)) added outputs)
@@ -354,8 +357,10 @@ module _ (slots : State) (version : StoreVersion) (next_file : ℕ) (plan : Merg
   -- the edit is that of the merge
   pub merge_edit : (edit : Change) → edit ≡ merge_change version next_file gone added
       → (MAX_LINES + length gone < length version.tables + length added → ⊥)
-      → IsMergeEdit slots version next_file plan floor edit
-  merge_edit edit is few =
+      → IsNumberedFrom first next_file writer plan.inputs
+      → HaveNewFiles first next_file writer added
+      → IsMergeEdit slots version first next_file writer plan floor edit
+  merge_edit edit is few begun files =
       let added_is : edit.tables_added ≡ added = ap (λ (e : Change). e.tables_added) is in
       let room : length version.tables + length added ≤ MAX_LINES + length gone =
       not_below (length version.tables + length added) (MAX_LINES + length gone) few in
@@ -369,6 +374,10 @@ module _ (slots : State) (version : StoreVersion) (next_file : ℕ) (plan : Merg
             ∙ ap (λ (l : List TableLine).
             merge_change version next_file (map table_name plan.inputs) l) (sym added_is);
         few = omega (arith, room, n, many);
+        files = subst (λ (l : List TableLine). HaveNewFiles first next_file writer l)
+            (sym added_is) files;
+        late = begun.late;
+        inputs_once = begun.inputs_once;
       }
 
   -- or there is no room for the outputs

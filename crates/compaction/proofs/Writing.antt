@@ -5,7 +5,11 @@ use Rattle.std.proofs.Common.{Bool, true, false, All, IfSome, inl, inr, refl, sy
 use Rattle.std.proofs.Common.{arith}
 use Rattle.std.proofs.Common.{Result, Ok, Err, get_or}
 use Rattle.std.specs.Prelude.{◌&&◌, IsErrAnd, IsErrOf, IsNone, MatchResult, is_ok, is_some}
+use Rattle.std.specs.Global.{Vec}
 use Rattle.std.specs.List.{AllZip}
+use Rattle.std.proofs.Common.{Contains, map}
+use Rattle.kv_types.specs.OrderLemmas.{among_of_All}
+use Rattle.version_edits.specs.Versions.{are_once}
 use Rattle.std.specs.Option.{option_map}
 use Rattle.std.proofs.lemmas.Bool.{cond_both, le-leb, true≢false}
 use Rattle.std.proofs.lemmas.List.Elements.{All-head, All-tail, All-weaker}
@@ -19,11 +23,12 @@ use Rattle.compaction.specs.declared.error.MergeError.{MergeError}
 use Rattle.compaction.specs.declared.error.MergeError.TheVariants as merge
 use Rattle.compaction.specs.declared.open_output.OpenOutput.{OpenOutput}
 use Rattle.compaction.specs.declared.writer.OutputWriter.{OutputWriter}
-use Rattle.compaction.specs.Outputs.{HaveOwnNumbers, IsOpenFile, HoldsOpen, IsOutput, IsOwnFile}
-use Rattle.compaction.specs.Outputs.{AreUnused, WriterHolds}
+use Rattle.compaction.specs.Outputs.{HaveOwnNumbers, IsOpenFile, HoldsOpen, IsOutput}
+use Rattle.compaction.specs.Outputs.{AreUnused, IsOutputFile, UsesNumbers, WriterHolds}
 use Rattle.compaction.specs.Outputs.{HoldsNothing, IsSameBeyond, WritesOnly, open_file}
 use Rattle.compaction.specs.WrittenTables.{Written, cut_before, has_new_key, is_cut}
 use Rattle.compaction.proofs.Calls.{writes_as, writes_wider}
+use Rattle.compaction.proofs.Once.{Differ, differ_once, once_differ, rises_append}
 
 -- ---- the cut
 
@@ -185,12 +190,66 @@ unused_kept old new writer next_file numbered spares unused file le =
     omega (arith, below, le) in
     subst (λ (slot : Slot). IsNone (seen slot)) (sym (spares file apart)) (unused file le)
 
--- a writer with the same open table has no other files
-pub own_same : (old new : OutputWriter) (next_file file : ℕ) → new.current ≡ old.current
-    → IsOwnFile new next_file file → IsOwnFile old next_file file
-own_same old new next_file file same (inl is) =
-    inl (sym (ap (option_map (λ (it : OpenOutput). it.file)) same) ∙ is)
-own_same old new next_file file same (inr late) = inr late
+-- ---- the files of outputs
+
+abbrev line_file : TableLine → ℕ
+line_file line = line.file
+
+-- ---- file numbers that are used
+
+-- none is used, where the files are those of before
+pub uses_none : (old new : OutputWriter) (next_file : ℕ)
+    → ((file : ℕ) → IsOpenFile new file → IsOpenFile old file)
+    → ((file : ℕ) → IsOutputFile new file → IsOutputFile old file)
+    → UsesNumbers old next_file new next_file
+uses_none old new next_file opened outputs = record {
+  rises = omega arith;
+  few = λ few. few;
+  own = λ file mine. elim mine [ inl is ↦ inl (opened file is) | inr late ↦ inr late ];
+  outputs = λ file output. inl (outputs file output);
+}
+
+-- the writer has the same tables
+pub uses_same : (old new : OutputWriter) (next_file : ℕ) → new.current ≡ old.current
+    → new.closed ≡ old.closed → UsesNumbers old next_file new next_file
+uses_same old new next_file current closed = uses_none old new next_file opened outputs
+  where
+    opened : (file : ℕ) → IsOpenFile new file → IsOpenFile old file
+    opened file is = sym (ap (option_map (λ (it : OpenOutput). it.file)) current) ∙ is
+
+    outputs : (file : ℕ) → IsOutputFile new file → IsOutputFile old file
+    outputs file (inl is) = inl (opened file is)
+    outputs file (inr there) =
+        inr (subst (λ (v : Vec TableLine). Contains (map line_file v.items) file) closed there)
+
+-- one call behind another
+pub uses_then : (old mid new : OutputWriter) (first next last : ℕ)
+    → UsesNumbers old first mid next → UsesNumbers mid next new last
+    → UsesNumbers old first new last
+uses_then old mid new first next last one two =
+    let low = one.rises in
+    let high = two.rises in
+    record {
+      rises = omega (arith, low, high);
+      few = λ few. two.few (one.few few);
+      own = λ file mine. one.own file (two.own file mine);
+      outputs = λ file output. elim (two.outputs file output) [
+        | inl before ↦ one.outputs file before
+        | inr late ↦ inr (omega (arith, low, late))
+      ];
+    }
+
+-- complete outputs have different files, and the open one another
+pub once_pushed : (lines : List TableLine) (line : TableLine) (file : ℕ)
+    → are_once (map line_file lines) ≡ true → All (λ one. one.file ≢ file) lines
+    → line.file ≡ file → are_once (map line_file (lines ++ line ∷ [])) ≡ true
+once_pushed lines line file once apart named = differ_once line_file (lines ++ line ∷ [])
+    (rises_append (Differ line_file) lines (line ∷ []) (once_differ line_file lines once)
+    (λ y a. absurd a, tt) (λ x y in_x in_y same. elim in_y [
+      | inl is ↦ among_of_All (λ (one : TableLine). one.file ≢ file) lines x apart in_x
+          (same ∙ ap line_file (sym is) ∙ named)
+      | inr none ↦ absurd none
+    ]))
 
 -- the same files
 pub same_writes : (old new : State) (writer : OutputWriter) (next_file : ℕ) (it : Written)

@@ -8,15 +8,22 @@ pub mod Walks
 pub mod Leftovers
 pub mod Merges
 pub mod Plans
+pub mod Edits
+pub mod EditsLemmas
 pub mod Inputs
 pub mod Examples
 -- What crates above name.
 pub use Rattle.compaction.specs.Picks.{picked}
+pub use Rattle.compaction.specs.Edits.{AcceptsMerge, CanEndIn, EditsStayBeside, OutputsAreBeside}
+pub use Rattle.compaction.specs.Edits.{StepsStayBeside, items_after, tables_after}
 pub use Rattle.compaction.specs.Inputs.{lent_range, line_name}
+pub use Rattle.compaction.specs.Merges.{IsFitMergeEdit, IsMergeEdit, IsNumberedFrom}
+pub use Rattle.compaction.specs.Merges.{MergeEditsFit, MergeEditsKeep}
+pub use Rattle.compaction.specs.Outputs.{IsOutputFile, UsesNumbers}
 pub use Rattle.compaction.specs.Plans.{IsLineOf, PicksArePlanned, is_input, is_line_input}
 pub use Rattle.compaction.specs.Plans.{model_plan, range_of}
 pub use Rattle.compaction.specs.Survivors.{AreDeeperLines, AreSurvivors, IsSortedUnion, key_range}
 pub use Rattle.compaction.specs.Survivors.{SurvivorsAreLeft, survivors}
-pub use Rattle.compaction.specs.Turns.{turn_key, turn_levels}
+pub use Rattle.compaction.specs.Turns.{turn_key}
 pub use Rattle.compaction.specs.WrittenTables.{IsTableOver, Written, WrittenAreMerged}
 pub use Rattle.compaction.specs.WrittenTables.{WrittenAreSurvivors, tables_of, written_of}

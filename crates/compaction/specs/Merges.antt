@@ -1,6 +1,6 @@
 -- A merge: what its calls promise.
 use Rattle.std.specs.Prelude.{◌≡◌, ◌⊎◌, ◌↔◌, ℕ, suc, ◌+◌, ◌<◌, ◌≤◌, List, [], length, map, IsTrue}
-use Rattle.std.specs.Prelude.{Bool, IsErrOf, Result, Err, MatchResult}
+use Rattle.std.specs.Prelude.{All, Bool, IsErrOf, Result, Err, MatchResult}
 use Rattle.std.specs.List.{AllZip}
 use Rattle.disk.specs.declared.Disk.{Ghosts}
 use Rattle.disk.specs.{IsEnvironmental, State}
@@ -8,15 +8,21 @@ use Rattle.merge_iter.specs.declared.Cursor.{Ghosts as CursorGhosts}
 use Rattle.merge_iter.specs.declared.Merged.{Merged}
 use Rattle.merge_iter.specs.{AreDisjoint, AreSound, EachChild, IsAlike, IsOn, union_of}
 use Rattle.sorted_table.specs.declared.TableCursor.{TableCursor}
-use Rattle.store_model.specs.{IsMerged, LevelTable, MergePlan, tables_entries}
+use Rattle.kv_types.specs.{BatchContent}
+use Rattle.store_model.specs.{AreEdited, IsMerged, IsUnderWay, LevelTable, MergePlan}
+use Rattle.store_model.specs.{StoreRepresents, StoreState, tables_entries, with_tables}
 use Rattle.version_edits.specs.declared.TableLine.{TableLine}
 use Rattle.version_edits.specs.declared.TableName.{TableName}
 use Rattle.version_edits.specs.declared.line.TheConstants.{MAX_LINES}
-use Rattle.version_edits.specs.{Change, StoreVersion}
+use Rattle.version_edits.specs.Versions.{are_once}
+use Rattle.version_edits.specs.{Change, IsChange, IsFit, IsVersion, StoreVersion, changed}
 use Rattle.compaction.specs.declared.error.MergeError.{MergeError}
 use Rattle.compaction.specs.declared.error.MergeError.TheVariants as merge
 use Rattle.compaction.specs.declared.merge.Merge.{Merge}
-use Rattle.compaction.specs.Outputs.{IsOpenFile, IsOutput, IsOwnFile, WritesOnly}
+use Rattle.compaction.specs.declared.writer.OutputWriter.{OutputWriter}
+use Rattle.compaction.specs.Edits.{AcceptsMerge, tables_after}
+use Rattle.compaction.specs.Outputs.{IsOpenFile, IsOutput, IsOutputFile, IsOwnFile, UsesNumbers}
+use Rattle.compaction.specs.Outputs.{WritesOnly}
 use Rattle.compaction.specs.Plans.{IsLineOf}
 use Rattle.compaction.specs.Survivors.{AreDeeperLines}
 use Rattle.compaction.specs.Walks.{HasSameFiles, IsIntactOn, IsWalking, LeavesWalk, StepRefusal}
@@ -67,15 +73,34 @@ merge_change version next_file gone added = record {
   tables_added = added;
 }
 
--- The edit gives up the inputs of the plan, and adds its outputs at this floor, which are durable
--- in their files. The version has no more tables then than it may have.
-pub record IsMergeEdit (disk : State) (version : StoreVersion) (next_file : ℕ) (plan : MergePlan)
-    (floor : ℕ) (edit : Change) : Type 0 where
+-- The lines that are added are of outputs of this writer, whose files have numbers from the first
+-- one on, below the next file. No two have the same.
+pub record HaveNewFiles (first next_file : ℕ) (writer : OutputWriter) (added : List TableLine)
+    : Type 0 where
+  pub numbered : All (λ line. (first ≤ line.file) × (line.file < next_file)) added
+  pub once : IsTrue (are_once (map (λ line. line.file) added))
+  pub own : All (λ line. IsOutputFile writer line.file) added
+
+-- The edit gives up the inputs of the plan, each once, and adds its outputs at this floor, which
+-- are durable in files of numbers from the first one on, below its next file. The version has no
+-- more tables then than it may have.
+pub record IsMergeEdit (disk : State) (version : StoreVersion) (first next_file : ℕ)
+    (writer : OutputWriter) (plan : MergePlan) (floor : ℕ) (edit : Change) : Type 0 where
   pub outputs : List LevelTable
   pub merged : IsMerged floor plan outputs
   pub holds : AllZip (IsOutputTable disk (suc plan.level)) edit.tables_added outputs
   pub is : edit ≡ merge_change version next_file (map table_name plan.inputs) edit.tables_added
   pub few : length version.tables + length outputs ≤ MAX_LINES + length plan.inputs
+  pub files : HaveNewFiles first next_file writer edit.tables_added
+  pub late : 3 ≤ first
+  pub inputs_once : IsTrue (are_once (table_files plan.inputs))
+
+-- the edit is that of the merge, and the version may take it where the merge can end in its store
+pub record IsFitMergeEdit (disk : State) (version : StoreVersion) (first next_file : ℕ)
+    (writer : OutputWriter) (plan : MergePlan) (floor : ℕ) (edit : Change) : Type 0 where
+  pub merges : IsMergeEdit disk version first next_file writer plan floor edit
+  pub fit : AcceptsMerge version next_file plan writer →
+      IsFit version edit × IsChange edit
 
 -- with the outputs in the place of the inputs, the version has more tables than it may have
 pub record HasTooManyTables (version : StoreVersion) (plan : MergePlan) (floor : ℕ) : Type 0 where
@@ -93,6 +118,15 @@ MergeHasFailed it = IsTrue it.has_failed
 abbrev pub begun_number : {D : Type 0} → Merge D → ℕ
 begun_number it = it.first
 
+-- The merge began with a file number that no slot has, and has used those from there on, below the
+-- next one. No input has the file of another.
+pub record IsNumberedFrom (first next_file : ℕ) (writer : OutputWriter) (inputs : List LevelTable)
+    : Type 0 where
+  pub late : 3 ≤ first
+  pub begun : first ≤ next_file
+  pub outputs : (file : ℕ) → IsOutputFile writer file → (first ≤ file) × (file < next_file)
+  pub inputs_once : IsTrue (are_once (table_files inputs))
+
 module _ {D F : Type 0} (u : CursorGhosts (Merged (TableCursor D)) F) (d : Ghosts F) where
   -- the merge of the plan is under way at this floor, with file numbers from this one on
   pub record IsMerging (meant : u.Meant) (files : F) (next_file : ℕ) (it : Merge D)
@@ -103,6 +137,7 @@ module _ {D F : Type 0} (u : CursorGhosts (Merged (TableCursor D)) F) (d : Ghost
     pub level : it.writer.level ≡ suc plan.level
     pub same_floor : it.writer.floor ≡ floor
     pub gone : it.gone.items ≡ map table_name plan.inputs
+    pub numbers : IsNumberedFrom (begun_number it) next_file it.writer plan.inputs
 
   -- no merge is under way
   abbrev pub IsNoMerge : F → ℕ → Merge D → Type 0
@@ -132,8 +167,8 @@ module _ {D F : Type 0} (u : CursorGhosts (Merged (TableCursor D)) F) (d : Ghost
     -- the call writes to the file of the open output, and to files from the next number on
     pub writes : WritesOnly d (IsOwnFile was.writer next_old) old new (IsErrOf result merge.Disk)
         (IsNoMerge old next_old was)
-    pub own : (file : ℕ) → IsOwnFile now.writer next_new file → IsOwnFile was.writer next_old file
-    pub numbers : (next_old ≤ next_new) × (begun_number now ≡ begun_number was)
+    pub numbers : UsesNumbers was.writer next_old now.writer next_new
+    pub first : begun_number now ≡ begun_number was
     pub status : StepStatus result was now
     -- of a merge under way
     pub steps : (meant : u.Meant) (plan : MergePlan) (floor : ℕ)
@@ -153,9 +188,10 @@ module _ {D F : Type 0} (u : CursorGhosts (Merged (TableCursor D)) F) (d : Ghost
     -- of a merge under way, of which no entry is left
     pub ends : (meant : u.Meant) (plan : MergePlan) (floor : ℕ) →
         IsMerging meant old next_file was plan floor → (HasEntriesLeft was → ⊥) →
-        MatchResult result (IsMergeEdit (d.state new) version next_file plan floor)
-        (λ e. IsEnvironmental merge.Disk merge.Memory e ⊎ ((e ≡ merge.Full) ×
-        HasTooManyTables version plan floor))
+        MatchResult result
+        (IsFitMergeEdit (d.state new) version (begun_number was) next_file was.writer plan floor)
+        (λ e. IsEnvironmental merge.Disk merge.Memory e
+        ⊎ ((e ≡ merge.Full) × HasTooManyTables version plan floor))
 
   -- ---- what other calls keep
 
@@ -168,3 +204,30 @@ module _ {D F : Type 0} (u : CursorGhosts (Merged (TableCursor D)) F) (d : Ghost
       LeavesWalk d old new next_file later it.writer plan.inputs →
       IsMerging meant new later it plan floor
       × (IsIntactMerge old it plan → IsIntactMerge new it plan)
+
+-- ---- what the edit gives
+
+-- a lawful version that the merge can end in may take its edit
+abbrev pub MergeEditsFit : Type 0
+MergeEditsFit =
+    (disk : State) (version : StoreVersion) (first next_file : ℕ) (writer : OutputWriter)
+    (plan : MergePlan) (floor : ℕ) (edit : Change) → IsVersion version →
+    IsMergeEdit disk version first next_file writer plan floor edit →
+    AcceptsMerge version next_file plan writer → IsFit version edit × IsChange edit
+
+-- Of a store with the tables of a lawful version, the edit gives up the inputs and adds the
+-- outputs, and the store represents the same list then.
+abbrev pub MergeEditsKeep : Type 0
+MergeEditsKeep =
+    (disk : State) (version : StoreVersion) (first next_file : ℕ) (writer : OutputWriter)
+    (plan : MergePlan) (floor : ℕ) (edit : Change) (batches : List BatchContent)
+    (store : StoreState) → IsVersion version →
+    (it : IsMergeEdit disk version first next_file writer plan floor edit) →
+    AllZip IsLineOf version.tables store.tables → StoreRepresents batches store →
+    IsUnderWay store plan → floor ≤ store.floor →
+    AllZip IsLineOf (changed version edit).tables
+    (tables_after edit.tables_gone it.outputs store.tables)
+    × AreEdited plan.inputs it.outputs store.tables
+    (tables_after edit.tables_gone it.outputs store.tables)
+    × StoreRepresents batches
+    (with_tables store (tables_after edit.tables_gone it.outputs store.tables))

@@ -1,6 +1,7 @@
 -- The outputs of a merge: what their writer knows, and what their files have.
 use Rattle.std.specs.Prelude.{◌≡◌, ◌≢◌, ◌⊎◌, ℕ, ◌+◌, ◌<◌, ◌≤◌, List, [], ◌∷◌, ◌++◌, length, All}
-use Rattle.std.specs.Prelude.{true, false, Option, Some, None, IfSome, IsNone}
+use Rattle.std.specs.Prelude.{true, false, Option, Some, None, IfSome, IsNone, IsTrue}
+use Rattle.std.specs.Prelude.{map, Contains}
 use Rattle.std.specs.List.{AllZip}
 use Rattle.std.specs.Option.{option_map}
 use Rattle.disk.specs.{IsEnvironmental}
@@ -9,7 +10,8 @@ use Rattle.disk.specs.{AlwaysLeaves, Contents, IsFileOutcome, KeepsDisk, State, 
 use Rattle.kv_types.specs.declared.bounds.TheConstants.{MAX_NUMBER}
 use Rattle.kv_types.specs.{Entry}
 use Rattle.version_edits.specs.declared.TableLine.{TableLine}
-use Rattle.version_edits.specs.declared.line.TheConstants.{MAX_LINES}
+use Rattle.version_edits.specs.declared.line.TheConstants.{MAX_LINES, MAX_NEXT}
+use Rattle.version_edits.specs.Versions.{are_once}
 use Rattle.version_edits.specs.{IsTableLine}
 use Rattle.table_builder.specs.declared.Finished.{Finished}
 use Rattle.table_builder.specs.{Builds, HoldsTable, data_size, first_entry}
@@ -32,6 +34,11 @@ KnowsBefore writer (Some entry) = (writer.has_before ≡ true)
 -- the file of the open table, if there is one
 abbrev pub open_file : OutputWriter → Option ℕ
 open_file writer = option_map (λ it. it.file) writer.current
+
+-- the file is that of an output, complete or open
+abbrev pub IsOutputFile : OutputWriter → ℕ → Type 0
+IsOutputFile writer file = (open_file writer ≡ Some file)
+    ⊎ Contains (map (λ line. line.file) writer.closed.items) file
 
 -- the rules by which it drops, cuts and writes are the same
 pub record KeepsRules (old new : OutputWriter) : Type 0 where
@@ -70,9 +77,10 @@ abbrev pub HoldsOpen : State → Option OpenOutput → List Entry → Type 0
 HoldsOpen disk None entries = entries ≡ []
 HoldsOpen disk (Some it) entries = Builds (disk it.file) it.builder entries
 
--- each file of an output has a number below the next one, and the open one has none of the others'
+-- each file of an output has a number below the next one, and no two have the same
 pub record HaveOwnNumbers (writer : OutputWriter) (next_file : ℕ) : Type 0 where
   pub closed : All (λ line. line.file < next_file) writer.closed.items
+  pub once : IsTrue (are_once (map (λ line. line.file) writer.closed.items))
   pub current : IfSome (open_file writer) (λ file. (file < next_file)
       × All (λ line. line.file ≢ file) writer.closed.items)
 
@@ -97,6 +105,15 @@ IsOpenFile writer file = open_file writer ≡ Some file
 -- the writer may change the file: it is that of the open table, or has a number from this one on
 abbrev pub IsOwnFile : OutputWriter → ℕ → ℕ → Type 0
 IsOwnFile writer next_file file = IsOpenFile writer file ⊎ (next_file ≤ file)
+
+-- The writer used file numbers from the first of these on, up to the second, within their limit.
+-- Its files are those of before, or have such numbers.
+pub record UsesNumbers (old : OutputWriter) (next_old : ℕ) (new : OutputWriter) (next_new : ℕ)
+    : Type 0 where
+  pub rises : next_old ≤ next_new
+  pub few : next_old ≤ MAX_NEXT → next_new ≤ MAX_NEXT
+  pub own : (file : ℕ) → IsOwnFile new next_new file → IsOwnFile old next_old file
+  pub outputs : (file : ℕ) → IsOutputFile new file → IsOutputFile old file ⊎ (next_old ≤ file)
 
 -- all files but these are as they were
 abbrev pub IsSameBeyond : (ℕ → Type 0) → State → State → Type 0

@@ -13,7 +13,7 @@ use Rattle.compaction.specs.declared.error.MergeError.{MergeError}
 use Rattle.compaction.specs.declared.error.MergeError.TheVariants as merge
 use Rattle.compaction.specs.declared.writer.OutputWriter.{OutputWriter}
 use Rattle.compaction.specs.Outputs.{AreUnused, IsOpenFile, IsOwnFile, KeepsRules, LacksRoom}
-use Rattle.compaction.specs.Outputs.{WriterHolds, WritesOnly}
+use Rattle.compaction.specs.Outputs.{UsesNumbers, WriterHolds, WritesOnly}
 use Rattle.compaction.specs.WrittenTables.{Written, cut_before, written_of}
 
 -- ---- walks
@@ -120,8 +120,7 @@ module _ {U F : Type 0} (u : CursorGhosts U F) (d : Ghosts F) where
     pub writes : WritesOnly d (IsOwnFile writer_old next_old) old new (IsErrOf result merge.Disk)
         (IsNoWalk u d old next_old union_old writer_old)
     pub rules : KeepsRules writer_old writer_new
-    pub own : (file : ℕ) → IsOwnFile writer_new next_new file → IsOwnFile writer_old next_old file
-    pub number : next_old ≤ next_new
+    pub numbers : UsesNumbers writer_old next_old writer_new next_new
     pub walks : (meant : u.Meant) (inputs : List LevelTable) →
         (was : IsWalking u d meant old next_old union_old writer_old inputs) →
         MatchResult result

@@ -1,7 +1,8 @@
 //! Laws of the definitions that contracts use. The functions do nothing: their clauses are the
 //! laws.
+ghost use Rattle.compaction.specs.Edits.{EditsStayBeside, StepsStayBeside};
 ghost use Rattle.compaction.specs.Examples.{InputExamples, PickExamples, SurvivorExamples};
-ghost use Rattle.compaction.specs.Merges.{MergesOutliveCalls};
+ghost use Rattle.compaction.specs.Merges.{MergeEditsFit, MergeEditsKeep, MergesOutliveCalls};
 ghost use Rattle.compaction.specs.Plans.{PicksArePlanned};
 ghost use Rattle.compaction.specs.Survivors.{SurvivorsAreLeft};
 ghost use Rattle.compaction.specs.WrittenTables.{WrittenAreMerged, WrittenAreSurvivors};
@@ -49,6 +50,31 @@ pub fn merges_outlive_calls<D: Disk + Drop>()
     ensures { MergesOutliveCalls ⟦<Merged<TableCursor<D>> as Cursor>⟧ ⟦<Files<D> as Disk>⟧ }
 {
     are_lawful::<Merged<TableCursor<D>>>(); // law: what suits a union leaves it sound
+}
+
+/// A version that names no file of an output names none after steps of the merge, nor after an edit
+/// that adds files from the merge's next one on.
+// law: of `OutputsAreBeside`
+pub fn outputs_stay_beside()
+    ensures steps { StepsStayBeside }
+    ensures edits { EditsStayBeside }
+{}
+
+/// A version may take the edit of a merge that can end in its store.
+// law: of `IsMergeEdit`
+pub fn merge_edits_fit()
+    ensures { MergeEditsFit }
+{
+    store_model::merges_keep(); // law: tables may stand together after a merge
+}
+
+/// The edit of a merge gives up its inputs and adds its outputs, and keeps the list that the store
+/// of the version represents.
+// law: of `IsMergeEdit`
+pub fn merge_edits_keep()
+    ensures { MergeEditsKeep }
+{
+    store_model::merges_keep(); // law: a merge keeps the list
 }
 
 /// Small versions with the merges that are due in them, and entries with those that a merge leaves.

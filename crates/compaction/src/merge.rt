@@ -9,11 +9,11 @@ ghost use Rattle.compaction.specs.declared.error.MergeError.TheVariants.{Disk, M
 ghost use Rattle.compaction.specs.Merges.{AreCursorsOf, AreIntactCursors, EndsMerge, IsIntactMerge};
 ghost use Rattle.compaction.specs.Leftovers.{RemovesLeftovers};
 ghost use Rattle.compaction.specs.Merges.{IsMerging, StepsMerge, begun_number, merge_change};
-ghost use Rattle.compaction.specs.Outputs.{AreUnused, WritesOnly};
+ghost use Rattle.compaction.specs.Outputs.{AreUnused, IsOutputFile, WritesOnly};
 ghost use Rattle.compaction.specs.Plans.{IsLineOf, model_plan, range_of};
 
 use crate::error::MergeError;
-use crate::laws::written_are_merged;
+use crate::laws::{merge_edits_fit, written_are_merged};
 use crate::leftovers::remove_leftovers;
 use crate::plan::Plan;
 use crate::walking::{are_lawful, write_some};
@@ -99,7 +99,8 @@ impl<D: Disk + Drop> Merge<D> {
         requires aimed { 0 < target }
         ensures reads { WritesOnly ⟦<Files<D> as Disk>⟧ (λ _. ⊥) files.old files.new
             (IsErrOf result Disk) ⊥ }
-        ensures first { IfOk result (λ merge. begun_number merge ≡ next_file) }
+        ensures first { IfOk result (λ merge. (begun_number merge ≡ next_file)
+            × ((file : ℕ) → IsOutputFile merge.writer file → ⊥)) }
         ensures begun { (meant : _) (tables : List LevelTable) (range : _) →
             ⟦<Files<D> as Disk>⟧.is_honest files.old →
             AllZip IsLineOf version.now.version.tables tables →
@@ -180,6 +181,7 @@ impl<D: Disk + Drop> Merge<D> {
             version.now.version next_file self.old files.old files.new result }
     {
         written_are_merged(); // law: tables with what is written are the outputs of the merge
+        merge_edits_fit(); // law: the version may take the edit
         if self.has_failed {
             return Err(MergeError::Failed);
         }

@@ -1,5 +1,5 @@
 //! Which merge is due.
-ghost use Rattle.std.specs.Prelude.{◌≡◌, nat_lt, option_map};
+ghost use Rattle.std.specs.Prelude.{◌≡◌, ◌≤◌, IfSome, nat_lt, option_map};
 ghost use Rattle.compaction.specs.Picks.{begins_behind, due_level, first_behind, level_bytes};
 ghost use Rattle.compaction.specs.Picks.{count_of_level, picked, table_in_turn};
 ghost use Rattle.compaction.specs.Turns.{turn_key};
@@ -97,8 +97,9 @@ fn due_level(tables: &[TableLine], limits: &Limits) -> Option<u8>
 /// merged whose turn it is: the first that begins behind the last one merged, and if there is none,
 /// the first. It takes no memory.
 pub fn pick(version: &StoreVersion, limits: &Limits, turn: &Turn) -> Option<Plan>
-    ensures { result ≡ picked limits.now.l0 limits.now.level (turn_key turn.now)
+    ensures due { result ≡ picked limits.now.l0 limits.now.level (turn_key turn.now)
         version.now.version }
+    ensures level { IfSome result (λ plan. plan.level ≤ 5) }
 {
     let below = version.next_file;
     let level = due_level(&version.tables, limits)?;

@@ -1,4 +1,6 @@
 // Whose turn it is in a level.
+ghost use Rattle.std.specs.Prelude.{◌≡◌, length};
+
 use kv_types::Key;
 use std::alloc::{AllocError, Global};
 
@@ -6,17 +8,17 @@ use std::alloc::{AllocError, Global};
 #[derive(Drop)]
 pub struct Turn {
     last: Vec<Option<Key>>,
+    ghost levels: { length last.items ≡ 7 },
 }
 
 impl Turn {
-    ghost use Rattle.std.specs.Prelude.{◌≡◌, ℕ, ◌<◌, IfOk, None, Some, option_map};
+    ghost use Rattle.std.specs.Prelude.{ℕ, ◌≤◌, IfOk, None, Some, option_map};
     ghost use Rattle.std.specs.Prelude.{◌==◌, if◌then◌else◌};
-    ghost use Rattle.compaction.specs.Turns.{turn_key, turn_levels};
+    ghost use Rattle.compaction.specs.Turns.{turn_key};
 
     /// No table was merged out of any level.
     pub fn new(alloc: Global) -> Result<Turn, AllocError>
-        ensures none { IfOk result (λ turn. (level : ℕ) → turn_key turn level ≡ None) }
-        ensures levels { IfOk result (λ turn. turn_levels turn ≡ 7) }
+        ensures { IfOk result (λ turn. (level : ℕ) → turn_key turn level ≡ None) }
     {
         let mut last = Vec::new(alloc);
         for _ in 0..7u8 {
@@ -37,10 +39,9 @@ impl Turn {
 
     /// Records that a table with this greatest key is merged out of the level.
     pub fn advance(&mut self, level: u8, key: Key)
-        requires { level < turn_levels self.old }
-        ensures keys { (other : ℕ) → turn_key self.new other
+        requires { level ≤ 6 }
+        ensures { (other : ℕ) → turn_key self.new other
             ≡ (if other == level then Some key else turn_key self.old other) }
-        ensures levels { turn_levels self.new ≡ turn_levels self.old }
     {
         self.last[level as usize] = Some(key);
     }

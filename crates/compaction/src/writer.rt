@@ -45,7 +45,8 @@ impl OutputWriter {
     ghost use Rattle.table_format.specs.{CanFollow, IsTableEntry, lent_entry};
 ghost use Rattle.compaction.specs.declared.error.MergeError.TheVariants.{Disk, Memory};
     ghost use Rattle.compaction.specs.Outputs.{AreUnused, HasNoPlace, HoldsNothing, IsAstray};
-    ghost use Rattle.compaction.specs.Outputs.{IsOpenFile, IsOwnFile, KeepsRules, KnowsBefore};
+    ghost use Rattle.compaction.specs.Outputs.{IsOpenFile, IsOutputFile, IsOwnFile, KeepsRules};
+    ghost use Rattle.compaction.specs.Outputs.{KnowsBefore, UsesNumbers};
     ghost use Rattle.compaction.specs.Outputs.{PassesTableLimit, PutRefusal, WriterHolds};
     ghost use Rattle.compaction.specs.Outputs.{WritesOnly, open_file};
     ghost use Rattle.compaction.specs.Survivors.{is_dropped};
@@ -68,7 +69,7 @@ ghost use Rattle.compaction.specs.declared.error.MergeError.TheVariants.{Disk, M
             × (result.deeper ≡ deeper) }
         ensures empty { (disk : State) (next_file : ℕ) →
             WriterHolds disk next_file result nothing_written }
-        ensures none { open_file result ≡ None }
+        ensures none { (open_file result ≡ None) × (result.closed.items ≡ []) }
     {
         OutputWriter {
             floor,
@@ -141,6 +142,7 @@ ghost use Rattle.compaction.specs.declared.error.MergeError.TheVariants.{Disk, M
             disk.new (IsErrOf result Disk) (HoldsNothing D.Disk disk.old next_file self.old) }
         ensures rules { KeepsRules self.old self.new }
         ensures none { open_file self.new ≡ None }
+        ensures outputs { (file : ℕ) → IsOutputFile self.new file → IsOutputFile self.old file }
         ensures closed { (next_file : ℕ) (it : Written) → D.is_honest disk.old →
             WriterHolds (D.state disk.old) next_file self.old it → 0 < length it.opened →
             MatchResult result (λ _. WriterHolds (D.state disk.new) next_file self.new
@@ -168,6 +170,7 @@ ghost use Rattle.compaction.specs.declared.error.MergeError.TheVariants.{Disk, M
             disk.new (IsErrOf result Disk) (HoldsNothing D.Disk disk.old next_file self.old) }
         ensures rules { KeepsRules self.old self.new }
         ensures open { (file : ℕ) → IsOpenFile self.new file → IsOpenFile self.old file }
+        ensures outputs { (file : ℕ) → IsOutputFile self.new file → IsOutputFile self.old file }
         ensures cut { (next_file : ℕ) (it : Written) (entry : Entry) → D.is_honest disk.old →
             WriterHolds (D.state disk.old) next_file self.old it → entry.key ≡ lent_key key.entry →
             MatchResult result (λ _. WriterHolds (D.state disk.new) next_file self.new
@@ -187,9 +190,7 @@ ghost use Rattle.compaction.specs.declared.error.MergeError.TheVariants.{Disk, M
         requires { tables ≤ MAX_LINES }
         ensures rules { KeepsRules self.old self.new }
         ensures some { OnOk result (IsSome (open_file self.new)) }
-        ensures own { (file : ℕ) → IsOpenFile self.new file →
-            IsOwnFile self.old next_file.old file }
-        ensures number { next_file.old ≤ next_file.new }
+        ensures numbers { UsesNumbers self.old next_file.old self.new next_file.new }
         ensures begun { (disk : State) (it : Written) → WriterHolds disk next_file.old self.old it →
             AreUnused disk next_file.old →
             OnOk result (WriterHolds disk next_file.new self.new it
@@ -223,6 +224,7 @@ ghost use Rattle.compaction.specs.declared.error.MergeError.TheVariants.{Disk, M
             disk.new (IsErrOf result Disk) (HoldsNothing D.Disk disk.old next_file self.old) }
         ensures rules { KeepsRules self.old self.new }
         ensures open { (file : ℕ) → IsOpenFile self.new file → IsOpenFile self.old file }
+        ensures outputs { (file : ℕ) → IsOutputFile self.new file → IsOutputFile self.old file }
         ensures added { (next_file : ℕ) (it : Written) → D.is_honest disk.old →
             WriterHolds (D.state disk.old) next_file self.old it → IsSome (open_file self.old) →
             CanFollow it.opened (lent_entry entry.entry) → MatchResult result
@@ -254,9 +256,7 @@ ghost use Rattle.compaction.specs.declared.error.MergeError.TheVariants.{Disk, M
         ensures writes { WritesOnly D.Disk (IsOwnFile self.old next_file.old) disk.old disk.new
             (IsErrOf result Disk) (IsAstray D.Disk disk.old next_file.old self.old) }
         ensures rules { KeepsRules self.old self.new }
-        ensures number { next_file.old ≤ next_file.new }
-        ensures own { (file : ℕ) → IsOwnFile self.new next_file.new file →
-            IsOwnFile self.old next_file.old file }
+        ensures numbers { UsesNumbers self.old next_file.old self.new next_file.new }
         ensures written { (it : Written) → D.is_honest disk.old →
             WriterHolds (D.state disk.old) next_file.old self.old it →
             AreUnused (D.state disk.old) next_file.old →
@@ -287,9 +287,7 @@ ghost use Rattle.compaction.specs.declared.error.MergeError.TheVariants.{Disk, M
         ensures writes { WritesOnly D.Disk (IsOwnFile self.old next_file.old) disk.old disk.new
             (IsErrOf result Disk) (IsAstray D.Disk disk.old next_file.old self.old) }
         ensures rules { KeepsRules self.old self.new }
-        ensures number { next_file.old ≤ next_file.new }
-        ensures own { (file : ℕ) → IsOwnFile self.new next_file.new file →
-            IsOwnFile self.old next_file.old file }
+        ensures numbers { UsesNumbers self.old next_file.old self.new next_file.new }
         ensures put { (it : Written) → D.is_honest disk.old →
             WriterHolds (D.state disk.old) next_file.old self.old it →
             AreUnused (D.state disk.old) next_file.old →

@@ -20,8 +20,7 @@ returns-in_err-put g c =
           w.unused)
           c.put.ensures.writes;
       rules = c.put.ensures.rules;
-      own = c.put.ensures.own;
-      number = c.put.ensures.number;
+      numbers = c.put.ensures.numbers;
       walks = λ meant inputs w. refuses c.from_residual.result _ _ c.from_residual.ensures.1
           (step_refused _ _ c.are_lawful.ensures meant inputs c.args.files.now
           c.args.next_file.now c.args.union.now c.args.writer.now entry w c.requires.on
@@ -45,8 +44,7 @@ returns-in_err-next g c =
           (cursor_failed c.next.result c.in_err-next.field-0.0 c.from_residual-in_err-next.result
           c.in_err-next.was c.from_residual-in_err-next.ensures.1) c.next.ensures.device);
       rules = c.put.ensures.rules;
-      own = c.put.ensures.own;
-      number = c.put.ensures.number;
+      numbers = c.put.ensures.numbers;
       walks = λ meant inputs w. refuses c.from_residual-in_err-next.result _ _
           c.from_residual-in_err-next.ensures.1
           (step_stops _ _ c.are_lawful.ensures meant inputs c.args.files.now
@@ -67,8 +65,7 @@ returns g c =
           (writes_read _ own c.next.result (cursor_works c.next.result c.in_ok-next.was)
           c.next.ensures.device);
       rules = c.put.ensures.rules;
-      own = c.put.ensures.own;
-      number = c.put.ensures.number;
+      numbers = c.put.ensures.numbers;
       walks = λ meant inputs w.
           let put = c.in_ok-put.ensures.put (written_by c.args.writer.now w.met) w.honest w.writes
           w.unused (step_follows _ _ c.are_lawful.ensures meant inputs c.args.files.now
@@ -78,6 +75,6 @@ returns g c =
           c.args.union.now c.args.writer.now entry w c.requires.on c.entry_at.ensures.is
           c.put.new.disk c.next.new.source c.put.new.next_file c.next.new.self c.put.new.self
           c.in_ok-next.field-0 c.next.result c.put.ensures.writes c.put.ensures.rules
-          c.put.ensures.own put.0 put.1 c.next.ensures.moves c.next.ensures.device
+          c.put.ensures.numbers.own put.0 put.1 c.next.ensures.moves c.next.ensures.device
           c.next.ensures.finds c.in_ok-next.was;
     }

@@ -12,6 +12,7 @@ use Rattle.compaction.specs.Merges.{table_name}
 use Rattle.compaction.specs.Plans.{is_line_input, model_plan, range_of}
 use Rattle.compaction.specs.Survivors.{AreDeeperLines}
 use Rattle.compaction.proofs.Merging.{begin_stops, deeper_zip, inputs_early, names_zip, walk_first}
+use Rattle.compaction.proofs.Numbers.{begins, no_outputs}
 use Rattle.compaction.proofs.Walks.{alike_through}
 use Rattle.compaction.proofs.Writing.{refuses}
 use Rattle.compaction.proofs.merge.Merge.begin.Goals as goal
@@ -73,7 +74,7 @@ returns-clause-begun g c =
     (alike_through _ _ _ (c.new-union.ensures.entries meant c.args.files.now) cursors.alike)
     (λ a b serves. c.new-union.ensures.suits a b (cursors.reads a b serves))
     (inputs_early plan range version tables c.args.next_file lawful zip le) unused
-    c.new-writer.ensures.none c.new-writer.ensures.empty c.first.ensures.moves
+    c.new-writer.ensures.none.0 c.new-writer.ensures.empty c.first.ensures.moves
     c.first.ensures.device c.first.ensures.finds c.in_ok-first.was in
     let rules = c.new-writer.ensures.rules in
     let lines : c.new-writer.result.deeper.items
@@ -95,7 +96,15 @@ returns-clause-begun g c =
         level = omega (arith, level);
         same_floor = rules.0 ∙ ap (λ (v : NodeVersion). v.version.floor) c.version.view_is;
         gone = names;
+        numbers = begins plan range version tables lawful zip c.args.next_file
+            c.new-writer.result le c.new-writer.ensures.none.0 c.new-writer.ensures.none.1;
       },
       λ intact. walk.1 (λ other at. let it = intact other at in
           (it.0, c.new-union.ensures.sound it.0 other it.1 it.2, it.3)),
     )
+
+pub returns-clause-first : goal.returns-clause-first
+returns-clause-first g c = (
+  refl,
+  no_outputs c.new-writer.result c.new-writer.ensures.none.0 c.new-writer.ensures.none.1,
+)

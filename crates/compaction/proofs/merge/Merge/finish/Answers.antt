@@ -5,14 +5,15 @@ use Rattle.std.specs.Global.{Vec}
 use Rattle.table_files.specs.contracts.files.FilesDisk.TheImpl as files_disk
 use Rattle.version_edits.specs.declared.TableLine.{TableLine}
 use Rattle.version_edits.specs.declared.TableName.{TableName}
-use Rattle.version_edits.specs.{NodeVersion}
+use Rattle.version_edits.specs.{IsVersion, NodeVersion}
 use Rattle.std.proofs.lemmas.Bool.{both_ways}
-use Rattle.compaction.specs.Merges.{IsOutputTable, table_name}
+use Rattle.compaction.specs.Merges.{HaveNewFiles, IsOutputTable, table_name}
 use Rattle.compaction.specs.Outputs.{IsOpenFile}
 use Rattle.compaction.specs.Walks.{written_by}
 use Rattle.compaction.proofs.Calls.{done, memory_told, ok_fails, passed_on, refused, writes_as}
 use Rattle.compaction.proofs.Calls.{writes_nothing}
 use Rattle.compaction.proofs.Merging.{closed_all, merge_done, merge_edit, too_many}
+use Rattle.compaction.proofs.Numbers.{new_files}
 use Rattle.compaction.proofs.Writing.{refuses}
 use Rattle.compaction.proofs.merge.Merge.finish.Goals as goal
 
@@ -62,7 +63,7 @@ returns-then-len g c = record {
       c.in_ok-close.ensures.empty in
       let out = merge_done _ _ meant c.args.files.now c.args.next_file c.args.self.now plan floor m
       off _ c.close.new.self.level c.close.new.self.closed.items c.close.ensures.rules.level
-      c.written_are_merged.ensures zip in
+      c.written_are_merged.ensures zip.0 in
       let added : c.drain-added.result.items ≡ c.close.new.self.closed.items =
       ap (λ (v : Vec TableLine). v.items) c.drain-added.ensures in
       let holds = subst (λ (l : List TableLine).
@@ -80,7 +81,8 @@ returns-then-len g c = record {
       let over = c.if-len.true in
       inr (
         refl,
-        too_many _ c.args.version.now.version c.args.next_file plan floor
+        too_many _ c.args.version.now.version c.args.self.now.first c.args.next_file
+            c.args.self.now.writer plan floor
             c.replace-gone.result.items c.drain-added.result.items out.0 out.1 holds many gone
             (omega (arith, a, b, k, t, over)),
       );
@@ -117,7 +119,7 @@ returns g c = record {
       c.in_ok-close.ensures.empty in
       let out = merge_done _ _ meant c.args.files.now c.args.next_file c.args.self.now plan floor m
       off _ c.close.new.self.level c.close.new.self.closed.items c.close.ensures.rules.level
-      c.written_are_merged.ensures zip in
+      c.written_are_merged.ensures zip.0 in
       let added : c.drain-added.result.items ≡ c.close.new.self.closed.items =
       ap (λ (v : Vec TableLine). v.items) c.drain-added.ensures in
       let holds = subst (λ (l : List TableLine).
@@ -133,8 +135,21 @@ returns g c = record {
       let k = c.len-3.ensures in
       let t = ap (λ (v : NodeVersion). length v.version.tables) c.version.view_is in
       let room = c.if-len.false in
-      merge_edit _ c.args.version.now.version c.args.next_file plan floor
+      let lawful = subst (λ (v : NodeVersion). IsVersion v.version) c.version.view_is
+      c.version.invariant in
+      let edit = merge_edit _ c.args.version.now.version c.args.self.now.first c.args.next_file
+      c.args.self.now.writer plan floor
       c.replace-gone.result.items c.drain-added.result.items out.0 out.1 holds many gone
       c.in_ok-edit_of.field-0 c.in_ok-edit_of.ensures
-      (λ over. omega (arith, a, b, k, t, room, over));
+      (λ over. omega (arith, a, b, k, t, room, over)) m.numbers
+      (subst (λ (l : List TableLine). HaveNewFiles c.args.self.now.first c.args.next_file
+      c.args.self.now.writer l) (sym added) (new_files c.args.self.now.first c.args.next_file
+      c.args.self.now.writer c.close.new.self plan.inputs m.numbers zip.1
+      c.close.ensures.outputs)) in
+      record {
+        merges = edit;
+        fit = λ may. c.merge_edits_fit.ensures _ c.args.version.now.version c.args.self.now.first
+            c.args.next_file c.args.self.now.writer plan floor c.in_ok-edit_of.field-0 lawful edit
+            may;
+      };
 }

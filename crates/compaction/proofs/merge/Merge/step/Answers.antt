@@ -1,19 +1,21 @@
-use Rattle.std.proofs.Common.{refl, sym, subst, ◌∙◌, arith}
+use Rattle.std.proofs.Common.{refl, sym, subst, ◌∙◌}
 use Rattle.std.proofs.lemmas.Bool.{both_ways}
 use Rattle.compaction.specs.Outputs.{IsOwnFile}
 use Rattle.compaction.specs.Survivors.{AreDeeperLines}
 use Rattle.compaction.proofs.Calls.{done, ok_fails, passed_on, refused, writes_as}
 use Rattle.compaction.proofs.Calls.{writes_nothing}
 use Rattle.compaction.proofs.Merging.{step_count}
-use Rattle.compaction.proofs.Writing.{refuses}
+use Rattle.compaction.proofs.Numbers.{begun_more}
+use Rattle.compaction.proofs.Writing.{refuses, uses_none}
 use Rattle.compaction.proofs.merge.Merge.step.Goals as goal
 
 pub returns-then-self : goal.returns-then-self
 returns-then-self g c = record {
   writes = writes_nothing _ (IsOwnFile c.args.self.now.writer c.args.next_file.now)
       c.args.files.now (refused (λ e. cc));
-  own = λ file mine. mine;
-  numbers = (omega arith, refl);
+  numbers = uses_none c.args.self.now.writer c.args.self.now.writer c.args.next_file.now
+      (λ file is. is) (λ file output. output);
+  first = refl;
   status = (c.if-self.true, λ failed. refl);
   steps = λ meant plan floor m. absurd (m.works c.if-self.true);
 }
@@ -24,8 +26,8 @@ returns-in_err-write_some g c = record {
       (passed_on c.write_some.result c.in_err-write_some.field-0.0 c.from_residual.result
       c.in_err-write_some.was c.from_residual.ensures.1)
       (λ lost meant plan floor m. lost meant plan.inputs m.walk) c.write_some.ensures.1.writes;
-  own = c.write_some.ensures.1.own;
-  numbers = (c.write_some.ensures.1.number, refl);
+  numbers = c.write_some.ensures.1.numbers;
+  first = refl;
   status = refuses c.from_residual.result _ _ c.from_residual.ensures.1
       (refl, λ failed. absurd (both_ways _ c.if-self.false failed));
   steps = λ meant plan floor m. refuses c.from_residual.result _ _ c.from_residual.ensures.1
@@ -41,8 +43,8 @@ returns g c =
       )
           (λ lost meant plan floor m. lost meant plan.inputs m.walk)
           c.write_some.ensures.1.writes;
-      own = c.write_some.ensures.1.own;
-      numbers = (c.write_some.ensures.1.number, refl);
+      numbers = c.write_some.ensures.1.numbers;
+      first = refl;
       status = (both_ways _ c.if-self.false, λ f. cc, c.valid.ensures);
       steps = λ meant plan floor m.
           let went = c.in_ok-write_some.ensures.1.walks meant plan.inputs m.walk in
@@ -54,6 +56,9 @@ returns g c =
               level = rules.level ∙ m.level;
               same_floor = rules.floor ∙ m.same_floor;
               gone = m.gone;
+              numbers = begun_more _ _ _ _ _ plan.inputs
+                  c.write_some.ensures.1.numbers.rises c.write_some.ensures.1.numbers.outputs
+                  went.0.writes.numbered m.numbers;
             },
             step_count _ _ _ _ _ went.1 c.in_ok-write_some.ensures.2,
             went.2,

@@ -49,6 +49,7 @@ returns-clause-added g c = λ next_file it honest w some follows.
       current = more;
       numbered = record {
         closed = w.numbered.closed;
+        once = w.numbered.once;
         current = open_numbered writer next_file output is w.numbered;
       };
     }

@@ -11,7 +11,9 @@ use Rattle.compaction.specs.Outputs.{IsOpenFile, HoldsOpen, IsOutput}
 use Rattle.compaction.proofs.Calls.{answered, done, memory_told, passed_on, writes_as, writes_done}
 use Rattle.compaction.proofs.Calls.{writes_nothing}
 use Rattle.std.proofs.Common.{arith}
-use Rattle.compaction.proofs.Writing.{none_added}
+use Rattle.std.proofs.Common.{map, true}
+use Rattle.version_edits.specs.Versions.{are_once}
+use Rattle.compaction.proofs.Writing.{none_added, once_pushed}
 use Rattle.compaction.proofs.Writing.{closed_kept, ok_told, open_builds, open_numbered}
 use Rattle.compaction.proofs.Writing.{writes_own, zip_push}
 use Rattle.compaction.proofs.writer.OutputWriter.close.Goals as goal
@@ -74,6 +76,9 @@ returns-clause-closed g c = λ next_file it honest w some.
         closed = subst (λ (l : List TableLine). All (λ one. one.file < next_file) l) (sym lines)
             (All-push (λ (one : TableLine). one.file < next_file) writer.closed.items line
             w.numbered.closed (subst (λ (n : ℕ). n < next_file) (sym file) given.0));
+        once = subst (λ (l : List TableLine). are_once (map (λ one. one.file) l) ≡ true)
+            (sym lines) (once_pushed writer.closed.items line output.file w.numbered.once given.1
+            file);
         current = subst (λ (o : Option OpenOutput). IfSome (option_map (λ one. one.file) o)
             (λ file. (file < next_file) × All (λ line. line.file ≢ file) c.push.new.self.items))
             (sym c.in-Some.ensures.after) tt;
@@ -106,6 +111,7 @@ returns-then-len-eq0-clause-empty g c = λ slots next_file it w none. (
         (sym c.in-Some.ensures.after) none;
     numbered = record {
       closed = w.numbered.closed;
+      once = w.numbered.once;
       current = subst (λ (o : Option OpenOutput). IfSome (option_map (λ one. one.file) o)
           (λ file. (file < next_file) × All (λ line. line.file ≢ file)
           c.args.self.now.closed.items)) (sym c.in-Some.ensures.after) tt;
@@ -123,6 +129,7 @@ returns-in_default-clause-empty g c = λ slots next_file it w none. (
         (sym c.in_default.ensures.after) none;
     numbered = record {
       closed = w.numbered.closed;
+      once = w.numbered.once;
       current = subst (λ (o : Option OpenOutput). IfSome (option_map (λ one. one.file) o)
           (λ file. (file < next_file) × All (λ line. line.file ≢ file)
           c.args.self.now.closed.items)) (sym c.in_default.ensures.after) tt;

@@ -1,6 +1,6 @@
 use Rattle.compaction.specs.Outputs.{IsOwnFile}
 use Rattle.compaction.proofs.Calls.{done, memory_told, writes_nothing}
-use Rattle.compaction.proofs.Writing.{own_same}
+use Rattle.compaction.proofs.Writing.{uses_same, uses_then}
 use Rattle.compaction.proofs.writer.OutputWriter.put.Goals as goal
 
 pub returns-in_err-remember-clause-writes : goal.returns-in_err-remember-clause-writes
@@ -12,12 +12,22 @@ pub returns-then-drops-clause-writes : goal.returns-then-drops-clause-writes
 returns-then-drops-clause-writes g c =
     writes_nothing g.D.Disk (IsOwnFile c.args.self.now c.args.next_file.now) c.args.disk.now done
 
-pub returns-in_err-remember-2-clause-own : goal.returns-in_err-remember-2-clause-own
-returns-in_err-remember-2-clause-own g c = λ file own.
-    c.write.ensures.own file (own_same c.write.new.self c.remember-2.new.self
-    c.write.new.next_file file c.remember-2.ensures.outputs.1 own)
+pub returns-in_err-remember-clause-numbers : goal.returns-in_err-remember-clause-numbers
+returns-in_err-remember-clause-numbers g c = uses_same c.args.self.now c.remember.new.self
+    c.args.next_file.now c.remember.ensures.outputs.1 c.remember.ensures.outputs.0
 
-pub returns-clause-own : goal.returns-clause-own
-returns-clause-own g c = λ file own.
-    c.write.ensures.own file (own_same c.write.new.self c.remember-2.new.self
-    c.write.new.next_file file c.remember-2.ensures.outputs.1 own)
+pub returns-then-drops-clause-numbers : goal.returns-then-drops-clause-numbers
+returns-then-drops-clause-numbers g c = uses_same c.args.self.now c.remember.new.self
+    c.args.next_file.now c.remember.ensures.outputs.1 c.remember.ensures.outputs.0
+
+pub returns-in_err-remember-2-clause-numbers : goal.returns-in_err-remember-2-clause-numbers
+returns-in_err-remember-2-clause-numbers g c = uses_then c.args.self.now c.write.new.self
+    c.remember-2.new.self c.args.next_file.now c.write.new.next_file c.write.new.next_file
+    c.write.ensures.numbers (uses_same c.write.new.self c.remember-2.new.self
+    c.write.new.next_file c.remember-2.ensures.outputs.1 c.remember-2.ensures.outputs.0)
+
+pub returns-clause-numbers : goal.returns-clause-numbers
+returns-clause-numbers g c = uses_then c.args.self.now c.write.new.self c.remember-2.new.self
+    c.args.next_file.now c.write.new.next_file c.write.new.next_file c.write.ensures.numbers
+    (uses_same c.write.new.self c.remember-2.new.self c.write.new.next_file
+    c.remember-2.ensures.outputs.1 c.remember-2.ensures.outputs.0)

@@ -1,4 +1,4 @@
-use Rattle.std.proofs.Common.{inl, inr, ℕ, refl, subst, arith}
+use Rattle.std.proofs.Common.{inl, inr, ℕ, refl, subst}
 use Rattle.compaction.specs.Outputs.{HasNoPlace, IsOpenFile, IsOutput, IsOwnFile, AreUnused}
 use Rattle.compaction.specs.Outputs.{PutRefusal, WriterHolds}
 use Rattle.compaction.specs.WrittenTables.{cut_before, with_written}
@@ -6,7 +6,7 @@ use Rattle.table_format.specs.{lent_entry}
 use Rattle.compaction.proofs.Calls.{answered, passed_on, writes_as, writes_behind, writes_done}
 use Rattle.compaction.proofs.Calls.{writes_wider}
 use Rattle.compaction.proofs.Writing.{cut_follows, full_told, none_open, refuses, told_more}
-use Rattle.compaction.proofs.Writing.{unused_kept, zip_length}
+use Rattle.compaction.proofs.Writing.{unused_kept, uses_none, uses_then, zip_length}
 use Rattle.compaction.proofs.writer.OutputWriter.write.Goals as goal
 
 -- ---- the open table is not completed
@@ -75,7 +75,7 @@ returns-clause-writes g c =
     lost (cut_before writer.target it entry) (cut.kept.honest.1 honest) w2.0)
     (writes_wider g.D.Disk own (IsOpenFile writer) (λ file is. inl is) cut)
     (writes_wider g.D.Disk own (IsOpenFile c.begin.new.self)
-    (λ file is. elim (c.begin.ensures.own file is) [
+    (λ file is. elim (c.begin.ensures.numbers.own file (inl is)) [
       | inl early ↦ inl (c.cut.ensures.open file early)
       | inr late ↦ inr late
     ])
@@ -108,11 +108,21 @@ returns-clause-written g c = λ it honest w unused follows.
     (c.add.ensures.added later cut honest1 w2.0 c.in_ok-begin.ensures.some
     (cut_follows writer.target it entry follows))
 
-pub returns-clause-own : goal.returns-clause-own
-returns-clause-own g c = λ file own. elim own [
-  | inl is ↦ elim (c.begin.ensures.own file (c.add.ensures.open file is)) [
-    | inl early ↦ inl (c.cut.ensures.open file early)
-    | inr late ↦ inr late
-  ]
-  | inr late ↦ let number = c.begin.ensures.number in inr (omega (arith, late, number))
-]
+pub returns-in_err-cut-clause-numbers : goal.returns-in_err-cut-clause-numbers
+returns-in_err-cut-clause-numbers g c = uses_none c.args.self.now c.cut.new.self
+    c.args.next_file.now c.cut.ensures.open c.cut.ensures.outputs
+
+pub returns-in_err-begin-clause-numbers : goal.returns-in_err-begin-clause-numbers
+returns-in_err-begin-clause-numbers g c = uses_then c.args.self.now c.cut.new.self
+    c.begin.new.self c.args.next_file.now c.args.next_file.now c.begin.new.next_file
+    (uses_none c.args.self.now c.cut.new.self c.args.next_file.now c.cut.ensures.open
+    c.cut.ensures.outputs) c.begin.ensures.numbers
+
+pub returns-clause-numbers : goal.returns-clause-numbers
+returns-clause-numbers g c =
+    let begun = uses_then c.args.self.now c.cut.new.self c.begin.new.self c.args.next_file.now
+    c.args.next_file.now c.begin.new.next_file (uses_none c.args.self.now c.cut.new.self
+    c.args.next_file.now c.cut.ensures.open c.cut.ensures.outputs) c.begin.ensures.numbers in
+    uses_then c.args.self.now c.begin.new.self c.add.new.self c.args.next_file.now
+    c.begin.new.next_file c.begin.new.next_file begun (uses_none c.begin.new.self c.add.new.self
+    c.begin.new.next_file c.add.ensures.open c.add.ensures.outputs)
