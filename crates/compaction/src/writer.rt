@@ -43,7 +43,7 @@ impl OutputWriter {
     ghost use Rattle.kv_types.specs.{Entry, lent_key};
     ghost use Rattle.version_edits.specs.declared.line.TheConstants.{MAX_LINES};
     ghost use Rattle.table_format.specs.{CanFollow, IsTableEntry, lent_entry};
-ghost use Rattle.compaction.specs.declared.error.MergeError.TheVariants.{Disk, Memory};
+    ghost use Rattle.compaction.specs.declared.error.MergeError.TheVariants.{Disk, Memory};
     ghost use Rattle.compaction.specs.Outputs.{AreUnused, HasNoPlace, HoldsNothing, IsAstray};
     ghost use Rattle.compaction.specs.Outputs.{IsOpenFile, IsOutputFile, IsOwnFile, KeepsRules};
     ghost use Rattle.compaction.specs.Outputs.{KnowsBefore, UsesNumbers};

@@ -31,7 +31,8 @@ module _ {D : Type 0} (g : Ghosts D) where
     -- of a table that serves these entries
     pub found : (entries : List Entry) → g.is_honest before →
         TableServes (g.state before (table_file table)) table entries →
-        MatchResult result (LookupFinds entries key at) (IsEnvironmental reading.Disk reading.Memory)
+        MatchResult result (LookupFinds entries key at)
+        (IsEnvironmental reading.Disk reading.Memory)
     -- of a table that is open on its file, whatever that has
     pub checked : g.is_honest before → IsOpenOn (g.state before (table_file table)) table →
         LookupAnswer (g.state before (table_file table)) table key at result

@@ -11,7 +11,7 @@ use crate::found::{FoundVersion, version_of};
 use kv_types::LentKey;
 use merge_iter::order;
 use std::alloc::Global;
-use table_format::{LentEntry, FileError, entries_in, entry_of};
+use table_format::{FileError, LentEntry, entries_in, entry_of};
 
 // Whether the entry comes before the key and number.
 fn is_earlier(entry: LentEntry, key: LentKey, number: u64) -> bool

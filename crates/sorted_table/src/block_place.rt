@@ -12,7 +12,7 @@ use crate::starts::{count_before, entry_from, starts_in};
 use kv_types::LentKey;
 use merge_iter::Direction;
 use std::rc::RcSlice;
-use table_format::{LentEntry, FileError};
+use table_format::{FileError, LentEntry};
 
 /// An entry of a block, and where each entry of the block starts. The block is that of a line of
 /// an index.
@@ -30,11 +30,7 @@ impl BlockPlace {
     ghost use Rattle.sorted_table.specs.BlockPlaces.{IsAtEnd, IsMovedTo, PlaceReads, place_entry};
 
     /// The first entry of a block. The memory of `starts` is used again.
-    pub fn new(
-        line: usize,
-        block: RcSlice<u8>,
-        starts: Vec<usize>,
-    ) -> Result<BlockPlace, FileError>
+    pub fn new(line: usize, block: RcSlice<u8>, starts: Vec<usize>) -> Result<BlockPlace, FileError>
         ensures first { IfOk result (λ place. (place.line ≡ line) × (place.at ≡ 0)) }
         ensures few { IfOk result
             (λ place. length place.starts.items ≤ length (rc_slice_items block)) }

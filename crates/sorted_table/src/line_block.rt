@@ -14,7 +14,7 @@ use disk::Disk;
 use std::alloc::Global;
 use std::rc::RcSlice;
 use table_files::Files;
-use table_format::{IndexLine, LentEntry, FileError, entries_in, entry_of};
+use table_format::{FileError, IndexLine, LentEntry, entries_in, entry_of};
 
 // The first and the last entry in the spelling of some entries.
 fn ends_of(text: &[u8]) -> Option<(LentEntry<'_>, LentEntry<'_>)>

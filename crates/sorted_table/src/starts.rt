@@ -10,7 +10,7 @@ ghost use Rattle.sorted_table.specs.EntryReads.{is_read_before};
 use byte_fields::read_u32;
 use kv_types::LentKey;
 use merge_iter::order;
-use table_format::{LentEntry, FileError, entry_of};
+use table_format::{FileError, LentEntry, entry_of};
 
 /// The entry that starts at this place of the bytes, if there is one.
 pub fn entry_from(bytes: &[u8], start: usize) -> Option<LentEntry<'_>>

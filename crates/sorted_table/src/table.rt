@@ -21,7 +21,7 @@ use merge_iter::Cursor;
 use std::alloc::{AllocError, Global};
 use std::rc::RcSlice;
 use table_files::Files;
-use table_format::{IndexLine, FileError};
+use table_format::{FileError, IndexLine};
 
 /// An open table. It keeps the lines of the index and the filter, and no block. Cursors share the
 /// lines.

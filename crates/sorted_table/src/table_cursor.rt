@@ -24,7 +24,7 @@ use std::alloc::Global;
 use std::marker::PhantomData;
 use std::rc::RcSlice;
 use table_files::Files;
-use table_format::{IndexLine, FileError};
+use table_format::{FileError, IndexLine};
 
 // How a cursor reports an error of a table.
 fn cursor_error(e: FileError) -> CursorError

@@ -17,7 +17,7 @@ use disk::Disk;
 use std::alloc::Global;
 use std::rc::RcSlice;
 use table_format::sizes::FOOTER_SIZE;
-use table_format::{Footer, IndexLine, FileError, filter_of, footer_of, lines_of};
+use table_format::{FileError, Footer, IndexLine, filter_of, footer_of, lines_of};
 
 /// Where the tail stands in its file, its length, and that of the filter's part, in bytes.
 #[derive(Clone, Copy)]

@@ -169,7 +169,7 @@ module _ {D T : Type 0} (g : Ghosts D) {cause : Type 0} {Did : T → Type 0} whe
         did = ends_or Did result did;
         tended = λ list honest h. record {
           list = refuses result (λ _. FilesHold (g.state disk) files list)
-          (IsEnvironmental engine.Disk engine.Memory) told
+              (IsEnvironmental engine.Disk engine.Memory) told
               (inr refl);
           any_moment = held list h;
         };

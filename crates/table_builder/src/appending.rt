@@ -14,12 +14,7 @@ pub fn append<D: Disk>(disk: &mut D, file: u64, at: u64, bytes: &[u8]) -> Result
 }
 
 /// Appends the last bytes, and makes the file durable.
-pub fn append_last<D: Disk>(
-    disk: &mut D,
-    file: u64,
-    at: u64,
-    bytes: &[u8],
-) -> Result<(), FileError>
+pub fn append_last<D: Disk>(disk: &mut D, file: u64, at: u64, bytes: &[u8]) -> Result<(), FileError>
     ensures { AppendsBytes D.Disk file at bytes.now IsSynced disk.old disk.new result }
 {
     disk.write_at(file, at, bytes)?;

@@ -72,7 +72,8 @@ is_part file bytes place len is size =
 pub known_block_answered : KnownBlocksAreAnswered
 known_block_answered disk file place len (Ok block) bytes entries answer is within known =
     part_of (seen (disk file)) bytes (rc_slice_items block) place len is answer.0 answer.1.0
-known_block_answered disk file place len (Err reading.Damaged) bytes entries answer is within known =
+known_block_answered disk file place len (Err reading.Damaged) bytes entries answer is within known
+    =
     let size : length (take len (drop place bytes)) ≡ len =
     omega (arith, within, length-take len (drop place bytes), length-drop place bytes) in
     absurd (answer (take len (drop place bytes)) size

@@ -23,7 +23,7 @@ returns-in_err-manifest-clause-opens g c = record {
   kept = search rules;
   opened = λ facts list honest. record {
     whole = λ h. refuses c.from_residual.result _
-    (IsEnvironmental engine.Disk engine.Memory) c.from_residual.ensures.1
+        (IsEnvironmental engine.Disk engine.Memory) c.from_residual.ensures.1
         (manifest_is_external c.in_err-manifest.field-0.0 (c.in_err-manifest.ensures.opened
         (record { id = facts.id; version = h.version }) honest h.manifest));
     meant = λ w. answers_nothing c.from_residual.result _ _ c.from_residual.ensures.1;

@@ -13,7 +13,7 @@ use Rattle.store_files.proofs.batch_logs.BatchLogs.append.Goals as goal
 pub returns-in_err-record-clause-appended : goal.returns-in_err-record-clause-appended
 returns-in_err-record-clause-appended g c = λ first batches honest h. record {
   list = refuses c.from_residual.result _
-  (IsEnvironmental engine.Disk engine.Memory) c.from_residual.ensures.1 (inr refl);
+      (IsEnvironmental engine.Disk engine.Memory) c.from_residual.ensures.1 (inr refl);
   any_moment = none_more c.durable_file_is_left.ensures (g.D.Disk.state c.args.disk.now)
       c.args.self.now first batches c.args.batch.now h c.requires.usable.apart
       (g.D.Disk.past c.args.disk.now);
@@ -36,7 +36,7 @@ returns-in_err-append-clause-appended g c = λ first batches honest h.
     let records = records_from (first + length h.before) h.here in
     record {
       list = refuses c.from_residual-in_err-append.result _
-      (IsEnvironmental engine.Disk engine.Memory)
+          (IsEnvironmental engine.Disk engine.Memory)
           c.from_residual-in_err-append.ensures.1
           (met 16777216 c.in_err-append.field-0.0 self.newest.log c.append.new.self
           c.deref.result.now c.in_err-append.ensures.told.1 fits c.requires.usable.newest

@@ -171,7 +171,7 @@ returns-in-Err g c =
           manifest_begun so s1 list table hs s2 spares logs begun.2 began keeps stays in
           record {
             list = subst
-            (IsEnvironmental engine.Disk engine.Memory) (sym why) (edit_is_external c.in-Err.e
+                (IsEnvironmental engine.Disk engine.Memory) (sym why) (edit_is_external c.in-Err.e
                 (c.in-Err.ensures.changes.changed (known_version files) honest2 held));
             any_moment = edit_is_recorded so s1 list table hs s2 spares logs begun.2 began
                 keeps law left stays edits p1 p2 p3 s3 (c.begin.ensures.any_moment honest)
@@ -187,7 +187,7 @@ returns-in-Err g c =
           manifest_was_begun so s1 list table ms s2 spares logs begun.2 began keeps stays in
           record {
             list = subst
-            (IsEnvironmental engine.Disk engine.Memory) (sym why) (edit_is_external c.in-Err.e
+                (IsEnvironmental engine.Disk engine.Memory) (sym why) (edit_is_external c.in-Err.e
                 (c.in-Err.ensures.changes.changed (known_version files) honest2 held));
             any_moment = edit_was_recorded so s1 list table ms s2 spares logs begun.2 began
                 keeps law left stays edits p1 p2 p3 s3 (c.begin.ensures.any_moment honest)

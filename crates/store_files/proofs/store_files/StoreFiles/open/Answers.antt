@@ -21,7 +21,7 @@ returns-in_err-files-clause-opens g c = record {
   kept = search rules;
   opened = λ facts list honest. record {
     whole = λ represents. refuses c.from_residual.result _
-    (IsEnvironmental engine.Disk engine.Memory)
+        (IsEnvironmental engine.Disk engine.Memory)
         c.from_residual.ensures.1
         ((c.in_err-files.ensures.opens.opened facts list honest).whole represents);
     meant = λ were. answers_nothing c.from_residual.result _ _ c.from_residual.ensures.1;
@@ -47,7 +47,7 @@ returns-in_err-kept-clause-opens g c =
           (lacks_memory result refused)) (λ a b same. tt) c.read_files.ensures.opens.kept;
       opened = λ facts list honest. record {
         whole = λ represents. refuses result _
-        (IsEnvironmental engine.Disk engine.Memory) refused (inr refl);
+            (IsEnvironmental engine.Disk engine.Memory) refused (inr refl);
         meant = λ were. answers_nothing result _ _ refused;
       };
       told = λ honest. refuses result (FilesOpenAs left) (λ e. OpeningRefusal e left) refused tt;

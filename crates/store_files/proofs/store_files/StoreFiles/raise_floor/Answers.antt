@@ -78,7 +78,7 @@ returns-in-Err-clause-raises g c =
       did = subst IsEnd (sym why) (edit_ends c.in-Err.e);
       tended = λ list honest h. record {
         list = subst
-        (IsEnvironmental engine.Disk engine.Memory) (sym why) (edit_is_external c.in-Err.e
+            (IsEnvironmental engine.Disk engine.Memory) (sym why) (edit_is_external c.in-Err.e
             (c.in-Err.ensures.changes.changed known honest h.known.manifest));
         any_moment = raise_is_recorded may keeps law held.left versions list s1 h edit is p1 p2 s2
             (c.record.ensures.changes.any_moment known honest h.known.manifest);
@@ -87,7 +87,7 @@ returns-in-Err-clause-raises g c =
           let holds = manifest_holds s1 files list w held.same in
           record {
             list = subst
-            (IsEnvironmental engine.Disk engine.Memory) (sym why) (edit_is_external c.in-Err.e
+                (IsEnvironmental engine.Disk engine.Memory) (sym why) (edit_is_external c.in-Err.e
                 (c.in-Err.ensures.changes.changed known honest holds));
             any_moment = raise_was_recorded may keeps law held.left held.same versions list s1 w
                 edit is p1 p2 s2 (c.record.ensures.changes.any_moment known honest holds);

@@ -79,7 +79,7 @@ returns-in-Err g c =
       did = subst IsEnd (sym is) (edit_ends c.in-Err.e);
       tended = λ list honest h. record {
         list = subst
-        (IsEnvironmental engine.Disk engine.Memory) (sym is) (edit_is_external c.in-Err.e
+            (IsEnvironmental engine.Disk engine.Memory) (sym is) (edit_is_external c.in-Err.e
             (c.in-Err.ensures.changes.changed known honest h.known.manifest));
         any_moment = slots_are_written disk files list h law past since new
             (c.rewrite.ensures.changes.any_moment known honest h.known.manifest);
@@ -88,7 +88,7 @@ returns-in-Err g c =
           let held = manifest_holds disk files list w c.held_versions_are_left.ensures.same in
           record {
             list = subst
-            (IsEnvironmental engine.Disk engine.Memory) (sym is) (edit_is_external c.in-Err.e
+                (IsEnvironmental engine.Disk engine.Memory) (sym is) (edit_is_external c.in-Err.e
                 (c.in-Err.ensures.changes.changed known honest held));
             any_moment = slots_were_written disk files list w law past since new
                 (c.rewrite.ensures.changes.any_moment known honest held);

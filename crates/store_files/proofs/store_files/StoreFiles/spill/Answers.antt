@@ -52,7 +52,7 @@ returns-in_err-line-clause-spilled g c = λ list honest h.
     let next = files.free_file in
     record {
       list = refuses c.from_residual.result _
-      (IsEnvironmental engine.Disk engine.Memory) c.from_residual.ensures.1
+          (IsEnvironmental engine.Disk engine.Memory) c.from_residual.ensures.1
           (c.in_err-line.ensures.written honest (next_is_fresh disk files list h next refl));
       any_moment = next_is_written disk files list h next refl
           c.held_versions_are_left.ensures.left c.durable_file_is_left.ensures
@@ -94,7 +94,7 @@ returns-in_err-table-clause-spilled g c = λ list honest h.
     (c.in_ok-line.ensures.written honest (next_is_fresh disk files list h next refl)) in
     record {
       list = refuses c.from_residual-in_err-table.result _
-      (IsEnvironmental engine.Disk engine.Memory)
+          (IsEnvironmental engine.Disk engine.Memory)
           c.from_residual-in_err-table.ensures.1
           (c.in_err-table.ensures.opens.opened told.table between told.is);
       any_moment = next_is_opened disk files list h next refl
@@ -137,7 +137,7 @@ returns-in_err-line-clause-meant g c = λ list honest w.
     let next = files.free_file in
     record {
       list = refuses c.from_residual.result _
-      (IsEnvironmental engine.Disk engine.Memory) c.from_residual.ensures.1
+          (IsEnvironmental engine.Disk engine.Memory) c.from_residual.ensures.1
           (c.in_err-line.ensures.written honest (next_was_fresh disk files list w next refl));
       any_moment = next_was_written disk files list w next refl c.durable_file_is_left.ensures
           c.held_versions_are_left.ensures.left c.held_versions_are_left.ensures.same
@@ -178,7 +178,7 @@ returns-in_err-table-clause-meant g c = λ list honest w.
     (c.in_ok-line.ensures.written honest (next_was_fresh disk files list w next refl)) in
     record {
       list = refuses c.from_residual-in_err-table.result _
-      (IsEnvironmental engine.Disk engine.Memory)
+          (IsEnvironmental engine.Disk engine.Memory)
           c.from_residual-in_err-table.ensures.1
           (c.in_err-table.ensures.opens.opened told.table between told.is);
       any_moment = next_was_opened disk files list w next refl c.durable_file_is_left.ensures
