@@ -1,5 +1,4 @@
 -- What the refusals of a merge say.
-use Rattle.std.specs.Prelude.{◌≡◌, ◌⊎◌, Result, Err}
 use Rattle.merge_iter.specs.declared.CursorError.{CursorError}
 use Rattle.merge_iter.specs.declared.CursorError.TheVariants as cursor
 use Rattle.table_format.specs.declared.TableError.{TableError}

@@ -1,5 +1,4 @@
 -- The node's report of the errors of its store.
-use Rattle.std.specs.Prelude.{◌≡◌, ◌⊎◌, Result, Err}
 use Rattle.engine.specs.EngineError.{EngineError}
 use Rattle.engine.specs.EngineError.TheVariants as engine
 use Rattle.node.specs.declared.stop.Stop.{Stop}

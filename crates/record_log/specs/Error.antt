@@ -1,5 +1,4 @@
 -- The log's report of the disk's errors.
-use Rattle.std.specs.Prelude.{◌≡◌, ◌⊎◌, Result, Err}
 use Rattle.disk.specs.declared.DiskError.{DiskError}
 use Rattle.disk.specs.declared.DiskError.TheVariants as disk
 use Rattle.record_log.specs.declared.error.LogError.{LogError}

@@ -1,7 +1,7 @@
 // A log of records behind gates, in one file of a disk.
 ghost use Rattle.std.specs.Prelude.{◌≡◌, ◌↔◌, ◌⊎◌, ℕ, ◌+◌, ◌<◌, ◌^◌, ◌-◌, min, List, []};
 ghost use Rattle.std.specs.Prelude.{◌∷◌, ◌++◌, length, slice_get, slice_index_or, Some, IfOk};
-ghost use Rattle.std.specs.Prelude.{IfErr, IsErrOf, IsSomeAnd, OnOk, MatchResult};
+ghost use Rattle.std.specs.Prelude.{IsErrOf, IsSomeAnd, OnOk, MatchResult};
 ghost use Rattle.disk.specs.declared.DiskError.TheVariants.{Failed};
 ghost use Rattle.disk.specs.{seen, AddsNoOutcome, AlwaysLeaves, IsLeftAt, IsSame, IsSameBut};
 ghost use Rattle.disk.specs.{IsEnvironmental, IsStill, KeepsDisk, State};

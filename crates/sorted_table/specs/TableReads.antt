@@ -1,5 +1,5 @@
 -- What the calls promise that read a table.
-use Rattle.std.specs.Prelude.{◌≡◌, IsErrOf, ℕ, List, Bool, true, Option, None, Result, IfErr, OnErr}
+use Rattle.std.specs.Prelude.{◌≡◌, IsErrOf, ℕ, List, Bool, true, Option, None, Result, OnErr}
 use Rattle.std.specs.Prelude.{MatchResult}
 use Rattle.disk.specs.declared.Disk.{Ghosts}
 use Rattle.disk.specs.{IsEnvironmental, IsSame, IsStill, KeepsDisk}

@@ -1,5 +1,5 @@
 //! Open tables.
-ghost use Rattle.std.specs.Prelude.{◌≡◌, ◌↔◌, List, IfOk, IfErr, IsTrue, MatchResult, Contains};
+ghost use Rattle.std.specs.Prelude.{◌≡◌, ◌↔◌, List, IfOk, IsTrue, MatchResult, Contains};
 ghost use Rattle.std.specs.Prelude.{IsErrOf, option_map};
 ghost use Rattle.bloom.specs.{Covers, CoversHashed, hashes_of};
 ghost use Rattle.disk.specs.{IsEnvironmental, IsSame, IsStill, KeepsDisk, Slot, State};

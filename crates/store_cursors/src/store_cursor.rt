@@ -1,5 +1,5 @@
 //! A cursor over the entries of a memtable or of a table.
-ghost use Rattle.std.specs.Prelude.{◌≡◌, ◌↔◌, List, Contains, Err, IfErr, IfOk, IsOkUnless};
+ghost use Rattle.std.specs.Prelude.{◌≡◌, ◌↔◌, List, Contains, Err, IfOk, IsOkUnless};
 ghost use Rattle.disk.specs.{State};
 ghost use Rattle.kv_types.specs.{Entry};
 ghost use Rattle.memtable.specs.{HasFailedAdd, TableHolds};

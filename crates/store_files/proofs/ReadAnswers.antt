@@ -1,6 +1,6 @@
 -- The answers of an opening, by what its files represent.
 use Rattle.std.proofs.Common.{◌≡◌, ℕ, suc, ◌+◌, ◌-◌, List}
-use Rattle.std.proofs.Common.{arith, drop, length, refl, subst, sym}
+use Rattle.std.proofs.Common.{arith, drop, length, subst, sym}
 use Rattle.kv_types.specs.{BatchContent}
 use Rattle.disk.specs.{Contents, IsEnvironmental, State, contents}
 use Rattle.manifest.specs.declared.Manifest.{Manifest}

@@ -1,5 +1,5 @@
 -- What the calls promise that read the files of tables: an opening, and a lookup.
-use Rattle.std.specs.Prelude.{◌≡◌, IsErrOf, List, map, All, Result, IfErr, IfOk, MatchResult}
+use Rattle.std.specs.Prelude.{◌≡◌, IsErrOf, List, All, Result, IfErr, IfOk, MatchResult}
 use Rattle.disk.specs.declared.Disk.{Ghosts}
 use Rattle.disk.specs.{Contents, IsEnvironmental, IsSame, IsStill, KeepsDisk, State, contents}
 use Rattle.store_model.specs.{LevelTable}

@@ -1,5 +1,5 @@
 -- The steps of a builder: an entry is checked, a block is closed, the table is ended.
-use Rattle.std.specs.Prelude.{◌≡◌, ℕ, ◌<◌, ◌≤◌, ◌*◌, ◌+◌, ◌^◌, List, [], ◌∷◌, ◌++◌, length, All}
+use Rattle.std.specs.Prelude.{◌≡◌, ◌<◌, ◌≤◌, ◌*◌, ◌+◌, ◌^◌, List, [], ◌∷◌, ◌++◌, length, All}
 use Rattle.std.specs.Prelude.{Result, Ok, Err}
 use Rattle.kv_types.specs.{Entry}
 use Rattle.table_format.specs.declared.TableError.{TableError}

@@ -36,7 +36,7 @@ pub struct Finished {
 
 impl Builder {
     ghost use Rattle.std.specs.Prelude.{◌≡◌, ◌≤◌, ◌<◌, ◌+◌, ◌^◌, ℕ, List, [], ◌∷◌, ◌++◌, length};
-    ghost use Rattle.std.specs.Prelude.{IfErr, IfOk, IsErrOf, MatchResult, OnOk};
+    ghost use Rattle.std.specs.Prelude.{IfOk, IsErrOf, MatchResult, OnOk};
     ghost use Rattle.disk.specs.{IsEnvironmental, Slot, WritesInto};
     ghost use Rattle.kv_types.specs.{Entry};
     ghost use Rattle.table_format.specs.declared.FileError.TheVariants.{Disk, Memory};

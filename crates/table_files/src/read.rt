@@ -1,5 +1,5 @@
 //! Reading a block of a file.
-ghost use Rattle.std.specs.Prelude.{◌≡◌, IfErr, IfOk, IsErrOf, length};
+ghost use Rattle.std.specs.Prelude.{◌≡◌, IfOk, IsErrOf, length};
 ghost use Rattle.std.specs.Rc.{rc_slice_items};
 ghost use Rattle.disk.specs.{IsSame, IsStill, KeepsDisk};
 ghost use Rattle.table_format.specs.declared.FileError.TheVariants.{Disk};
