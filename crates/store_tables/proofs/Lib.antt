@@ -6,3 +6,7 @@ pub mod TableCalls
 pub mod FinishedTables
 pub mod RangeTables
 pub mod OwnFiles
+pub mod ZipLemmas
+pub mod MergeInputs
+pub mod Replaced
+pub mod EditedTables

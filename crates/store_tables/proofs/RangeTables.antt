@@ -95,14 +95,14 @@ is_kept p (y ∷ xs) x has passes = elim (contains_cases y xs x has) [
 -- ---- cursors and their tables, side by side
 
 -- what stands at a place is contained
-at_place : {A : Type 0} (xs : List A) (i : ℕ) (x : A) → slice_get xs i ≡ Some x → Contains xs x
+pub at_place : {A : Type 0} (xs : List A) (i : ℕ) (x : A) → slice_get xs i ≡ Some x → Contains xs x
 at_place [] i x is = absurd cc
 at_place (y ∷ xs) zero x is = let same : y ≡ x = cc in
     subst (Contains (y ∷ xs)) same (contains_head y xs)
 at_place (y ∷ xs) (suc i) x is = contains_next y xs x (at_place xs i x is)
 
 -- a list that contains an element has it at some place
-place_of : {A : Type 0} (xs : List A) (x : A) → Contains xs x
+pub place_of : {A : Type 0} (xs : List A) (x : A) → Contains xs x
     → (i : ℕ) × (slice_get xs i ≡ Some x)
 place_of [] x has = absurd (contains_none x has)
 place_of (y ∷ xs) x has = elim (contains_cases y xs x has) [
@@ -112,7 +112,7 @@ place_of (y ∷ xs) x has = elim (contains_cases y xs x has) [
 
 module _ {A B : Type 0} (R : A → B → Type 0) where
   -- what stands beside the element at a place
-  beside_left : (xs : List A) (ys : List B) → AllZip R xs ys → (i : ℕ) (x : A)
+  pub beside_left : (xs : List A) (ys : List B) → AllZip R xs ys → (i : ℕ) (x : A)
       → slice_get xs i ≡ Some x → (y : B) × (slice_get ys i ≡ Some y) × R x y
   beside_left [] ys zip i x is = absurd cc
   beside_left (a ∷ xs) [] zip i x is = absurd zip
@@ -129,7 +129,7 @@ module _ {A B : Type 0} (R : A → B → Type 0) where
   beside_right (a ∷ xs) (b ∷ ys) zip (suc i) y is = beside_right xs ys zip.1 i y is
 
 -- the element at a place, whatever stands for one past the end
-index_of : {A : Type 0} (xs : List A) (i : ℕ) (x d : A) → slice_get xs i ≡ Some x
+pub index_of : {A : Type 0} (xs : List A) (i : ℕ) (x d : A) → slice_get xs i ≡ Some x
     → get_or xs i d ≡ x
 index_of [] i x d is = absurd cc
 index_of (y ∷ xs) zero x d is = cc
@@ -186,31 +186,28 @@ module _ {C S : Type 0} (g : Ghosts C S) (meant : g.Meant) (source : S) (cursors
 
 -- ---- a loop over the tables
 
-module _ {C : Type 0} (R : C → LevelTable → Type 0) (span : Span) (passed now : List LevelTable)
-    (t : LevelTable) (taken : now ≡ passed ++ t ∷ []) where
-  -- a table that meets the span has a cursor
-  pub one_met : (cursors made : List C) (c : C) → AllZip R cursors (tables_in span passed)
-      → made ≡ cursors ++ c ∷ [] → meets_span t.range span ≡ true → R c t
-      → AllZip R made (tables_in span now)
+module _ {C T : Type 0} (R : C → T → Type 0) (test : T → Bool) (passed now : List T) (t : T)
+    (taken : now ≡ passed ++ t ∷ []) where
+  -- a table that passes the test has a cursor
+  pub one_met : (cursors made : List C) (c : C) → AllZip R cursors (filter test passed)
+      → made ≡ cursors ++ c ∷ [] → test t ≡ true → R c t → AllZip R made (filter test now)
   one_met cursors made c so_far pushed meets is =
-      let both = zip_push R cursors (tables_in span passed) c t so_far is in
-      let more : tables_in span now ≡ tables_in span passed ++ t ∷ [] =
-      ap (tables_in span) taken
-      ∙ filter-append (λ (u : LevelTable). meets_span u.range span) passed (t ∷ [])
-      ∙ ap (λ (b : Bool). tables_in span passed ++ cond b (t ∷ []) []) meets in
-      subst (λ (l : List C). AllZip R l (tables_in span now)) (sym pushed)
-      (subst (λ (l : List LevelTable). AllZip R (cursors ++ c ∷ []) l) (sym more) both)
+      let both = zip_push R cursors (filter test passed) c t so_far is in
+      let more : filter test now ≡ filter test passed ++ t ∷ [] =
+      ap (filter test) taken ∙ filter-append test passed (t ∷ [])
+      ∙ ap (λ (b : Bool). filter test passed ++ cond b (t ∷ []) []) meets in
+      subst (λ (l : List C). AllZip R l (filter test now)) (sym pushed)
+      (subst (λ (l : List T). AllZip R (cursors ++ c ∷ []) l) (sym more) both)
 
   -- and one that does not has none
-  pub one_passed : (cursors : List C) → AllZip R cursors (tables_in span passed)
-      → meets_span t.range span ≡ false → AllZip R cursors (tables_in span now)
+  pub one_passed : (cursors : List C) → AllZip R cursors (filter test passed)
+      → test t ≡ false → AllZip R cursors (filter test now)
   one_passed cursors so_far meets =
-      let same : tables_in span now ≡ tables_in span passed =
-      ap (tables_in span) taken
-      ∙ filter-append (λ (u : LevelTable). meets_span u.range span) passed (t ∷ [])
-      ∙ ap (λ (b : Bool). tables_in span passed ++ cond b (t ∷ []) []) meets
-      ∙ append-nil (tables_in span passed) in
-      subst (λ (l : List LevelTable). AllZip R cursors l) (sym same) so_far
+      let same : filter test now ≡ filter test passed =
+      ap (filter test) taken ∙ filter-append test passed (t ∷ [])
+      ∙ ap (λ (b : Bool). filter test passed ++ cond b (t ∷ []) []) meets
+      ∙ append-nil (filter test passed) in
+      subst (λ (l : List T). AllZip R cursors l) (sym same) so_far
 
 -- a loop that has passed all open tables has passed all tables
 pub all_asked : {C : Type 0} (R : C → LevelTable → Type 0) (span : Span)

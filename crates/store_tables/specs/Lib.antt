@@ -5,4 +5,5 @@ pub mod LevelTables
 pub mod TableReads
 pub mod TableWriting
 pub mod RangeReads
+pub mod MergeTables
 pub mod CursorListsLemmas

@@ -2,6 +2,7 @@
 //! laws.
 ghost use Rattle.store_tables.specs.LevelTables.{FlushedTablesRise, LinesInOrderRise};
 ghost use Rattle.store_tables.specs.LevelTables.{TableLookUpsAreMaps, TablesFindForStores};
+ghost use Rattle.store_tables.specs.MergeTables.{ReplacedLinesName, ReplacedTablesAreEdited};
 ghost use Rattle.store_tables.specs.RangeReads.{VersionsNameOwnFiles};
 
 /// Tables stand in order of level where their lines in a manifest stand in order, and with a table
@@ -26,4 +27,12 @@ pub fn table_look_ups_are_maps()
 // law: of `HaveOwnFiles`
 pub fn versions_name_own_files()
     ensures { VersionsNameOwnFiles }
+{}
+
+/// With some tables given up and others added, each at its place, tables are edited as the model
+/// has it, and the lines of a version that is edited so name them.
+// law: of `replaced_tables`
+pub fn replaced_tables_are_edited()
+    ensures edited { ReplacedTablesAreEdited }
+    ensures lines { ReplacedLinesName }
 {}

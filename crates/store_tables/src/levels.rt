@@ -1,34 +1,40 @@
 //! Open tables, level by level, and lookups in them.
 ghost use Rattle.std.specs.Prelude.{◌≡◌, ◌⊎◌, ◌↔◌, ℕ, List, IfOk, IfErr, IsTrue, MatchResult};
-ghost use Rattle.std.specs.Prelude.{◌<◌, OnOk, Some, slice_index};
+ghost use Rattle.std.specs.Prelude.{◌<◌, OnOk, Some, not, slice_index};
 ghost use Rattle.std.specs.List.{prefix_len};
 ghost use Rattle.std.specs.Prelude.{Contains, [], ◌∷◌, ◌++◌};
 ghost use Rattle.bloom.specs.{hashes_of};
 ghost use Rattle.disk.specs.{IsEnvironmental, Slot, State};
 ghost use Rattle.kv_types.specs.{Entry};
 ghost use Rattle.sorted_table.specs.{TableServes, greatest_key, index_lines, last_line_key};
-ghost use Rattle.store_model.specs.{AreLeveled, FitsRange, LevelTable, RangeHolds, level_entries};
+ghost use Rattle.store_model.specs.{AreLeveled, FitsRange, KeyRange, LevelTable, RangeHolds};
+ghost use Rattle.store_model.specs.{level_entries};
+ghost use Rattle.version_edits.specs.Versions.{table_is_before};
+ghost use Rattle.compaction.specs.Merges.{AreCursorsOf, AreIntactCursors};
+ghost use Rattle.compaction.specs.Plans.{model_plan};
 ghost use Rattle.store_tables.specs.declared.error.EngineError.TheVariants.{Disk, Memory};
 ghost use Rattle.store_tables.specs.LevelTables.{AreServed, EntriesFind, IsServed, LevelsRise};
 ghost use Rattle.store_tables.specs.LevelTables.{TablesFind, WasServed, WereServed};
 ghost use Rattle.store_tables.specs.LevelTables.{error_of_table, is_flushed, level_count};
 ghost use Rattle.store_tables.specs.LevelTables.{line_range};
 ghost use Rattle.store_tables.specs.LevelTables.{table_lines, with_flushed, with_flushed_line};
+ghost use Rattle.store_tables.specs.MergeTables.{HaveInputs, ReplacesTables};
 ghost use Rattle.store_tables.specs.RangeReads.{AreRangeCursors, HasTable, meets_span};
 ghost use Rattle.store_tables.specs.TableReads.{OpensTables, ReadsTables, by_all_lines};
 ghost use Rattle.store_tables.specs.TableReads.{by_one_line};
 
 use crate::EngineError;
 use bloom::KeyHashes;
+use compaction::Plan;
 use disk::Disk;
 use kv_types::{Number, Range, StoredKey};
-use manifest::TableLine;
 use merge_iter::Cursor;
-use sorted_table::{FoundVersion, Table};
+use sorted_table::{FoundVersion, Table, TableCursor};
 use std::alloc::{AllocError, Global};
 use store_cursors::StoreCursor;
 use table_files::Files;
 use table_format::FileError;
+use version_edits::{TableLine, TableName, is_removed, table_is_before};
 
 impl From<FileError> for EngineError {
     ghost from_gives = { λ t e. e ≡ error_of_table t };
@@ -282,5 +288,66 @@ impl LevelTables {
             }
         }
         Ok(cursors)
+    }
+
+    /// Cursors over the inputs of a plan in a version with these tables, which are the open ones,
+    /// in their order. No file is read.
+    pub fn merge_cursors<D: Disk + Drop>(
+        &self,
+        alloc: Global,
+        plan: Plan,
+        lines: &[TableLine],
+    ) -> Result<Vec<TableCursor<D>>, AllocError>
+        ensures over { IfOk result (λ cursors. (meant : State) (files : _) (range : KeyRange)
+            (tables : List LevelTable) → ⟦<Files<D> as Disk>⟧.is_honest files →
+            HaveInputs plan range lines.now self.now tables →
+            WereServed (⟦<Files<D> as Disk>⟧.state files) meant self.now tables → AreCursorsOf
+            ⟦<TableCursor<D> as Cursor>⟧ ⟦<Files<D> as Disk>⟧ meant files cursors.items
+            (model_plan plan range tables).inputs) }
+        ensures intact { IfOk result (λ cursors. (files : _) (range : KeyRange)
+            (tables : List LevelTable) → ⟦<Files<D> as Disk>⟧.is_honest files →
+            HaveInputs plan range lines.now self.now tables →
+            AreServed (⟦<Files<D> as Disk>⟧.state files) self.now tables → AreIntactCursors
+            ⟦<TableCursor<D> as Cursor>⟧ ⟦<Files<D> as Disk>⟧ files cursors.items
+            (model_plan plan range tables).inputs) }
+    {
+        let mut inputs = Vec::new(alloc);
+        let Some(range) = plan.range(lines) else {
+            return Ok(inputs);
+        };
+        for open in &self.tables {
+            if plan.has_input(range, &open.line) {
+                inputs.push(open.table.cursor(alloc)?)?;
+            }
+        }
+        Ok(inputs)
+    }
+
+    // How many open tables stand before one that has this line and is to be added.
+    fn place_of(&self, line: &TableLine) -> usize
+        ensures { result ≡ prefix_len (λ one. not (table_is_before line.now one.line))
+            self.now.tables.items }
+    {
+        for (place, open) in self.tables.iter().enumerate() {
+            if table_is_before(line, &open.line) {
+                return place;
+            }
+        }
+        self.tables.len()
+    }
+
+    /// Replaces open tables as an edit of a version does their lines: those of these names are no
+    /// longer open, and the others stand in the places that their lines have there. A refusal
+    /// changes nothing.
+    pub fn replace(&mut self, gone: &[TableName], opened: Vec<OpenTable>) -> Result<(), EngineError>
+        ensures { ReplacesTables self.old self.new gone.now opened.items result }
+    {
+        self.tables.reserve(opened.len())?;
+        self.tables.retain(|open| !is_removed(gone, &open.line));
+        for open in opened {
+            let place = self.place_of(&open.line);
+            self.tables.insert(place, open)?;
+        }
+        Ok(())
     }
 }

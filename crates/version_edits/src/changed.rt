@@ -48,7 +48,8 @@ fn add_logs(logs: &mut Vec<LogLine>, added: &[LogLine]) -> Result<(), AllocError
     Ok(())
 }
 
-fn is_removed(gone: &[TableName], line: &TableLine) -> bool
+/// Whether the table of a line is one of those that are given up.
+pub fn is_removed(gone: &[TableName], line: &TableLine) -> bool
     ensures { result ≡ list_any (λ one. one.level == line.now.level && one.file == line.now.file)
         gone.now }
 {
@@ -92,7 +93,9 @@ fn tables_left(
     Ok(left)
 }
 
-fn table_is_before(a: &TableLine, b: &TableLine) -> bool
+/// Whether the first table stands before the second one: by level, in level 0 by file, and in a
+/// deeper one by key.
+pub fn table_is_before(a: &TableLine, b: &TableLine) -> bool
     ensures { result ≡ table_is_before a.now b.now }
 {
     a.level < b.level

@@ -14,7 +14,7 @@ mod replaying;
 mod spelling;
 mod version;
 
-pub use changed::version_after;
+pub use changed::{is_removed, table_is_before, version_after};
 pub use edit::VersionEdit;
 pub use error::EditError;
 pub use line::{LogLine, MAX_LINES, MAX_NEXT, TableLine, TableName};

@@ -1,7 +1,7 @@
 use Rattle.std.proofs.Common.{◌≡◌, ◌∙◌, ◌+◌, List, [], ap, subst, sym, take}
 use Rattle.std.specs.List.{AllZip}
 use Rattle.store_cursors.specs.contracts.store_cursor.StoreCursorCursor.TheImpl.{ghosts, no_dict}
-use Rattle.store_model.specs.{KeyRange}
+use Rattle.store_model.specs.{KeyRange, LevelTable}
 use Rattle.store_tables.specs.declared.levels.OpenTable.{OpenTable}
 use Rattle.store_tables.specs.LevelTables.{WasServed}
 use Rattle.store_tables.specs.RangeReads.{HasTable, meets_span, tables_in}
@@ -29,6 +29,7 @@ loop-open-preserved g c = λ meant files tables honest served.
     let i = c.loop-open.open-index in
     let span = c.args.range.now in
     let R = HasTable (ghosts g.row.D g.D.Disk no_dict no_dict) meant files in
+    let meets_it = λ (t : LevelTable). meets_span t.range span in
     let zip = subst (λ (l : List OpenTable). AllZip (WasServed disk meant) l tables)
     (sym c.deref-open-items.ensures.value) served in
     let b = beside (WasServed disk meant) items tables i c.open-item.result zip
@@ -38,12 +39,12 @@ loop-open-preserved g c = λ meant files tables honest served.
     let before = c.loop-open.invariant meant files tables honest served in
     elim c.if-meets.branch [
       | then-meets+in_ok-cursor+in_ok-push w ↦ rw w.cursors-is
-          (one_met R span (take i tables) (take (i + 1) tables) b.other b.taken
+          (one_met R meets_it (take i tables) (take (i + 1) tables) b.other b.taken
           c.loop-open.cursors.items w.push.new.self.items w.in_ok-cursor.field-0 before
           w.in_ok-push.ensures.items (meets ∙ w.if-meets.true)
           (w.in_ok-cursor.ensures meant files b.other honest b.related))
       | else-meets w ↦ rw w.cursors-is
-          (one_passed R span (take i tables) (take (i + 1) tables) b.other b.taken
+          (one_passed R meets_it (take i tables) (take (i + 1) tables) b.other b.taken
           c.loop-open.cursors.items before (meets ∙ w.if-meets.false))
     ]
 
