@@ -59,9 +59,9 @@ returns-clause-closed g c = λ next_file it honest w some.
     let kept = closed_kept old new writer next_file output it is w
     (c.finish_output.ensures.writes.kept.files honest) in
     let lines : c.push.new.self.items ≡ writer.closed.items ++ line ∷ [] =
-    c.push.ensures.items
-    ∙ cond-true {A = List TableLine} (is_ok c.push.result) _ _
-    (ok_told c.push.result c.in_ok-push.was) in
+    ◌∙◌ {A = List TableLine} c.push.ensures.items
+    (cond-true {A = List TableLine} (is_ok c.push.result) _ _
+    (ok_told c.push.result c.in_ok-push.was)) in
     let given = open_numbered writer next_file output is w.numbered in
     let file = c.in_ok-line.ensures.file in
     record {
