@@ -183,9 +183,8 @@ impl<D: Disk + Drop> Engine<D> {
         requires { ((look_ups self.old).facts.kept < number)
             × (number ≤ (look_ups self.old).count) }
         ensures reads { ReadsEngine D.Disk self.old self.new result }
-        ensures found { OfEachList D.Disk self.old (λ list.
-            MatchResult result (λ batch. place list number ≡ Some batch)
-            (IsEnvironmental Disk Memory)) }
+        ensures found { OfEachList D.Disk self.old (λ list. MatchResult result
+            (λ batch. place list number ≡ Some batch) (IsEnvironmental Disk Memory)) }
     {
         held_files_are_left(); // law: what the disk of open files reads as, and leaves
         if self.has_ended {

@@ -85,9 +85,8 @@ impl SlotPair {
         requires short { length one.now ≤ MAX_RECORD }
         ensures kept { KeepsDisk D.Disk disk.old disk.new
             (IsErrOf result (Disk Failed)) ⊥ SparesOthers }
-        ensures created { IfNoSlots D.Disk disk.old
-            (MatchResult result (AreNewSlots (D.state disk.new) id one.now)
-            (IsEnvironmental (Disk Failed) Memory)) }
+        ensures created { IfNoSlots D.Disk disk.old (MatchResult result
+            (AreNewSlots (D.state disk.new) id one.now) (IsEnvironmental (Disk Failed) Memory)) }
         ensures first { IfOk result (λ slots. slots.generation ≡ 1) }
     {
         let closed = bytes_of_slot(alloc, 1, id, one)?;

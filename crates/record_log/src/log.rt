@@ -157,8 +157,7 @@ impl Log {
         ensures told { D.is_honest disk.old →
             OpenOutcome (D.state disk.old) file start result (D.state disk.new) }
         ensures opened { (records : List (List ℕ)) → D.is_honest disk.old →
-            HasRecords (D.state disk.old) file start records →
-            MatchResult result
+            HasRecords (D.state disk.old) file start records → MatchResult result
             (λ opened. LogHolds (D.state disk.new) opened.log records × HasRead opened records)
             (IsEnvironmental (Disk Failed) Memory) }
         ensures still { IsStill D.Disk disk.old disk.new }
