@@ -38,6 +38,10 @@ pub mod TrimmedLogs
 pub mod Raised
 pub mod RaiseMoments
 pub mod MeantRaises
+pub mod MergeEdits
+pub mod Merged
+pub mod MergeMoments
+pub mod MeantMerges
 pub mod TendedFiles
 pub mod Tends
 pub mod Meant

@@ -14,6 +14,7 @@ pub mod Tending
 pub mod TendKeeps
 pub mod Removing
 pub mod Raising
+pub mod Merging
 pub mod LogExamples
 pub mod HeldFiles
 pub mod RangeEntries

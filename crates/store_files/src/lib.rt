@@ -5,6 +5,7 @@ mod batch_logs;
 mod flushing;
 pub mod laws;
 mod layout;
+mod merging;
 mod opening;
 mod raising;
 mod removing;

@@ -194,6 +194,13 @@ impl LevelTables {
         Ok(LevelTables { tables })
     }
 
+    /// The open tables, in order.
+    pub fn into_tables(self) -> Vec<OpenTable>
+        ensures { result.items ≡ self.tables.items }
+    {
+        self.tables
+    }
+
     /// The number of open tables of each level.
     pub fn counts(&self) -> [u64; 7]
         ensures { (level : ℕ) → level < 7 →
