@@ -8,14 +8,14 @@ use Rattle.kv_types.specs.{Entry}
 use Rattle.merge_iter.specs.declared.Cursor.{Ghosts as CursorGhosts}
 use Rattle.merge_iter.specs.declared.Merged.{Merged}
 use Rattle.sorted_table.specs.declared.TableCursor.{TableCursor}
-use Rattle.compaction.specs.Merges.{MergesOutliveCalls}
+use Rattle.compaction.specs.Merges.{MergesOutliveCalls, MergesStayBeside}
 use Rattle.compaction.specs.Walks.{written_by, LeavesWalk}
 use Rattle.merge_iter.specs.{AreCursorLaws}
 use Rattle.store_model.specs.{LevelTable, tables_entries}
 use Rattle.compaction.specs.declared.writer.OutputWriter.{OutputWriter}
 use Rattle.compaction.specs.Outputs.{IsOwnFile, open_file}
 use Rattle.compaction.specs.Walks.{IsWalking}
-use Rattle.compaction.proofs.Numbers.{begun_more}
+use Rattle.compaction.proofs.Numbers.{begun_more, edits_beside}
 use Rattle.compaction.proofs.Walks.{alike_through}
 use Rattle.compaction.proofs.Writing.{outputs_kept}
 use Rattle.std.proofs.lemmas.List.Elements.{All-weaker}
@@ -110,3 +110,9 @@ module _ {D F : Type 0} (u : CursorGhosts (Merged (TableCursor D)) F) (d : Ghost
               at.1 file there ∙ left.sources.1 file there,
         ),
       )
+
+-- a version that names no output of a merge names none after an edit that adds later files
+pub merges_beside : {D F : Type 0} (u : CursorGhosts (Merged (TableCursor D)) F) (d : Ghosts F)
+    → MergesStayBeside u d
+merges_beside u d meant files next_file it plan floor version edit m logs tables beside =
+    edits_beside version edit next_file it.writer m.walk.writes.numbered logs tables beside

@@ -15,13 +15,13 @@ use Rattle.version_edits.specs.declared.TableLine.{TableLine}
 use Rattle.version_edits.specs.Lawful.{IsAllocated}
 use Rattle.version_edits.specs.Versions.{are_once, log_is_before, logs_left, placed}
 use Rattle.version_edits.specs.Versions.{table_is_before, tables_left}
-use Rattle.version_edits.specs.{IsVersion, StoreVersion}
+use Rattle.version_edits.specs.{Change, IsVersion, StoreVersion, changed}
 use Rattle.compaction.specs.declared.plan.Plan.{Plan}
 use Rattle.compaction.specs.declared.writer.OutputWriter.{OutputWriter}
-use Rattle.compaction.specs.Edits.{EditsStayBeside, StepsStayBeside}
+use Rattle.compaction.specs.Edits.{OutputsAreBeside}
 use Rattle.compaction.specs.Leftovers.{IsBesideVersion}
 use Rattle.compaction.specs.Merges.{HaveNewFiles, IsNumberedFrom}
-use Rattle.compaction.specs.Outputs.{HaveOwnNumbers, IsOutputFile, open_file}
+use Rattle.compaction.specs.Outputs.{HaveOwnNumbers, IsOutputFile, UsesNumbers, open_file}
 use Rattle.compaction.specs.Plans.{IsLineOf, model_plan}
 use Rattle.compaction.specs.Walks.{table_files}
 use Rattle.compaction.proofs.Lists.{filter_among}
@@ -176,15 +176,23 @@ late_beside version is file late = (
       (λ line none same. none),
 )
 
-pub steps_stay_beside : StepsStayBeside
-steps_stay_beside version old new next_old next_new is le used beside file output =
+-- a version that names no output names none of those that steps of the merge begin
+pub steps_beside : (version : StoreVersion) (old new : OutputWriter) (next_old next_new : ℕ)
+    → IsVersion version → version.next_file ≤ next_old → UsesNumbers old next_old new next_new
+    → OutputsAreBeside old version → OutputsAreBeside new version
+steps_beside version old new next_old next_new is le used beside file output =
     elim (used.outputs file output) [
       | inl before ↦ beside file before
       | inr late ↦ late_beside version is file (omega (arith, le, late))
     ]
 
-pub edits_stay_beside : EditsStayBeside
-edits_stay_beside version edit next_file writer numbered logs tables beside file output =
+-- nor after an edit that adds files from the merge's next one on alone
+pub edits_beside : (version : StoreVersion) (edit : Change) (next_file : ℕ)
+    (writer : OutputWriter) → HaveOwnNumbers writer next_file
+    → All (λ line. next_file ≤ line.file) edit.logs_added
+    → All (λ line. next_file ≤ line.file) edit.tables_added → OutputsAreBeside writer version
+    → OutputsAreBeside writer (changed version edit)
+edits_beside version edit next_file writer numbered logs tables beside file output =
     let was = beside file output in
     let below = output_below writer next_file numbered file output in (
       none_more (λ (l : LogLine). l.file) log_is_before (logs_left edit.logs_gone version.logs)

@@ -1,15 +1,15 @@
 -- What the edit of a merge makes of tables, and what a version has to be for it to take the edit.
-use Rattle.std.specs.Prelude.{ℕ, ◌≤◌, ◌==◌, ◌&&◌, not, List, All, filter}
+use Rattle.std.specs.Prelude.{ℕ, ◌≤◌, ◌==◌, ◌&&◌, not, List, filter}
 use Rattle.std.specs.List.{AllZip, fold, list_any}
 use Rattle.version_edits.specs.declared.TableLine.{TableLine}
 use Rattle.version_edits.specs.declared.TableName.{TableName}
 use Rattle.version_edits.specs.declared.line.TheConstants.{MAX_NEXT}
 use Rattle.version_edits.specs.Versions.{placed, table_is_before}
-use Rattle.version_edits.specs.{Change, IsVersion, StoreVersion, changed}
+use Rattle.version_edits.specs.{StoreVersion}
 use Rattle.store_model.specs.{AreLeveled, IsUnderWay, LevelTable, MergePlan, StoreState}
 use Rattle.compaction.specs.declared.writer.OutputWriter.{OutputWriter}
 use Rattle.compaction.specs.Leftovers.{IsBesideVersion}
-use Rattle.compaction.specs.Outputs.{HaveOwnNumbers, IsOutputFile, UsesNumbers}
+use Rattle.compaction.specs.Outputs.{IsOutputFile}
 use Rattle.compaction.specs.Plans.{IsLineOf}
 
 -- ---- the tables after an edit
@@ -59,19 +59,3 @@ pub record AcceptsMerge (version : StoreVersion) (next_file : ℕ) (plan : Merge
   pub beside : OutputsAreBeside writer version
   pub next : version.next_file ≤ next_file
   pub few : next_file ≤ MAX_NEXT
-
--- a version names no file of an output where it named none before some steps of the merge
-abbrev pub StepsStayBeside : Type 0
-StepsStayBeside =
-    (version : StoreVersion) (old new : OutputWriter) (next_old next_new : ℕ) →
-    IsVersion version → version.next_file ≤ next_old → UsesNumbers old next_old new next_new →
-    OutputsAreBeside old version → OutputsAreBeside new version
-
--- nor does it after an edit that adds files from the merge's next one on alone
-abbrev pub EditsStayBeside : Type 0
-EditsStayBeside =
-    (version : StoreVersion) (edit : Change) (next_file : ℕ) (writer : OutputWriter) →
-    HaveOwnNumbers writer next_file →
-    All (λ line. next_file ≤ line.file) edit.logs_added →
-    All (λ line. next_file ≤ line.file) edit.tables_added →
-    OutputsAreBeside writer version → OutputsAreBeside writer (changed version edit)

@@ -14,11 +14,12 @@ pub mod Inputs
 pub mod Examples
 -- What crates above name.
 pub use Rattle.compaction.specs.Picks.{picked}
-pub use Rattle.compaction.specs.Edits.{AcceptsMerge, CanEndIn, EditsStayBeside, OutputsAreBeside}
-pub use Rattle.compaction.specs.Edits.{StepsStayBeside, items_after, tables_after}
+pub use Rattle.compaction.specs.Edits.{AcceptsMerge, CanEndIn, OutputsAreBeside, items_after}
+pub use Rattle.compaction.specs.Edits.{tables_after}
 pub use Rattle.compaction.specs.Inputs.{lent_range, line_name}
 pub use Rattle.compaction.specs.Merges.{IsFitMergeEdit, IsMergeEdit, IsNumberedFrom}
-pub use Rattle.compaction.specs.Merges.{MergeEditsFit, MergeEditsKeep}
+pub use Rattle.compaction.specs.Merges.{IsMergeOutput, MergeEditsFit, MergeEditsKeep, MergeIsBeside}
+pub use Rattle.compaction.specs.Merges.{MergesStayBeside}
 pub use Rattle.compaction.specs.Outputs.{IsOutputFile, UsesNumbers}
 pub use Rattle.compaction.specs.Plans.{IsLineOf, PicksArePlanned, is_input, is_line_input}
 pub use Rattle.compaction.specs.Plans.{model_plan, range_of}

@@ -20,7 +20,7 @@ use Rattle.compaction.specs.declared.error.MergeError.{MergeError}
 use Rattle.compaction.specs.declared.error.MergeError.TheVariants as merge
 use Rattle.compaction.specs.declared.merge.Merge.{Merge}
 use Rattle.compaction.specs.declared.writer.OutputWriter.{OutputWriter}
-use Rattle.compaction.specs.Edits.{AcceptsMerge, tables_after}
+use Rattle.compaction.specs.Edits.{AcceptsMerge, OutputsAreBeside, tables_after}
 use Rattle.compaction.specs.Outputs.{IsOpenFile, IsOutput, IsOutputFile, IsOwnFile, UsesNumbers}
 use Rattle.compaction.specs.Outputs.{WritesOnly}
 use Rattle.compaction.specs.Plans.{IsLineOf}
@@ -118,6 +118,14 @@ MergeHasFailed it = IsTrue it.has_failed
 abbrev pub begun_number : {D : Type 0} → Merge D → ℕ
 begun_number it = it.first
 
+-- the file is that of an output of the merge, complete or open
+abbrev pub IsMergeOutput : {D : Type 0} → Merge D → ℕ → Type 0
+IsMergeOutput it file = IsOutputFile it.writer file
+
+-- the version names no output of the merge
+abbrev pub MergeIsBeside : {D : Type 0} → Merge D → StoreVersion → Type 0
+MergeIsBeside it version = OutputsAreBeside it.writer version
+
 -- The merge began with a file number that no slot has, and has used those from there on, below the
 -- next one. No input has the file of another.
 pub record IsNumberedFrom (first next_file : ℕ) (writer : OutputWriter) (inputs : List LevelTable)
@@ -169,6 +177,8 @@ module _ {D F : Type 0} (u : CursorGhosts (Merged (TableCursor D)) F) (d : Ghost
         (IsNoMerge old next_old was)
     pub numbers : UsesNumbers was.writer next_old now.writer next_new
     pub first : begun_number now ≡ begun_number was
+    pub beside : (version : StoreVersion) → IsVersion version → version.next_file ≤ next_old →
+        MergeIsBeside was version → MergeIsBeside now version
     pub status : StepStatus result was now
     -- of a merge under way
     pub steps : (meant : u.Meant) (plan : MergePlan) (floor : ℕ)
@@ -204,6 +214,16 @@ module _ {D F : Type 0} (u : CursorGhosts (Merged (TableCursor D)) F) (d : Ghost
       LeavesWalk d old new next_file later it.writer plan.inputs →
       IsMerging meant new later it plan floor
       × (IsIntactMerge old it plan → IsIntactMerge new it plan)
+
+  -- a version names no output of a merge under way after an edit that adds files from the merge's
+  -- next one on alone, where it named none before
+  abbrev pub MergesStayBeside : Type 0
+  MergesStayBeside =
+      (meant : u.Meant) (files : F) (next_file : ℕ) (it : Merge D) (plan : MergePlan) (floor : ℕ)
+      (version : StoreVersion) (edit : Change) → IsMerging meant files next_file it plan floor →
+      All (λ line. next_file ≤ line.file) edit.logs_added →
+      All (λ line. next_file ≤ line.file) edit.tables_added →
+      MergeIsBeside it version → MergeIsBeside it (changed version edit)
 
 -- ---- what the edit gives
 

@@ -1,8 +1,8 @@
 //! Laws of the definitions that contracts use. The functions do nothing: their clauses are the
 //! laws.
-ghost use Rattle.compaction.specs.Edits.{EditsStayBeside, StepsStayBeside};
 ghost use Rattle.compaction.specs.Examples.{InputExamples, PickExamples, SurvivorExamples};
 ghost use Rattle.compaction.specs.Merges.{MergeEditsFit, MergeEditsKeep, MergesOutliveCalls};
+ghost use Rattle.compaction.specs.Merges.{MergesStayBeside};
 ghost use Rattle.compaction.specs.Plans.{PicksArePlanned};
 ghost use Rattle.compaction.specs.Survivors.{SurvivorsAreLeft};
 ghost use Rattle.compaction.specs.WrittenTables.{WrittenAreMerged, WrittenAreSurvivors};
@@ -52,12 +52,11 @@ pub fn merges_outlive_calls<D: Disk + Drop>()
     are_lawful::<Merged<TableCursor<D>>>(); // law: what suits a union leaves it sound
 }
 
-/// A version that names no file of an output names none after steps of the merge, nor after an edit
-/// that adds files from the merge's next one on.
-// law: of `OutputsAreBeside`
-pub fn outputs_stay_beside()
-    ensures steps { StepsStayBeside }
-    ensures edits { EditsStayBeside }
+/// A version that names no output of a merge under way names none after an edit that adds files
+/// from the merge's next one on alone.
+// law: of `MergeIsBeside`
+pub fn merges_stay_beside<D: Disk + Drop>()
+    ensures { MergesStayBeside ⟦<Merged<TableCursor<D>> as Cursor>⟧ ⟦<Files<D> as Disk>⟧ }
 {}
 
 /// A version may take the edit of a merge that can end in its store.

@@ -8,8 +8,9 @@ ghost use Rattle.version_edits.specs.declared.line.TheConstants.{MAX_LINES};
 ghost use Rattle.compaction.specs.declared.error.MergeError.TheVariants.{Disk, Memory};
 ghost use Rattle.compaction.specs.Merges.{AreCursorsOf, AreIntactCursors, EndsMerge, IsIntactMerge};
 ghost use Rattle.compaction.specs.Leftovers.{RemovesLeftovers};
-ghost use Rattle.compaction.specs.Merges.{IsMerging, StepsMerge, begun_number, merge_change};
-ghost use Rattle.compaction.specs.Outputs.{AreUnused, IsOutputFile, WritesOnly};
+ghost use Rattle.compaction.specs.Merges.{IsMergeOutput, IsMerging, StepsMerge, begun_number};
+ghost use Rattle.compaction.specs.Merges.{merge_change};
+ghost use Rattle.compaction.specs.Outputs.{AreUnused, WritesOnly};
 ghost use Rattle.compaction.specs.Plans.{IsLineOf, model_plan, range_of};
 
 use crate::error::MergeError;
@@ -100,7 +101,7 @@ impl<D: Disk + Drop> Merge<D> {
         ensures reads { WritesOnly ⟦<Files<D> as Disk>⟧ (λ _. ⊥) files.old files.new
             (IsErrOf result Disk) ⊥ }
         ensures first { IfOk result (λ merge. (begun_number merge ≡ next_file)
-            × ((file : ℕ) → IsOutputFile merge.writer file → ⊥)) }
+            × ((file : ℕ) → IsMergeOutput merge file → ⊥)) }
         ensures begun { (meant : _) (tables : List LevelTable) (range : _) →
             ⟦<Files<D> as Disk>⟧.is_honest files.old →
             AllZip IsLineOf version.now.version.tables tables →

@@ -5,7 +5,7 @@ use Rattle.compaction.specs.Survivors.{AreDeeperLines}
 use Rattle.compaction.proofs.Calls.{done, ok_fails, passed_on, refused, writes_as}
 use Rattle.compaction.proofs.Calls.{writes_nothing}
 use Rattle.compaction.proofs.Merging.{step_count}
-use Rattle.compaction.proofs.Numbers.{begun_more}
+use Rattle.compaction.proofs.Numbers.{begun_more, steps_beside}
 use Rattle.compaction.proofs.Writing.{refuses, uses_none}
 use Rattle.compaction.proofs.merge.Merge.step.Goals as goal
 
@@ -16,6 +16,7 @@ returns-then-self g c = record {
   numbers = uses_none c.args.self.now.writer c.args.self.now.writer c.args.next_file.now
       (λ file is. is) (λ file output. output);
   first = refl;
+  beside = λ version is le beside. beside;
   status = (c.if-self.true, λ failed. refl);
   steps = λ meant plan floor m. absurd (m.works c.if-self.true);
 }
@@ -28,6 +29,8 @@ returns-in_err-write_some g c = record {
       (λ lost meant plan floor m. lost meant plan.inputs m.walk) c.write_some.ensures.1.writes;
   numbers = c.write_some.ensures.1.numbers;
   first = refl;
+  beside = λ version is le. steps_beside version _ _ _ _ is le
+      c.write_some.ensures.1.numbers;
   status = refuses c.from_residual.result _ _ c.from_residual.ensures.1
       (refl, λ failed. absurd (both_ways _ c.if-self.false failed));
   steps = λ meant plan floor m. refuses c.from_residual.result _ _ c.from_residual.ensures.1
@@ -45,6 +48,8 @@ returns g c =
           c.write_some.ensures.1.writes;
       numbers = c.write_some.ensures.1.numbers;
       first = refl;
+      beside = λ version is le. steps_beside version _ _ _ _ is le
+          c.write_some.ensures.1.numbers;
       status = (both_ways _ c.if-self.false, λ f. cc, c.valid.ensures);
       steps = λ meant plan floor m.
           let went = c.in_ok-write_some.ensures.1.walks meant plan.inputs m.walk in
