@@ -42,6 +42,7 @@ pub mod MergeEdits
 pub mod Merged
 pub mod MergeMoments
 pub mod MeantMerges
+pub mod MergeRefusals
 pub mod TendedFiles
 pub mod Tends
 pub mod Meant

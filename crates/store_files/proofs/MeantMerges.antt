@@ -5,7 +5,7 @@ use Rattle.std.proofs.lemmas.List.Elements.{All-contains, All-contains_itself, A
 use Rattle.kv_types.specs.{BatchContent}
 use Rattle.disk.specs.{Contents, DurableFileIsLeft, IsCrashOutcome, IsDurable, IsSame, IsSameBut}
 use Rattle.disk.specs.{LeavesSince, Slot, State, contents, seen}
-use Rattle.disk.specs.MomentsLemmas.{weaker}
+use Rattle.disk.specs.MomentsLemmas.{join, weaker}
 use Rattle.store_model.specs.{LevelTable}
 use Rattle.version_edits.specs.declared.line.LogLine.{LogLine}
 use Rattle.version_edits.specs.declared.line.TableLine.{TableLine}
@@ -18,7 +18,7 @@ use Rattle.store_tables.specs.declared.levels.LevelTables.{LevelTables}
 use Rattle.store_tables.specs.LevelTables.{AreServed, IsTableAsMeant, WereServed}
 use Rattle.store_tables.specs.MergeTables.{ReplacedLinesName}
 use Rattle.store_files.specs.declared.store_files.StoreFiles.{StoreFiles}
-use Rattle.store_files.specs.Merging.{HasOutputs, MayMerge, MeantWithOutputs, input_files}
+use Rattle.store_files.specs.Merging.{HasOutputs, MayMerge, MeantWithOutputs, replaced_files}
 use Rattle.store_files.specs.Merging.{merged_files}
 use Rattle.store_files.specs.OpenFiles.{IsAsMeant, WereMeantToHold, known_facts, known_store}
 use Rattle.store_files.specs.OpenFiles.{known_version, trimmed_count}
@@ -185,12 +185,14 @@ module _ {files : StoreFiles} {edit : Change} (may : MayMerge files edit)
     named_mended = named_in m1 (after may) files.logs (trimmed_count files) tables_were list
         named_then m2 log_same (λ line has. mended_at (after may).tables m1 s2 line has)
 
-    -- while the edit is recorded
-    pub merge_was_recorded : (past since : List State) (s3 : State) → LeavesSince s2 past s3 since
+    -- while the edit is recorded behind such calls
+    pub merge_was_recorded : (past so_far since : List State) (s3 : State)
+        → LeavesSince s1 past s2 so_far (IsCrashOutcome s1) → LeavesSince s2 so_far s3 since
         (SlotsAreLeft s2 (IsBeforeOrAfter edit (known_version files)))
-        → LeavesSince s2 past s3 since WereOfStore
-    merge_was_recorded past since s3 run =
-        weaker (SlotsAreLeft s2 (IsBeforeOrAfter edit (known_version files))) WereOfStore s2 past
+        → LeavesSince s1 past s3 since WereOfStore
+    merge_was_recorded past so_far since s3 still run =
+        join WereOfStore s1 s2 s3 past so_far since (still_were past so_far s2 still)
+        (weaker (SlotsAreLeft s2 (IsBeforeOrAfter edit (known_version files))) WereOfStore s2 so_far
         s3 since (λ left at. elim at.here as (λ _. WereOfStore left) [
           | inl old ↦ named_were_left s2 m1 version lawful files.logs (trimmed_count files) tables
               list named t2 law id left old
@@ -201,14 +203,14 @@ module _ {files : StoreFiles} {edit : Change} (may : MayMerge files edit)
               (slots_after may left new)
               (λ line has. at.others line.file (log_no_slot version lawful line has))
               (λ line has. at.others line.file (table_no_slot (after may) lawful_after line has))
-        ]) run
+        ]) run)
 
     module _ (new : StoreFiles) (r : AreMerged edit files new)
         (slot : IsSlotFile (counting_file files.manifest)) where
       -- while the inputs are removed
       pub inputs_were_removed : (s3 : State) → IsSameBut (counting_file files.manifest) s2 s3
           → ManifestHolds s3 new.manifest (known_version new) → (past since : List State)
-          (s4 : State) → LeavesSince s3 past s4 since (AreLeftBeside (input_files edit) s3)
+          (s4 : State) → LeavesSince s3 past s4 since (AreLeftBeside (replaced_files edit) s3)
           → LeavesSince s3 past s4 since WereOfStore
       inputs_were_removed s3 spares holds past since s4 run =
           let free = files.free_file in
@@ -225,7 +227,7 @@ module _ {files : StoreFiles} {edit : Change} (may : MayMerge files edit)
           (λ line has. followed line.file (λ is. log_no_slot version lawful line has
           (subst IsSlotFile (sym is) slot)))
           (λ line has. followed line.file (table_no line has)) in
-          weaker (AreLeftBeside (input_files edit) s3) WereOfStore s3 past s4 since
+          weaker (AreLeftBeside (replaced_files edit) s3) WereOfStore s3 past s4 since
           (λ left at. named_were_left s3 m3 (after may) lawful_after files.logs
           (trimmed_count files) tables_were list later t3 law id left
           (subst (λ (n : NodeVersion). ManifestRepresents n left)

@@ -17,7 +17,7 @@ use Rattle.manifest.specs.{Change, IsFit, IsSlotFile, StoreVersion, changed}
 use Rattle.store_model.specs.PlacesLemmas.{contains_cases, contains_head, contains_next}
 use Rattle.compaction.specs.Merges.{merge_change}
 use Rattle.store_tables.specs.MergeTables.{replaced_lines}
-use Rattle.store_files.specs.Merging.{input_files}
+use Rattle.store_files.specs.Merging.{replaced_files}
 use Rattle.store_files.proofs.FilesApart.{any_at, given_no_slot, log_no_table}
 use Rattle.store_files.proofs.KeptFiles.{contains_map, map_contains}
 use Rattle.store_files.proofs.NamedHolds.{table_given}
@@ -38,7 +38,8 @@ placed_from {A} before (z ∷ xs) x y has = elim (either (before x z)) [
       [ inl is ↦ inr is | inr later ↦ inl later ]
   | inr behind ↦
       let same : placed before (z ∷ xs) x ≡ z ∷ placed before xs x = rw behind refl in
-      elim (contains_cases z (placed before xs x) y (subst (λ (l : List A). Contains l y) same has)) [
+      let there = subst (λ (l : List A). Contains l y) same has in
+      elim (contains_cases z (placed before xs x) y there) [
         | inl is ↦ inl (subst (Contains (z ∷ xs)) is (contains_head z xs))
         | inr later ↦ elim (placed_from before xs x y later) [
           | inl old ↦ inl (contains_next z xs y old)
@@ -208,7 +209,7 @@ module _ (version : StoreVersion) (is : IsVersion version) (edit : Change) (free
       version.tables (each_of (names_table version.tables) gone one fit.there.tables has)
 
   -- its file is that of a table
-  pub input_given : (file : ℕ) → Contains (input_files edit) file
+  pub input_given : (file : ℕ) → Contains (replaced_files edit) file
       → (line : TableLine) × Contains version.tables line × (line.file ≡ file)
   input_given file has =
       let found = map_contains (λ (one : TableName). one.file) gone file has in
@@ -217,17 +218,17 @@ module _ (version : StoreVersion) (is : IsVersion version) (edit : Change) (free
       in
       (named.0, named.1, eqb-true named.0.file found.0.file parts.1 ∙ found.2)
 
-  pub input_allocated : (file : ℕ) → Contains (input_files edit) file → IsAllocated version file
+  pub input_allocated : (file : ℕ) → Contains (replaced_files edit) file → IsAllocated version file
   input_allocated file has =
       let named = input_given file has in
       subst (IsAllocated version) named.2 (table_given version is named.0 named.1)
 
-  pub input_no_slot : (file : ℕ) → Contains (input_files edit) file → IsSlotFile file → ⊥
+  pub input_no_slot : (file : ℕ) → Contains (replaced_files edit) file → IsSlotFile file → ⊥
   input_no_slot file has slot = given_no_slot version file (input_allocated file has) file slot refl
 
   -- a log keeps its file
   pub log_no_input : (line : LogLine) → Contains version.logs line
-      → Contains (input_files edit) line.file → ⊥
+      → Contains (replaced_files edit) line.file → ⊥
   log_no_input line has input =
       let named = input_given line.file input in
       log_no_table version is line has named.0 named.1 named.2
@@ -238,9 +239,10 @@ module _ (version : StoreVersion) (is : IsVersion version) (edit : Change) (free
 
   -- and so does a table of the version after it
   pub table_no_input : (line : TableLine) → Contains merged_version.tables line
-      → Contains (input_files edit) line.file → ⊥
+      → Contains (replaced_files edit) line.file → ⊥
   table_no_input line has input =
-      elim (folded_from table_is_before (tables_left gone version.tables) edit.tables_added line has) [
+      let left_lines = tables_left gone version.tables in
+      elim (folded_from table_is_before left_lines edit.tables_added line has) [
         | inl old ↦
             let left = filtered_from _ version.tables line old in
             let found = map_contains (λ (one : TableName). one.file) gone line.file input in
@@ -255,7 +257,10 @@ module _ (version : StoreVersion) (is : IsVersion version) (edit : Change) (free
             not_true (subst (λ (b : Bool). not b ≡ true)
             (any_of (λ (one : TableName). one.level == line.level && one.file == line.file) gone
             found.0 found.1
-            (rw (eq-eqb found.0.level line.level level, eq-eqb found.0.file line.file found.2) refl))
+            (rw (
+              eq-eqb found.0.level line.level level,
+              eq-eqb found.0.file line.file found.2,
+            ) refl))
             left.1)
         | inr new ↦
             let named = input_given line.file input in

@@ -4,7 +4,7 @@ use Rattle.std.specs.Prelude.{IsNone}
 use Rattle.kv_types.specs.{BatchContent}
 use Rattle.disk.specs.{Contents, DurableFileIsLeft, IsCrashOutcome, IsSame, IsSameBut, LeavesSince}
 use Rattle.disk.specs.{Slot, State, seen}
-use Rattle.disk.specs.MomentsLemmas.{weaker}
+use Rattle.disk.specs.MomentsLemmas.{join, weaker}
 use Rattle.store_model.specs.{LevelTable}
 use Rattle.manifest.specs.Changes.{IsBeforeOrAfter}
 use Rattle.manifest.specs.{Change, EditsKeepVersions, HeldVersionIsLeft}
@@ -14,7 +14,7 @@ use Rattle.manifest.specs.{counting_file}
 use Rattle.store_tables.specs.LevelTables.{AreServed, WereServed}
 use Rattle.store_tables.specs.MergeTables.{ReplacedLinesName}
 use Rattle.store_files.specs.declared.store_files.StoreFiles.{StoreFiles}
-use Rattle.store_files.specs.Merging.{HasOutputs, HeldWithOutputs, MayMerge, input_files}
+use Rattle.store_files.specs.Merging.{HasOutputs, HeldWithOutputs, MayMerge, replaced_files}
 use Rattle.store_files.specs.Merging.{merged_files}
 use Rattle.store_files.specs.OpenFiles.{FilesHold, known_facts, known_store, known_version}
 use Rattle.store_files.specs.OpenFiles.{trimmed_count}
@@ -82,13 +82,15 @@ module _ {files : StoreFiles} {edit : Change} (may : MayMerge files edit)
     named_then : NamedHold s2 (after may) files.logs (trimmed_count files) tables_then list
     named_then = named_after may s2 tables list named outputs names
 
-    -- while the edit is recorded
-    pub merge_is_recorded : (past since : List State) (s3 : State) → LeavesSince s2 past s3 since
+    -- while the edit is recorded behind such calls
+    pub merge_is_recorded : (past so_far since : List State) (s3 : State)
+        → LeavesSince s1 past s2 so_far (IsCrashOutcome s1) → LeavesSince s2 so_far s3 since
         (SlotsAreLeft s2 (IsBeforeOrAfter edit (known_version files)))
-        → LeavesSince s2 past s3 since OfStore
-    merge_is_recorded past since s3 run =
+        → LeavesSince s1 past s3 since OfStore
+    merge_is_recorded past so_far since s3 still run =
         let lawful_after = after_is may versions in
-        weaker (SlotsAreLeft s2 (IsBeforeOrAfter edit (known_version files))) OfStore s2 past s3
+        join OfStore s1 s2 s3 past so_far since (still_of_store past so_far s2 still)
+        (weaker (SlotsAreLeft s2 (IsBeforeOrAfter edit (known_version files))) OfStore s2 so_far s3
         since (λ left at. elim at.here as (λ _. OfStore left) [
           | inl old ↦ named_left s2 version files.logs (trimmed_count files) tables list named law
               id left old
@@ -98,14 +100,14 @@ module _ {files : StoreFiles} {edit : Change} (may : MayMerge files edit)
               named_then law id left (slots_after may left new)
               (λ line has. at.others line.file (log_no_slot version lawful line has))
               (λ line has. at.others line.file (table_no_slot (after may) lawful_after line has))
-        ]) run
+        ]) run)
 
     module _ (new : StoreFiles) (r : AreMerged edit files new)
         (slot : IsSlotFile (counting_file files.manifest)) where
       -- while the inputs are removed
       pub inputs_are_removed : (s3 : State) → IsSameBut (counting_file files.manifest) s2 s3
           → ManifestHolds s3 new.manifest (known_version new) → (past since : List State)
-          (s4 : State) → LeavesSince s3 past s4 since (AreLeftBeside (input_files edit) s3)
+          (s4 : State) → LeavesSince s3 past s4 since (AreLeftBeside (replaced_files edit) s3)
           → LeavesSince s3 past s4 since OfStore
       inputs_are_removed s3 same holds past since s4 run =
           let lawful_after = after_is may versions in
@@ -116,7 +118,7 @@ module _ {files : StoreFiles} {edit : Change} (may : MayMerge files edit)
           (subst IsSlotFile (sym is) slot)))
           (λ line has. same line.file (λ is. table_no_slot (after may) lawful_after line has
           (subst IsSlotFile (sym is) slot))) in
-          weaker (AreLeftBeside (input_files edit) s3) OfStore s3 past s4 since
+          weaker (AreLeftBeside (replaced_files edit) s3) OfStore s3 past s4 since
           (λ left at. named_left s3 (after may) files.logs (trimmed_count files) tables_then list
           later law id left (subst (λ (n : NodeVersion). ManifestRepresents n left)
           (known may new r) (held s3 new.manifest (known_version new) left holds

@@ -1,6 +1,7 @@
--- A merge that is installed: what the files named by the old version and by the new one represent, and
--- the open files that know the new one.
-use Rattle.std.proofs.Common.{◌≡◌, ◌↔◌, ◌≤◌, ◌-◌, ◌∙◌, length, ℕ, suc, List, [], ◌∷◌, ap, arith, drop, inl}
+-- A merge that is installed: what the files named by the old version and by the new one represent,
+-- and the open files that know the new one.
+use Rattle.std.proofs.Common.{◌≡◌, ◌↔◌, ◌≤◌, ◌-◌, ◌∙◌, length, ℕ, suc, List, [], ◌∷◌, ap, arith}
+use Rattle.std.proofs.Common.{drop, inl}
 use Rattle.std.proofs.Common.{Ok, inr, subst, sym}
 use Rattle.std.specs.Prelude.{All, Contains, IsNone}
 use Rattle.std.specs.List.{AllZip}
@@ -27,7 +28,7 @@ use Rattle.store_tables.specs.MergeTables.{replaced_lines, replaced_tables}
 use Rattle.store_files.specs.declared.batch_logs.BatchLogs.{BatchLogs}
 use Rattle.store_files.specs.declared.store_files.StoreFiles.{StoreFiles}
 use Rattle.store_files.specs.BatchLogs.{AreUsable, LogsHold, first_number, lines_of, next_number}
-use Rattle.store_files.specs.Merging.{HasOutputs, MayMerge, input_files}
+use Rattle.store_files.specs.Merging.{HasOutputs, MayMerge, replaced_files}
 use Rattle.store_files.specs.Merging.{merged_files}
 use Rattle.store_files.specs.OpenFiles.{AreUsableFiles, FilesHold, batch_count}
 use Rattle.store_files.specs.OpenFiles.{known_facts, known_store, known_version, trimmed_count}
@@ -236,10 +237,10 @@ module _ {files : StoreFiles} {edit : Change} (may : MayMerge files edit) where
 
   module _ (slot : IsSlotFile (counting_file files.manifest)) (old disk : State)
       (same : IsSameBeside (merged_files files edit) old disk) (law : EditsKeepVersions) where
-    not_touched : (file : ℕ) → (IsSlotFile file → ⊥) → (Contains (input_files edit) file → ⊥)
+    not_touched : (file : ℕ) → (IsSlotFile file → ⊥) → (Contains (replaced_files edit) file → ⊥)
         → disk file ≡ old file
     not_touched file no_slot no_input = same file (λ has.
-        elim (contains_cases (counting_file files.manifest) (input_files edit) file has) [
+        elim (contains_cases (counting_file files.manifest) (replaced_files edit) file has) [
           | inl is ↦ no_slot (subst IsSlotFile is slot)
           | inr input ↦ no_input input
         ])
@@ -267,7 +268,7 @@ module _ {files : StoreFiles} {edit : Change} (may : MayMerge files edit) where
         let lt = given.1 in omega (arith, lt, above, least))
 
   -- where the inputs alone changed, the slots stay
-  pub slots_stay_behind : (mid new : State) → IsSameBeside (input_files edit) mid new
+  pub slots_stay_behind : (mid new : State) → IsSameBeside (replaced_files edit) mid new
       → (slot : ℕ) → IsSlotFile slot → new slot ≡ mid slot
   slots_stay_behind mid new same slot one = same slot (λ input.
       input_no_slot version lawful edit files.free_file may.fit may.is slot input one)
@@ -282,38 +283,40 @@ slot_alone files edit old new same file other = same file (λ is. other (0, omeg
 
 -- .. and then the inputs
 pub slot_then_inputs : (files : StoreFiles) (edit : Change) (old mid new : State)
-    → IsSameBut (counting_file files.manifest) old mid → IsSameBeside (input_files edit) mid new
+    → IsSameBut (counting_file files.manifest) old mid → IsSameBeside (replaced_files edit) mid new
     → IsSameBeside (merged_files files edit) old new
 slot_then_inputs files edit old mid new before after file other =
-    after file (λ input. other (contains_next (counting_file files.manifest) (input_files edit) file
-    input))
+    after file (λ input. other (contains_next (counting_file files.manifest) (replaced_files edit)
+    file input))
     ∙ slot_alone files edit old mid before file other
 
 -- ---- the open tables
 
 module _ (old new opened : LevelTables) (gone names : List TableName) (items : List OpenTable)
     (same_names : gone ≡ names) (same_items : items ≡ opened.tables.items)
-    (r : ReplacesTables old new gone items (Ok tt)) where
+    (r : ReplacesTables old new gone items (Ok tt)) (lines added : List TableLine)
+    (lines_are : table_lines old ≡ lines) (added_are : table_lines opened ≡ added) where
   -- their lines are those after the edit
-  pub lines_replaced : (lines : List TableLine) → table_lines opened ≡ lines
-      → table_lines new ≡ replaced_lines names lines (table_lines old)
-  lines_replaced lines is =
+  pub lines_replaced : table_lines new ≡ replaced_lines names added (table_lines old)
+  lines_replaced =
       r.lines ∙ ap (λ (l : List OpenTable). replaced_lines gone (open_lines l) (table_lines old))
       same_items
-      ∙ ap (λ (l : List TableLine). replaced_lines gone l (table_lines old)) is
-      ∙ ap (λ (l : List TableName). replaced_lines l lines (table_lines old)) same_names
+      ∙ ap (λ (l : List TableLine). replaced_lines gone l (table_lines old)) added_are
+      ∙ ap (λ (l : List TableName). replaced_lines l added (table_lines old)) same_names
 
   -- and they serve the tables after it, or were meant to
   pub tables_replaced : (disk meant : State) (left right : Contents)
-      (tables outputs : List LevelTable) → AreTablesOf left (table_lines old) tables
-      → AreTablesOf right (table_lines opened) outputs
-      → WereServed disk meant old tables → WereServed disk meant opened outputs
+      (tables outputs : List LevelTable) → AreTablesOf left lines tables
+      → AreTablesOf right added outputs → WereServed disk meant old tables
+      → WereServed disk meant opened outputs
       → WereServed disk meant new (replaced_tables names outputs tables)
-  tables_replaced disk meant left right tables outputs read added were opens =
+  tables_replaced disk meant left right tables outputs read new_read were opens =
       subst (λ (l : List TableName). WereServed disk meant new (replaced_tables l outputs tables))
       same_names (r.served disk meant tables outputs
-      (tables_named left (table_lines old) tables read)
+      (subst (λ (l : List TableLine). AllZip IsLineOf l tables) (sym lines_are)
+      (tables_named left lines tables read))
       (subst (λ (l : List OpenTable). AllZip IsLineOf (open_lines l) outputs) (sym same_items)
-      (tables_named right (table_lines opened) outputs added)) were
+      (subst (λ (l : List TableLine). AllZip IsLineOf l outputs) (sym added_are)
+      (tables_named right added outputs new_read))) were
       (subst (λ (l : List OpenTable). AllZip (WasServed disk meant) l outputs) (sym same_items)
       opens))

@@ -1,62 +1,16 @@
 -- Removals of given files, one behind another.
 use Rattle.std.proofs.Common.{◌≡◌, ◌<◌, ◌+◌, ◌∙◌, ℕ, List, [], length, get_or, take, refl, subst}
-use Rattle.std.proofs.Common.{Err, Result, ◌↔◌, inl, inr, sym}
-use Rattle.std.specs.Prelude.{Contains, IsErrOf, IsNone}
+use Rattle.std.proofs.Common.{inl, inr, sym}
+use Rattle.std.specs.Prelude.{Contains, IsNone}
 use Rattle.std.proofs.lemmas.Bool.{cases_eq}
 use Rattle.std.proofs.lemmas.List.Elements.{All-more, All-nil, All-weaker}
 use Rattle.disk.specs.declared.Disk.{Ghosts}
-use Rattle.disk.specs.declared.DiskError.{DiskError}
-use Rattle.disk.specs.declared.DiskError.TheVariants as disk
-use Rattle.disk.specs.Calls.{IsRefusalOf}
-use Rattle.disk.specs.{AlwaysLeaves, IsFileOutcome, IsLeftAt, IsSameBut, KeepsDisk, Passes}
-use Rattle.disk.specs.{IsEnvironmental, Slot, State, seen}
-use Rattle.disk.specs.BesideLemmas.{at_more, at_start}
+use Rattle.disk.specs.{AlwaysLeaves, IsFileOutcome, IsLeftAt, IsSameBut, KeepsDisk}
+use Rattle.disk.specs.{Slot, State, seen}
 use Rattle.disk.specs.MomentsLemmas.{join, none_yet, weaker}
-use Rattle.store_tables.specs.declared.error.EngineError.TheVariants as engine
-use Rattle.store_tables.specs.declared.error.EngineError.{EngineError}
-use Rattle.store_tables.specs.Errors.{IsEnd, error_of_disk}
 use Rattle.store_tables.specs.KeepingLemmas.{kept_as, kept_behind, neither, unchanged}
 use Rattle.store_files.specs.Removing.{AreAbsent, AreLeftBeside}
 use Rattle.store_files.specs.Tending.{IsSameBeside}
-use Rattle.store_files.proofs.Settles.{disk_failed, not_shorter}
-
--- ---- refusals
-
--- the refusal of a disk ends the files
-pub ends_by_disk : (e : DiskError) → IsEnd (error_of_disk e)
-ends_by_disk disk.Failed = tt
-ends_by_disk disk.NoFile = tt
-ends_by_disk disk.Short = tt
-ends_by_disk disk.Memory = tt
-
--- it is a failure of the device where the disk failed
-pub fails_alike : {T U : Type 0} (called : Result T DiskError) (e : DiskError) (s : EngineError)
-    → called ≡ Err e → s ≡ error_of_disk e
-    → IsErrOf called disk.Failed ↔ IsErrOf {T = U} (Err s) engine.Disk
-fails_alike called e s is told = disk_failed called e (Err s) is told
-
--- a removal that was refused, and not since there is no file, is external
-pub refused_removal : (e : DiskError) (state : State) (file : ℕ) → (e ≡ disk.NoFile → ⊥)
-    → IsRefusalOf e state file 0 → IsEnvironmental engine.Disk engine.Memory (error_of_disk e)
-refused_removal disk.Failed state file there refusal = inl refl
-refused_removal disk.NoFile state file there refusal = absurd (there refl)
-refused_removal disk.Short state file there refusal =
-    absurd (not_shorter (seen (state file)) refusal)
-refused_removal disk.Memory state file there refusal = inr refl
-
--- ---- one file
-
-module _ {D : Type 0} (g : Ghosts D) (old new : D) (file : ℕ) where
-  -- a call on a file alone leaves the others
-  pub call_leaves : {told cause : Type 0} → KeepsDisk g old new told cause (IsSameBut file)
-      → (g.is_honest old → Passes (g.past old) (g.state old) (g.past new) (g.state new))
-      → g.is_honest old
-      → AlwaysLeaves g old new (IsLeftAt (g.state old) file (λ left. Unit {0}))
-  call_leaves kept passes honest =
-      at_more (λ left. Unit {0}) file (g.state old) (g.state old) (g.state new) (g.past old)
-      (g.past old) (g.past new)
-      (at_start (λ left. Unit {0}) file (g.state old) (g.past old) (λ left now. tt))
-      (passes honest) (kept.files honest) (λ left now. tt)
 
 -- ---- several files
 

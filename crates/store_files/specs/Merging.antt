@@ -51,12 +51,12 @@ pub record MeantWithOutputs (disk : State) (files : StoreFiles) (list : List Bat
 -- ---- the record
 
 -- the files of the tables that an edit gives up
-abbrev pub input_files : Change → List ℕ
-input_files edit = map (λ one. one.file) edit.tables_gone
+abbrev pub replaced_files : Change → List ℕ
+replaced_files edit = map (λ one. one.file) edit.tables_gone
 
 -- the files that the record of a merge may change: the slot that counts, and the inputs
 abbrev pub merged_files : StoreFiles → Change → List ℕ
-merged_files files edit = counting_file files.manifest ∷ input_files edit
+merged_files files edit = counting_file files.manifest ∷ replaced_files edit
 
 -- the version is the one after the edit, recorded in the slot that counts; the logs are the same
 pub record IsMergedBy (edit : Change) (old new : StoreFiles) : Type 0 where

@@ -1,32 +1,14 @@
 // Removals of files that no version names any longer.
-ghost use Rattle.std.specs.Prelude.{IfErr, IsErrOf, IsNone, MatchResult};
-ghost use Rattle.disk.specs.{AlwaysLeaves, IsEnvironmental, IsLeftAt, IsSameBut, KeepsDisk, seen};
+ghost use Rattle.std.specs.Prelude.{IfErr, IsErrOf, MatchResult};
+ghost use Rattle.disk.specs.{AlwaysLeaves, IsEnvironmental, KeepsDisk};
 ghost use Rattle.store_tables.specs.declared.error.EngineError.TheVariants.{Disk, Memory};
 ghost use Rattle.store_tables.specs.Errors.{IsEnd};
 ghost use Rattle.store_files.specs.Removing.{AreAbsent, AreLeftBeside};
 ghost use Rattle.store_files.specs.Tending.{IsSameBeside};
 
 use crate::EngineError;
-use disk::{Disk, DiskError};
-
-// Removes a file, if it is there. It is one device call.
-fn remove_file<D: Disk>(disk: &mut D, file: u64) -> Result<(), EngineError>
-    ensures kept { KeepsDisk D.Disk disk.old disk.new (IsErrOf result Disk) ⊥ (IsSameBut file) }
-    ensures gone { D.is_honest disk.old →
-        MatchResult result (λ _. IsNone (seen (D.state disk.new file)))
-        (IsEnvironmental Disk Memory) }
-    ensures any_moment { D.is_honest disk.old → AlwaysLeaves D.Disk disk.old disk.new
-        (IsLeftAt (D.state disk.old) file (λ left. Unit {0})) }
-    ensures causes { IfErr result IsEnd }
-{
-    let Err(e) = disk.remove(file) else {
-        return Ok(());
-    };
-    match e {
-        DiskError::NoFile => Ok(()),
-        _ => Err(e.into()),
-    }
-}
+use disk::Disk;
+use store_tables::remove_file;
 
 /// Removes these files, where they are there. It is one device call for each.
 pub(crate) fn remove_files<D: Disk>(disk: &mut D, files: &[u64]) -> Result<(), EngineError>

@@ -9,4 +9,4 @@ mod table_writing;
 
 pub use error::{EngineError, refusal_of_edit};
 pub use levels::{LevelTables, OpenTable};
-pub use table_writing::write_table;
+pub use table_writing::{remove_file, write_table};

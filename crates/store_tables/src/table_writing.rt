@@ -165,8 +165,8 @@ fn finish_table<D: Disk>(
     }
 }
 
-// Removes a file, if there is one.
-fn remove_file<D: Disk>(disk: &mut D, file: u64) -> Result<(), EngineError>
+/// Removes a file, if there is one. It is one device call.
+pub fn remove_file<D: Disk>(disk: &mut D, file: u64) -> Result<(), EngineError>
     ensures writes { WritesInto D.Disk file disk.old disk.new (IsErrOf result Disk) ⊥ }
     ensures removed { D.is_honest disk.old →
         MatchResult result (λ _. IsNone (seen (D.state disk.new file)))

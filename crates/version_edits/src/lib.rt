@@ -17,6 +17,7 @@ mod version;
 pub use changed::{is_removed, table_is_before, version_after};
 pub use edit::VersionEdit;
 pub use error::EditError;
+pub use fits::removed_files;
 pub use line::{LogLine, MAX_LINES, MAX_NEXT, TableLine, TableName};
 pub use replaying::replay;
 pub use spelling::{bytes_of, full_edit_bytes};

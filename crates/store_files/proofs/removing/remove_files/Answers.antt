@@ -14,7 +14,7 @@ returns-in_err-remove_file-clause-any_moment g c =
     let i = c.loop-file.file-index in
     leaves_then g.D.Disk files c.args.disk.now c.loop-file.disk c.remove_file.new.disk _
     (Contains-get_or files i 0 c.loop-file-test.true) c.loop-file.invariant.gone
-    c.remove_file.ensures.kept c.remove_file.ensures.any_moment
+    c.remove_file.ensures.writes.kept c.remove_file.ensures.writes.any_moment
 
 pub loop-file-preserved : goal.loop-file-preserved
 loop-file-preserved g c =
@@ -23,6 +23,6 @@ loop-file-preserved g c =
     record {
       gone = more_gone g.D.Disk files c.args.disk.now c.loop-file.disk c.remove_file.new.disk _
           (Contains-get_or files i 0 c.loop-file-test.true) c.loop-file.invariant.gone
-          c.in_ok-remove_file.ensures.kept c.remove_file.ensures.any_moment done
-          c.in_ok-remove_file.ensures.gone i c.loop-file-test.true refl refl;
+          c.in_ok-remove_file.ensures.writes.kept c.remove_file.ensures.writes.any_moment done
+          c.in_ok-remove_file.ensures.removed i c.loop-file-test.true refl refl;
     }
