@@ -25,7 +25,8 @@ pub refused_behind_reads : {D : Type 0} (g : Ghosts D) {files : StoreFiles} {edi
     (result : Result (Unit {0}) EngineError) (e : EngineError)
     → IsErrAnd result (λ s. s ≡ e) → IsEnd e
     → ((outputs : List LevelTable) → g.is_honest disk
-    → AreTablesOf (contents (g.state disk)) edit.tables_added outputs → IsEnvironmental engine.Disk engine.Memory e)
+    → AreTablesOf (contents (g.state disk)) edit.tables_added outputs
+    → IsEnvironmental engine.Disk engine.Memory e)
     → KeepsDisk g disk later (IsErrOf result engine.Disk) ⊥ IsSame → IsStill g disk later
     → InstallsMerge g edit disk later files files result
 refused_behind_reads g may names law held stays versions disk later result e told ends external

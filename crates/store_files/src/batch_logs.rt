@@ -8,9 +8,8 @@ ghost use Rattle.disk.specs.{AlwaysLeaves, IsLeftAt, IsSame, IsSameBut, KeepsDis
 ghost use Rattle.disk.specs.{IsEnvironmental, seen};
 ghost use Rattle.record_log.specs.{EndsInRange, LogHolds};
 ghost use Rattle.store_files.specs.BatchLogs.{AreBeside, AreJoined, AreLeftWith, AreUsable};
-ghost use Rattle.store_files.specs.BatchLogs.{HasFullLog, IfLogsHold, IsBatchAnswer};
-ghost use Rattle.store_files.specs.BatchLogs.{IsWorking, LogsHold, first_number, oldest_first};
-ghost use Rattle.store_files.specs.BatchLogs.{line_of};
+ghost use Rattle.store_files.specs.BatchLogs.{HasFullLog, IfLogsHold, IsBatchAnswer, IsWorking};
+ghost use Rattle.store_files.specs.BatchLogs.{LogsHold, first_number, oldest_first, line_of};
 ghost use Rattle.store_files.specs.BatchLogs.{lines_of, newest_file, newest_length, next_number};
 ghost use Rattle.store_files.specs.BatchLogs.{end_of_log, with_line};
 ghost use Rattle.store_tables.specs.declared.error.EngineError.TheVariants.{Disk, Memory};

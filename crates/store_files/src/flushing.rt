@@ -7,14 +7,12 @@ ghost use Rattle.memtable.specs.{HasFailedAdd};
 ghost use Rattle.store_tables.specs.declared.error.EngineError.TheVariants.{Disk};
 ghost use Rattle.store_tables.specs.Errors.{IsEnd};
 ghost use Rattle.store_files.specs.OpenFiles.{AreUsableFiles, FilesHold};
-ghost use Rattle.store_tables.specs.TableWriting.{HasEntry, IsTooLarge};
+ghost use Rattle.store_tables.specs.TableWriting.{HasEntry, IsTooLarge, IsNewLine};
 ghost use Rattle.store_files.specs.OpenFiles.{WereMeantToHold, known_version};
 ghost use Rattle.store_files.specs.StoreFiles.{FilesRepresent, WereMeant, flush_change};
-ghost use Rattle.store_tables.specs.TableWriting.{IsNewLine};
 ghost use Rattle.store_files.specs.TendKeeps.{TendKeeps};
-ghost use Rattle.store_files.specs.Tending.{HeldAndSpilled, IsFlushedBy, IsNewTable};
-ghost use Rattle.store_files.specs.Tending.{LacksPlace, ListIsSpilled, MeantAndSpilled};
-ghost use Rattle.store_files.specs.Tending.{TendMayFail};
+ghost use Rattle.store_files.specs.Tending.{HeldAndSpilled, IsFlushedBy, IsNewTable, LacksPlace};
+ghost use Rattle.store_files.specs.Tending.{ListIsSpilled, MeantAndSpilled, TendMayFail};
 
 use crate::EngineError;
 use crate::store_files::StoreFiles;

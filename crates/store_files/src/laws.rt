@@ -2,9 +2,8 @@
 //! laws.
 ghost use Rattle.store_files.specs.HeldFiles.{HeldFilesAreLeft};
 ghost use Rattle.store_files.specs.StoreFiles.{DamagedFilesOpen, FirstFilesRepresent};
-ghost use Rattle.store_files.specs.StoreFiles.{FlushesRepresent};
-ghost use Rattle.store_files.specs.StoreFiles.{LongerLogsRepresent, StoreFilesAreNamed};
-ghost use Rattle.store_files.specs.StoreFiles.{StoreFilesAreOne};
+ghost use Rattle.store_files.specs.StoreFiles.{FlushesRepresent, LongerLogsRepresent};
+ghost use Rattle.store_files.specs.StoreFiles.{StoreFilesAreNamed, StoreFilesAreOne};
 ghost use Rattle.store_files.specs.StoreFiles.{StoreFilesShowMaps};
 ghost use Rattle.store_files.specs.LogExamples.{FloorsPassLogs, LaterLogIsBehind, TwoLogsHaveThree};
 

@@ -1,20 +1,17 @@
 //! Creating and opening the files of a store.
-ghost use Rattle.std.specs.Prelude.{◌≡◌, ◌↔◌, ◌-◌, [], IsErrOf, IsTrue, List, IfOk, OnOk};
+ghost use Rattle.std.specs.Prelude.{◌≡◌, ◌↔◌, ◌-◌, [], IsErrOf, IsTrue, List, IfOk, OnOk, IfErr};
 ghost use Rattle.store_tables.specs.declared.error.EngineError.TheVariants.{Disk, Memory};
-ghost use Rattle.std.specs.Prelude.{IfErr, MatchResult};
+ghost use Rattle.std.specs.Prelude.{MatchResult, All};
 ghost use Rattle.kv_types.specs.{BatchContent};
 ghost use Rattle.disk.specs.{IsEnvironmental, IsStill, KeepsDisk, contents};
 ghost use Rattle.store_files.specs.Files.{Facts, IsOwned};
 ghost use Rattle.store_files.specs.StoreFiles.{StillLeavesOneOf, before_newest};
 ghost use Rattle.store_files.specs.StoreFiles.{AreOrderedNumbers, HasFirstFiles};
 ghost use Rattle.store_files.specs.OpenFiles.{AreNewFiles, FilesAreRead, FilesHold, OpensStore};
-ghost use Rattle.store_files.specs.OpenFiles.{known_version};
+ghost use Rattle.store_files.specs.OpenFiles.{known_version, WereMeantToHold, WereMeantToRead};
 ghost use Rattle.store_files.specs.Openings.{AreParts, HasParts, PartsHold, PartsWereMeant};
-ghost use Rattle.store_files.specs.Openings.{IfMeantParts, IfParts, WereParts};
+ghost use Rattle.store_files.specs.Openings.{IfMeantParts, IfParts, WereParts, kept_files};
 ghost use Rattle.store_files.specs.Reads.{OnlyReads};
-ghost use Rattle.store_files.specs.Openings.{kept_files};
-ghost use Rattle.store_files.specs.OpenFiles.{WereMeantToHold, WereMeantToRead};
-ghost use Rattle.std.specs.Prelude.{All};
 ghost use Rattle.store_files.specs.Settling.{AreSwept, IsReadAlike};
 ghost use Rattle.manifest.specs.{ManifestHolds, version_of};
 
