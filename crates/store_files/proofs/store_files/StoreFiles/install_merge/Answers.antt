@@ -106,7 +106,8 @@ returns-in-Err-clause-merges g c =
           (λ slot one. same slot) in
           record {
             list = subst (IsEnvironmental engine.Disk engine.Memory) (sym why)
-                (edit_is_external c.in-Err.e (c.in-Err.ensures.changes.changed known honest2 holds));
+                (edit_is_external c.in-Err.e
+                (c.in-Err.ensures.changes.changed known honest2 holds));
             any_moment = merge_is_recorded may names law held.left versions list s1 hs s2 same p1 p2
                 p3 s3 (reads.still honest)
                 (c.record.ensures.changes.any_moment known honest2 holds);
@@ -118,7 +119,8 @@ returns-in-Err-clause-merges g c =
           (manifest_holds s1 files list ms.was held.same) (λ slot one. same slot) in
           record {
             list = subst (IsEnvironmental engine.Disk engine.Memory) (sym why)
-                (edit_is_external c.in-Err.e (c.in-Err.ensures.changes.changed known honest2 holds));
+                (edit_is_external c.in-Err.e
+                (c.in-Err.ensures.changes.changed known honest2 holds));
             any_moment = merge_was_recorded may names law held.left held.same versions list s1 ms s2
                 same p1 p2 p3 s3 (reads.still honest)
                 (c.record.ensures.changes.any_moment known honest2 holds);
