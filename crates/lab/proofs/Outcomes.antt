@@ -267,7 +267,7 @@ stop_traced x event choice traced n is device of_machine = record {
   traced = λ m. ap (λ (c : Option Cause). line.Stopped x c ∷ []) (sym is);
   counted = λ m. refl;
   fits = λ stops. subst (λ (c : Option Cause). IfSome c
-  (IsEnvironmental Disk Memory)) (sym is) of_machine;
+      (IsEnvironmental Disk Memory)) (sym is) of_machine;
   ends = (refl, is, device);
   told = tt;
 }

@@ -16,8 +16,6 @@ mod lettered;
 #[cfg(test)]
 mod memtables;
 #[cfg(test)]
-mod merged_tables;
-#[cfg(test)]
 mod merges;
 #[cfg(test)]
 mod numbered;
