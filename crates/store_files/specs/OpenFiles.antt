@@ -112,6 +112,10 @@ pub record AreUsableFiles (files : StoreFiles) : Type 0 where
   pub free : (known_version files).version.next_file ≤ files.free_file
   pub free_few : files.free_file ≤ MAX_NEXT
 
+-- no file is under way: the first free one is that of the version
+abbrev pub HasNoFileUnderWay : StoreFiles → Type 0
+HasNoFileUnderWay files = files.free_file ≡ (known_version files).version.next_file
+
 -- ---- what the open files hold
 
 -- The open files know what the disk durably represents: the list of batches, and the facts. Files

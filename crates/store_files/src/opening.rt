@@ -7,6 +7,7 @@ ghost use Rattle.disk.specs.{IsEnvironmental, IsStill, KeepsDisk, contents};
 ghost use Rattle.store_files.specs.Files.{Facts, IsOwned};
 ghost use Rattle.store_files.specs.StoreFiles.{StillLeavesOneOf, before_newest};
 ghost use Rattle.store_files.specs.StoreFiles.{AreOrderedNumbers, HasFirstFiles};
+ghost use Rattle.store_files.specs.OpenFiles.{HasNoFileUnderWay};
 ghost use Rattle.store_files.specs.OpenFiles.{AreNewFiles, FilesAreRead, FilesHold, OpensStore};
 ghost use Rattle.store_files.specs.OpenFiles.{known_version, WereMeantToHold, WereMeantToRead};
 ghost use Rattle.store_files.specs.Openings.{AreParts, HasParts, PartsHold, PartsWereMeant};
@@ -134,6 +135,7 @@ fn read_files<D: Disk>(alloc: Global, disk: &mut D) -> Result<StoreFiles, Engine
         (λ files. ManifestHolds (D.state disk.new) files.manifest (known_version files)) }
     ensures alike { D.is_honest disk.old →
         OnOk result (IsReadAlike (D.state disk.old) (D.state disk.new)) }
+    ensures counter { IfOk result HasNoFileUnderWay }
     ensures still { IsStill D.Disk disk.old disk.new }
 {
     version_is_one(); // law: files that represent a version are of a store that was created
@@ -164,6 +166,7 @@ impl StoreFiles {
         ensures created { D.is_honest disk.old → MatchResult result
             (λ files. FilesHold (D.state disk.new) files []) (IsEnvironmental Disk Memory) }
         ensures begun { IfOk result (AreNewFiles id config.now) }
+        ensures counter { IfOk result HasNoFileUnderWay }
         ensures first { D.is_honest disk.old →
             OnOk result (HasFirstFiles (D.state disk.new) id config.now) }
     {
@@ -195,6 +198,7 @@ impl StoreFiles {
             StillLeavesOneOf D.Disk disk.old disk.new facts list facts' list' }
         ensures swept { D.is_honest disk.old → IfOk result (λ files. AreSwept
             (kept_files (known_version files).version) (D.state disk.old) (D.state disk.new)) }
+        ensures counter { IfOk result HasNoFileUnderWay }
 
         // What is refused for its files is left as it was.
         ensures still { IfErr result (λ e. (IsEnvironmental Disk Memory e → ⊥) →
