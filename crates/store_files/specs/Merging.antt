@@ -58,11 +58,13 @@ replaced_files edit = map (λ one. one.file) edit.tables_gone
 abbrev pub merged_files : StoreFiles → Change → List ℕ
 merged_files files edit = counting_file files.manifest ∷ replaced_files edit
 
--- the version is the one after the edit, recorded in the slot that counts; the logs are the same
+-- the version is the one after the edit, recorded in the slot that counts; the logs and the first
+-- free file are the same
 pub record IsMergedBy (edit : Change) (old new : StoreFiles) : Type 0 where
   pub version : known_version new ≡ node_version_after (known_version old) edit
   pub slots : HasSameSlots old.manifest new.manifest
   pub logs : new.logs ≡ old.logs
+  pub free : new.free_file ≡ old.free_file
 
 -- What an installed merge keeps of files that hold a list, or were meant to: the list and the
 -- facts.

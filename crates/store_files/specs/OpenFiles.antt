@@ -116,6 +116,11 @@ pub record AreUsableFiles (files : StoreFiles) : Type 0 where
 abbrev pub HasNoFileUnderWay : StoreFiles → Type 0
 HasNoFileUnderWay files = files.free_file ≡ (known_version files).version.next_file
 
+-- the open files know the same facts, and the first free file is the same
+abbrev pub HasSameFacts : (old new : StoreFiles) → Type 0
+HasSameFacts old new =
+    (known_facts new ≡ known_facts old) × (new.free_file ≡ old.free_file)
+
 -- ---- what the open files hold
 
 -- The open files know what the disk durably represents: the list of batches, and the facts. Files

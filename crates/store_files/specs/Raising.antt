@@ -74,13 +74,14 @@ facts_with_floor files floor = record (known_facts files) {
 }
 
 -- The version is the one after the edit, recorded in the slot that counts, and the facts are those
--- with the new floor. The open tables are the same.
+-- with the new floor. The open tables and the first free file are the same.
 pub record IsRaisedBy (floor : ℕ) (old new : StoreFiles) : Type 0 where
   pub version : known_version new ≡ node_version_after (known_version old)
       (raise_change (known_version old).version floor)
   pub facts : known_facts new ≡ facts_with_floor old floor
   pub slots : HasSameSlots old.manifest new.manifest
   pub tables : new.tables ≡ old.tables
+  pub free : new.free_file ≡ old.free_file
 
 -- What a rise of the floor keeps of files that hold a list, or were meant to: the list. The facts
 -- are the old ones or the new ones at each moment.

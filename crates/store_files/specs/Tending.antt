@@ -64,12 +64,13 @@ pub record IsNewTable (files : StoreFiles) (it : Flushed) : Type 0 where
   pub next : IsNextTable files it.line
   pub opened : it.table.line ≡ it.line
 
--- the version is the one after the edit of a flush with this table, recorded in the slot that
--- counts
+-- The version is the one after the edit of a flush with this table, recorded in the slot that
+-- counts. The first free file is the one behind the new table and the new log.
 pub record IsFlushedBy (line : TableLine) (old new : StoreFiles) : Type 0 where
   pub version : known_version new ≡ node_version_after (known_version old)
       (flush_change (known_version old).version old.free_file (batch_count old) line)
   pub slots : HasSameSlots old.manifest new.manifest
+  pub free : new.free_file ≡ old.free_file + 2
 
 -- The entries in memory are durably in a table of level 0, in the first free file, which is open.
 -- No other file changed.
@@ -106,13 +107,14 @@ ListIsSpilled Hold Represent g files disk later result =
 
 -- ---- the answers of a tend
 
--- a rewrite that is due: the manifest was rewritten, so none is due now, or its generation cannot
--- rise
+-- A rewrite that is due: the manifest was rewritten, so none is due now, or its generation cannot
+-- rise. The first free file is the same.
 abbrev pub IsRewriteAnswer : StoreFiles → StoreFiles → Tended → Type 0
 IsRewriteAnswer old new tended.Idle = ⊥
 IsRewriteAnswer old new tended.Worked =
     (generation_of new.manifest ≡ generation_of old.manifest + 1)
     × (known_version new ≡ known_version old) × (RewriteIsDue new → ⊥)
+    × (new.free_file ≡ old.free_file)
 IsRewriteAnswer old new tended.Full = (MAX_NUMBER ≤ generation_of old.manifest) × (new ≡ old)
 
 -- a flush that is due: the version has one table of level 0 more, a log for the next batches, and

@@ -10,8 +10,8 @@ ghost use Rattle.store_files.specs.BatchLogs.{HasFullLog, newest_file};
 ghost use Rattle.store_tables.specs.declared.error.EngineError.TheVariants.{Disk, Memory};
 ghost use Rattle.store_tables.specs.Errors.{IsEnd};
 ghost use Rattle.store_files.specs.OpenFiles.{AreUsableFiles, FilesHold, batch_count, known_facts};
-ghost use Rattle.store_files.specs.OpenFiles.{IfHeld, IfMeant, ListGrows, WereMeantToHold};
-ghost use Rattle.store_files.specs.OpenFiles.{trimmed_count};
+ghost use Rattle.store_files.specs.OpenFiles.{HasSameFacts, IfHeld, IfMeant, ListGrows};
+ghost use Rattle.store_files.specs.OpenFiles.{WereMeantToHold, trimmed_count};
 ghost use Rattle.memtable.specs.{HasFailedAdd, TableHolds};
 ghost use Rattle.store_tables.specs.LevelTables.{EntriesHave, found_value};
 ghost use Rattle.store_files.specs.Reads.{OnlyReads};
@@ -106,7 +106,7 @@ impl StoreFiles {
         ensures counts { MatchResult result
             (λ _. AreUsableFiles self.new × (batch_count self.new ≡ batch_count self.old + 1))
             (λ e. (batch_count self.new ≡ batch_count self.old) × IsEnd e) }
-        ensures facts { known_facts self.new ≡ known_facts self.old }
+        ensures facts { HasSameFacts self.old self.new }
     {
         // laws: a crash leaves what is durable, and the version of an open manifest
         durable_is_left();

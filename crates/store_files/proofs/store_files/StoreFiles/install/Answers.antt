@@ -14,13 +14,12 @@ use Rattle.store_tables.specs.LevelTables.{table_lines, with_flushed, with_flush
 use Rattle.store_files.specs.OpenFiles.{batch_count, known_version, trimmed_count}
 use Rattle.store_files.specs.StoreFiles.{flush_change}
 use Rattle.store_files.proofs.Appended.{first_same}
-use Rattle.store_tables.specs.RefusalLemmas.{refuses}
+use Rattle.store_tables.specs.RefusalLemmas.{passed_on, refuses}
 use Rattle.store_files.proofs.FlushVersions.{beside_new, count_kept, edit_is, flush_by}
 use Rattle.store_files.proofs.FlushVersions.{facts_kept, installed_usable, known}
 use Rattle.store_files.proofs.Installed.{edit_is_recorded, installed_holds, log_begins}
 use Rattle.store_files.proofs.Installed.{manifest_begun, new_ends, new_served, none_begun}
 use Rattle.store_files.proofs.Installed.{old_served, spilled_named}
-use Rattle.store_tables.specs.RefusalLemmas.{passed_on}
 use Rattle.store_files.proofs.Meant.{own_blocks, zip_was}
 use Rattle.store_files.proofs.MeantInstalls.{all_served, edit_was_recorded, installed_as_meant}
 use Rattle.store_files.proofs.MeantInstalls.{log_was_begun, m3, manifest_was_begun, meant_ends}
@@ -335,6 +334,7 @@ returns g c =
       did = record {
         version = known so new c.in_default.ensures.told.0 begun.2;
         slots = c.record.ensures.slots;
+        free = refl;
       };
       tended = λ list honest hs.
           let spares = c.begin.ensures.kept.files honest in

@@ -271,6 +271,7 @@ returns-clause-merges g c =
         version = r.told;
         slots = c.record.ensures.slots;
         logs = refl;
+        free = refl;
       }) c.remove_files.ensures.causes;
       tended = λ list honest hs.
           let honest2 = reads.kept.honest.1 honest in

@@ -171,6 +171,7 @@ returns-clause-raises g c =
         facts = facts_after may new r;
         slots = c.record.ensures.slots;
         tables = refl;
+        free = refl;
       }) c.remove_files.ensures.causes;
       tended = λ list honest h.
           let honest2 = c.record.ensures.changes.kept.honest.1 honest in

@@ -38,7 +38,7 @@ returns-in-Ok g c =
       touches = λ honest. spare_alone files disk new (c.rewrite.ensures.changes.kept.files honest);
       numbers = (refl, facts_with files c.rewrite.new.self told.0);
       usable = usable_with files c.rewrite.new.self told.0 told.1.2 c.requires;
-      did = (told.1.0, told.0, told.1.1);
+      did = (told.1.0, told.0, told.1.1, refl);
       tended = λ list honest h. record {
         list = held_rewritten disk files list h new c.rewrite.new.self _
             (c.manifest_has_slots.ensures disk files.manifest known h.known.manifest).1
