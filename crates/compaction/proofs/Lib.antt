@@ -14,6 +14,7 @@ mod Steps
 mod Advances
 mod Numbers
 mod Merging
+mod Shapes
 mod EditedTables
 mod Fits
 mod Lasting

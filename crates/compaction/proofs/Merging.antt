@@ -144,8 +144,8 @@ module _ {U F : Type 0} (u : CursorGhosts U F) (d : Ghosts F)
       → MovesFiles d (reports result) old new
       → ((meant : u.Meant) → u.is_sound meant union old →
       MoveFinds Forward AtEnd (u.holds meant union old) result (u.position moved))
-      → result ≡ Ok x → IsWalking u d meant new next_file moved writer inputs
-      × (IsIntactOn u d (table_files inputs) union old
+      → result ≡ Ok x → (walk : IsWalking u d meant new next_file moved writer inputs)
+      × (walk.met ≡ []) × (IsIntactOn u d (table_files inputs) union old
       → IsIntactOn u d (table_files inputs) moved new)
   walk_first meant inputs old new next_file union moved writer x result honest sound alike reads
       early unused none holds moves kept finds ok =
@@ -171,6 +171,7 @@ module _ {U F : Type 0} (u : CursorGhosts U F) (d : Ghosts F)
           writes = holds (d.state new) next_file;
           unused = same_unused (d.state old) (d.state new) next_file same unused;
         },
+        refl,
         intact_moved u d laws (table_files inputs) union moved old old new reads reads_on
             (honest, λ file there. refl) (now, λ file there. same file) moves,
       )

@@ -7,16 +7,20 @@ use Rattle.std.proofs.Common.{Result, Ok, Err, get_or}
 use Rattle.std.specs.Prelude.{◌&&◌, IsErrAnd, IsErrOf, IsNone, MatchResult, is_ok, is_some}
 use Rattle.std.specs.Global.{Vec}
 use Rattle.std.specs.List.{AllZip}
-use Rattle.std.proofs.Common.{Contains, map}
+use Rattle.std.proofs.Common.{Contains, cond, map}
 use Rattle.kv_types.specs.OrderLemmas.{among_of_All}
 use Rattle.version_edits.specs.Versions.{are_once}
 use Rattle.std.specs.Option.{option_map}
-use Rattle.std.proofs.lemmas.Bool.{cond_both, le-leb, true≢false}
+use Rattle.std.proofs.lemmas.Bool.{cases_Bool, cond-false, cond-true, cond_both, le-leb}
+use Rattle.std.proofs.lemmas.Bool.{true≢false}
+use Rattle.std.proofs.lemmas.List.{map-append}
+use Rattle.std.proofs.lemmas.List.Elements.{All-push, Contains-push_cases}
 use Rattle.std.proofs.lemmas.List.Elements.{All-head, All-tail, All-weaker}
 use Rattle.disk.specs.declared.Disk.{Ghosts}
 use Rattle.disk.specs.{Absent, Fresh, IsSame, Kept, Slot, State, seen}
 use Rattle.kv_types.specs.{Entry}
 use Rattle.version_edits.specs.declared.TableLine.{TableLine}
+use Rattle.version_edits.specs.{IsTableLine}
 use Rattle.table_format.specs.{CanFollow}
 use Rattle.table_builder.specs.{Builds, BuildsNothing, IsFresh, data_size}
 use Rattle.compaction.specs.declared.error.MergeError.{MergeError}
@@ -250,6 +254,31 @@ once_pushed lines line file once apart named = differ_once line_file (lines ++ l
           (same ∙ ap line_file (sym is) ∙ named)
       | inr none ↦ absurd none
     ]))
+
+-- each line is proper, where those of before and the one that may be pushed are
+pub push_proper : (lines pushed : List TableLine) (line : TableLine) (ok : Bool)
+    → pushed ≡ cond ok (lines ++ line ∷ []) lines → All IsTableLine lines → IsTableLine line
+    → All IsTableLine pushed
+push_proper lines pushed line ok is each one = elim (cases_Bool ok) [
+  | inl pushes ↦ subst (λ (l : List TableLine). All IsTableLine l)
+      (sym (is ∙ cond-true _ _ _ pushes)) (All-push IsTableLine lines line each one)
+  | inr fails ↦ subst (λ (l : List TableLine). All IsTableLine l)
+      (sym (is ∙ cond-false _ _ _ fails)) each
+]
+
+-- the file of a complete output was that of an output, where the one that is pushed was open
+pub push_outputs : (old : OutputWriter) (pushed : List TableLine) (line : TableLine)
+    (output : OpenOutput) (file : ℕ) → pushed ≡ old.closed.items ++ line ∷ []
+    → old.current ≡ Some output → line.file ≡ output.file
+    → Contains (map line_file pushed) file → IsOutputFile old file
+push_outputs old pushed line output file is current named there =
+    elim (Contains-push_cases (map line_file old.closed.items) line.file file
+    (subst (λ (l : List ℕ). Contains l file)
+    (ap (map line_file) is ∙ map-append line_file old.closed.items (line ∷ [])) there)) [
+      | inl before ↦ inr before
+      | inr same ↦ inl (ap (option_map (λ (it : OpenOutput). it.file)) current
+          ∙ ap (λ n. Some n) (sym named ∙ same))
+    ]
 
 -- the same files
 pub same_writes : (old new : State) (writer : OutputWriter) (next_file : ℕ) (it : Written)

@@ -1,6 +1,6 @@
 -- A merge: what its calls promise.
 use Rattle.std.specs.Prelude.{◌≡◌, ◌⊎◌, ◌↔◌, ℕ, suc, ◌+◌, ◌<◌, ◌≤◌, List, [], length, map, IsTrue}
-use Rattle.std.specs.Prelude.{All, Bool, IsErrOf, Result, Err, MatchResult}
+use Rattle.std.specs.Prelude.{All, Bool, IfOk, IsErrOf, Result, Err, MatchResult}
 use Rattle.std.specs.List.{AllZip}
 use Rattle.disk.specs.declared.Disk.{Ghosts}
 use Rattle.disk.specs.{IsEnvironmental, State}
@@ -13,7 +13,7 @@ use Rattle.store_model.specs.{AreEdited, IsMerged, IsUnderWay, LevelTable, Merge
 use Rattle.store_model.specs.{StoreRepresents, StoreState, tables_entries, with_tables}
 use Rattle.version_edits.specs.declared.TableLine.{TableLine}
 use Rattle.version_edits.specs.declared.TableName.{TableName}
-use Rattle.version_edits.specs.declared.line.TheConstants.{MAX_LINES}
+use Rattle.version_edits.specs.declared.line.TheConstants.{MAX_LINES, MAX_NEXT}
 use Rattle.version_edits.specs.Versions.{are_once}
 use Rattle.version_edits.specs.{Change, IsChange, IsFit, IsVersion, StoreVersion, changed}
 use Rattle.compaction.specs.declared.error.MergeError.{MergeError}
@@ -147,6 +147,12 @@ module _ {D F : Type 0} (u : CursorGhosts (Merged (TableCursor D)) F) (d : Ghost
     pub gone : it.gone.items ≡ map table_name plan.inputs
     pub numbers : IsNumberedFrom (begun_number it) next_file it.writer plan.inputs
 
+  -- the merge of the plan is under way, and no entry of the inputs is met yet
+  pub record IsJustBegun (meant : u.Meant) (files : F) (next_file : ℕ) (it : Merge D)
+      (plan : MergePlan) (floor : ℕ) : Type 0 where
+    pub merging : IsMerging meant files next_file it plan floor
+    pub none : merging.walk.met ≡ []
+
   -- no merge is under way
   abbrev pub IsNoMerge : F → ℕ → Merge D → Type 0
   IsNoMerge files next_file it =
@@ -177,6 +183,7 @@ module _ {D F : Type 0} (u : CursorGhosts (Merged (TableCursor D)) F) (d : Ghost
         (IsNoMerge old next_old was)
     pub numbers : UsesNumbers was.writer next_old now.writer next_new
     pub first : begun_number now ≡ begun_number was
+    pub gone : now.gone ≡ was.gone
     pub beside : (version : StoreVersion) → IsVersion version → version.next_file ≤ next_old →
         MergeIsBeside was version → MergeIsBeside now version
     pub status : StepStatus result was now
@@ -189,12 +196,18 @@ module _ {D F : Type 0} (u : CursorGhosts (Merged (TableCursor D)) F) (d : Ghost
         (StepRefusal (IsIntactMerge old was plan) tables was.writer plan.inputs)
 
   -- the last output is complete, and this is the edit
-  pub record EndsMerge (version : StoreVersion) (next_file : ℕ) (was : Merge D) (old new : F)
-      (result : Result Change MergeError) : Type 0 where
+  pub record EndsMerge (version : StoreVersion) (next_file : ℕ) (old : F) (was : Merge D) (new : F)
+      (now : Merge D) (result : Result Change MergeError) : Type 0 where
     -- the call writes to the file of the open output
     pub writes : WritesOnly d (IsOpenFile was.writer) old new (IsErrOf result merge.Disk)
         (IsNoMerge old next_file was)
+    pub first : begun_number now ≡ begun_number was
     pub failed : MergeHasFailed was → result ≡ Err merge.Failed
+    -- whatever the files are, the edit gives up what the merge began with, changes nothing but
+    -- tables, and has fields within their limits where the next file is within its own
+    pub shape : IfOk result (λ edit.
+        (edit ≡ merge_change version next_file was.gone.items edit.tables_added)
+        × (next_file ≤ MAX_NEXT → IsChange edit))
     -- of a merge under way, of which no entry is left
     pub ends : (meant : u.Meant) (plan : MergePlan) (floor : ℕ) →
         IsMerging meant old next_file was plan floor → (HasEntriesLeft was → ⊥) →

@@ -52,6 +52,7 @@ pub(crate) fn finish_output<D: Disk>(
         MatchResult result (λ line. IsOutput (D.state disk.new) level line entries)
         (IsEnvironmental Disk Memory) }
     ensures file { IfOk result (λ line. line.file ≡ output.file) }
+    ensures proper { IfOk result IsTableLine }
     ensures place { IfErr result (λ e. e ≡ MergeError.Full → ⊥) }
 {
     let OpenOutput { file, builder } = output;

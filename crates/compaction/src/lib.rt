@@ -7,6 +7,7 @@ mod inputs;
 pub mod laws;
 mod leftovers;
 mod merge;
+mod merge_edit;
 mod open_output;
 mod picking;
 mod plan;

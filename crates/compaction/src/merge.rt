@@ -1,21 +1,12 @@
 //! A merge in bounded steps.
-ghost use Rattle.std.specs.Prelude.{◌≡◌, ◌≤◌, ◌<◌, ◌⊎◌, ◌+◌, IsErrOf, List, IfOk, MatchResult};
-ghost use Rattle.disk.specs.{IsEnvironmental};
-ghost use Rattle.std.specs.Prelude.{Some, filter, nat_lt, ℕ};
-ghost use Rattle.std.specs.List.{AllZip};
-ghost use Rattle.store_model.specs.{LevelTable};
+ghost use Rattle.std.specs.Prelude.{◌≡◌, ◌≤◌, ◌+◌, All, IfOk, filter, length, nat_lt};
+ghost use Rattle.kv_types.specs.declared.bounds.TheConstants.{MAX_NUMBER};
 ghost use Rattle.version_edits.specs.declared.line.TheConstants.{MAX_LINES};
-ghost use Rattle.compaction.specs.declared.error.MergeError.TheVariants.{Disk, Memory};
-ghost use Rattle.compaction.specs.Merges.{AreCursorsOf, AreIntactCursors, EndsMerge, IsIntactMerge};
-ghost use Rattle.compaction.specs.Leftovers.{RemovesLeftovers};
-ghost use Rattle.compaction.specs.Merges.{IsMergeOutput, IsMerging, StepsMerge, begun_number};
-ghost use Rattle.compaction.specs.Merges.{merge_change};
-ghost use Rattle.compaction.specs.Outputs.{AreUnused, WritesOnly};
-ghost use Rattle.compaction.specs.Plans.{IsLineOf, model_plan, range_of};
 
 use crate::error::MergeError;
 use crate::laws::{merge_edits_fit, written_are_merged};
 use crate::leftovers::remove_leftovers;
+use crate::merge_edit::edit_of;
 use crate::plan::Plan;
 use crate::walking::{are_lawful, write_some};
 use crate::writer::OutputWriter;
@@ -37,6 +28,8 @@ pub struct Merge<D> {
     // The next file as the merge began.
     first: u64,
     has_failed: bool,
+    ghost few: { length gone.items ≤ MAX_LINES },
+    ghost named: { All (λ one. (one.level ≤ 6) × (one.file ≤ MAX_NUMBER)) gone.items },
 }
 
 // The lines of the tables that are deeper than the next level.
@@ -59,31 +52,19 @@ fn deeper_lines(
     Ok(lines)
 }
 
-// The edit of a merge in this version.
-fn edit_of(
-    alloc: Global,
-    version: &StoreVersion,
-    next_file: u64,
-    gone: Vec<TableName>,
-    added: Vec<TableLine>,
-) -> Result<VersionEdit, AllocError>
-    ensures { IfOk result (λ edit. edit
-        ≡ merge_change version.now.version next_file gone.items added.items) }
-{
-    Ok(VersionEdit {
-        next_file,
-        floor: version.floor,
-        flushed: version.flushed,
-        epoch: version.epoch,
-        config: version.config.clone()?,
-        logs_gone: Vec::new(alloc),
-        logs_added: Vec::new(alloc),
-        tables_gone: gone,
-        tables_added: added,
-    })
-}
-
 impl<D: Disk + Drop> Merge<D> {
+    ghost use Rattle.std.specs.Prelude.{◌<◌, ◌⊎◌, ℕ, IsErrOf, List, MatchResult, Some};
+    ghost use Rattle.std.specs.List.{AllZip};
+    ghost use Rattle.disk.specs.{IsEnvironmental};
+    ghost use Rattle.store_model.specs.{LevelTable};
+    ghost use Rattle.compaction.specs.declared.error.MergeError.TheVariants.{Disk, Memory};
+    ghost use Rattle.compaction.specs.Leftovers.{RemovesLeftovers};
+    ghost use Rattle.compaction.specs.Merges.{AreCursorsOf, AreIntactCursors, EndsMerge};
+    ghost use Rattle.compaction.specs.Merges.{IsIntactMerge, IsJustBegun, IsMergeOutput};
+    ghost use Rattle.compaction.specs.Merges.{StepsMerge, begun_number};
+    ghost use Rattle.compaction.specs.Outputs.{AreUnused, WritesOnly};
+    ghost use Rattle.compaction.specs.Plans.{IsLineOf, model_plan, range_of};
+
     /// Begins the merge of a plan in a version, at the floor of the version, with file numbers from
     /// this one on. An output is complete from so many bytes of data on. There is a cursor for each
     /// input, in the order of the version; each reads its first entry.
@@ -110,7 +91,7 @@ impl<D: Disk + Drop> Merge<D> {
             cursors.items (model_plan plan range tables).inputs →
             version.now.version.next_file ≤ next_file →
             AreUnused (⟦<Files<D> as Disk>⟧.state files.old) next_file → MatchResult result
-            (λ merge. IsMerging ⟦<Merged<TableCursor<D>> as Cursor>⟧ ⟦<Files<D> as Disk>⟧ meant
+            (λ merge. IsJustBegun ⟦<Merged<TableCursor<D>> as Cursor>⟧ ⟦<Files<D> as Disk>⟧ meant
             files.new next_file merge (model_plan plan range tables) version.now.version.floor
             × (AreIntactCursors ⟦<TableCursor<D> as Cursor>⟧ ⟦<Files<D> as Disk>⟧ files.old
             cursors.items (model_plan plan range tables).inputs →
@@ -179,7 +160,7 @@ impl<D: Disk + Drop> Merge<D> {
         next_file: u64,
     ) -> Result<VersionEdit, MergeError>
         ensures { EndsMerge ⟦<Merged<TableCursor<D>> as Cursor>⟧ ⟦<Files<D> as Disk>⟧
-            version.now.version next_file self.old files.old files.new result }
+            version.now.version next_file files.old self.old files.new self.new result }
     {
         written_are_merged(); // law: tables with what is written are the outputs of the merge
         merge_edits_fit(); // law: the version may take the edit
@@ -194,6 +175,13 @@ impl<D: Disk + Drop> Merge<D> {
             return Err(MergeError::Full);
         }
         Ok(edit_of(alloc, version, next_file, gone, added)?)
+    }
+
+    /// The number of a file from which on it uses numbers.
+    pub fn begun(&self) -> u64
+        ensures { result ≡ begun_number self.now }
+    {
+        self.first
     }
 
     /// Ends the merge without an edit: removes the files that were written since it began, up to

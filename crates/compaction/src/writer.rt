@@ -1,6 +1,7 @@
 //! The writer of a merge's outputs. Entries come in order: those that the merge drops are left out,
 //! and the others are written into tables.
-ghost use Rattle.std.specs.Prelude.{◌≤◌, ◌<◌, IsErrOf};
+ghost use Rattle.std.specs.Prelude.{◌≤◌, ◌<◌, All, IsErrOf};
+ghost use Rattle.version_edits.specs.{IsTableLine};
 
 use crate::error::MergeError;
 use crate::finishing::finish_output;
@@ -32,6 +33,7 @@ pub struct OutputWriter {
     current: Option<OpenOutput>,
     ghost merged: { level ≤ 6 },
     ghost aimed: { 0 < target },
+    ghost proper: { All IsTableLine closed.items },
 }
 
 impl OutputWriter {

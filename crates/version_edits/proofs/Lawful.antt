@@ -13,9 +13,9 @@ use Rattle.version_edits.specs.Versions.{AreFit, after_all}
 use Rattle.version_edits.specs.Versions.{logs_left, tables_left}
 use Rattle.version_edits.specs.Versions.{log_is_before, table_is_before, placed}
 use Rattle.version_edits.specs.Versions.{is_new_file, names_file, names_log, version_in}
-use Rattle.version_edits.specs.Versions.{AreLawful, IsNew, IsThere, NumbersRise, keeps_ids}
-use Rattle.std.specs.Prelude.{IsTrue}
-use Rattle.std.proofs.Common.{Option}
+use Rattle.std.specs.Prelude.{MatchOption}
+use Rattle.std.specs.Global.{Vec}
+use Rattle.std.proofs.Common.{Option, Some}
 use Rattle.std.proofs.Common.{Bool, true, false, not, ◌&&◌, nat_le, nat_lt}
 use Rattle.std.specs.List.{list_all}
 use Rattle.std.proofs.lemmas.Bool.{leb-true, le-leb, ltb-true, lt-ltb}
@@ -161,33 +161,28 @@ with_lines c logs tables = record {
   tables = tables;
 }
 
--- what the code makes of the version so far and an edit that was read
+-- what the code makes of the version so far and an edit that it takes
 pub next_made : (old : Option NodeVersion) (change edit : Change) (ids : List ℕ)
-    (logs : List LogLine) (tables : List TableLine) → change ≡ edit → ids ≡ edit.ids
-    → AreLines (version_in old) → IsChange change
-    → NumbersRise (version_in old) change → IsTrue (keeps_ids (version_in old).ids change.ids)
-    → IsThere (version_in old) change → IsNew (version_in old) change → AreLawful logs tables
-    → logs ≡ (changed (version_in old) change).logs
-    → tables ≡ (changed (version_in old) change).tables
-    → IsVersion (with_lines (record edit { ids = ids }) logs tables)
-next_made old change edit copy logs tables read i lines is numbers ids there new lawful l t =
+    (made : Option (Vec LogLine × Vec TableLine)) (x : Vec LogLine × Vec TableLine)
+    → made ≡ Some x → change ≡ edit → ids ≡ edit.ids → AreLines (version_in old) → IsChange change
+    → MatchOption made (IsFit (version_in old) change → ⊥) (λ y. IsFit (version_in old) change
+    × (y.0.items ≡ (changed (version_in old) change).logs)
+    × (y.1.items ≡ (changed (version_in old) change).tables))
+    → IsVersion (with_lines (record edit { ids = ids }) x.0.items x.1.items)
+next_made old change edit copy made x some read i lines is found =
     let v = version_in old in
-    let fit : IsFit v change = record {
-      numbers = numbers;
-      ids = ids;
-      there = there;
-      new = new;
-      lawful = subst (λ (x : List TableLine). AreLawful (changed v change).logs x) t
-          (subst (λ (x : List LogLine). AreLawful x tables) l lawful);
-    } in
-    let same : with_lines change logs tables ≡ changed v change =
-    ap (λ (x : List LogLine). with_lines change x tables) l
-    ∙ ap (λ (x : List TableLine). with_lines change (changed v change).logs x) t in
-    let whole : IsVersion (with_lines edit logs tables) =
-    subst (λ (c : Change). IsVersion (with_lines c logs tables)) read
-    (subst IsVersion (sym same) (version_fit v change lines fit is)) in
-    subst (λ (x : List ℕ). IsVersion (with_lines (record edit { ids = x }) logs tables)) (sym i)
-    whole
+    let new = changed v change in
+    let fit = subst (λ (o : Option (Vec LogLine × Vec TableLine)).
+    MatchOption o (IsFit v change → ⊥) (λ y. IsFit v change × (y.0.items ≡ new.logs)
+    × (y.1.items ≡ new.tables))) some found in
+    let same : with_lines change x.0.items x.1.items ≡ new =
+    ap (λ (l : List LogLine). with_lines change l x.1.items) fit.1
+    ∙ ap (λ (t : List TableLine). with_lines change new.logs t) fit.2 in
+    let whole : IsVersion (with_lines edit x.0.items x.1.items) =
+    subst (λ (c : Change). IsVersion (with_lines c x.0.items x.1.items)) read
+    (subst IsVersion (sym same) (version_fit v change lines fit.0 is)) in
+    subst (λ (l : List ℕ). IsVersion (with_lines (record edit { ids = l }) x.0.items x.1.items))
+    (sym i) whole
 
 -- all of them
 pub after_version : (v : StoreVersion) (changes : List Change) → AreLines v → changes ≢ []

@@ -19,6 +19,7 @@ pub use edit::VersionEdit;
 pub use error::EditError;
 pub use fits::removed_files;
 pub use line::{LogLine, MAX_LINES, MAX_NEXT, TableLine, TableName};
+pub use next::is_fit;
 pub use replaying::replay;
 pub use spelling::{bytes_of, full_edit_bytes};
 pub use version::{StoreVersion, first_version};

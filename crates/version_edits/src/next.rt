@@ -1,5 +1,6 @@
-// The version after an edit that was read, where the version may take it.
+// The version after an edit, where the version before it may take it.
 ghost use Rattle.std.specs.Prelude.{◌≡◌, ◌⊎◌, ◌↔◌, ◌<◌, ◌≤◌, IfOk, IfErr, IsErrOf, IsTrue};
+ghost use Rattle.std.specs.Prelude.{MatchOption, option_copied};
 ghost use Rattle.std.specs.List.{fold, list_all};
 ghost use Rattle.version_edits.specs.Versions.{AreLawful, IsFit, IsNew};
 ghost use Rattle.version_edits.specs.Versions.{IsThere, NumbersRise, changed};
@@ -18,9 +19,9 @@ use configurations::{Config, NodeId};
 use std::alloc::{AllocError, Global};
 
 // The logs of a version, and none before the first edit.
-fn logs_of(old: &Option<StoreVersion>) -> &[LogLine]
-    ensures logs { result.now ≡ (version_in old.now).logs }
-    ensures lines { AreLines (version_in old.now) }
+fn logs_of(old: Option<&StoreVersion>) -> &[LogLine]
+    ensures logs { result.now ≡ (version_in (option_copied old.entry)).logs }
+    ensures lines { AreLines (version_in (option_copied old.entry)) }
 {
     match old {
         Some(version) => &version.logs,
@@ -28,8 +29,8 @@ fn logs_of(old: &Option<StoreVersion>) -> &[LogLine]
     }
 }
 
-fn tables_of(old: &Option<StoreVersion>) -> &[TableLine]
-    ensures { result.now ≡ (version_in old.now).tables }
+fn tables_of(old: Option<&StoreVersion>) -> &[TableLine]
+    ensures { result.now ≡ (version_in (option_copied old.entry)).tables }
 {
     match old {
         Some(version) => &version.tables,
@@ -37,8 +38,8 @@ fn tables_of(old: &Option<StoreVersion>) -> &[TableLine]
     }
 }
 
-fn numbers_rise(old: &Option<StoreVersion>, edit: &VersionEdit) -> bool
-    ensures { IsTrue result ↔ NumbersRise (version_in old.now) edit.now }
+fn numbers_rise(old: Option<&StoreVersion>, edit: &VersionEdit) -> bool
+    ensures { IsTrue result ↔ NumbersRise (version_in (option_copied old.entry)) edit.now }
 {
     let Some(version) = old else {
         return true;
@@ -49,8 +50,8 @@ fn numbers_rise(old: &Option<StoreVersion>, edit: &VersionEdit) -> bool
         && version.epoch <= edit.epoch
 }
 
-fn keeps_ids(old: &Option<StoreVersion>, config: &Config) -> bool
-    ensures { result ≡ keeps_ids (version_in old.now).ids config.now }
+fn keeps_ids(old: Option<&StoreVersion>, config: &Config) -> bool
+    ensures { result ≡ keeps_ids (version_in (option_copied old.entry)).ids config.now }
 {
     match old {
         Some(version) => is_part(config.ids(), version.config.ids()),
@@ -82,10 +83,11 @@ fn tables_there(tables: &[TableLine], gone: &[TableName]) -> bool
 
 fn is_there(
     alloc: Global,
-    old: &Option<StoreVersion>,
+    old: Option<&StoreVersion>,
     edit: &VersionEdit,
 ) -> Result<bool, AllocError>
-    ensures { IfOk result (λ is. IsTrue is ↔ IsThere (version_in old.now) edit.now) }
+    ensures { IfOk result
+        (λ is. IsTrue is ↔ IsThere (version_in (option_copied old.entry)) edit.now) }
 {
     let files = removed_files(alloc, &edit.tables_gone)?;
     Ok(
@@ -96,8 +98,8 @@ fn is_there(
     )
 }
 
-fn is_new_file(old: &Option<StoreVersion>, edit: &VersionEdit, file: u64) -> bool
-    ensures { result ≡ is_new_file (version_in old.now) edit.now file }
+fn is_new_file(old: Option<&StoreVersion>, edit: &VersionEdit, file: u64) -> bool
+    ensures { result ≡ is_new_file (version_in (option_copied old.entry)) edit.now file }
 {
     3 <= file
         && file < edit.next_file
@@ -105,8 +107,9 @@ fn is_new_file(old: &Option<StoreVersion>, edit: &VersionEdit, file: u64) -> boo
         && !names_file(tables_of(old), file)
 }
 
-fn logs_are_new(old: &Option<StoreVersion>, edit: &VersionEdit) -> bool
-    ensures { result ≡ list_all (λ line. is_new_file (version_in old.now) edit.now line.file)
+fn logs_are_new(old: Option<&StoreVersion>, edit: &VersionEdit) -> bool
+    ensures { result ≡ list_all
+        (λ line. is_new_file (version_in (option_copied old.entry)) edit.now line.file)
         edit.now.logs_added }
 {
     for line in &edit.logs_added {
@@ -117,8 +120,9 @@ fn logs_are_new(old: &Option<StoreVersion>, edit: &VersionEdit) -> bool
     true
 }
 
-fn tables_are_new(old: &Option<StoreVersion>, edit: &VersionEdit) -> bool
-    ensures { result ≡ list_all (λ line. is_new_file (version_in old.now) edit.now line.file)
+fn tables_are_new(old: Option<&StoreVersion>, edit: &VersionEdit) -> bool
+    ensures { result ≡ list_all
+        (λ line. is_new_file (version_in (option_copied old.entry)) edit.now line.file)
         edit.now.tables_added }
 {
     for line in &edit.tables_added {
@@ -145,12 +149,14 @@ fn are_lawful(alloc: Global, logs: &[LogLine], tables: &[TableLine]) -> Result<b
 // Whether the old version may take the edit, but for the lines that it gives.
 fn may_apply(
     alloc: Global,
-    old: &Option<StoreVersion>,
+    old: Option<&StoreVersion>,
     edit: &VersionEdit,
 ) -> Result<bool, AllocError>
-    ensures { IfOk result (λ is. IsTrue is ↔ (NumbersRise (version_in old.now) edit.now
-        × IsTrue (keeps_ids (version_in old.now).ids edit.now.ids)
-        × IsThere (version_in old.now) edit.now × IsNew (version_in old.now) edit.now)) }
+    ensures { IfOk result (λ is. IsTrue is
+        ↔ (NumbersRise (version_in (option_copied old.entry)) edit.now
+        × IsTrue (keeps_ids (version_in (option_copied old.entry)).ids edit.now.ids)
+        × IsThere (version_in (option_copied old.entry)) edit.now
+        × IsNew (version_in (option_copied old.entry)) edit.now)) }
 {
     Ok(
         numbers_rise(old, edit)
@@ -161,25 +167,56 @@ fn may_apply(
     )
 }
 
+// The logs and the tables of the version after the edit, if the old version may take it.
+fn lines_if_fit(
+    alloc: Global,
+    old: Option<&StoreVersion>,
+    edit: &VersionEdit,
+) -> Result<Option<(Vec<LogLine>, Vec<TableLine>)>, AllocError>
+    ensures found { IfOk result (λ lines. MatchOption lines
+        (IsFit (version_in (option_copied old.entry)) edit.now → ⊥)
+        (λ x. IsFit (version_in (option_copied old.entry)) edit.now
+        × (x.0.items ≡ (changed (version_in (option_copied old.entry)) edit.now).logs)
+        × (x.1.items ≡ (changed (version_in (option_copied old.entry)) edit.now).tables))) }
+    ensures lines { AreLines (version_in (option_copied old.entry)) }
+{
+    let old_logs = logs_of(old);
+    if !may_apply(alloc, old, edit)? {
+        return Ok(None);
+    }
+    let (logs, tables) = lines_after(alloc, old_logs, tables_of(old), edit)?;
+    if !are_lawful(alloc, &logs, &tables)? {
+        return Ok(None);
+    }
+    Ok(Some((logs, tables)))
+}
+
+/// Whether the version may take the edit.
+pub fn is_fit(alloc: Global, version: &StoreVersion, edit: &VersionEdit) -> Result<bool, AllocError>
+    ensures { IfOk result (λ is. IsTrue is ↔ IsFit version.now.version edit.now) }
+{
+    Ok(lines_if_fit(alloc, Some(version), edit)?.is_some())
+}
+
 /// The version of the node after one edit more, if there is one.
 pub fn next_version(
     alloc: Global,
     id: NodeId,
-    old: &Option<StoreVersion>,
+    old: Option<&StoreVersion>,
     edit: &VersionEdit,
 ) -> Result<StoreVersion, EditError>
     requires { IsChange edit.now }
-    ensures found { IfOk result (λ version. IsFit (version_in old.now) edit.now
-        × (version ≡ record { id = id; version = changed (version_in old.now) edit.now })) }
-    ensures bad { IsErrOf result EditError.Damaged → IsFit (version_in old.now) edit.now → ⊥ }
+    ensures found { IfOk result (λ version. IsFit (version_in (option_copied old.entry)) edit.now
+        × (version ≡ record {
+          id = id;
+          version = changed (version_in (option_copied old.entry)) edit.now;
+        })) }
+    ensures bad { IsErrOf result EditError.Damaged →
+        IsFit (version_in (option_copied old.entry)) edit.now → ⊥ }
 {
-    if !may_apply(alloc, old, edit)? {
+    let Some((logs, tables)) = lines_if_fit(alloc, old, edit)? else {
         return Err(EditError::Damaged);
-    }
-    let (logs, tables) = lines_after(alloc, logs_of(old), tables_of(old), edit)?;
-    if !are_lawful(alloc, &logs, &tables)? {
-        return Err(EditError::Damaged);
-    }
+    };
     Ok(StoreVersion {
         id,
         next_file: edit.next_file,

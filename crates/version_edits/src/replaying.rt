@@ -27,7 +27,7 @@ pub fn replay(alloc: Global, id: NodeId, opened: &OpenedLog) -> Result<StoreVers
     let mut draft = None;
     for index in 0..opened.log.len() {
         let edit = edit_of(alloc, opened.record(index))?;
-        draft = Some(next_version(alloc, id, &draft, &edit)?);
+        draft = Some(next_version(alloc, id, draft.as_ref(), &edit)?);
     }
     match draft {
         Some(version) => Ok(version),

@@ -1,6 +1,6 @@
-use Rattle.std.proofs.Common.{◌≤◌, Option, ap, arith, length, map, subst, take}
+use Rattle.std.proofs.Common.{◌≡◌, ◌≤◌, Option, ap, arith, length, map, subst, sym, take}
 use Rattle.std.proofs.lemmas.Result.{err_from_is_err_and}
-use Rattle.version_edits.specs.Versions.{NodeVersion}
+use Rattle.version_edits.specs.Versions.{IsFit, NodeVersion, changed, version_in}
 use Rattle.version_edits.specs.Edits.{change_text}
 use Rattle.version_edits.specs.Replays.{IsReplayed}
 use Rattle.version_edits.proofs.Replays.{all_replayed, err_of, got_change, length-ends_from}
@@ -24,15 +24,20 @@ returns-in_err-next_version-clause-bad c =
     c.from_residual-in_err-next_version.ensures.1 in
     rw (p.1, p.2) (λ damaged changes history read.
     c.in_err-next_version.ensures.bad damaged
+    (subst (λ (o : Option NodeVersion). IsFit (version_in o) c.in_ok-edit.edit)
+    (sym c.as_ref.ensures.value)
     (takes_next c.changes_differ.ensures c.args.id c.loop-index.draft changes c.loop-index.index
     c.record.result.now c.in_ok-edit.edit (c.loop-index.invariant _ read) history
-    (c.record.ensures _ read) c.in_ok-edit.ensures.found.1 c.in_ok-edit.ensures.found.0))
+    (c.record.ensures _ read) c.in_ok-edit.ensures.found.1 c.in_ok-edit.ensures.found.0)))
 
 -- one edit more
 pub loop-index-preserved : goal.loop-index-preserved
 loop-index-preserved c = λ records read.
     let edit = c.in_ok-edit.ensures.found in
-    let next = c.in_ok-next_version.ensures.found in
+    let next = subst (λ (o : Option NodeVersion). IsFit (version_in o) c.in_ok-edit.edit
+    × (c.in_ok-next_version.field-0 ≡
+    record { id = c.args.id; version = changed (version_in o) c.in_ok-edit.edit }))
+    c.as_ref.ensures.value c.in_ok-next_version.ensures.found in
     replayed_next c.args.id c.loop-index.draft records c.loop-index.index c.record.result.now
     c.in_ok-edit.edit c.in_ok-next_version.field-0 (c.loop-index.invariant records read)
     (c.record.ensures records read) edit.1 edit.0 next.0 next.1

@@ -13,9 +13,24 @@ use Rattle.compaction.specs.Plans.{is_line_input, model_plan, range_of}
 use Rattle.compaction.specs.Survivors.{AreDeeperLines}
 use Rattle.compaction.proofs.Merging.{begin_stops, deeper_zip, inputs_early, names_zip, walk_first}
 use Rattle.compaction.proofs.Numbers.{begins, no_outputs}
+use Rattle.compaction.proofs.Shapes.{names_proper}
 use Rattle.compaction.proofs.Walks.{alike_through}
 use Rattle.compaction.proofs.Writing.{refuses}
 use Rattle.compaction.proofs.merge.Merge.begin.Goals as goal
+
+-- the names are those of tables of the version
+pub invariant_of-result : goal.invariant_of-result
+invariant_of-result g c =
+    let tables = c.args.version.now.version.tables in
+    let there = ap (λ (v : NodeVersion). v.version.tables) c.version.view_is in
+    let same : c.deref-2.result.now ≡ tables = cc (c.deref-2.ensures.value, there) in
+    let test = is_line_input c.args.plan (lent_range c.in-Some.range) in
+    let names = c.in_ok-gone.gone.items in
+    let it = names_proper c.args.version.now.version test names
+    (subst (λ (v : NodeVersion). IsVersion v.version) c.version.view_is c.version.invariant)
+    (subst (λ (l : List TableLine). names ≡ map line_name (filter test l)) same
+    c.in_ok-gone.ensures) in
+    record { few = it.0; named = it.1 }
 
 pub returns-in_default-clause-reads : goal.returns-in_default-clause-reads
 returns-in_default-clause-reads g c =
@@ -89,17 +104,20 @@ returns-clause-begun g c =
     ∙ names_zip plan range version.tables tables zip in
     let level = rules.2 in (
       record {
-        works = λ f. cc;
-        walk = walk.0;
-        deeper = subst (λ (l : List TableLine). AreDeeperLines (model_plan plan range tables) l)
-            (sym lines) (deeper_zip plan range version.tables tables zip);
-        level = omega (arith, level);
-        same_floor = rules.0 ∙ ap (λ (v : NodeVersion). v.version.floor) c.version.view_is;
-        gone = names;
-        numbers = begins plan range version tables lawful zip c.args.next_file
-            c.new-writer.result le c.new-writer.ensures.none.0 c.new-writer.ensures.none.1;
+        merging = record {
+          works = λ f. cc;
+          walk = walk.0;
+          deeper = subst (λ (l : List TableLine). AreDeeperLines (model_plan plan range tables) l)
+              (sym lines) (deeper_zip plan range version.tables tables zip);
+          level = omega (arith, level);
+          same_floor = rules.0 ∙ ap (λ (v : NodeVersion). v.version.floor) c.version.view_is;
+          gone = names;
+          numbers = begins plan range version tables lawful zip c.args.next_file
+              c.new-writer.result le c.new-writer.ensures.none.0 c.new-writer.ensures.none.1;
+        };
+        none = walk.1;
       },
-      λ intact. walk.1 (λ other at. let it = intact other at in
+      λ intact. walk.2 (λ other at. let it = intact other at in
           (it.0, c.new-union.ensures.sound it.0 other it.1 it.2, it.3)),
     )
 

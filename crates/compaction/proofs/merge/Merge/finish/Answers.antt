@@ -1,19 +1,20 @@
 use Rattle.std.proofs.Common.{◌≡◌, inl, inr, refl, sym, subst, ap, ◌∙◌, arith, length, map}
-use Rattle.std.proofs.Common.{List, Ok, Err, suc}
+use Rattle.std.proofs.Common.{All, List, Ok, Err, suc}
 use Rattle.std.specs.List.{AllZip}
 use Rattle.std.specs.Global.{Vec}
 use Rattle.table_files.specs.contracts.files.FilesDisk.TheImpl as files_disk
 use Rattle.version_edits.specs.declared.TableLine.{TableLine}
 use Rattle.version_edits.specs.declared.TableName.{TableName}
-use Rattle.version_edits.specs.{IsVersion, NodeVersion}
+use Rattle.version_edits.specs.{IsTableLine, IsVersion, NodeVersion}
 use Rattle.std.proofs.lemmas.Bool.{both_ways}
-use Rattle.compaction.specs.Merges.{HaveNewFiles, IsOutputTable, table_name}
+use Rattle.compaction.specs.Merges.{HaveNewFiles, IsOutputTable, merge_change, table_name}
 use Rattle.compaction.specs.Outputs.{IsOpenFile}
 use Rattle.compaction.specs.Walks.{written_by}
 use Rattle.compaction.proofs.Calls.{done, memory_told, ok_fails, passed_on, refused, writes_as}
 use Rattle.compaction.proofs.Calls.{writes_nothing}
 use Rattle.compaction.proofs.Merging.{closed_all, merge_done, merge_edit, too_many}
 use Rattle.compaction.proofs.Numbers.{new_files}
+use Rattle.compaction.proofs.Shapes.{none_shaped, shaped}
 use Rattle.compaction.proofs.Writing.{refuses}
 use Rattle.compaction.proofs.merge.Merge.finish.Goals as goal
 
@@ -21,7 +22,9 @@ pub returns-then-self : goal.returns-then-self
 returns-then-self g c = record {
   writes = writes_nothing _ (IsOpenFile c.args.self.now.writer) c.args.files.now
       (refused (λ e. cc));
+  first = refl;
   failed = λ f. refl;
+  shape = tt;
   ends = λ meant plan floor m off. absurd (m.works c.if-self.true);
 }
 
@@ -32,7 +35,9 @@ returns-in_err-close g c = record {
       c.in_err-close.was c.from_residual.ensures.1)
       (λ lost meant plan floor m. lost (written_by c.args.self.now.writer m.walk.met)
       m.walk.honest m.walk.writes) (c.close.ensures.writes c.args.next_file);
+  first = refl;
   failed = λ f. absurd (both_ways _ c.if-self.false f);
+  shape = none_shaped c.from_residual.result _ _ c.from_residual.ensures.1;
   ends = λ meant plan floor m off.
       let zip = closed_all (files_disk.ghosts g.row.D g.D.Disk g.D.Disk-dict g.D.Destruct-dict)
       c.args.files.now c.close.new.disk c.args.next_file
@@ -52,7 +57,9 @@ returns-then-len g c = record {
   )
       (λ lost meant plan floor m. lost (written_by c.args.self.now.writer m.walk.met)
       m.walk.honest m.walk.writes) (c.close.ensures.writes c.args.next_file);
+  first = refl;
   failed = λ f. absurd (both_ways _ c.if-self.false f);
+  shape = tt;
   ends = λ meant plan floor m off.
       let zip = closed_all (files_disk.ghosts g.row.D g.D.Disk g.D.Disk-dict g.D.Destruct-dict)
       c.args.files.now c.close.new.disk c.args.next_file
@@ -97,7 +104,10 @@ returns-in_err-edit_of g c = record {
   )
       (λ lost meant plan floor m. lost (written_by c.args.self.now.writer m.walk.met)
       m.walk.honest m.walk.writes) (c.close.ensures.writes c.args.next_file);
+  first = refl;
   failed = λ f. absurd (both_ways _ c.if-self.false f);
+  shape = none_shaped c.from_residual-in_err-edit_of.result _ _
+      c.from_residual-in_err-edit_of.ensures.1;
   ends = λ meant plan floor m off. refuses c.from_residual-in_err-edit_of.result _ _
       c.from_residual-in_err-edit_of.ensures.1 (inl (inr refl));
 }
@@ -108,7 +118,25 @@ returns g c = record {
       (ok_fails c.close.result c.in_ok-close.field-0 c.in_ok-close.was, λ f. absurd (done f))
       (λ lost meant plan floor m. lost (written_by c.args.self.now.writer m.walk.met)
       m.walk.honest m.walk.writes) (c.close.ensures.writes c.args.next_file);
+  first = refl;
   failed = λ f. absurd (both_ways _ c.if-self.false f);
+  shape =
+      let a = c.len.ensures in
+      let b = c.len-2.ensures in
+      let k = c.len-3.ensures in
+      let t = ap (λ (v : NodeVersion). length v.version.tables) c.version.view_is in
+      let many = ap (λ (v : Vec TableName). length v.items) c.replace-gone.ensures.value in
+      let room = c.if-len.false in
+      shaped c.args.version.now.version c.args.next_file c.args.self.now.gone.items
+      c.drain-added.result.items c.in_ok-edit_of.field-0
+      (subst (λ (v : NodeVersion). IsVersion v.version) c.version.view_is c.version.invariant)
+      c.args.self.now.few c.args.self.now.named
+      (subst (λ (v : Vec TableLine). All IsTableLine v.items) (sym c.drain-added.ensures)
+      c.close.new.self.proper)
+      (omega (arith, a, b, k, t, many, room))
+      (c.in_ok-edit_of.ensures ∙ ap (λ (v : Vec TableName). merge_change
+      c.args.version.now.version c.args.next_file v.items c.drain-added.result.items)
+      c.replace-gone.ensures.value);
   ends = λ meant plan floor m off.
       let zip = closed_all (files_disk.ghosts g.row.D g.D.Disk g.D.Disk-dict g.D.Destruct-dict)
       c.args.files.now c.close.new.disk c.args.next_file

@@ -16,6 +16,7 @@ returns-then-self g c = record {
   numbers = uses_none c.args.self.now.writer c.args.self.now.writer c.args.next_file.now
       (λ file is. is) (λ file output. output);
   first = refl;
+  gone = refl;
   beside = λ version is le beside. beside;
   status = (c.if-self.true, λ failed. refl);
   steps = λ meant plan floor m. absurd (m.works c.if-self.true);
@@ -29,6 +30,7 @@ returns-in_err-write_some g c = record {
       (λ lost meant plan floor m. lost meant plan.inputs m.walk) c.write_some.ensures.1.writes;
   numbers = c.write_some.ensures.1.numbers;
   first = refl;
+  gone = refl;
   beside = λ version is le. steps_beside version _ _ _ _ is le
       c.write_some.ensures.1.numbers;
   status = refuses c.from_residual.result _ _ c.from_residual.ensures.1
@@ -48,6 +50,7 @@ returns g c =
           c.write_some.ensures.1.writes;
       numbers = c.write_some.ensures.1.numbers;
       first = refl;
+      gone = refl;
       beside = λ version is le. steps_beside version _ _ _ _ is le
           c.write_some.ensures.1.numbers;
       status = (both_ways _ c.if-self.false, λ f. cc, c.valid.ensures);

@@ -1,5 +1,5 @@
 use Rattle.std.proofs.Common.{◌≡◌, ◌≢◌, ◌<◌, ◌++◌, ◌∷◌, [], List, All, refl, sym, subst, ◌∙◌}
-use Rattle.std.proofs.Common.{Option, IfSome, ℕ}
+use Rattle.std.proofs.Common.{Option, None, Some, IfSome, ap, inl, inr, ℕ}
 use Rattle.std.specs.List.{AllZip}
 use Rattle.std.specs.Prelude.{is_ok}
 use Rattle.std.specs.Option.{option_map}
@@ -13,10 +13,29 @@ use Rattle.compaction.proofs.Calls.{writes_nothing}
 use Rattle.std.proofs.Common.{arith}
 use Rattle.std.proofs.Common.{map, true}
 use Rattle.version_edits.specs.Versions.{are_once}
-use Rattle.compaction.proofs.Writing.{none_added, once_pushed}
+use Rattle.compaction.proofs.Writing.{none_added, once_pushed, push_outputs, push_proper}
 use Rattle.compaction.proofs.Writing.{closed_kept, ok_told, open_builds, open_numbered}
 use Rattle.compaction.proofs.Writing.{writes_own, zip_push}
 use Rattle.compaction.proofs.writer.OutputWriter.close.Goals as goal
+
+-- each complete table has a line that is within its limits
+pub invariant_of-self-2-clause-proper : goal.invariant_of-self-2-clause-proper
+invariant_of-self-2-clause-proper g c =
+    push_proper c.args.self.now.closed.items c.push.new.self.items c.in_ok-line.line
+    (is_ok c.push.result) c.push.ensures.items c.args.self.now.proper c.in_ok-line.ensures.proper
+
+pub returns-clause-outputs : goal.returns-clause-outputs
+returns-clause-outputs g c = λ file own. elim own [
+  | inl is ↦
+      let wrong : None ≡ Some file =
+      sym (ap (option_map (λ (it : OpenOutput). it.file)) c.in-Some.ensures.after) ∙ is in
+      cc
+  | inr there ↦ push_outputs c.args.self.now c.push.new.self.items c.in_ok-line.line
+      c.in-Some.output file (◌∙◌ {A = List TableLine} c.push.ensures.items
+      (cond-true {A = List TableLine} (is_ok c.push.result) _ _
+      (ok_told c.push.result c.in_ok-push.was))) (sym c.in-Some.ensures.value)
+      c.in_ok-line.ensures.file there
+]
 
 pub returns-in_default-clause-writes : goal.returns-in_default-clause-writes
 returns-in_default-clause-writes g c = λ next_file.
