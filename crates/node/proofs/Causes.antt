@@ -3,7 +3,8 @@ use Rattle.std.proofs.Common.{◌≡◌, ◌↔◌, ℕ, ◌<◌, ◌≤◌, inl
 use Rattle.disk.specs.{IsEnvironmental}
 use Rattle.std.proofs.Common.{inr}
 use Rattle.std.proofs.Common.{arith, refl, sym, ap, subst, true, ◌∙◌}
-use Rattle.std.specs.Prelude.{◌⊎◌, IsErrOf, Result, Ok, Err, IfErr, IsErrAnd, MatchResult, OnOk}
+use Rattle.std.specs.Prelude.{◌⊎◌, IsErrOf, Result, Ok, Err, IsErrAnd, MatchResult, OnOk}
+use Rattle.std.specs.declared.alloc.AllocError.{AllocError}
 use Rattle.engine.specs.{IsCloseAnswer, IsOpenAnswer, IsReadableAnswer, LookUps, MayOpen}
 use Rattle.chain_model.specs.Machine.{is_open}
 use Rattle.std.proofs.lemmas.Bool.{true≢false}
@@ -23,11 +24,17 @@ on_ok (Err e) p = tt
 pub done_told : {T : Type 0} {x : T} → IsErrOf (Ok x) stop.Disk → ⊥
 done_told fails = cc
 
--- a call that is refused for memory alone is no failure of the device
-pub only_memory : {U : Type 0} (result : Result U Stop) → IfErr result (λ e. e ≡ stop.Memory) →
-    IsErrOf result stop.Disk → ⊥
-only_memory (Ok x) memory fails = cc
-only_memory (Err e) memory fails = cc
+-- what was made is the answer, and want of memory a stop
+abbrev pub StopsForMemory : {U : Type 0} → Result U AllocError → Result U Stop → Type 0
+StopsForMemory made result =
+    MatchResult made (λ x. result ≡ Ok x) (λ e. IsErrAnd result (λ s. s ≡ stop.Memory))
+
+-- a call that stops for memory alone is no failure of the device
+pub only_memory : {U : Type 0} (made : Result U AllocError) (result : Result U Stop) →
+    StopsForMemory made result → IsErrOf result stop.Disk → ⊥
+only_memory (Ok x) result stops fails = cc
+only_memory (Err e) (Ok x) stops fails = absurd stops
+only_memory (Err e) (Err s) stops fails = cc
 
 -- nor is want of memory
 pub memory_told : {U : Type 0} (result : Result U Stop) →

@@ -5,6 +5,7 @@ use Rattle.std.proofs.Common.{map, Option, Some, None, Result, Ok, Err, refl, sy
 use Rattle.std.proofs.Common.{subst, ◌∙◌, arith}
 use Rattle.std.specs.Prelude.{SomeIff, IfOk, nat_lt}
 use Rattle.std.specs.Ordering.{is_gt, nat_cmp}
+use Rattle.std.specs.declared.alloc.AllocError.{AllocError}
 use Rattle.std.proofs.lemmas.Bool.Decides.{nat_tests}
 use Rattle.std.proofs.lemmas.List.{map-append, map_push}
 use Rattle.kv_types.specs.{BatchContent, Span}
@@ -19,7 +20,6 @@ use Rattle.chain_core.specs.{Machine, AreFrames, IsReadOf, frame_as, StepLeaves,
 use Rattle.chain_core.specs as core
 use Rattle.node.specs.declared.output.Output.{Output}
 use Rattle.node.specs.declared.output.Reply.{Reply}
-use Rattle.node.specs.declared.stop.Stop.{Stop}
 use Rattle.node.specs.Outputs.{OutputHas, OutputRefines, committed_reply}
 use Rattle.node.specs.Steps.{replies_of}
 
@@ -61,8 +61,8 @@ one_reply_more due i it before new within is was more =
 -- the output after the store's part is the answer of the rule
 pub tells_rule : (x : ℕ) (n : Machine) (input : Input) (batch : BatchContent) (d : Done)
     (a : Answer BatchContent) (due : List PendingSubmit) (sent : List (Message BatchContent))
-    (result : Result Output Stop) → StepLeaves x n batch d a → a.replies ≡ core.committed_responses
-    due →
+    (result : Result Output AllocError) → StepLeaves x n batch d a →
+    a.replies ≡ core.committed_responses due →
     sent ≡ frames_after x n d a.node → IfOk result (OutputHas None sent (map committed_reply due)) →
     IfOk result (OutputRefines input a)
 tells_rule x n input batch d a due sent (Ok output) leaves replied frames says = record {
@@ -79,7 +79,7 @@ greater a b = grind (arith, nat_tests)
 
 -- the output of a read is the output for the input that requested it
 pub tells_read : (n : Machine) (input : Input) (request at : ℕ) (key : List ℕ)
-    (result : Result Output Stop) → IsReadOf n input (decision.Read request key at) →
+    (result : Result Output AllocError) → IsReadOf n input (decision.Read request key at) →
     ((number : Option ℕ) →
     IfOk result (OutputRefines (asked.Get request key number) (reply_read n request at))) →
     IfOk result (OutputRefines input (reply_read n request at))
@@ -91,7 +91,7 @@ tells_read n _ request at key result read tells = absurd read
 
 -- so is the output of a read of rows
 pub tells_rows : (n : Machine) (input : Input) (request at : ℕ) (range : Span)
-    (result : Result Output Stop) → IsReadOf n input (decision.ReadRows request range at) →
+    (result : Result Output AllocError) → IsReadOf n input (decision.ReadRows request range at) →
     ((number : Option ℕ) →
     IfOk result (OutputRefines (asked.Rows request range number) (reply_read n request at))) →
     IfOk result (OutputRefines input (reply_read n request at))

@@ -1,6 +1,7 @@
 -- A step that only reads the store: it is refused for the environment alone, or it answers.
 use Rattle.std.proofs.Common.{◌≡◌, ℕ, ◌≤◌, List, Err, Ok, ap, arith, refl, sym, subst}
-use Rattle.std.specs.Prelude.{Result, IfErr, IfOk, IsErrAnd}
+use Rattle.std.specs.Prelude.{Result, IfOk, IsErrAnd}
+use Rattle.std.specs.declared.alloc.AllocError.{AllocError}
 use Rattle.std.proofs.lemmas.Result.{err_from_is_err_and}
 use Rattle.kv_types.specs.{BatchContent}
 use Rattle.disk.specs.declared.Disk.{Ghosts}
@@ -21,7 +22,7 @@ use Rattle.node.specs.declared.stop.Stop.TheVariants as stop
 use Rattle.node.specs.Outputs.{FollowsRule, OutputRefines}
 use Rattle.node.specs.Steps.{IsReady}
 use Rattle.node.specs.Stops.{engine_stop}
-use Rattle.node.proofs.Causes.{env_of, on_ok, only_memory, read_env, stop_passed}
+use Rattle.node.proofs.Causes.{StopsForMemory, env_of, on_ok, only_memory, read_env, stop_passed}
 use Rattle.node.proofs.Ends.{ends, ends_stopped}
 use Rattle.node.proofs.Running.{kept_read, read_more, still_refines, still_runs, unread}
 
@@ -63,16 +64,16 @@ module _ {D T : Type 0} (g : Ghosts D) (old : Node D g) (read : Engine D g)
       }
 
   -- what was read is shown
-  pub read_answered : (value : T) (result : Result Output Stop) → called ≡ Ok value →
+  pub read_answered : (value : T) (made : Result Output AllocError) (result : Result Output Stop) →
+      called ≡ Ok value →
       (HasEnded read → ⊥) →
       ((list : List BatchContent) → EngineHolds g old.engine list → EngineHolds g read list) →
       ((n : Machine) (input : Input) → IsFor n input → EngineReads g old.engine n.list →
-      IfOk result (OutputRefines input (reply_read n request at))) →
-      IfErr result (λ e. e ≡ stop.Memory) →
+      IfOk made (OutputRefines input (reply_read n request at))) → StopsForMemory made result →
       FollowsRule g old new IsFor (λ x n. reply_read n request at) result
-  read_answered value result was works kept tells memory = record {
+  read_answered value made result was works kept tells stops = record {
     kept =
-        let fails = neither (answered called was) (only_memory result memory) in
+        let fails = neither (answered called was) (only_memory made result stops) in
         let goes = on_ok result works in
         kept_read g old new result result ready
         (read_more g old.engine old.engine read called result
@@ -82,7 +83,7 @@ module _ {D T : Type 0} (g : Ghosts D) (old : Node D g) (read : Engine D g)
         let a = reply_read n request at in
         let runs = still_runs g old new x n r (kept n.list r.store)
         (ap (λ (l : LookUps). l.facts) told) refl in
-        ends g old new x n input a result
+        ends g old new x n input a made result
         (still_refines g old (engine_disk read) x n a.node r (still r.honest)) runs
-        (tells n input is r.store.reads) memory;
+        (tells n input is r.store.reads) stops;
   }

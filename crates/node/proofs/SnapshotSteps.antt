@@ -1,6 +1,7 @@
 -- A step that opens or closes a snapshot, in the store and in the node's state.
 use Rattle.std.proofs.Common.{◌≡◌, ℕ, List, [], ap, inr, sym, subst, ◌∙◌}
-use Rattle.std.specs.Prelude.{Result, IfErr, IfOk, IsErrAnd}
+use Rattle.std.specs.Prelude.{Result, IfOk, IsErrAnd}
+use Rattle.std.specs.declared.alloc.AllocError.{AllocError}
 use Rattle.std.proofs.lemmas.Result.{err_from_is_err_and}
 use Rattle.kv_types.specs.{BatchContent}
 use Rattle.disk.specs.declared.Disk.{Ghosts}
@@ -16,7 +17,7 @@ use Rattle.node.specs.declared.stop.Stop.{Stop}
 use Rattle.node.specs.declared.stop.Stop.TheVariants as stop
 use Rattle.node.specs.Outputs.{AlwaysRefines, FollowsRule, OutputRefines}
 use Rattle.node.specs.Steps.{IsReady, disk_of, node_limits}
-use Rattle.node.proofs.Causes.{memory_told, on_ok, only_memory}
+use Rattle.node.proofs.Causes.{StopsForMemory, memory_told, on_ok, only_memory}
 use Rattle.node.proofs.Counts.{FollowsDone, counts_same, keeps_floor, keeps_kept}
 use Rattle.node.proofs.Counts.{keeps_committed, machine_with, snapshots_left}
 use Rattle.node.proofs.Ends.{ends, ends_stopped}
@@ -58,13 +59,12 @@ module _ {D : Type 0} (g : Ghosts D) (old new : Node D g) (same : disk_of new �
         snapshots = change (look_ups old.engine).snapshots;
       } →
       ((list : List BatchContent) → EngineHolds g old.engine list → EngineHolds g new.engine list)
-      → ((x : ℕ) (n : Machine) (input : Input) →
-      IfOk result (OutputRefines input (done_of x n [] d))) →
-      IfErr result (λ e. e ≡ stop.Memory) →
+      → (made : Result Output AllocError) → ((x : ℕ) (n : Machine) (input : Input) →
+      IfOk made (OutputRefines input (done_of x n [] d))) → StopsForMemory made result →
       FollowsRule g old new IsFor (λ x n. done_of x n [] d) result
-  snapshots_changed law d change replies ready goes after id works told kept says memory = record {
+  snapshots_changed law d change replies ready goes after id works told kept made says so = record {
     kept = record {
-      disk = keeps_same g (disk_of old) (disk_of new) result same (only_memory result memory);
+      disk = keeps_same g (disk_of old) (disk_of new) result same (only_memory made result so);
       works = on_ok result (record {
         works = works;
         count = counts_same law old.core new.core d replies goes.list after ∙ ready.count
@@ -92,5 +92,5 @@ module _ {D : Type 0} (g : Ghosts D) (old new : Node D g) (same : disk_of new �
         (ap (λ (l : LookUps). l.facts) told) follows.is (id ∙ r.id) in
         let moments = subst (λ (disk : D). AlwaysRefines g (disk_of old) disk x n a.node)
         (sym same) (at_rest g old x n a.node r) in
-        ends g old new x n input a result moments runs (says x n input) memory;
+        ends g old new x n input a made result moments runs (says x n input) so;
   }

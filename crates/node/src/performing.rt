@@ -1,5 +1,5 @@
 // The execution of a decision: what a node does by each rule of a step.
-ghost use Rattle.std.specs.Prelude.{◌≡◌, ◌<◌, IfErr, IsTrue, MatchResult};
+ghost use Rattle.std.specs.Prelude.{◌≡◌, ◌<◌, IsTrue, MatchResult};
 ghost use Rattle.disk.specs.{IsEnvironmental};
 ghost use Rattle.kv_types.specs.declared.bounds.TheConstants.{MAX_NUMBER};
 ghost use Rattle.chain_model.specs.{forwards};
@@ -65,7 +65,7 @@ impl<D: Disk + Drop> Node<D> {
         self.engine.append(alloc, &batch)?;
         let due = self.core.after(alloc, done)?;
         self.engine.set_committed(self.core.committed());
-        output_of_append(alloc, &self.core, batch, acks, &due)
+        output_of_append(alloc, &self.core, batch, acks, &due).map_err(Stop::from)
     }
 
     // Applies the successor's report, and reports to the predecessor if more is committed.
@@ -73,7 +73,6 @@ impl<D: Disk + Drop> Node<D> {
         requires may { IsReady self.old }
         requires there { IsReport self.old.core committed have }
         ensures disk { disk_of self.new ≡ disk_of self.old }
-        ensures memory { IfErr result (λ e. e ≡ Stop.Memory) }
         ensures followed { ExecutesDecision D.Disk self.old self.new
             (Decision.OnAck committed have) result }
     {
@@ -81,7 +80,7 @@ impl<D: Disk + Drop> Node<D> {
         let grows = committed > self.core.committed();
         let due = self.core.after(alloc, Done::Acked { committed, have })?;
         self.engine.set_committed(self.core.committed());
-        output_of(alloc, &self.core, Vec::new(alloc), grows, &due)
+        output_of(alloc, &self.core, Vec::new(alloc), grows, &due).map_err(Stop::from)
     }
 
     // Sends again the batches that the successor may lack, and acknowledges again.
@@ -90,7 +89,7 @@ impl<D: Disk + Drop> Node<D> {
         ensures { ExecutesDecision D.Disk self.old self.new Decision.Resend result }
     {
         let sent = resent(alloc, &self.core, &mut self.engine)?;
-        output_of(alloc, &self.core, sent, true, &[])
+        output_of(alloc, &self.core, sent, true, &[]).map_err(Stop::from)
     }
 
     // Answers the client with the value of the key at a number.
@@ -99,7 +98,7 @@ impl<D: Disk + Drop> Node<D> {
         ensures { ExecutesDecision D.Disk self.old self.new (Decision.Read request key at) result }
     {
         let value = self.engine.get(alloc, at, &key)?;
-        value_output(alloc, request, at, value)
+        value_output(alloc, request, at, value).map_err(Stop::from)
     }
 
     // Answers the client with the page of a range at a number.
@@ -115,7 +114,7 @@ impl<D: Disk + Drop> Node<D> {
             (Decision.ReadRows request range at) result }
     {
         let page = self.engine.rows(alloc, at, &range)?;
-        page_output(alloc, request, at, page)
+        page_output(alloc, request, at, page).map_err(Stop::from)
     }
 
     // Opens one more snapshot at a number, in the store and in the node's state.
@@ -127,7 +126,7 @@ impl<D: Disk + Drop> Node<D> {
         steps_leave(); // law: what a step leaves of the machine
         self.engine.open_snapshot(number)?;
         self.core.after(alloc, Done::Opened { request, number })?;
-        replying(alloc, Reply::Opened { request, number })
+        replying(alloc, Reply::Opened { request, number }).map_err(Stop::from)
     }
 
     // Closes one snapshot at a number, in the store and in the node's state.
@@ -140,7 +139,7 @@ impl<D: Disk + Drop> Node<D> {
         steps_leave(); // law: what a step leaves of the machine
         self.engine.close_snapshot(number)?;
         self.core.after(alloc, Done::Closed { request, number })?;
-        replying(alloc, Reply::Closed { request, number })
+        replying(alloc, Reply::Closed { request, number }).map_err(Stop::from)
     }
 
     // Executes a decision.
@@ -154,14 +153,16 @@ impl<D: Disk + Drop> Node<D> {
                 self.append(alloc, batch, Done::Accepted { request })
             }
             Decision::Append { batch } => self.append(alloc, batch, Done::Appended),
-            Decision::AckDuplicate => ack_duplicate(alloc, &self.core),
+            Decision::AckDuplicate => ack_duplicate(alloc, &self.core).map_err(Stop::from),
             Decision::OnAck { committed, have } => self.on_ack(alloc, committed, have),
             Decision::Read { request, key, at } => self.read(alloc, request, key, at),
             Decision::ReadRows { request, range, at } => self.read_rows(alloc, request, range, at),
             Decision::Open { request, number } => self.open(alloc, request, number),
             Decision::Close { request, number } => self.close(alloc, request, number),
             Decision::Resend => self.resend(alloc),
-            Decision::Refuse { request, refusal } => refuse(alloc, request, refusal),
+            Decision::Refuse { request, refusal } => {
+                refuse(alloc, request, refusal).map_err(Stop::from)
+            }
             Decision::Drop(reason) => Ok(output_of_drop(alloc, reason)),
         }
     }

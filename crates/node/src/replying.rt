@@ -1,6 +1,6 @@
 // The output of a step, from a node's numbers and the results of its store.
 ghost use Rattle.std.specs.Prelude.{◌≡◌, ℕ, [], ◌∷◌, ◌++◌, List, map, take, Option};
-ghost use Rattle.std.specs.Prelude.{IfOk, IfErr, OnOk, option_to_list, if◌then◌else◌, Some};
+ghost use Rattle.std.specs.Prelude.{IfOk, OnOk, option_to_list, if◌then◌else◌, Some};
 ghost use Rattle.kv_types.specs.{BatchContent, Span, map_of};
 ghost use Rattle.kv_types.specs.Pages.{page_of};
 ghost use Rattle.chain_model.specs.{Message, place, dropped_for, refused, ack, forward, is_tail};
@@ -8,7 +8,7 @@ ghost use Rattle.chain_model.specs.{reply_read, ack_duplicate};
 ghost use Rattle.chain_core.specs.{Machine, CoreRefines, AreFrames};
 ghost use Rattle.node.specs.Outputs.{OutputHas, OutputRefines, acks_after, committed_reply};
 
-use crate::{Output, Reply, Stop};
+use crate::{Output, Reply};
 use chain_core::{CoreState, Done, DropReason, Input, PendingSubmit, Sent};
 use kv_types::{Batch, Number, Page, Value};
 use link_messages::Refusal;
@@ -45,9 +45,8 @@ fn replies_to(alloc: Global, due: &[PendingSubmit]) -> Result<Vec<Reply>, AllocE
 }
 
 /// The output with this reply alone.
-pub(crate) fn replying(alloc: Global, reply: Reply) -> Result<Output, Stop>
-    ensures said { IfOk result (OutputHas None [] (reply ∷ [])) }
-    ensures refused { IfErr result (λ e. e ≡ Stop.Memory) }
+pub(crate) fn replying(alloc: Global, reply: Reply) -> Result<Output, AllocError>
+    ensures { IfOk result (OutputHas None [] (reply ∷ [])) }
 {
     let mut replies = Vec::new(alloc);
     replies.push(reply)?;
@@ -66,12 +65,11 @@ pub(crate) fn output_of(
     sent: Vec<Sent>,
     acks: bool,
     due: &[PendingSubmit],
-) -> Result<Output, Stop>
-    ensures says { (n : Machine) (frames : List (Message BatchContent)) → CoreRefines core.now n →
+) -> Result<Output, AllocError>
+    ensures { (n : Machine) (frames : List (Message BatchContent)) → CoreRefines core.now n →
         AreFrames sent.items frames →
         IfOk result (OutputHas None (frames ++ (if acks then ack core.now.id n else []))
         (map committed_reply due.now)) }
-    ensures memory { IfErr result (λ e. e ≡ Stop.Memory) }
 {
     let mut frames = sent;
     push_some(&mut frames, ack_where(core, acks))?;
@@ -96,12 +94,11 @@ pub(crate) fn output_of_append(
     batch: Batch,
     acks: bool,
     due: &[PendingSubmit],
-) -> Result<Output, Stop>
-    ensures says { (n : Machine) → CoreRefines core.now n →
+) -> Result<Output, AllocError>
+    ensures { (n : Machine) → CoreRefines core.now n →
         place n.list core.now.count ≡ Some batch →
         IfOk result (OutputHas None (forward core.now.id n core.now.count
         ++ (if acks then ack core.now.id n else [])) (map committed_reply due.now)) }
-    ensures memory { IfErr result (λ e. e ≡ Stop.Memory) }
 {
     let mut sent = Vec::new(alloc);
     push_some(&mut sent, core.forward(core.count(), batch))?;
@@ -110,10 +107,9 @@ pub(crate) fn output_of_append(
 
 /// The output after a batch with an unexpected number: the node acknowledges again to its
 /// predecessor.
-pub(crate) fn ack_duplicate(alloc: Global, core: &CoreState) -> Result<Output, Stop>
-    ensures tells { (n : Machine) (input : Input) → CoreRefines core.now n →
+pub(crate) fn ack_duplicate(alloc: Global, core: &CoreState) -> Result<Output, AllocError>
+    ensures { (n : Machine) (input : Input) → CoreRefines core.now n →
         IfOk result (OutputRefines input (ack_duplicate core.now.id n)) }
-    ensures memory { IfErr result (λ e. e ≡ Stop.Memory) }
 {
     let mut frames = Vec::new(alloc);
     push_some(&mut frames, core.ack())?;
@@ -130,11 +126,10 @@ pub(crate) fn value_output(
     request: Number,
     number: Number,
     value: Option<Value>,
-) -> Result<Output, Stop>
-    ensures tells { (n : Machine) (key : List ℕ) (asked : Option ℕ) →
+) -> Result<Output, AllocError>
+    ensures { (n : Machine) (key : List ℕ) (asked : Option ℕ) →
         value ≡ map_of (take number n.list) key →
         IfOk result (OutputRefines (Input.Get request key asked) (reply_read n request number)) }
-    ensures memory { IfErr result (λ e. e ≡ Stop.Memory) }
 {
     replying(
         alloc,
@@ -152,12 +147,11 @@ pub(crate) fn page_output(
     request: Number,
     number: Number,
     page: Page,
-) -> Result<Output, Stop>
-    ensures tells { (n : Machine) (range : Span) (asked : Option ℕ) →
+) -> Result<Output, AllocError>
+    ensures { (n : Machine) (range : Span) (asked : Option ℕ) →
         page ≡ page_of (take number n.list) range →
         IfOk result (OutputRefines (Input.Rows request range asked)
         (reply_read n request number)) }
-    ensures memory { IfErr result (λ e. e ≡ Stop.Memory) }
 {
     replying(
         alloc,
@@ -169,10 +163,9 @@ pub(crate) fn page_output(
     )
 }
 
-pub(crate) fn refuse(alloc: Global, request: Number, refusal: Refusal) -> Result<Output, Stop>
-    ensures tells { (n : Machine) (input : Input) →
+pub(crate) fn refuse(alloc: Global, request: Number, refusal: Refusal) -> Result<Output, AllocError>
+    ensures { (n : Machine) (input : Input) →
         IfOk result (OutputRefines input (refused n request refusal)) }
-    ensures memory { IfErr result (λ e. e ≡ Stop.Memory) }
 {
     replying(alloc, Reply::Refused { request, refusal })
 }

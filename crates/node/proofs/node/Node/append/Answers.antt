@@ -99,7 +99,9 @@ returns g c =
     let due = c.in_ok-due.due.items in
     let told = c.in_ok-append.ensures.told.0 in
     let known = c.set_committed.ensures.told in
-    let result = c.output_of_append.result in
+    let made = c.output_of_append.result in
+    let result = c.map_err.result in
+    let stops = c.map_err.ensures.cases in
     let replies = responses_after d due in
     let law = c.steps_leave.ensures in
     let new = c.after.new.self in
@@ -109,7 +111,7 @@ returns g c =
         disk = kept_on g.D.Disk (sym c.set_committed.ensures.disk)
             (kept_but g.D.Disk (λ full. inl full)
             (kept_as g.D.Disk (neither (answered c.append.result c.in_ok-append.was)
-            (only_memory result c.output_of_append.ensures.memory)) (λ a b kept. tt)
+            (only_memory made result stops)) (λ a b kept. tt)
             c.append.ensures.changes.keeps.disk));
         works = on_ok result (record {
           works = λ ended. still_works c.in_ok-append.ensures.changes.keeps.ends may.works
@@ -161,8 +163,7 @@ returns g c =
           forward y a.node new.count ++ (if acks then ack y a.node else []) in
           let frames = ap (λ k. forward x a.node k ++ (if acks then ack x a.node else [])) number
           ∙ frames_of x n a.node d acks has tail in
-          ends_rule g.D.Disk old _ x n input batch d a due c.deref.result.now sent result moments
-          leaves runs (follows.replied ∙ responses_due d due has) c.deref.ensures.value frames
-          (c.output_of_append.ensures.says a.node follows.is there)
-          c.output_of_append.ensures.memory;
+          ends_rule g.D.Disk old _ x n input batch d a due c.deref.result.now sent made result
+          moments leaves runs (follows.replied ∙ responses_due d due has) c.deref.ensures.value
+          frames (c.output_of_append.ensures a.node follows.is there) stops;
     }

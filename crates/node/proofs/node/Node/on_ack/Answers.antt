@@ -52,8 +52,8 @@ returns-in_err-due-clause-followed g c =
 pub returns-clause-followed : goal.returns-clause-followed
 returns-clause-followed g c = record {
   kept = record {
-    disk = keeps_same g.D.Disk _ _ c.output_of.result c.set_committed.ensures.disk
-        (only_memory c.output_of.result c.output_of.ensures.memory);
+    disk = keeps_same g.D.Disk _ _ c.map_err.result c.set_committed.ensures.disk
+        (only_memory c.output_of.result c.map_err.result c.map_err.ensures.cases);
     works =
         let may = c.requires.may in
         let old = c.args.self.now.core in
@@ -67,7 +67,7 @@ returns-clause-followed g c = record {
         let kept = keeps_kept law old new d replies after in
         let snapshots = snapshots_left law old new d replies after in
         let told = c.set_committed.ensures.told in
-        on_ok c.output_of.result (record {
+        on_ok c.map_err.result (record {
           works = λ ended. may.works (c.set_committed.ensures.stays.ended.0 ended);
           count = count ∙ may.count ∙ sym (ap (λ (l : LookUps). l.count) told);
           floor = floor ∙ may.floor ∙ sym (ap (λ (l : LookUps). l.facts.floor) told);
@@ -100,6 +100,6 @@ returns-clause-followed g c = record {
       let moments = subst (λ disk. AlwaysRefines g.D.Disk (disk_of old) disk x n a.node)
       (sym c.set_committed.ensures.disk) (at_rest g.D.Disk old x n a.node r) in
       ends_rule g.D.Disk old _ x n input [] d a due c.deref.result.now sent c.output_of.result
-      moments leaves runs follows.replied c.deref.ensures.value (ap told grows)
-      (c.output_of.ensures.says a.node [] runs.core none) c.output_of.ensures.memory;
+      c.map_err.result moments leaves runs follows.replied c.deref.ensures.value (ap told grows)
+      (c.output_of.ensures a.node [] runs.core none) c.map_err.ensures.cases;
 }

@@ -49,11 +49,11 @@ returns g c =
     let s = c.args.number in
     let known = c.in_ok-open_snapshot.ensures in
     snapshots_changed g.D.Disk c.args.self.now _ c.open_snapshot.ensures.changes.disk _
-    c.replying.result
+    c.map_err.result
     c.steps_leave.ensures (done.Opened i s) (λ (l : List ℕ). s ∷ l)
     (Opened i s ∷ committed_responses c.in_ok-after.field-0.items) may
     (record { list = λ n. refl; snapshots = λ n. refl; committed = λ x n. refl })
     c.in_ok-after.ensures.after c.in_ok-after.ensures.same
     (λ ended. still_works known.changes.keeps.ends may.works ended) known.changes.told
-    (λ list. (known.changes.kept list).holds) (λ x n input. c.replying.ensures.said)
-    c.replying.ensures.refused
+    (λ list. (known.changes.kept list).holds) c.replying.result (λ x n input. c.replying.ensures)
+    c.map_err.ensures.cases

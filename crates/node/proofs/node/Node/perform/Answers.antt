@@ -57,19 +57,20 @@ returns-in-Resend g c =
 pub returns-in-AckDuplicate : goal.returns-in-AckDuplicate
 returns-in-AckDuplicate g c =
     let node = c.args.self.now in
-    let result = c.ack_duplicate.result in
+    let result = c.map_err.result in
     executes_as g.D.Disk node node c.args.decision decision.AckDuplicate result
     c.in-AckDuplicate.is
-    (executes_at_rest g.D.Disk node decision.AckDuplicate result c.requires.may (λ x n. refl)
-    (λ n input is. c.ack_duplicate.ensures.tells n input is) c.ack_duplicate.ensures.memory)
+    (executes_at_rest g.D.Disk node decision.AckDuplicate c.ack_duplicate.result result
+    c.requires.may (λ x n. refl) (λ n input is. c.ack_duplicate.ensures n input is)
+    c.map_err.ensures.cases)
 
 pub returns-in-Refuse : goal.returns-in-Refuse
 returns-in-Refuse g c =
     let node = c.args.self.now in
     let known = decision.Refuse c.in-Refuse.request c.in-Refuse.refusal in
-    executes_as g.D.Disk node node c.args.decision known c.refuse.result c.in-Refuse.is
-    (executes_at_rest g.D.Disk node known c.refuse.result c.requires.may (λ x n. refl)
-    (λ n input is. c.refuse.ensures.tells n input) c.refuse.ensures.memory)
+    executes_as g.D.Disk node node c.args.decision known c.map_err-in-Refuse.result c.in-Refuse.is
+    (executes_at_rest g.D.Disk node known c.refuse.result c.map_err-in-Refuse.result c.requires.may
+    (λ x n. refl) (λ n input is. c.refuse.ensures n input) c.map_err-in-Refuse.ensures.cases)
 
 pub returns-in-Drop : goal.returns-in-Drop
 returns-in-Drop g c =
@@ -77,5 +78,5 @@ returns-in-Drop g c =
     let known = decision.Drop c.in-Drop.reason in
     let output = c.output_of_drop in
     executes_as g.D.Disk node node c.args.decision known (Ok output.result) c.in-Drop.is
-    (executes_at_rest g.D.Disk node known (Ok output.result) c.requires.may (λ x n. refl)
-    (λ n input is. output.ensures n input) tt)
+    (executes_at_rest g.D.Disk node known (Ok output.result) (Ok output.result) c.requires.may
+    (λ x n. refl) (λ n input is. output.ensures n input) refl)

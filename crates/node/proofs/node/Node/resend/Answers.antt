@@ -38,18 +38,20 @@ pub returns : goal.returns
 returns g c =
     let old = c.args.self.now in
     let read = c.in_ok-sent.ensures.read in
-    let result = c.output_of.result in
+    let made = c.output_of.result in
+    let result = c.map_err.result in
+    let stops = c.map_err.ensures.cases in
     record {
       kept = kept_read g.D.Disk old _ c.resent.result result c.requires c.resent.ensures.read refl
           (neither (answered c.resent.result c.in_ok-sent.was)
-          (only_memory result c.output_of.ensures.memory)) (on_ok result read.works);
+          (only_memory made result stops)) (on_ok result read.works);
       ends = λ x n input any r.
           let sent = c.in_ok-sent.ensures.sent n r.core r.store in
           let runs = still_runs g.D.Disk old _ x n r sent.0
           (ap (λ (l : LookUps). l.facts) read.told) refl in
-          let tells = subst (λ (y : ℕ). IfOk result (OutputRefines input (resend y n))) r.id
-          (c.output_of.ensures.says n _ r.core sent.1) in
-          ends g.D.Disk old _ x n input (resend x n) result
+          let tells = subst (λ (y : ℕ). IfOk made (OutputRefines input (resend y n))) r.id
+          (c.output_of.ensures n _ r.core sent.1) in
+          ends g.D.Disk old _ x n input (resend x n) made result
           (still_refines g.D.Disk old (engine_disk c.resent.new.engine) x n n r
-          (read.still r.honest)) runs tells c.output_of.ensures.memory;
+          (read.still r.honest)) runs tells stops;
     }
