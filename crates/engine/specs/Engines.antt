@@ -11,7 +11,7 @@ use Rattle.chain_model.specs.Machine.{without}
 use Rattle.engine.specs.declared.engine.Engine.{Engine}
 use Rattle.store_files.specs.Files.{Facts}
 use Rattle.manifest.specs.{HasFullSlot}
-use Rattle.store_files.specs.BatchLogs.{HasFullLog, newest_file}
+use Rattle.batch_logs.specs.BatchLogs.{HasFullLog, newest_file}
 use Rattle.store_tables.specs.LevelTables.{level_count}
 use Rattle.store_files.specs.OpenFiles.{FilesHold, WereMeantToHold, batch_count, known_facts}
 use Rattle.store_files.specs.OpenFiles.{known_version}

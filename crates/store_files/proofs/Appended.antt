@@ -17,16 +17,16 @@ use Rattle.store_model.specs.{StoreRepresents, memory_entries}
 use Rattle.manifest.specs.declared.LogLine.{LogLine}
 use Rattle.manifest.specs.declared.TableLine.{TableLine}
 use Rattle.manifest.specs.{HeldVersionIsLeft, HeldVersionStays, StoreVersion}
-use Rattle.store_files.specs.declared.batch_logs.BatchLog.{BatchLog}
-use Rattle.store_files.specs.declared.batch_logs.BatchLogs.{BatchLogs}
+use Rattle.batch_logs.specs.declared.batch_logs.BatchLog.{BatchLog}
+use Rattle.batch_logs.specs.declared.batch_logs.BatchLogs.{BatchLogs}
 use Rattle.store_files.specs.declared.store_files.StoreFiles.{StoreFiles}
-use Rattle.store_files.specs.BatchLogs.{AreLeftWith, AreUsable, HaveBatches, LogsHold, first_number}
-use Rattle.store_files.specs.BatchLogs.{line_of, lines_of, newest_file, next_number, oldest_first}
+use Rattle.batch_logs.specs.BatchLogs.{AreLeftWith, AreUsable, HaveBatches, LogsHold, first_number}
+use Rattle.batch_logs.specs.BatchLogs.{line_of, lines_of, newest_file, next_number, oldest_first}
 use Rattle.store_files.specs.OpenFiles.{AreUsableFiles, FilesHold, batch_count}
 use Rattle.store_files.specs.StoreFiles.{AreOrderedNumbers}
 use Rattle.store_files.specs.OpenFiles.{known_facts, known_store, known_version, trimmed_count}
 use Rattle.store_files.specs.StoreFiles.{FilesRepresent, store_of_version}
-use Rattle.store_files.specs.Stores.{IsNumberedTo}
+use Rattle.batch_logs.specs.Memtables.{IsNumberedTo}
 use Rattle.store_tables.specs.declared.error.EngineError.TheVariants as engine
 use Rattle.store_tables.specs.declared.error.EngineError.{EngineError}
 use Rattle.store_tables.specs.Errors.{IsEnd}
@@ -35,7 +35,7 @@ use Rattle.store_files.proofs.FilesApart.{newest_given, newest_no_slot, newest_n
 use Rattle.store_files.proofs.FilesApart.{newest_positive}
 use Rattle.store_files.proofs.KeptFiles.{served_in}
 use Rattle.store_files.proofs.NamedFiles.{tables_same}
-use Rattle.store_files.proofs.Parts.{whole_left}
+use Rattle.batch_logs.specs.PartsLemmas.{batches_left as whole_left}
 
 -- ---- the same lines
 

@@ -17,13 +17,13 @@ use Rattle.manifest.specs.declared.TableLine.{TableLine}
 use Rattle.manifest.specs.{IsSlotFile, IsVersion}
 use Rattle.manifest.specs.{ManifestHasFailed, ManifestHolds, NodeVersion, first_version}
 use Rattle.manifest.specs.Holds.{SparesOthers}
-use Rattle.store_files.specs.declared.batch_logs.BatchLog.{BatchLog}
-use Rattle.store_files.specs.declared.batch_logs.BatchLogs.{BatchLogs}
+use Rattle.batch_logs.specs.declared.batch_logs.BatchLog.{BatchLog}
+use Rattle.batch_logs.specs.declared.batch_logs.BatchLogs.{BatchLogs}
 use Rattle.store_tables.specs.declared.error.EngineError.TheVariants as engine
 use Rattle.store_tables.specs.declared.error.EngineError.{EngineError}
 use Rattle.store_files.specs.declared.store_files.StoreFiles.{StoreFiles}
-use Rattle.store_files.specs.BatchLogs.{HoldsPart, IsWorking, LogsHold, end_of_log, first_number}
-use Rattle.store_files.specs.BatchLogs.{lines_of, next_number, oldest_first}
+use Rattle.batch_logs.specs.BatchLogs.{HoldsPart, IsWorking, LogsHold, end_of_log, first_number}
+use Rattle.batch_logs.specs.BatchLogs.{lines_of, next_number, oldest_first}
 use Rattle.store_tables.specs.Errors.{error_of_manifest}
 use Rattle.store_tables.specs.LevelTables.{AreServed, AreTablesOf, table_lines}
 use Rattle.store_files.specs.OpenFiles.{AreUsableFiles, FilesHold, batch_count}
@@ -31,8 +31,9 @@ use Rattle.store_files.specs.StoreFiles.{AreOrderedNumbers}
 use Rattle.store_files.specs.OpenFiles.{known_store, known_version, trimmed_count}
 use Rattle.store_files.specs.Settling.{AreAlone}
 use Rattle.store_files.specs.StoreFiles.{store_of_version}
-use Rattle.store_files.proofs.Entries.{none_among, none_numbered}
-use Rattle.store_files.proofs.BegunLogs.{IsAlone, alone_holds, alone_next, alone_usable}
+use Rattle.store_files.proofs.Entries.{none_among}
+use Rattle.batch_logs.specs.MemtablesLemmas.{none_numbered}
+use Rattle.batch_logs.specs.BatchLogsLemmas.{IsAlone, alone_holds, alone_next, alone_usable}
 
 -- a log of file 3 from the first batch on is a new store's only one
 pub first_line : (file first : ℕ) → file ≡ 3 → first ≡ 1 →

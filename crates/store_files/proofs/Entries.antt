@@ -7,7 +7,7 @@ use Rattle.kv_types.specs.{all_entries, entries_of}
 use Rattle.memtable.specs.declared.Memtable.{Memtable}
 use Rattle.memtable.specs.{HasFailedAdd, TableHolds}
 use Rattle.store_model.specs.{StoreState, memory_entries}
-use Rattle.store_files.specs.Stores.{IsNumberedTo}
+use Rattle.batch_logs.specs.Memtables.{IsNumberedTo}
 
 -- ---- the places of a list with one batch more
 
@@ -103,12 +103,6 @@ one_more_above old new list batch number store has is kept flushed adds entry = 
         | inr last ↦ inr last
       ]),
 )
-
--- no entry has a number yet
-pub none_numbered : (table : Memtable) → (HasFailedAdd table → ⊥) →
-    ((entry : Entry) → TableHolds table entry → ⊥) → (count : ℕ) → IsNumberedTo table count
-none_numbered table works empty count =
-    record { works = works; below = λ entry holds. absurd (empty entry holds) }
 
 -- and is the greatest of the memtable that was added to
 pub next_numbered : (old new : Memtable) (batch : BatchContent) (count number : ℕ) →

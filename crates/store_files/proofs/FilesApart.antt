@@ -12,7 +12,7 @@ use Rattle.manifest.specs.Lawful.{IsAllocated, IsVersion}
 use Rattle.manifest.specs.Versions.{are_once}
 use Rattle.manifest.specs.{IsLogLine, IsSlotFile, StoreVersion}
 use Rattle.store_files.specs.declared.store_files.StoreFiles.{StoreFiles}
-use Rattle.store_files.specs.BatchLogs.{line_of, newest_file}
+use Rattle.batch_logs.specs.BatchLogs.{line_of, newest_file}
 use Rattle.store_files.specs.OpenFiles.{AreUsableFiles, known_version}
 use Rattle.store_files.proofs.KeptFiles.{contains_map}
 use Rattle.store_files.proofs.Records.{either}

@@ -16,11 +16,11 @@ use Rattle.manifest.specs.{Change, EditsKeepVersions, IsChange}
 use Rattle.manifest.specs.{IsFit, IsVersion, ManifestHasFailed}
 use Rattle.manifest.specs.{NodeVersion, StoreVersion, changed}
 use Rattle.manifest.specs.{node_version_after}
-use Rattle.store_files.specs.declared.batch_logs.BatchLog.{BatchLog}
+use Rattle.batch_logs.specs.declared.batch_logs.BatchLog.{BatchLog}
 use Rattle.store_files.specs.declared.store_files.StoreFiles.{StoreFiles}
-use Rattle.store_files.specs.BatchLogs.{AreBeside, AreUsable}
-use Rattle.store_files.specs.BatchLogs.{first_number, line_of, lines_of, newest_file, next_number}
-use Rattle.store_files.specs.BatchLogs.{with_line}
+use Rattle.batch_logs.specs.BatchLogs.{AreBeside, AreUsable}
+use Rattle.batch_logs.specs.BatchLogs.{first_number, line_of, lines_of, newest_file, next_number}
+use Rattle.batch_logs.specs.BatchLogs.{with_line}
 use Rattle.store_tables.specs.LevelTables.{table_lines}
 use Rattle.store_tables.specs.LevelTables.{with_flushed_line}
 use Rattle.store_files.specs.OpenFiles.{AreUsableFiles, batch_count}
@@ -28,13 +28,13 @@ use Rattle.store_files.specs.StoreFiles.{AreOrderedNumbers}
 use Rattle.store_files.specs.OpenFiles.{known_facts, known_version, trimmed_count}
 use Rattle.store_files.specs.StoreFiles.{before_newest, begun_log, flush_change}
 use Rattle.store_files.specs.Tending.{IsNextTable, LacksPlace}
-use Rattle.store_files.proofs.Entries.{none_numbered}
+use Rattle.batch_logs.specs.MemtablesLemmas.{none_numbered}
 use Rattle.store_files.proofs.FilesApart.{newest_positive}
 use Rattle.store_files.proofs.FlushEdits.{flush_change_is, flush_fit}
 use Rattle.store_files.proofs.FlushedFiles.{logs_after, newest_after, tables_after}
 use Rattle.store_files.proofs.FlushedTables.{flushed_lines}
 use Rattle.store_files.proofs.KeptFiles.{contains_map}
-use Rattle.store_files.proofs.JoinedLogs.{in_turn}
+use Rattle.batch_logs.specs.BatchLogsLemmas.{joined_in_turn as in_turn}
 use Rattle.store_files.proofs.NamedHolds.{facts_of, first_begun, firsts_in_turn}
 use Rattle.store_files.proofs.NamedHolds.{log_given}
 

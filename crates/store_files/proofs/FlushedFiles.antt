@@ -15,8 +15,8 @@ use Rattle.manifest.specs.declared.TableLine.{TableLine}
 use Rattle.manifest.specs.Versions.{table_is_before, with_log, with_table}
 use Rattle.manifest.specs.VersionsLemmas.{all_logs_left, all_tables_left, log_behind}
 use Rattle.manifest.specs.{StoreVersion, changed}
-use Rattle.store_files.specs.Files.{IsLog}
-use Rattle.store_files.specs.BatchLogs.{HaveBatches}
+use Rattle.batch_logs.specs.Layout.{IsLog}
+use Rattle.batch_logs.specs.BatchLogs.{HaveBatches}
 use Rattle.store_tables.specs.LevelTables.{AreTablesOf, IsTableOf}
 use Rattle.store_files.specs.StoreFiles.{FlushesRepresent, LongerLogsRepresent}
 use Rattle.store_files.specs.StoreFiles.{before_newest, begun_log, flush_change, store_of_version}

@@ -18,12 +18,12 @@ use Rattle.manifest.specs.{Change, EditsKeepVersions, HeldVersionIsLeft, HeldVer
 use Rattle.manifest.specs.{IsSlotFile, ManifestHolds}
 use Rattle.manifest.specs.{ManifestRepresents, NodeVersion, SlotsAreLeft, StoreVersion, changed}
 use Rattle.manifest.specs.{node_version_after}
-use Rattle.store_files.specs.declared.batch_logs.BatchLogs.{BatchLogs}
+use Rattle.batch_logs.specs.declared.batch_logs.BatchLogs.{BatchLogs}
 use Rattle.store_tables.specs.declared.levels.OpenTable.{OpenTable}
 use Rattle.store_files.specs.declared.store_files.StoreFiles.{StoreFiles}
-use Rattle.store_files.specs.BatchLogs.{LogsHold}
-use Rattle.store_files.specs.BatchLogs.{lines_of, next_number}
-use Rattle.store_files.specs.BatchLogs.{with_line}
+use Rattle.batch_logs.specs.BatchLogs.{LogsHold}
+use Rattle.batch_logs.specs.BatchLogs.{lines_of, next_number}
+use Rattle.batch_logs.specs.BatchLogs.{with_line}
 use Rattle.store_tables.specs.LevelTables.{AreServed, AreTablesOf, IsServed}
 use Rattle.store_tables.specs.LevelTables.{with_flushed}
 use Rattle.store_files.specs.OpenFiles.{AreUsableFiles, FilesHold, batch_count}

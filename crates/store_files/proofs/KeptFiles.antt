@@ -21,13 +21,13 @@ use Rattle.manifest.specs.{IsVersion, ManifestHolds, ManifestRepresents, NodeVer
 use Rattle.manifest.specs.Lawful.{IsAllocated}
 use Rattle.manifest.specs.Versions.{files_of}
 use Rattle.sorted_table.specs.{TableServes, table_file}
-use Rattle.store_files.specs.declared.batch_logs.BatchLog.{BatchLog}
-use Rattle.store_files.specs.declared.batch_logs.BatchLogs.{BatchLogs}
+use Rattle.batch_logs.specs.declared.batch_logs.BatchLog.{BatchLog}
+use Rattle.batch_logs.specs.declared.batch_logs.BatchLogs.{BatchLogs}
 use Rattle.store_tables.specs.declared.levels.OpenTable.{OpenTable}
 use Rattle.store_files.specs.declared.store_files.StoreFiles.{StoreFiles}
-use Rattle.store_files.specs.BatchLogs.{AreParted, HasPart, HaveBatches, HoldsPart, LogsHold}
-use Rattle.store_files.specs.BatchLogs.{line_of}
-use Rattle.store_files.specs.BatchLogs.{lines_of}
+use Rattle.batch_logs.specs.BatchLogs.{AreParted, HasPart, HaveBatches, HoldsPart, LogsHold}
+use Rattle.batch_logs.specs.BatchLogs.{line_of}
+use Rattle.batch_logs.specs.BatchLogs.{lines_of}
 use Rattle.store_tables.specs.LevelTables.{AreTablesOf, IsServed, IsTableOf}
 use Rattle.store_files.specs.OpenFiles.{FilesAreRead, FilesHold, known_facts, known_version}
 use Rattle.store_files.specs.OpenFiles.{trimmed_count}
@@ -35,7 +35,7 @@ use Rattle.store_files.specs.Openings.{kept_files}
 use Rattle.store_files.specs.Settling.{AreAlone, SparesFiles}
 use Rattle.store_files.specs.StoreFiles.{FilesRepresent}
 use Rattle.store_files.proofs.NamedFiles.{tables_same}
-use Rattle.store_files.proofs.Parts.{AreKept, part_in, part_left, parted_in, parted_push}
+use Rattle.batch_logs.specs.PartsLemmas.{AreKept, part_in, part_left, parted_in, parted_push}
 
 -- ---- which files are kept
 

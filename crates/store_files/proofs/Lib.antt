@@ -1,10 +1,5 @@
 pub mod Entries
 pub mod Records
-pub mod Causes
-pub mod Keeping
-pub mod Parts
-pub mod JoinedLogs
-pub mod BegunLogs
 pub mod NamedFiles
 pub mod FlushedFiles
 pub mod FlushEdits
@@ -18,9 +13,6 @@ pub mod Appended
 pub mod Settles
 pub mod Removals
 pub mod Removes
-pub mod Replays
-pub mod ReadLogs
-pub mod OpenLogs
 pub mod BegunFiles
 pub mod KeptFiles
 pub mod StillFiles

@@ -17,12 +17,12 @@ use Rattle.store_model.specs.PlacesLemmas.{contains_head, contains_next}
 use Rattle.manifest.specs.declared.LogLine.{LogLine}
 use Rattle.manifest.specs.declared.TableLine.{TableLine}
 use Rattle.manifest.specs.{HeldVersionStays, StoreVersion}
-use Rattle.store_files.specs.declared.batch_logs.BatchLogs.{BatchLogs}
+use Rattle.batch_logs.specs.declared.batch_logs.BatchLogs.{BatchLogs}
 use Rattle.store_tables.specs.declared.error.EngineError.TheVariants as engine
 use Rattle.store_tables.specs.declared.error.EngineError.{EngineError}
 use Rattle.store_tables.specs.declared.levels.OpenTable.{OpenTable}
 use Rattle.store_files.specs.declared.store_files.StoreFiles.{StoreFiles}
-use Rattle.store_files.specs.BatchLogs.{LogsHold, lines_of, newest_file}
+use Rattle.batch_logs.specs.BatchLogs.{LogsHold, lines_of, newest_file}
 use Rattle.store_tables.specs.LevelTables.{AreTablesOf, HasMeantBlocks, IsServed, IsTableAsMeant}
 use Rattle.store_tables.specs.LevelTables.{IsTableOf, WasServed}
 use Rattle.store_tables.specs.declared.levels.LevelTables.{LevelTables}

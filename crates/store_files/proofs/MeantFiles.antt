@@ -15,7 +15,7 @@ use Rattle.manifest.specs.declared.Manifest.{Manifest}
 use Rattle.manifest.specs.declared.TableLine.{TableLine}
 use Rattle.manifest.specs.{HeldVersionIsLeft, HeldVersionStays, IsVersion, ManifestHolds}
 use Rattle.manifest.specs.{ManifestRepresents, StoreVersion}
-use Rattle.store_files.specs.declared.batch_logs.BatchLogs.{BatchLogs}
+use Rattle.batch_logs.specs.declared.batch_logs.BatchLogs.{BatchLogs}
 use Rattle.store_tables.specs.declared.levels.LevelTables.{LevelTables}
 use Rattle.store_tables.specs.LevelTables.{IsTableAsMeant}
 use Rattle.store_files.specs.OpenFiles.{IsAsMeant}

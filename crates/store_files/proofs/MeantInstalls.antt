@@ -19,10 +19,10 @@ use Rattle.manifest.specs.declared.TableLine.{TableLine}
 use Rattle.manifest.specs.{Change, EditsKeepVersions, HeldVersionIsLeft, HeldVersionStays}
 use Rattle.manifest.specs.{IsSlotFile, ManifestHolds, ManifestRepresents, NodeVersion}
 use Rattle.manifest.specs.{SlotsAreLeft, StoreVersion, changed, node_version_after}
-use Rattle.store_files.specs.declared.batch_logs.BatchLogs.{BatchLogs}
+use Rattle.batch_logs.specs.declared.batch_logs.BatchLogs.{BatchLogs}
 use Rattle.store_tables.specs.declared.levels.OpenTable.{OpenTable}
 use Rattle.store_files.specs.declared.store_files.StoreFiles.{StoreFiles}
-use Rattle.store_files.specs.BatchLogs.{LogsHold, lines_of, next_number, with_line}
+use Rattle.batch_logs.specs.BatchLogs.{LogsHold, lines_of, next_number, with_line}
 use Rattle.store_tables.specs.LevelTables.{IsTableAsMeant}
 use Rattle.store_tables.specs.LevelTables.{WasServed, WereServed, with_flushed, with_flushed_line}
 use Rattle.store_files.specs.OpenFiles.{AreUsableFiles, IsAsMeant}

@@ -13,7 +13,7 @@ use Rattle.store_model.specs.Claims.{AppendsKeep}
 use Rattle.store_model.specs.{StoreRepresents}
 use Rattle.manifest.specs.{HeldVersionIsLeft, StoreVersion}
 use Rattle.store_files.specs.declared.store_files.StoreFiles.{StoreFiles}
-use Rattle.store_files.specs.BatchLogs.{AreLeftWith, HaveBatches, lines_of, newest_file}
+use Rattle.batch_logs.specs.BatchLogs.{AreLeftWith, HaveBatches, lines_of, newest_file}
 use Rattle.store_files.specs.OpenFiles.{WereMeantToHold, known_facts, known_store, known_version}
 use Rattle.store_files.specs.OpenFiles.{trimmed_count}
 use Rattle.store_files.specs.StoreFiles.{WereMeant, WereOneOf}
@@ -24,7 +24,7 @@ use Rattle.store_files.proofs.MeantFiles.{left_beside, meant_left, meant_outcome
 use Rattle.store_files.proofs.MeantFiles.{tables_of_meant}
 use Rattle.store_files.proofs.MeantOpenings.{log_beside}
 use Rattle.store_files.proofs.NamedFiles.{logs_same}
-use Rattle.store_files.proofs.Parts.{whole_left}
+use Rattle.batch_logs.specs.PartsLemmas.{batches_left as whole_left}
 
 -- a disk that was meant, with what a crash leaves of it and of the disk as it is
 pub record CrashLaws : Type 0 where

@@ -22,11 +22,12 @@ use Rattle.manifest.specs.{ManifestRepresents, NodeVersion, StoreVersion}
 use Rattle.store_tables.specs.declared.levels.OpenTable.{OpenTable}
 use Rattle.store_files.specs.declared.opening.ReadParts.{ReadParts}
 use Rattle.store_files.specs.declared.store_files.StoreFiles.{StoreFiles}
-use Rattle.store_files.specs.BatchLogs.{lines_of}
+use Rattle.batch_logs.specs.BatchLogs.{lines_of}
 use Rattle.store_files.specs.Files.{Facts}
 use Rattle.store_tables.specs.LevelTables.{AreTablesOf, HasMeantBlocks, IsServed, IsTableAsMeant}
 use Rattle.store_tables.specs.LevelTables.{WasServed}
-use Rattle.store_files.specs.OpenFiles.{AreBatchesOf, AreUsableFiles, IsAsMeant}
+use Rattle.batch_logs.specs.Replaying.{AreBatchesOf}
+use Rattle.store_files.specs.OpenFiles.{AreUsableFiles, IsAsMeant}
 use Rattle.store_files.specs.OpenFiles.{WereMeantToHold, WereMeantToRead, known_facts}
 use Rattle.store_files.specs.OpenFiles.{known_version}
 use Rattle.store_files.specs.Openings.{PartsHold, PartsWereMeant, kept_files}

@@ -25,14 +25,14 @@ use Rattle.store_tables.specs.LevelTables.{AreServed, AreTablesOf, WasServed, We
 use Rattle.store_tables.specs.LevelTables.{table_lines}
 use Rattle.store_tables.specs.MergeTables.{ReplacedLinesName, ReplacesTables, open_lines}
 use Rattle.store_tables.specs.MergeTables.{replaced_lines, replaced_tables}
-use Rattle.store_files.specs.declared.batch_logs.BatchLogs.{BatchLogs}
+use Rattle.batch_logs.specs.declared.batch_logs.BatchLogs.{BatchLogs}
 use Rattle.store_files.specs.declared.store_files.StoreFiles.{StoreFiles}
-use Rattle.store_files.specs.BatchLogs.{AreUsable, LogsHold, first_number, lines_of, next_number}
+use Rattle.batch_logs.specs.BatchLogs.{AreUsable, LogsHold, first_number, lines_of, next_number}
 use Rattle.store_files.specs.Merging.{HasOutputs, MayMerge, replaced_files}
 use Rattle.store_files.specs.Merging.{merged_files}
 use Rattle.store_files.specs.OpenFiles.{AreUsableFiles, FilesHold, batch_count}
 use Rattle.store_files.specs.OpenFiles.{known_facts, known_store, known_version, trimmed_count}
-use Rattle.store_files.specs.Stores.{IsNumberedTo}
+use Rattle.batch_logs.specs.Memtables.{IsNumberedTo}
 use Rattle.store_files.specs.StoreFiles.{AreOrderedNumbers, store_of_version}
 use Rattle.store_files.specs.Tending.{IsSameBeside}
 use Rattle.store_files.proofs.KeptFiles.{kept_is_given, slot_is_kept}

@@ -11,9 +11,9 @@ use Rattle.manifest.specs.declared.LogLine.{LogLine}
 use Rattle.manifest.specs.declared.TableLine.{TableLine}
 use Rattle.manifest.specs.{IsSlot, IsSlotFile, IsSuperseded, ManifestRepresents, NodeVersion}
 use Rattle.manifest.specs.{SlotsRepresent, other_slot}
-use Rattle.store_files.specs.Files.{IsLog}
-use Rattle.store_files.specs.Layout.{records_from}
-use Rattle.store_files.specs.BatchLogs.{HaveBatches}
+use Rattle.batch_logs.specs.Layout.{IsLog}
+use Rattle.batch_logs.specs.Layout.{records_from}
+use Rattle.batch_logs.specs.BatchLogs.{HaveBatches}
 use Rattle.store_tables.specs.LevelTables.{AreTablesOf, IsTableOf}
 use Rattle.store_files.specs.StoreFiles.{StoreFilesAreNamed}
 

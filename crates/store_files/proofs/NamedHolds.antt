@@ -14,12 +14,12 @@ use Rattle.manifest.specs.declared.TableLine.{TableLine}
 use Rattle.manifest.specs.Lawful.{IsAllocated}
 use Rattle.manifest.specs.{IsSlotFile, IsVersion}
 use Rattle.manifest.specs.{ManifestRepresents, NodeVersion, StoreVersion}
-use Rattle.store_files.specs.declared.batch_logs.BatchLog.{BatchLog}
-use Rattle.store_files.specs.declared.batch_logs.BatchLogs.{BatchLogs}
+use Rattle.batch_logs.specs.declared.batch_logs.BatchLog.{BatchLog}
+use Rattle.batch_logs.specs.declared.batch_logs.BatchLogs.{BatchLogs}
 use Rattle.store_files.specs.declared.store_files.StoreFiles.{StoreFiles}
-use Rattle.store_files.specs.BatchLogs.{HaveBatches, LogsHold, end_of_log}
-use Rattle.store_files.specs.BatchLogs.{first_number, line_of, lines_of, next_number}
-use Rattle.store_files.specs.BatchLogs.{with_line}
+use Rattle.batch_logs.specs.BatchLogs.{HaveBatches, LogsHold, end_of_log}
+use Rattle.batch_logs.specs.BatchLogs.{first_number, line_of, lines_of, next_number}
+use Rattle.batch_logs.specs.BatchLogs.{with_line}
 use Rattle.store_files.specs.Files.{Facts}
 use Rattle.store_tables.specs.LevelTables.{AreTablesOf}
 use Rattle.store_files.specs.OpenFiles.{known_facts, known_version, trimmed_count}
@@ -29,7 +29,7 @@ use Rattle.store_files.proofs.Appended.{first_by_lines, first_in}
 use Rattle.store_files.proofs.FilesApart.{given_no_slot}
 use Rattle.store_files.proofs.KeptFiles.{named_logs_in, named_logs_left}
 use Rattle.store_files.proofs.NamedFiles.{table_same, tables_same}
-use Rattle.store_files.proofs.JoinedLogs.{AreInTurn}
+use Rattle.batch_logs.specs.BatchLogsLemmas.{AreInTurn}
 
 -- ---- the files that a version names
 

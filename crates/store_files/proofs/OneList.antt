@@ -8,10 +8,10 @@ use Rattle.disk.specs.{Contents}
 use Rattle.record_log.specs.{RecordsAreUnique}
 use Rattle.manifest.specs.declared.LogLine.{LogLine}
 use Rattle.manifest.specs.{NodeVersion, StoreVersion, VersionIsOne, VersionsAreLawful}
-use Rattle.store_files.specs.BatchLogs.{HaveBatches}
+use Rattle.batch_logs.specs.BatchLogs.{HaveBatches}
 use Rattle.store_files.specs.StoreFiles.{StoreFilesAreOne}
 use Rattle.store_files.proofs.ReadFiles.{facts_are}
-use Rattle.store_files.proofs.ReadLogs.{same_parts}
+use Rattle.batch_logs.specs.PartsLemmas.{same_parts}
 
 -- the first line tells the number of the first batch
 same_first : (left : Contents) (a b : ℕ) (lines : List LogLine) (xs ys : List BatchContent) →

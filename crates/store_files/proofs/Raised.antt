@@ -18,18 +18,18 @@ use Rattle.manifest.specs.{Change, EditsKeepVersions, IsChange, IsFit, IsSlotFil
 use Rattle.manifest.specs.{IsVersion, ManifestHasFailed, ManifestHolds, ManifestRepresents}
 use Rattle.manifest.specs.{NodeVersion, StoreVersion, counting_file, node_version_after}
 use Rattle.store_model.specs.PlacesLemmas.{contains_cases}
-use Rattle.store_files.specs.declared.batch_logs.BatchLog.{BatchLog}
-use Rattle.store_files.specs.declared.batch_logs.BatchLogs.{BatchLogs}
+use Rattle.batch_logs.specs.declared.batch_logs.BatchLog.{BatchLog}
+use Rattle.batch_logs.specs.declared.batch_logs.BatchLogs.{BatchLogs}
 use Rattle.store_files.specs.declared.store_files.StoreFiles.{StoreFiles}
 use Rattle.store_tables.specs.declared.levels.LevelTables.{LevelTables}
 use Rattle.store_tables.specs.LevelTables.{AreServed, AreTablesOf, table_lines}
-use Rattle.store_files.specs.BatchLogs.{HaveBatches, LogsHold, end_of_log, lines_of}
-use Rattle.store_files.specs.BatchLogs.{line_of}
+use Rattle.batch_logs.specs.BatchLogs.{HaveBatches, LogsHold, end_of_log, lines_of}
+use Rattle.batch_logs.specs.BatchLogs.{line_of}
 use Rattle.store_files.specs.OpenFiles.{AreUsableFiles, FilesHold, batch_count}
 use Rattle.store_files.specs.OpenFiles.{known_facts, known_store, known_version, trimmed_count}
 use Rattle.store_files.specs.Raising.{MayRise, before_oldest, obsolete_files, raise_change}
 use Rattle.store_files.specs.Raising.{facts_with_floor, raised_files}
-use Rattle.store_files.specs.Stores.{IsNumberedTo}
+use Rattle.batch_logs.specs.Memtables.{IsNumberedTo}
 use Rattle.store_files.specs.StoreFiles.{AreOrderedNumbers, FilesRepresent, before_newest}
 use Rattle.store_files.specs.StoreFiles.{store_of_version}
 use Rattle.store_files.specs.Tending.{IsSameBeside}

@@ -15,10 +15,11 @@ use Rattle.store_tables.specs.declared.error.EngineError.{EngineError}
 use Rattle.store_tables.specs.declared.error.EngineError.TheVariants as engine
 use Rattle.store_tables.specs.Errors.{IsEnd, error_of_manifest}
 use Rattle.store_files.specs.declared.opening.ReadParts.{ReadParts}
-use Rattle.store_files.specs.BatchLogs.{first_number}
+use Rattle.batch_logs.specs.BatchLogs.{first_number}
 use Rattle.store_files.specs.Files.{Facts}
 use Rattle.store_tables.specs.LevelTables.{AreTablesOf}
-use Rattle.store_files.specs.OpenFiles.{AreBatchesOf, AreUsableFiles}
+use Rattle.batch_logs.specs.Replaying.{AreBatchesOf}
+use Rattle.store_files.specs.OpenFiles.{AreUsableFiles}
 use Rattle.store_files.specs.StoreFiles.{AreOrderedNumbers}
 use Rattle.store_files.specs.OpenFiles.{FilesOpenAs, OpeningRefusal}
 use Rattle.store_files.specs.Openings.{AreParts, HasParts, WereParts}

@@ -23,21 +23,23 @@ use Rattle.manifest.specs.{SlotsRead, other_slot, version_of}
 use Rattle.store_tables.specs.declared.error.EngineError.TheVariants as engine
 use Rattle.store_files.specs.declared.opening.ReadParts.{ReadParts}
 use Rattle.store_files.specs.declared.store_files.StoreFiles.{StoreFiles}
-use Rattle.store_files.specs.BatchLogs.{LogsHold, first_number}
+use Rattle.batch_logs.specs.BatchLogs.{LogsHold, first_number}
 use Rattle.store_files.specs.Files.{Facts}
 use Rattle.store_tables.specs.LevelTables.{AreTablesOf, FileFits, FitsLine}
-use Rattle.store_files.specs.OpenFiles.{AreBatchesOf, AreUsableFiles}
+use Rattle.batch_logs.specs.Replaying.{AreBatchesOf}
+use Rattle.store_files.specs.OpenFiles.{AreUsableFiles}
 use Rattle.store_files.specs.StoreFiles.{AreOrderedNumbers}
 use Rattle.store_files.specs.OpenFiles.{FilesAreRead, known_facts}
 use Rattle.store_files.specs.OpenFiles.{known_version}
 use Rattle.store_files.specs.Openings.{PartsHold}
-use Rattle.store_files.specs.Settling.{IsReadAlike, SlotSettles}
+use Rattle.store_files.specs.Settling.{IsReadAlike}
+use Rattle.batch_logs.specs.Syncs.{SlotSettles}
 use Rattle.store_files.specs.StoreFiles.{FilesRepresent, store_of_version}
 use Rattle.store_files.proofs.FilesApart.{given_no_slot}
 use Rattle.store_files.proofs.NamedFiles.{logs_same, tables_same}
-use Rattle.store_files.proofs.Parts.{held_count}
+use Rattle.batch_logs.specs.PartsLemmas.{held_count}
 use Rattle.store_files.proofs.ReadParts.{begins_at}
-use Rattle.store_files.proofs.Settles.{settled_alike}
+use Rattle.batch_logs.specs.SyncsLemmas.{settles_alike}
 
 -- ---- slots
 
@@ -88,7 +90,7 @@ slots_stay stays old new manifest named h settle = stays old new manifest named 
 pub read_alike : (s0 s1 s2 : State) → SlotsRead s1 (contents s0) → SparesOthers s0 s1
     → ((file : ℕ) → SlotSettles s1 s2 file) → IsReadAlike s0 s2
 read_alike s0 s1 s2 slots spares settle file =
-    settled_alike s1 s2 file (settle file) ∙ (elim (cases_eq file 1) [
+    settles_alike s1 s2 file (settle file) ∙ (elim (cases_eq file 1) [
       | inl one ↦ slots file (inl one)
       | inr not_one ↦ elim (cases_eq file 2) [
         | inl two ↦ slots file (inr two)

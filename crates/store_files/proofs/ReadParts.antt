@@ -15,16 +15,17 @@ use Rattle.store_model.specs.{LevelTable}
 use Rattle.manifest.specs.declared.LogLine.{LogLine}
 use Rattle.manifest.specs.declared.TableLine.{TableLine}
 use Rattle.manifest.specs.{IsVersion, StoreVersion}
-use Rattle.store_files.specs.declared.batch_logs.BatchLog.{BatchLog}
-use Rattle.store_files.specs.declared.batch_logs.BatchLogs.{BatchLogs}
-use Rattle.store_files.specs.BatchLogs.{AreParted, HoldsPart, LogsHold, first_number, oldest_first}
+use Rattle.batch_logs.specs.declared.batch_logs.BatchLog.{BatchLog}
+use Rattle.batch_logs.specs.declared.batch_logs.BatchLogs.{BatchLogs}
+use Rattle.batch_logs.specs.BatchLogs.{AreParted, HoldsPart, LogsHold, first_number, oldest_first}
 use Rattle.store_tables.specs.LevelTables.{AreTablesOf, FileFits, FitsLine}
-use Rattle.store_files.specs.OpenFiles.{AreBatchesOf, AreReplayed}
-use Rattle.store_files.specs.Settling.{AreSynced, AreThere, SlotSettles, SparesAllBut}
+use Rattle.batch_logs.specs.Replaying.{AreBatchesOf, AreReplayed}
+use Rattle.store_files.specs.Settling.{AreSynced, AreThere}
+use Rattle.batch_logs.specs.Syncs.{SlotSettles, SparesAllBut}
 use Rattle.store_files.specs.StoreFiles.{durably}
 use Rattle.store_files.proofs.FilesApart.{log_no_table}
 use Rattle.store_files.proofs.NamedFiles.{logs_same, tables_same}
-use Rattle.store_files.proofs.Settles.{settled_alike, settles_twice}
+use Rattle.batch_logs.specs.SyncsLemmas.{settles_alike, settles_twice}
 
 -- ---- logs
 
@@ -92,7 +93,7 @@ fitting_are_there disk lines fit =
 
 pub synced_reads : (old new : State) (lines : List TableLine) → AreSynced old new lines
     → (file : ℕ) → contents new file ≡ contents old file
-synced_reads old new lines synced file = settled_alike old new file (synced.each file)
+synced_reads old new lines synced file = settles_alike old new file (synced.each file)
 
 module _ (version : StoreVersion) (is : IsVersion version) (s1 s2 s3 : State)
     (synced : AreSynced s1 s2 version.tables) (others : SparesAllBut version.logs s2 s3) where

@@ -20,7 +20,9 @@ use Rattle.store_tables.specs.declared.error.EngineError.TheVariants as engine
 use Rattle.store_tables.specs.declared.error.EngineError.{EngineError}
 use Rattle.store_tables.specs.Errors.{error_of_disk}
 use Rattle.store_tables.specs.KeepingLemmas.{kept_as, kept_behind, neither, unchanged}
-use Rattle.store_files.specs.Settling.{AddsNothing, AreSynced, SlotSettles}
+use Rattle.batch_logs.specs.Syncs.{AddsNothing, SlotSettles}
+use Rattle.store_files.specs.Settling.{AreSynced}
+use Rattle.batch_logs.specs.SyncsLemmas.{settled_seen}
 
 -- what a call did with the files, told in other words
 pub files_told : {D : Type 0} (g : Ghosts D) {old new : D} {told cause : Type 0}
@@ -55,30 +57,7 @@ disk_works is fails = cc
 
 -- ---- one file
 
--- what a file that settled reads as, it read as before
-pub settled_seen : (old new : State) (file : ℕ) (bytes : List ℕ) → SlotSettles old new file →
-    seen (new file) ≡ Some bytes → seen (old file) ≡ Some bytes
-settled_seen old new file bytes (inl same) reads = ap seen (sym same) ∙ reads
-settled_seen old new file bytes (inr is) reads =
-    let now : seen (new file) ≡ Some is.0 = ap seen is.2 in
-    is.1 ∙ sym now ∙ reads
-
--- and it reads as before
-pub settled_alike : (old new : State) (file : ℕ) → SlotSettles old new file →
-    seen (new file) ≡ seen (old file)
-settled_alike old new file (inl same) = ap seen same
-settled_alike old new file (inr is) = ap seen is.2 ∙ sym is.1
-
--- a file that settles twice settles
-pub settles_twice : (old mid new : State) (file : ℕ) → SlotSettles old mid file →
-    SlotSettles mid new file → SlotSettles old new file
-settles_twice old mid new file (inl a) (inl b) = inl (b ∙ a)
-settles_twice old mid new file (inl a) (inr b) = inr (b.0, ap seen (sym a) ∙ b.1, b.2)
-settles_twice old mid new file (inr a) (inl b) = inr (a.0, a.1, b ∙ a.2)
-settles_twice old mid new file (inr a) (inr b) =
-    inr (b.0, settled_seen old mid file b.0 (inr a) b.1, b.2)
-
--- it exists where it existed
+-- a file that settled exists where it existed
 pub settled_there : (old new : State) (file : ℕ) → SlotSettles old new file →
     IsSome (seen (old file)) → IsSome (seen (new file))
 settled_there old new file (inl same) there =

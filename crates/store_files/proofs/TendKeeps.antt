@@ -15,7 +15,7 @@ use Rattle.store_files.specs.Files.{Facts, IsOwned}
 use Rattle.store_tables.specs.KeepingLemmas.{kept_as, kept_behind, kept_but, neither, unchanged}
 use Rattle.store_files.specs.OpenFiles.{AreUsableFiles, FilesHold, WereMeantToHold, known_facts}
 use Rattle.store_files.specs.StoreFiles.{FilesRepresent, WereMeant}
-use Rattle.store_files.specs.Lists.{ListFollowsOn}
+use Rattle.batch_logs.specs.Lists.{ListFollowsOn}
 use Rattle.store_files.specs.TendKeeps.{FilesAreTended, StoreKeeps, TendKeeps}
 use Rattle.store_files.specs.Tending.{HasSpilled, HeldAndSpilled, MeantAndSpilled, TendMayFail}
 use Rattle.store_files.specs.Tending.{tended_files}

@@ -19,7 +19,7 @@ use Rattle.manifest.specs.{ManifestRepresents, NodeVersion, SlotsAreLeft, StoreV
 use Rattle.store_files.specs.declared.store_files.StoreFiles.{StoreFiles}
 use Rattle.store_tables.specs.declared.error.EngineError.TheVariants as engine
 use Rattle.store_tables.specs.declared.error.EngineError.{EngineError}
-use Rattle.store_files.specs.BatchLogs.{lines_of}
+use Rattle.batch_logs.specs.BatchLogs.{lines_of}
 use Rattle.store_tables.specs.Errors.{IsEnd, error_of_edit}
 use Rattle.store_tables.specs.LevelTables.{table_lines}
 use Rattle.store_files.specs.OpenFiles.{AreUsableFiles, FilesHold, batch_count, known_facts}

@@ -9,13 +9,13 @@ use Rattle.kv_types.specs.{BatchContent}
 use Rattle.disk.specs.{Contents, State}
 use Rattle.record_log.specs.{file_of}
 use Rattle.version_edits.specs.declared.line.LogLine.{LogLine}
-use Rattle.store_files.specs.declared.batch_logs.BatchLog.{BatchLog}
-use Rattle.store_files.specs.declared.batch_logs.BatchLogs.{BatchLogs}
-use Rattle.store_files.specs.BatchLogs.{AreJoined, AreParted, AreUsable, HasPart, HaveBatches}
-use Rattle.store_files.specs.BatchLogs.{HoldsPart, IsWorking, LogsHold, end_of_log, first_number}
-use Rattle.store_files.specs.BatchLogs.{line_of, lines_of, newest_file, oldest_first}
+use Rattle.batch_logs.specs.declared.batch_logs.BatchLog.{BatchLog}
+use Rattle.batch_logs.specs.declared.batch_logs.BatchLogs.{BatchLogs}
+use Rattle.batch_logs.specs.BatchLogs.{AreJoined, AreParted, AreUsable, HasPart, HaveBatches}
+use Rattle.batch_logs.specs.BatchLogs.{HoldsPart, IsWorking, LogsHold, end_of_log, first_number}
+use Rattle.batch_logs.specs.BatchLogs.{line_of, lines_of, newest_file, oldest_first}
 use Rattle.store_files.specs.Raising.{before_oldest}
-use Rattle.store_files.proofs.JoinedLogs.{AreInTurn, in_turn, joined_of}
+use Rattle.batch_logs.specs.BatchLogsLemmas.{AreInTurn, joined_in_turn as in_turn, joined_of}
 
 -- ---- batches without the first ones
 

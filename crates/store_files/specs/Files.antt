@@ -1,7 +1,6 @@
 -- What stands in the files of a store, and the facts beside its list of batches.
-use Rattle.std.specs.Prelude.{ℕ, List, Option, IsSomeAnd}
+use Rattle.std.specs.Prelude.{ℕ, List}
 use Rattle.disk.specs.{State}
-use Rattle.record_log.specs.{Represents}
 
 -- The node of a store and its configuration, the configuration's number in the list of
 -- configurations, the least number that can be read, and the number of batches trimmed from the
@@ -16,10 +15,6 @@ pub record Facts : Type 0 where
 -- the facts of a new store
 abbrev pub first_facts : ℕ → List ℕ → Facts
 first_facts x ids = record { id = x; epoch = 0; ids = ids; floor = 0; kept = 0 }
-
--- the file exists, and is a log of these records
-abbrev pub IsLog : Option (List ℕ) → List (List ℕ) → Type 0
-IsLog file records = IsSomeAnd file (λ bytes. Represents bytes records)
 
 -- a store owns its disk: a call of it may change any file
 abbrev pub IsOwned : State → State → Type 0

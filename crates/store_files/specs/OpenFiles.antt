@@ -7,60 +7,24 @@ use Rattle.kv_types.specs.{BatchContent, Entry, IsBatch}
 use Rattle.version_edits.specs.declared.line.TheConstants.{MAX_NEXT}
 use Rattle.disk.specs.declared.Disk.{Ghosts}
 use Rattle.disk.specs.{Contents, IsDurable, IsEnvironmental, KeepsDisk, State, contents, seen}
-use Rattle.memtable.specs.declared.Memtable.{Memtable}
 use Rattle.memtable.specs.{TableHolds}
 use Rattle.store_model.specs.{LevelTable, StoreRepresents, StoreState, memory_entries}
-use Rattle.store_model.specs.{replayed_entries}
-use Rattle.manifest.specs.declared.LogLine.{LogLine}
 use Rattle.manifest.specs.{IsNotCreated, IsVersion, ManifestHasFailed, ManifestHolds}
 use Rattle.manifest.specs.{ManifestRepresents, NodeVersion, StoreVersion, version_of}
-use Rattle.store_files.specs.declared.batch_logs.BatchLogs.{BatchLogs}
 use Rattle.store_tables.specs.declared.error.EngineError.{EngineError}
 use Rattle.store_tables.specs.declared.error.EngineError.TheVariants as engine
 use Rattle.store_files.specs.declared.store_files.StoreFiles.{StoreFiles}
 use Rattle.store_files.specs.Files.{Facts, IsOwned, first_facts}
-use Rattle.store_files.specs.BatchLogs.{AreUsable, HaveBatches, LogsHold, first_number, lines_of}
-use Rattle.store_files.specs.BatchLogs.{next_number}
+use Rattle.batch_logs.specs.BatchLogs.{AreUsable, LogsHold, first_number, lines_of}
+use Rattle.batch_logs.specs.BatchLogs.{next_number}
 use Rattle.store_tables.specs.LevelTables.{AreServed, AreTablesOf, FileFits, HasMeantBlocks}
 use Rattle.store_tables.specs.LevelTables.{IsTableAsMeant, table_lines}
 use Rattle.store_tables.specs.declared.levels.LevelTables.{LevelTables}
-use Rattle.store_files.specs.Lists.{ListFollowsOn}
-use Rattle.store_files.specs.Stores.{IsNumberedTo}
+use Rattle.batch_logs.specs.Lists.{ListFollowsOn}
+use Rattle.batch_logs.specs.Memtables.{IsNumberedTo}
+use Rattle.batch_logs.specs.Replaying.{AreBatchesOf}
 use Rattle.store_files.specs.StoreFiles.{AreOrderedNumbers, FilesRepresent, OpensAs, WereMeant}
 use Rattle.store_files.specs.StoreFiles.{store_of_version}
-
--- ---- logs that were read
-
--- the memtable has the entries of these batches, numbered from this one on, that have a greater
--- number than those in tables
-abbrev pub HasReplayed : Memtable → ℕ → ℕ → List BatchContent → Type 0
-HasReplayed memtable first flushed batches =
-    (entry : Entry) → TableHolds memtable entry ↔ replayed_entries (first - 1) flushed batches entry
-
--- the lines name these batches, each of which has a number
-pub record AreBatchesOf (left : Contents) (lines : List LogLine) (first : ℕ)
-    (batches : List BatchContent) : Type 0 where
-  pub positive : 1 ≤ first
-  pub have : HaveBatches left first lines batches
-  pub each : All IsBatch batches
-  pub few : first - 1 + length batches ≤ MAX_NUMBER
-
--- what was read of the logs that lines name: all their batches, and the entries above those in
--- tables
-pub record AreReplayed (left : Contents) (lines : List LogLine) (flushed : ℕ) (logs : BatchLogs)
-    (memtable : Memtable) : Type 0 where
-  pub batches : List BatchContent
-  pub had : AreBatchesOf left lines (first_number logs) batches
-  pub count : next_number logs ≡ first_number logs + length batches
-  pub entries : HasReplayed memtable (first_number logs) flushed batches
-
--- the logs are those of the lines and can take another batch, and the memtable has not failed
-pub record AreOpenLogs (lines : List LogLine) (logs : BatchLogs) (memtable : Memtable) : Type 0
-  where
-    pub named : lines_of logs ≡ lines
-    pub usable : AreUsable logs
-    pub numbered : IsNumberedTo memtable (next_number logs - 1)
-    pub few : next_number logs ≤ suc MAX_NUMBER
 
 -- ---- what the open files know
 

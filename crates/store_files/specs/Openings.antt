@@ -8,12 +8,12 @@ use Rattle.store_model.specs.{LevelTable}
 use Rattle.manifest.specs.{IsVersion, StoreVersion}
 use Rattle.manifest.specs.Versions.{files_of}
 use Rattle.store_files.specs.declared.opening.ReadParts.{ReadParts}
-use Rattle.store_files.specs.BatchLogs.{LogsHold, first_number, next_number}
+use Rattle.batch_logs.specs.BatchLogs.{LogsHold, first_number, next_number}
 use Rattle.store_tables.specs.LevelTables.{AreServed, AreTablesOf, FileFits, IsTableAsMeant}
 use Rattle.store_tables.specs.LevelTables.{WereServed}
 use Rattle.store_tables.specs.LevelTables.{table_lines}
-use Rattle.store_files.specs.Settling.{SlotSettles}
-use Rattle.store_files.specs.OpenFiles.{AreBatchesOf, AreOpenLogs, AreReplayed, HasReplayed}
+use Rattle.batch_logs.specs.Syncs.{SlotSettles}
+use Rattle.batch_logs.specs.Replaying.{AreBatchesOf, AreOpenLogs, AreReplayed, HasReplayed}
 use Rattle.store_files.specs.StoreFiles.{AreOrderedNumbers, durably}
 
 -- the slots, and the files that the version names

@@ -1,23 +1,12 @@
 -- What an opening makes of the files of a store: those that are named are made durable, and the
 -- others are removed.
-use Rattle.std.specs.Prelude.{◌≡◌, ◌≢◌, ◌⊎◌, ℕ, List, Some, All, IsSome, IsNone, Contains}
+use Rattle.std.specs.Prelude.{◌≡◌, ℕ, List, Some, All, IsSome, IsNone, Contains}
 use Rattle.disk.specs.{Contents, IsFileOutcome, State, seen}
 use Rattle.record_log.specs.{IsDurableAs}
-use Rattle.manifest.specs.declared.LogLine.{LogLine}
 use Rattle.manifest.specs.declared.TableLine.{TableLine}
+use Rattle.batch_logs.specs.Syncs.{SlotSettles}
 
 -- ---- syncs
-
--- a crash leaves of each file only what it might have left before
-abbrev pub AddsNothing : State → State → Type 0
-AddsNothing old new =
-    (file : ℕ) (left : _) → IsFileOutcome (new file) left → IsFileOutcome (old file) left
-
--- the file is as it was, or durably has the bytes that it had
-abbrev pub SlotSettles : State → State → ℕ → Type 0
-SlotSettles old new file =
-    (new file ≡ old file)
-    ⊎ ((bytes : List ℕ) × (seen (old file) ≡ Some bytes) × IsDurableAs new file bytes)
 
 -- the files of these lines durably have the bytes that they had, and each other settles at most
 pub record AreSynced (old new : State) (lines : List TableLine) : Type 0 where
@@ -28,16 +17,6 @@ pub record AreSynced (old new : State) (lines : List TableLine) : Type 0 where
 -- each file reads as before
 abbrev pub IsReadAlike : State → State → Type 0
 IsReadAlike old new = (file : ℕ) → seen (new file) ≡ seen (old file)
-
--- the files but those of these logs are as they were
-abbrev pub SparesAllBut : List LogLine → State → State → Type 0
-SparesAllBut lines old new =
-    (file : ℕ) → All (λ line. line.file ≢ file) lines → new file ≡ old file
-
--- the files of these logs settle, and the others are as they were
-pub record LogsSettle (lines : List LogLine) (old new : State) : Type 0 where
-  pub others : SparesAllBut lines old new
-  pub each : (file : ℕ) → SlotSettles old new file
 
 -- the files of these lines exist
 abbrev pub AreThere : State → List TableLine → Type 0

@@ -19,8 +19,9 @@ use Rattle.record_log.specs.{IsDurableAs}
 use Rattle.manifest.specs.{HasFirstSlots, IsNotCreated, IsSlotFile, ManifestRepresents, NodeVersion}
 use Rattle.manifest.specs.{StoreVersion}
 use Rattle.manifest.specs.{Change, changed, first_version}
-use Rattle.store_files.specs.Files.{Facts, IsLog}
-use Rattle.store_files.specs.BatchLogs.{HaveBatches}
+use Rattle.store_files.specs.Files.{Facts}
+use Rattle.batch_logs.specs.Layout.{IsLog}
+use Rattle.batch_logs.specs.BatchLogs.{HaveBatches}
 use Rattle.store_tables.specs.LevelTables.{AreTablesOf, FileFits, IsTableAsMeant, IsTableOf}
 use Rattle.store_files.specs.Settling.{AreAlone}
 

@@ -8,7 +8,7 @@ use Rattle.store_tables.specs.declared.error.EngineError.{EngineError}
 use Rattle.store_files.specs.declared.store_files.StoreFiles.{StoreFiles}
 use Rattle.store_tables.specs.Errors.{IsEnd}
 use Rattle.store_files.specs.Files.{Facts, IsOwned}
-use Rattle.store_files.specs.Lists.{ListFollowsOn}
+use Rattle.batch_logs.specs.Lists.{ListFollowsOn}
 use Rattle.store_files.specs.OpenFiles.{AreUsableFiles, FilesHold, WereMeantToHold, batch_count}
 use Rattle.store_files.specs.OpenFiles.{known_facts}
 use Rattle.store_files.specs.StoreFiles.{FilesRepresent, WereMeant}

@@ -9,7 +9,7 @@ use Rattle.version_edits.specs.declared.line.TheConstants.{MAX_LINES, MAX_NEXT}
 use Rattle.manifest.specs.declared.TableLine.{TableLine}
 use Rattle.manifest.specs.{HasFullSlot, HasLongSlot, HasSameSlots, StoreVersion, counting_file}
 use Rattle.manifest.specs.{generation_of, node_version_after, spare_file}
-use Rattle.store_files.specs.BatchLogs.{newest_length}
+use Rattle.batch_logs.specs.BatchLogs.{newest_length}
 use Rattle.store_files.specs.declared.flushing.Flushed.{Flushed}
 use Rattle.store_files.specs.declared.store_files.StoreFiles.{StoreFiles}
 use Rattle.store_files.specs.declared.tended.Tended.{Tended}
@@ -20,7 +20,7 @@ use Rattle.store_tables.specs.TableWriting.{HasEntry, IsTooLarge, IsWrittenTable
 use Rattle.store_files.specs.OpenFiles.{batch_count, known_facts}
 use Rattle.store_files.specs.OpenFiles.{WereMeantToHold, known_version}
 use Rattle.store_files.specs.Files.{Facts}
-use Rattle.store_files.specs.Lists.{ListFollowsOn}
+use Rattle.batch_logs.specs.Lists.{ListFollowsOn}
 use Rattle.store_tables.specs.declared.error.EngineError.{EngineError}
 use Rattle.store_files.specs.StoreFiles.{flush_change}
 use Rattle.store_tables.specs.TableWriting.{IsNewLine}

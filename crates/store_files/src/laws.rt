@@ -1,11 +1,11 @@
 //! Laws of the definitions that contracts use. The functions do nothing: their clauses are the
 //! laws.
+ghost use Rattle.store_files.specs.FloorExamples.{FloorsPassLogs};
 ghost use Rattle.store_files.specs.HeldFiles.{HeldFilesAreLeft};
 ghost use Rattle.store_files.specs.StoreFiles.{DamagedFilesOpen, FirstFilesRepresent};
 ghost use Rattle.store_files.specs.StoreFiles.{FlushesRepresent, LongerLogsRepresent};
 ghost use Rattle.store_files.specs.StoreFiles.{StoreFilesAreNamed, StoreFilesAreOne};
 ghost use Rattle.store_files.specs.StoreFiles.{StoreFilesShowMaps};
-ghost use Rattle.store_files.specs.LogExamples.{FloorsPassLogs, LaterLogIsBehind, TwoLogsHaveThree};
 
 use disk::laws::{durable_file_is_left, reads_are_outcomes};
 use kv_types::laws::spellings_differ;
@@ -83,10 +83,7 @@ pub fn longer_logs_represent()
     appends_keep();
 }
 
-/// Two logs with three batches, two of which the second begins with batch 4, and which of three
-/// are obsolete at a floor.
-pub fn log_examples()
-    ensures three { TwoLogsHaveThree }
-    ensures behind { LaterLogIsBehind }
-    ensures obsolete { FloorsPassLogs }
+/// Which of three logs are obsolete at a floor.
+pub fn floor_examples()
+    ensures { FloorsPassLogs }
 {}

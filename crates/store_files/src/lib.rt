@@ -1,15 +1,12 @@
 //! The open files of a store: manifest, logs of batches and tables, each call lent the disk.
 #![tactic(auto)]
 
-mod batch_logs;
 mod flushing;
 pub mod laws;
-mod layout;
 mod merging;
 mod opening;
 mod raising;
 mod removing;
-mod replaying;
 mod rows;
 mod settling;
 mod store_files;

@@ -12,15 +12,14 @@ ghost use Rattle.store_files.specs.OpenFiles.{AreNewFiles, FilesAreRead, FilesHo
 ghost use Rattle.store_files.specs.OpenFiles.{known_version, WereMeantToHold, WereMeantToRead};
 ghost use Rattle.store_files.specs.Openings.{AreParts, HasParts, PartsHold, PartsWereMeant};
 ghost use Rattle.store_files.specs.Openings.{IfMeantParts, IfParts, WereParts, kept_files};
-ghost use Rattle.store_files.specs.Reads.{OnlyReads};
+ghost use Rattle.batch_logs.specs.Reads.{OnlyReads};
 ghost use Rattle.store_files.specs.Settling.{AreSwept, IsReadAlike};
 ghost use Rattle.manifest.specs.{ManifestHolds, version_of};
 
 use crate::EngineError;
-use crate::batch_logs::{BatchLog, BatchLogs};
-use crate::replaying::open_logs;
 use crate::settling::{remove_others, sync_tables};
 use crate::store_files::StoreFiles;
+use batch_logs::{BatchLog, BatchLogs, open_logs};
 use configurations::{Config, NodeId};
 use disk::Disk;
 use kv_types::Number;

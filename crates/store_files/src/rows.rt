@@ -8,7 +8,7 @@ ghost use Rattle.store_tables.specs.declared.error.EngineError.TheVariants.{Disk
 ghost use Rattle.store_tables.specs.LevelTables.{HasMeantBlocks};
 ghost use Rattle.store_files.specs.OpenFiles.{AreUsableFiles, FilesHold};
 ghost use Rattle.store_files.specs.OpenFiles.{IfHeld, IfMeant, batch_count, known_facts};
-ghost use Rattle.store_files.specs.Reads.{OnlyReads};
+ghost use Rattle.batch_logs.specs.Reads.{OnlyReads};
 
 use crate::{EngineError, StoreFiles};
 use disk::Disk;

@@ -3,8 +3,9 @@ ghost use Rattle.std.specs.Prelude.{IfErr, IsErrOf, OnOk, MatchResult};
 ghost use Rattle.disk.specs.{AlwaysLeaves, IsEnvironmental, KeepsDisk};
 ghost use Rattle.store_tables.specs.declared.error.EngineError.TheVariants.{Disk, Memory};
 ghost use Rattle.store_tables.specs.Errors.{IsEnd};
-ghost use Rattle.store_files.specs.Reads.{OnlyReads};
-ghost use Rattle.store_files.specs.Settling.{AddsNothing, AreAlone, AreLeftOf, AreSynced, AreThere};
+ghost use Rattle.batch_logs.specs.Reads.{OnlyReads};
+ghost use Rattle.batch_logs.specs.Syncs.{AddsNothing};
+ghost use Rattle.store_files.specs.Settling.{AreAlone, AreLeftOf, AreSynced, AreThere};
 ghost use Rattle.store_files.specs.Settling.{SparesFiles};
 
 use crate::EngineError;

@@ -6,7 +6,7 @@ ghost use Rattle.kv_types.specs.declared.bounds.TheConstants.{MAX_VALUE};
 ghost use Rattle.kv_types.specs.{map_of};
 ghost use Rattle.disk.specs.{IsEnvironmental, IsSame, IsSameBut, KeepsDisk};
 ghost use Rattle.chain_model.specs.{place};
-ghost use Rattle.store_files.specs.BatchLogs.{HasFullLog, newest_file};
+ghost use Rattle.batch_logs.specs.BatchLogs.{HasFullLog, newest_file};
 ghost use Rattle.store_tables.specs.declared.error.EngineError.TheVariants.{Disk, Memory};
 ghost use Rattle.store_tables.specs.Errors.{IsEnd};
 ghost use Rattle.store_files.specs.OpenFiles.{AreUsableFiles, FilesHold, batch_count, known_facts};
@@ -14,11 +14,11 @@ ghost use Rattle.store_files.specs.OpenFiles.{HasSameFacts, IfHeld, IfMeant, Lis
 ghost use Rattle.store_files.specs.OpenFiles.{WereMeantToHold, trimmed_count};
 ghost use Rattle.memtable.specs.{HasFailedAdd, TableHolds};
 ghost use Rattle.store_tables.specs.LevelTables.{EntriesHave, found_value};
-ghost use Rattle.store_files.specs.Reads.{OnlyReads};
+ghost use Rattle.batch_logs.specs.Reads.{OnlyReads};
 ghost use Rattle.store_files.specs.StoreFiles.{FilesRepresent, WereMeant};
 
 use crate::EngineError;
-use crate::batch_logs::BatchLogs;
+use batch_logs::BatchLogs;
 use disk::Disk;
 use disk::laws::{durable_file_is_left, durable_is_left, reads_are_outcomes};
 use kv_types::{Batch, Key, Number, Value};

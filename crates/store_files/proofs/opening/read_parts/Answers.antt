@@ -10,7 +10,7 @@ use Rattle.store_files.specs.Settling.{AreSynced, AreThere}
 use Rattle.std.specs.Prelude.{All, Contains}
 use Rattle.std.proofs.lemmas.List.Elements.{All-contains, All-contains_itself, All-weaker}
 use Rattle.store_tables.specs.RefusalLemmas.{refuses}
-use Rattle.store_files.proofs.Parts.{held_count, logs_in}
+use Rattle.batch_logs.specs.PartsLemmas.{held_count, logs_in}
 use Rattle.store_files.proofs.ReadParts.{batches_same, begins_at, fitting_are_there, parts_settle}
 use Rattle.store_files.proofs.ReadParts.{replayed_same, tables_are_there, tables_durable}
 use Rattle.store_files.proofs.ReadParts.{tables_now}

@@ -9,7 +9,7 @@ use Rattle.store_files.proofs.BegunFiles.{counts_none, first_hold, first_line, l
 use Rattle.store_files.proofs.BegunFiles.{no_file_ends, no_slot_yet}
 use Rattle.store_files.proofs.BegunFiles.{first_log, only_first, rest_is_unused}
 use Rattle.store_tables.specs.RefusalLemmas.{refuses}
-use Rattle.store_files.proofs.Parts.{holds_in}
+use Rattle.batch_logs.specs.PartsLemmas.{holds_in}
 use Rattle.store_files.proofs.store_files.StoreFiles.create.Goals as goal
 
 -- no table is opened

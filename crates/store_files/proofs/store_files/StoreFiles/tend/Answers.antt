@@ -1,7 +1,7 @@
 use Rattle.std.proofs.Common.{◌≡◌, ◌<◌, Ok, arith, drop, refl, suc}
 use Rattle.store_tables.specs.declared.error.EngineError.TheVariants as engine
 use Rattle.store_files.specs.declared.tended.Tended.TheVariants as tended
-use Rattle.store_files.specs.BatchLogs.{newest_length}
+use Rattle.batch_logs.specs.BatchLogs.{newest_length}
 use Rattle.store_files.specs.OpenFiles.{known_version, trimmed_count}
 use Rattle.store_files.specs.Tending.{FlushIsDue, RewriteIsDue, IsTend as tend}
 use Rattle.store_files.specs.Tending.{IsWorkAnswer as work}

@@ -1,0 +1,9 @@
+pub mod Records
+pub mod Causes
+pub mod Keeping
+pub mod LongerLogs
+pub mod JoinedLogs
+pub mod BegunLogs
+pub mod Replays
+pub mod ReadLogs
+pub mod OpenLogs

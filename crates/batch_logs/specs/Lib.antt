@@ -1,0 +1,13 @@
+pub mod Layout
+pub mod LayoutLemmas
+pub mod Lists
+pub mod Reads
+pub mod BatchLogs
+pub mod BatchLogsLemmas
+pub mod PartsLemmas
+pub mod Memtables
+pub mod MemtablesLemmas
+pub mod Syncs
+pub mod SyncsLemmas
+pub mod Replaying
+pub mod LogExamples

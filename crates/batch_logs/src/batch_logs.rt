@@ -1,0 +1,217 @@
+//! The logs of a store's batches, in order: the newest takes appends, and a batch is read from the
+//! log that has its number.
+ghost use Rattle.std.specs.Prelude.{◌≡◌, ◌≢◌, IsErrOf, ℕ, ◌+◌, ◌-◌, ◌<◌, ◌≤◌, ◌∷◌, [], ◌++◌, List};
+ghost use Rattle.std.specs.Prelude.{All, Contains, MatchResult, Some, ◌⊎◌, drop, length};
+ghost use Rattle.kv_types.specs.declared.bounds.TheConstants.{MAX_NUMBER};
+ghost use Rattle.kv_types.specs.{BatchContent, IsBatch};
+ghost use Rattle.disk.specs.{AlwaysLeaves, IsLeftAt, IsSame, IsSameBut, KeepsDisk, State};
+ghost use Rattle.disk.specs.{IsEnvironmental, seen};
+ghost use Rattle.record_log.specs.{EndsInRange, LogHolds};
+ghost use Rattle.batch_logs.specs.BatchLogs.{AreBeside, AreJoined, AreLeftWith, AreUsable};
+ghost use Rattle.batch_logs.specs.BatchLogs.{HasFullLog, IfLogsHold, IsBatchAnswer, IsWorking};
+ghost use Rattle.batch_logs.specs.BatchLogs.{LogsHold, first_number, oldest_first, line_of};
+ghost use Rattle.batch_logs.specs.BatchLogs.{lines_of, newest_file, newest_length, next_number};
+ghost use Rattle.batch_logs.specs.BatchLogs.{end_of_log, with_line};
+ghost use Rattle.store_tables.specs.declared.error.EngineError.TheVariants.{Disk, Memory};
+ghost use Rattle.store_tables.specs.Errors.{IsEnd};
+ghost use Rattle.batch_logs.specs.Layout.{records_from};
+ghost use Rattle.batch_logs.specs.Lists.{ListFollowsOn};
+ghost use Rattle.batch_logs.specs.Reads.{OnlyReads};
+
+use crate::layout::{batch_of, batch_record};
+use disk::Disk;
+use disk::laws::{durable_file_is_left, durable_is_left};
+use kv_types::laws::spellings_differ;
+use kv_types::{Batch, Number};
+use record_log::{Log, gates_are_in_files};
+use std::alloc::Global;
+use std::mem;
+use store_tables::EngineError;
+
+/// A log of batches, and the number of its first one.
+#[derive(Drop)]
+pub struct BatchLog {
+    pub first: u64,
+    pub log: Log,
+}
+
+/// The logs of a store. Each call that reaches files is lent the disk.
+#[derive(Drop)]
+pub struct BatchLogs {
+    // The logs but the newest, in order.
+    older: Vec<BatchLog>,
+    newest: BatchLog,
+}
+
+/// The batch of this number, read from the log that has it.
+fn batch_in<D: Disk>(
+    alloc: Global,
+    disk: &mut D,
+    one: &BatchLog,
+    number: Number,
+) -> Result<Batch, EngineError>
+    requires works { IsWorking one.now }
+    requires within { (one.now.first ≤ number) × (number < end_of_log one.now) }
+    ensures reads { OnlyReads D.Disk disk.old disk.new IsSame result }
+    ensures found { (here : List BatchContent) → D.is_honest disk.old →
+        LogHolds (D.state disk.old) one.now.log (records_from one.now.first here) →
+        All IsBatch here → IsBatchAnswer one.now.first here number result }
+{
+    spellings_differ(); // law: no two batches have one spelling
+    let index = (number.get() - one.first) as usize;
+    let record = one.log.record(alloc, disk, index)?;
+    batch_of(alloc, number.get(), &record)
+}
+
+/// The log that has the batch of this number, of joined logs that have it.
+fn log_with<'a>(older: &'a [BatchLog], newest: &'a BatchLog, number: u64) -> &'a BatchLog
+    requires joined { AreJoined (oldest_first older.now newest.now) older.now newest.now.first }
+    requires there { (oldest_first older.now newest.now ≤ number)
+        × (number < end_of_log newest.now) }
+    ensures among { Contains older.now result.now ⊎ (newest.now ≡ result.now) }
+    ensures has { (result.now.first ≤ number) × (number < end_of_log result.now) }
+{
+    match older.split_last() {
+        Some((last, rest)) if number < newest.first => log_with(rest, last, number),
+        _ => newest,
+    }
+}
+
+impl BatchLogs {
+    /// The only log of a store.
+    pub fn new(alloc: Global, newest: BatchLog) -> BatchLogs
+        ensures lines { lines_of result ≡ line_of newest ∷ [] }
+        ensures alone { (result.older.items ≡ []) × (result.newest ≡ newest) }
+    {
+        BatchLogs {
+            older: Vec::new(alloc),
+            newest,
+        }
+    }
+
+    /// The logs of a store, in order.
+    pub(crate) fn of(older: Vec<BatchLog>, newest: BatchLog) -> BatchLogs
+        ensures { (result.older.items ≡ older.items) × (result.newest ≡ newest) }
+    {
+        BatchLogs { older, newest }
+    }
+
+    /// The number of the oldest batch, or of the next one.
+    pub fn first_number(&self) -> u64
+        ensures { result ≡ first_number self.now }
+    {
+        match self.older.first() {
+            Some(one) => one.first,
+            None => self.newest.first,
+        }
+    }
+
+    /// The number of the last batch, or of the one before the first.
+    pub fn last_number(&self) -> Number
+        requires few { next_number self.now ≤ MAX_NUMBER + 1 }
+        ensures { result ≡ next_number self.now - 1 }
+    {
+        let next = self.newest.first + self.newest.log.len() as u64;
+        Number::new(next.saturating_sub(1)).unwrap()
+    }
+
+    /// The length of the newest log's file, up to its closed gate.
+    pub fn newest_length(&self) -> u64
+        ensures { (disk : State) (first : ℕ) (batches : List BatchContent) →
+            LogsHold disk self.now first batches → result ≡ newest_length self.now }
+    {
+        gates_are_in_files(); // law: a log's gate is within its file
+        self.newest.log.gate() + 1
+    }
+
+    /// Appends the batch with the next number to the newest log. It needs four device calls.
+    pub fn append<D: Disk>(
+        &mut self,
+        alloc: Global,
+        disk: &mut D,
+        number: Number,
+        batch: &Batch,
+    ) -> Result<(), EngineError>
+        requires usable { AreUsable self.old }
+        requires next { number ≡ next_number self.old }
+        ensures kept { KeepsDisk D.Disk disk.old disk.new
+            (IsErrOf result Disk) (HasFullLog self.old)
+            (IsSameBut (newest_file self.old)) }
+        ensures appended { IfLogsHold D.Disk disk.old self.old (λ first batches. ListFollowsOn
+            D.Disk (λ _ state. LogsHold state self.new first (batches ++ batch.now ∷ []))
+            (AreLeftWith (D.state disk.old) self.old first batches batch.now)
+            disk.old disk.new result) }
+        ensures lines { lines_of self.new ≡ lines_of self.old }
+        ensures room { next_number self.old ≤ MAX_NUMBER }
+        ensures counts { MatchResult result
+            (λ _. AreUsable self.new × (next_number self.new ≡ next_number self.old + 1))
+            (λ e. (next_number self.new ≡ next_number self.old) × IsEnd e) }
+    {
+        // laws: a crash leaves what is durable, file by file
+        durable_is_left();
+        durable_file_is_left();
+        let record = batch_record(alloc, number.get(), batch)?;
+        self.newest.log.append(alloc, disk, &record)?;
+        Ok(())
+    }
+
+    /// The batch of this number, read from its log.
+    pub fn batch<D: Disk>(
+        &self,
+        alloc: Global,
+        disk: &mut D,
+        number: Number,
+    ) -> Result<Batch, EngineError>
+        requires usable { AreUsable self.now }
+        requires there { (first_number self.now ≤ number) × (number < next_number self.now) }
+        ensures reads { OnlyReads D.Disk disk.old disk.new IsSame result }
+        ensures found { IfLogsHold D.Disk disk.old self.now (λ first batches.
+            All IsBatch batches → IsBatchAnswer first batches number result) }
+    {
+        let one = log_with(&self.older, &self.newest, number.get());
+        batch_in(alloc, disk, one, number)
+    }
+
+    /// Forgets so many of the oldest logs. Their files stay.
+    pub fn trim(&mut self, count: usize)
+        requires { count ≤ length self.old.older.items }
+        ensures older { self.new.older.items ≡ drop count self.old.older.items }
+        ensures newest { self.new.newest ≡ self.old.newest }
+    {
+        drop(self.older.drain(..count));
+    }
+
+    /// Begins a log in a new file, which takes the appends from now on. It needs two device calls.
+    pub fn begin<D: Disk>(
+        &mut self,
+        alloc: Global,
+        disk: &mut D,
+        file: u64,
+    ) -> Result<(), EngineError>
+        requires usable { AreUsable self.old }
+        requires few { next_number self.old ≤ MAX_NUMBER + 1 }
+        requires new { AreBeside file self.old.older.items × (newest_file self.old ≢ file) }
+        ensures kept { KeepsDisk D.Disk disk.old disk.new (IsErrOf result Disk) ⊥ (IsSameBut file) }
+        ensures begun { (first : ℕ) (batches : List BatchContent) → D.is_honest disk.old →
+            EndsInRange (seen (D.state disk.old file)) →
+            LogsHold (D.state disk.old) self.old first batches →
+            MatchResult result (λ _. LogsHold (D.state disk.new) self.new first batches)
+            (IsEnvironmental Disk Memory) }
+        ensures told { MatchResult result
+            (λ _. AreUsable self.new × (next_number self.new ≡ next_number self.old)
+            × (lines_of self.new ≡ with_line self.old file))
+            (λ e. (next_number self.new ≡ next_number self.old)
+            × (lines_of self.new ≡ lines_of self.old) × IsEnd e) }
+
+        // A crash at any moment since the call began leaves each other file as it was.
+        ensures any_moment { D.is_honest disk.old → AlwaysLeaves D.Disk disk.old disk.new
+            (IsLeftAt (D.state disk.old) file (λ left. Unit {0})) }
+    {
+        self.older.reserve(1)?;
+        let log = Log::create(alloc, disk, file)?;
+        let first = self.newest.first + self.newest.log.len() as u64;
+        let last = mem::replace(&mut self.newest, BatchLog { first, log });
+        self.older.push_reserved(last);
+        Ok(())
+    }
+}

@@ -1,0 +1,43 @@
+// The records of a store's logs of batches.
+ghost use Rattle.std.specs.Prelude.{◌≡◌, ◌⊎◌, IfOk, IfErr, IsErrOf};
+ghost use Rattle.kv_types.specs.{BatchContent, IsBatch};
+ghost use Rattle.batch_logs.specs.Layout.{batch_record};
+
+use kv_types::{Batch, KvError};
+use std::alloc::{AllocError, Global};
+use store_tables::EngineError;
+
+/// The record of a batch with its number.
+pub(crate) fn batch_record(alloc: Global, number: u64, batch: &Batch) -> Result<Vec<u8>, AllocError>
+    ensures { IfOk result (λ bytes.
+        (bytes.items ≡ batch_record number batch.now) × IsBatch batch.now) }
+{
+    let mut out = Vec::with_capacity(alloc, 8 + batch.spelled_len())?;
+    out.extend_from_slice(&number.to_be_bytes())?;
+    batch.spell_into(&mut out)?;
+    Ok(out)
+}
+
+/// The batch of a record, if the record has this number.
+pub(crate) fn batch_of(alloc: Global, number: u64, bytes: &[u8]) -> Result<Batch, EngineError>
+    ensures found { IfOk result (λ batch. (bytes.now ≡ batch_record number batch) × IsBatch batch) }
+    ensures damaged { IsErrOf result EngineError.Damaged → (batch : BatchContent) → IsBatch batch →
+        bytes.now ≡ batch_record number batch → ⊥ }
+    ensures only { IfErr result (λ e. (e ≡ EngineError.Damaged) ⊎ (e ≡ EngineError.Memory)) }
+{
+    if bytes.len() < 8 {
+        return Err(EngineError::Damaged);
+    }
+    let (head, body) = bytes.split_at(8);
+    if head != number.to_be_bytes().as_slice() {
+        return Err(EngineError::Damaged);
+    }
+    match Batch::from_bytes(alloc, body) {
+        Ok(batch) => {
+            let _edits = batch.edits();
+            Ok(batch)
+        }
+        Err(KvError::Memory) => Err(EngineError::Memory),
+        Err(_) => Err(EngineError::Damaged),
+    }
+}
