@@ -36,9 +36,8 @@ pub struct CountingSlot {
 // Whether the file has as many bytes as the buffer, which then holds the first ones.
 fn fills<D: Disk>(disk: &mut D, file: u64, into: &mut [u8]) -> Result<bool, ManifestError>
     ensures reads { SlotsAreRead D.Disk disk.old disk.new IsSame result }
-    ensures filled { D.is_honest disk.old →
-        IfOk result (λ full. IsFilled full (seen (D.state disk.old file)) into.new) }
-    ensures only { IfErr result (IsEnvironmental Disk Memory) }
+    ensures filled { MatchResult result (λ full. D.is_honest disk.old →
+        IsFilled full (seen (D.state disk.old file)) into.new) (IsEnvironmental Disk Memory) }
     ensures len { length into.new ≡ length into.old }
 {
     match disk.read(file, 0, into) {
@@ -66,9 +65,9 @@ fn open_head(bytes: &[u8]) -> Option<(u64, u16)>
 // The head of a slot. At most two reads.
 fn head_of<D: Disk>(disk: &mut D, file: u64) -> Result<Head, ManifestError>
     ensures reads { SlotsAreRead D.Disk disk.old disk.new IsSame result }
-    ensures is { D.is_honest disk.old →
-        IfOk result (λ head. HeadIs head (seen (D.state disk.old file))) }
-    ensures only { IfErr result (IsEnvironmental Disk Memory) }
+    ensures is { MatchResult result
+        (λ head. D.is_honest disk.old → HeadIs head (seen (D.state disk.old file)))
+        (IsEnvironmental Disk Memory) }
 {
     let mut bytes = [0; 11];
     if fills(disk, file, &mut bytes)? {

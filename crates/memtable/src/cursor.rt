@@ -1,6 +1,6 @@
 //! A cursor over the entries of a memtable.
 
-ghost use Rattle.std.specs.Prelude.{◌≡◌, ◌≤◌, IfOk, IfErr, IfSome, false, None};
+ghost use Rattle.std.specs.Prelude.{◌≡◌, ◌≤◌, IfOk, IfSome, false, None};
 ghost use Rattle.std.specs.Option.{ForSome};
 ghost use Rattle.kv_types.specs.{lent_key};
 ghost use Rattle.std.proofs.Props.{props};
@@ -15,7 +15,7 @@ use crate::version::Versions;
 use kv_types::bounds::MAX_KEY;
 use kv_types::{LentKey, StoredKey};
 use merge_iter::{Cursor, CursorError};
-use std::alloc::Global;
+use std::alloc::{AllocError, Global};
 use std::collections::BTreeMap;
 use std::collections::btree_map::Range;
 use std::ops::Bound;
@@ -45,14 +45,13 @@ fn sought<'a>(
     map: &'a BTreeMap<StoredKey, Versions>,
     key: LentKey,
     number: u64,
-) -> Result<Option<VersionPlace<'a>>, CursorError>
+) -> Result<Option<VersionPlace<'a>>, AllocError>
     requires rising { HasRisingNumbers map.now }
     requires limits { HasLimits map.now }
     ensures placed { IfOk result (λ place. IfSome place (IsVersionPlace map.now)) }
     ensures first { IfOk result (λ place. IsFirst Forward (λ entry. MapHolds map.now entry
         × (EntryPrecedes Forward entry (spot (lent_key key.entry) number) → ⊥))
         (maybe_position place)) }
-    ensures memory { IfErr result (λ e. e ≡ CursorError.Memory) }
 {
     if key.len() > MAX_KEY {
         let (first, _) = key.as_bytes().split_at(MAX_KEY);

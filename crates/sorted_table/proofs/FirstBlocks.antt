@@ -1,6 +1,7 @@
 -- The block of a line, as a read of the file answers.
-use Rattle.std.proofs.Common.{◌≡◌, ℕ, ◌≤◌, ◌<◌, List, length, Some, Result, Ok, Err}
+use Rattle.std.proofs.Common.{◌≡◌, ℕ, ◌≤◌, ◌<◌, List, length, Option, Some, None, Result, Ok, Err}
 use Rattle.std.proofs.Common.{MatchResult, sym, ap, subst, ◌∙◌, arith, IfOk}
+use Rattle.std.specs.Option.{IfSome, IsSomeAnd, ok_or}
 use Rattle.std.specs.List.{slice_get}
 use Rattle.std.specs.Rc.{rc_slice_items}
 use Rattle.std.specs.Global.{Global}
@@ -43,28 +44,24 @@ block_answer disk file lines n line t b (Err e) answer =
 -- the place in the block
 pub place_in : (disk : State) (file : ℕ) (lines : List IndexLine) (n : ℕ) (line : IndexLine)
     (t : HasLines (disk file) lines) (b : BlockNumber t.bytes t.represents.blocks line n)
-    (result : Result BlockPlace FileError)
-    → IfOk result (λ place. (place.line ≡ n) × (place.at ≡ 0))
-    → MatchResult result (λ place. PlaceReads place (block_entries b.block))
-    (λ e. e ≡ reading.Memory)
-    → MatchResult result (IsPlaceIn t.represents.blocks) (λ e. e ≡ reading.Memory)
-place_in disk file lines n line t b (Ok place) is reads =
+    (it : Option BlockPlace) → IfSome it (λ place. (place.line ≡ n) × (place.at ≡ 0))
+    → IsSomeAnd it (λ place. PlaceReads place (block_entries b.block))
+    → IfOk (ok_or it reading.Damaged) (IsPlaceIn t.represents.blocks)
+place_in disk file lines n line t b (Some place) is reads =
     record {
       block = b.block;
       present = ap (slice_get t.represents.blocks) is.0 ∙ b.present;
       reads = reads;
     }
-place_in disk file lines n line t b (Err e) is reads = reads
+place_in disk file lines n line t b None is reads = tt
 
 -- ---- refusals
 
 -- the entries of a block of a table are not damaged
-pub places_are_right : {A : Type 0} (P : A → Type 0) (result : Result A FileError)
-    → result ≡ Err reading.Damaged → MatchResult result P (λ e. e ≡ reading.Memory) → ⊥
-places_are_right P result is answer =
-    let e : reading.Damaged ≡ reading.Memory =
-    subst (λ r. MatchResult r P (λ e. e ≡ reading.Memory)) is answer in
-    absurd cc
+pub places_are_right : {A : Type 0} (P : A → Type 0) (it : Option A)
+    → ok_or it reading.Damaged ≡ Err reading.Damaged → IsSomeAnd it P → ⊥
+places_are_right P (Some x) is some = absurd cc
+places_are_right P None is some = some
 
 pub ok_part : {A E : Type 0} (P : A → Type 0) (Q : E → Type 0) (result : Result A E)
     → MatchResult result P Q → IfOk result P
@@ -74,12 +71,12 @@ ok_part P Q (Err e) m = tt
 -- ---- what holds of any block
 
 pub first_place : (lines : List IndexLine) (n : ℕ) (line : IndexLine) (size : ℕ)
-    → slice_get lines n ≡ Some line → size ≡ line.len → (result : Result BlockPlace FileError)
-    → IfOk result (λ place. (place.line ≡ n) × (place.at ≡ 0))
-    → IfOk result (λ place. length place.starts.items ≤ size)
-    → IfOk result (λ place. (place.line ≡ n) × (place.at ≡ 0) × IsBounded lines place)
-first_place lines n line size at len (Ok place) first few =
+    → slice_get lines n ≡ Some line → size ≡ line.len → (it : Option BlockPlace)
+    → IfSome it (λ place. (place.line ≡ n) × (place.at ≡ 0))
+    → IfSome it (λ place. length place.starts.items ≤ size) → IfOk (ok_or it reading.Damaged)
+    (λ place. (place.line ≡ n) × (place.at ≡ 0) × IsBounded lines place)
+first_place lines n line size at len (Some place) first few =
     let same : block_size (slice_get lines place.line) ≡ line.len =
     ap (λ k. block_size (slice_get lines k)) first.0 ∙ ap block_size at in
     (first.0, first.1, omega (arith, same, len, few))
-first_place lines n line size at len (Err e) first few = tt
+first_place lines n line size at len None first few = tt

@@ -1,5 +1,5 @@
 //! The search for a key and number in a block.
-ghost use Rattle.std.specs.Prelude.{◌≡◌, ◌⊎◌, List, All, MatchResult, IfErr, option_map};
+ghost use Rattle.std.specs.Prelude.{◌≡◌, ◌⊎◌, List, All, IsSomeAnd, MatchResult, IfErr, option_map};
 ghost use Rattle.std.specs.Ordering.{is_lt};
 ghost use Rattle.kv_types.specs.{Entry, lent_key};
 ghost use Rattle.merge_iter.specs.{entry_cmp, spot};
@@ -22,30 +22,23 @@ fn is_earlier(entry: LentEntry, key: LentKey, number: u64) -> bool
 }
 
 // The first entry in the spelling of a block's entries that does not come before the key and
-// number.
-fn first_from<'a>(
-    text: &'a [u8],
-    key: LentKey,
-    number: u64,
-) -> Result<Option<LentEntry<'a>>, FileError>
-    ensures first { (entries : List Entry) → All IsTableEntry entries →
+// number, if there is one. `None` where the bytes up to it are no entries.
+fn first_from<'a>(text: &'a [u8], key: LentKey, number: u64) -> Option<Option<LentEntry<'a>>>
+    ensures { (entries : List Entry) → All IsTableEntry entries →
         text.now ≡ entries_bytes entries →
-        MatchResult result (λ first.
+        IsSomeAnd result (λ first.
         FindsFirstWithout (IsEarlier (spot (lent_key key.entry) number)) entries
-        (option_map lent_entry first)) (λ _. ⊥) }
-    ensures only { IfErr result (λ e. e ≡ FileError.Damaged) }
+        (option_map lent_entry first)) }
 {
     let mut rest = text;
     while !rest.is_empty() {
-        let Some((entry, after)) = entry_of(rest) else {
-            return Err(FileError::Damaged);
-        };
+        let (entry, after) = entry_of(rest)?;
         if !is_earlier(entry, key, number) {
-            return Ok(Some(entry));
+            return Some(Some(entry));
         }
         rest = after;
     }
-    Ok(None)
+    Some(None)
 }
 
 /// What a block that was checked has of the key at the number.
@@ -63,7 +56,10 @@ pub fn find_in(
     let Some(text) = entries_in(block) else {
         return Err(FileError::Damaged);
     };
-    let Some(entry) = first_from(text, key, at)? else {
+    let Some(first) = first_from(text, key, at) else {
+        return Err(FileError::Damaged);
+    };
+    let Some(entry) = first else {
         return Ok(None);
     };
     if !entry.key.is_same(key) {

@@ -1,6 +1,6 @@
 //! A place in a block.
-ghost use Rattle.std.specs.Prelude.{◌≡◌, ◌<◌, ◌≤◌, ◌+◌, ◌-◌, ◌⊎◌, List, Some, IfErr, IfOk, IsTrue};
-ghost use Rattle.std.specs.Prelude.{MatchResult, length};
+ghost use Rattle.std.specs.Prelude.{◌≡◌, ◌<◌, ◌≤◌, ◌+◌, ◌-◌, List, Some, IfOk, IfSome, IsTrue};
+ghost use Rattle.std.specs.Prelude.{IsSomeAnd, length};
 ghost use Rattle.std.proofs.Props.{props};
 ghost use Rattle.std.specs.Rc.{rc_slice_items};
 ghost use Rattle.kv_types.specs.{Entry, lent_key};
@@ -11,8 +11,9 @@ ghost use Rattle.sorted_table.specs.EntryReads.{AreRead, SplitsEntries};
 use crate::starts::{count_before, entry_from, starts_in};
 use kv_types::LentKey;
 use merge_iter::Direction;
+use std::alloc::AllocError;
 use std::rc::RcSlice;
-use table_format::{FileError, LentEntry};
+use table_format::LentEntry;
 
 /// An entry of a block, and where each entry of the block starts. The block is that of a line of
 /// an index.
@@ -29,26 +30,31 @@ pub struct BlockPlace {
 impl BlockPlace {
     ghost use Rattle.sorted_table.specs.BlockPlaces.{IsAtEnd, IsMovedTo, PlaceReads, place_entry};
 
-    /// The first entry of a block. The memory of `starts` is used again.
-    pub fn new(line: usize, block: RcSlice<u8>, starts: Vec<usize>) -> Result<BlockPlace, FileError>
-        ensures first { IfOk result (λ place. (place.line ≡ line) × (place.at ≡ 0)) }
-        ensures few { IfOk result
-            (λ place. length place.starts.items ≤ length (rc_slice_items block)) }
+    /// The first entry of a block, if the bytes are one. The memory of `starts` is used again.
+    pub fn new(
+        line: usize,
+        block: RcSlice<u8>,
+        starts: Vec<usize>,
+    ) -> Result<Option<BlockPlace>, AllocError>
+        ensures first { IfOk result
+            (λ it. IfSome it (λ place. (place.line ≡ line) × (place.at ≡ 0))) }
+        ensures few { IfOk result (λ it. IfSome it
+            (λ place. length place.starts.items ≤ length (rc_slice_items block))) }
         ensures entries { (entries : List Entry) → IsBlock (rc_slice_items block) entries →
-            MatchResult result (λ place. PlaceReads place entries) (λ e. e ≡ FileError.Memory) }
-        ensures errors { IfErr result
-            (λ e. (e ≡ FileError.Damaged) ⊎ (e ≡ FileError.Memory)) }
+            IfOk result (λ it. IsSomeAnd it (λ place. PlaceReads place entries)) }
     {
-        let starts = starts_in(&block, starts)?;
+        let Some(starts) = starts_in(&block, starts)? else {
+            return Ok(None);
+        };
         if starts.is_empty() {
-            return Err(FileError::Damaged);
+            return Ok(None);
         }
-        Ok(BlockPlace {
+        Ok(Some(BlockPlace {
             line,
             block,
             starts,
             at: 0,
-        })
+        }))
     }
 
     /// The memory of the places.

@@ -66,7 +66,7 @@ fn first_of<D: Disk + Drop>(
         HasLines (⟦<Files<D> as Disk>⟧.state files.old file) (rc_slice_items lines.now) → ⊥ }
 {
     let block = block_of_line(alloc, files, file, lines, line)?;
-    BlockPlace::new(line, block, starts)
+    BlockPlace::new(line, block, starts)?.ok_or(FileError::Damaged)
 }
 
 /// A cursor over the entries of a table. It shares the lines of the index with its table, and

@@ -1,5 +1,5 @@
 // A flush: the entries in memory become a table of level 0, and a new log takes the next batches.
-ghost use Rattle.std.specs.Prelude.{◌≡◌, ◌↔◌, ◌≤◌, IfErr, IfOk, IsErrOf, IsTrue, MatchOption};
+ghost use Rattle.std.specs.Prelude.{◌≡◌, ◌↔◌, ◌≤◌, IfOk, IsErrOf, IsTrue, MatchOption};
 ghost use Rattle.std.specs.Prelude.{MatchResult};
 ghost use Rattle.disk.specs.{IsSameBut, KeepsDisk};
 ghost use Rattle.manifest.specs.{HasFullSlot, IsChange, IsFit};
@@ -38,14 +38,13 @@ pub(crate) struct Flushed {
 }
 
 /// Whether the memtable has entries.
-pub(crate) fn has_entries(memtable: &Memtable) -> Result<bool, EngineError>
-    requires works { HasFailedAdd memtable.now → ⊥ }
-    ensures any { IfOk result (λ any. IsTrue any ↔ HasEntry memtable.now) }
-    ensures memory { IfErr result (λ e. e ≡ EngineError.Memory) }
+pub(crate) fn has_entries(memtable: &Memtable) -> bool
+    requires { HasFailedAdd memtable.now → ⊥ }
+    ensures { IsTrue result ↔ HasEntry memtable.now }
 {
-    let mut cursor = memtable.cursor()?;
-    cursor.first(&mut ())?;
-    Ok(cursor.valid())
+    let mut cursor = memtable.cursor().unwrap();
+    cursor.first(&mut ()).unwrap();
+    cursor.valid()
 }
 
 /// Whether a flush lacks a place in the version, where this file is the first that is free.

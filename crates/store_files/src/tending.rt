@@ -83,7 +83,7 @@ impl StoreFiles {
         if self.logs.newest_length() <= limit {
             return Ok(Tended::Idle);
         }
-        if !has_entries(&self.memtable)? {
+        if !has_entries(&self.memtable) {
             return Ok(Tended::Idle);
         }
         self.flush(alloc, disk)

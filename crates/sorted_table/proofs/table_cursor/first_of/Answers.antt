@@ -1,4 +1,4 @@
-use Rattle.std.proofs.Common.{◌≡◌, Err, Ok, Some, subst, sym}
+use Rattle.std.proofs.Common.{◌≡◌, Err, Ok, Some, subst, sym, ◌∙◌}
 use Rattle.std.specs.Rc.{rc_slice_items}
 use Rattle.std.specs.List.{slice_get}
 use Rattle.std.proofs.lemmas.Result.{err_from_is_err_and}
@@ -7,10 +7,9 @@ use Rattle.table_format.specs.declared.FileError.TheVariants as reading
 use Rattle.disk.specs.{State}
 use Rattle.sorted_table.specs.BlockPlaces.{PlaceReads}
 use Rattle.sorted_table.specs.Meant.{IsBlockAtLine, LineBlockAnswer}
-use Rattle.sorted_table.specs.TableCursors.{IsPlaceIn}
 use Rattle.sorted_table.proofs.BlockNumbers.{some_of}
 use Rattle.sorted_table.proofs.FirstBlocks.{block_answer, block_of_line}
-use Rattle.sorted_table.proofs.FirstBlocks.{first_place, ok_part, place_in, places_are_right}
+use Rattle.sorted_table.proofs.FirstBlocks.{first_place, place_in, places_are_right}
 use Rattle.sorted_table.proofs.MeantLemmas.{line_read, never_damaged}
 use Rattle.sorted_table.proofs.table_cursor.first_of.Goals as goal
 
@@ -33,9 +32,9 @@ returns-clause-first g c =
     let lines = rc_slice_items c.args.lines.now in
     let n = c.args.line in
     let at = some_of lines n c.requires in
-    first_place lines n at.0 _ at.1 (c.in_ok-block.ensures.len at.0
+    rw c.ok_or.ensures.value (first_place lines n at.0 _ at.1 (c.in_ok-block.ensures.len at.0
     (subst (λ l. slice_get l n ≡ Some at.0) (sym c.deref.ensures.value) at.1))
-    c.new.result c.new.ensures.first c.new.ensures.few
+    c.in_ok-new.field-0 c.in_ok-new.ensures.first c.in_ok-new.ensures.few)
 
 pub returns-clause-reads : goal.returns-clause-reads
 returns-clause-reads g c = λ m honest agree t.
@@ -50,9 +49,8 @@ returns-clause-reads g c = λ m honest agree t.
     let right = block_answer disk c.args.file lines n at.0 t b (Ok c.in_ok-block.block)
     (line_read disk c.args.file lines n at.0 c.in_ok-block.block at.1
     (agree n (rc_slice_items c.in_ok-block.block) read)) in
-    ok_part (IsPlaceIn t.represents.blocks) _ c.new.result
-    (place_in disk c.args.file lines n at.0 t b c.new.result c.new.ensures.first
-    (c.new.ensures.entries (block_entries b.block) right))
+    rw c.ok_or.ensures.value (place_in disk c.args.file lines n at.0 t b c.in_ok-new.field-0
+    c.in_ok-new.ensures.first (c.in_ok-new.ensures.entries (block_entries b.block) right))
 
 pub returns-clause-damaged : goal.returns-clause-damaged
 returns-clause-damaged g c = λ is honest t.
@@ -66,5 +64,5 @@ returns-clause-damaged g c = λ is honest t.
     (c.in_ok-block.ensures.answers honest) in
     let right = block_answer disk c.args.file lines n at.0 t b (Ok c.in_ok-block.block)
     (line_read disk c.args.file lines n at.0 c.in_ok-block.block at.1 read) in
-    places_are_right (λ place. PlaceReads place (block_entries b.block)) c.new.result is
-    (c.new.ensures.entries (block_entries b.block) right)
+    places_are_right (λ place. PlaceReads place (block_entries b.block)) c.in_ok-new.field-0
+    (sym c.ok_or.ensures.value ∙ is) (c.in_ok-new.ensures.entries (block_entries b.block) right)

@@ -34,7 +34,7 @@ returns-in-Some-clause-found g c = λ list honest w floor count.
     let files = c.args.self.now in
     let newest = subst (λ (o : Option (Option (List ℕ))).
     EntriesHave c.args.at (TableHolds files.memtable) c.args.key.now o) c.in-Some.is
-    c.in_ok-value.ensures.found in
+    c.in_ok-value.ensures in
     memory_shows c.look_ups_are_maps.ensures.maps list (known_store files h.known.tables)
     h.known.store
     c.args.at floor (subst (λ (n : ℕ). c.args.at ≤ n) h.known.count count) c.args.key.now
@@ -50,7 +50,7 @@ returns-clause-found g c = λ list honest w floor count.
     let lines = files.manifest.version.version.tables in
     let unseen = subst (λ (o : Option (Option (List ℕ))).
     EntriesHave c.args.at (TableHolds files.memtable) c.args.key.now o) c.in_default.is
-    c.in_ok-value.ensures.found in
+    c.in_ok-value.ensures in
     let rise = c.levels_rise.ensures.lines (contents w.meant) lines h.known.tables
     h.known.usable.version.lines.tables_in_order h.known.read in
     let finds = c.in_ok-get.ensures.found w.meant h.known.tables

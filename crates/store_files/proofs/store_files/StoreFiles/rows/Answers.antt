@@ -32,7 +32,7 @@ returns-in-Ok-clause-found g c = λ list honest w floor count.
     let range = c.args.range.now in
     let first = take c.args.at list in
     let agree = c.pages_agree.ensures.agree in
-    let shows = c.in_ok-rows.ensures.shows w.meant c.args.files.now list honest w.hold
+    let shows = c.in_ok-rows.ensures w.meant c.args.files.now list honest w.hold
     w.disk_is.blocks floor count in
     page_is c.pages_agree.ensures.one agree first range c.in-Ok.page
     (c.in-Ok.ensures.page w.meant (map_of first) shows.0 shows.1
@@ -42,7 +42,7 @@ returns-in-Ok-clause-found g c = λ list honest w floor count.
 pub returns-clause-intact : goal.returns-clause-intact
 returns-clause-intact g c = λ list honest h floor count.
     let disk = g.D.Disk.state c.args.files.now.disk in
-    let shows = c.in_ok-rows.ensures.shows disk c.args.files.now list honest h
+    let shows = c.in_ok-rows.ensures disk c.args.files.now list honest h
     (own_blocks disk c.args.self.now.tables.tables.items) floor count in
     subst (IsEnvironmental engine.Disk engine.Memory) (sym c.from.ensures)
     (refusal_external c.read_page.result c.in-Err.e c.in-Err.is c.read_page.ensures.moved.causes

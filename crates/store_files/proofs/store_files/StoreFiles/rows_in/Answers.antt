@@ -1,4 +1,5 @@
 use Rattle.std.proofs.Common.{◌≤◌, ℕ, List, length, subst, sym}
+use Rattle.std.proofs.lemmas.Result.{IfOk-at_ok}
 use Rattle.disk.specs.{contents}
 use Rattle.kv_types.specs.declared.bounds.TheConstants.{MAX_NUMBER}
 use Rattle.merge_iter.specs.{AreDisjoint, AreSound, IsAlike, union_of}
@@ -6,14 +7,21 @@ use Rattle.store_cursors.specs.contracts.store_cursor.StoreCursorCursor.TheImpl.
 use Rattle.store_model.specs.{memory_entries, store_entries}
 use Rattle.store_files.specs.OpenFiles.{known_store, known_version}
 use Rattle.store_files.specs.RangeEntries.{HasRange}
+use Rattle.store_files.proofs.LookUps.{is_answered}
 use Rattle.store_files.proofs.Meant.{zip_was}
 use Rattle.store_files.proofs.RangeCursors.{all_apart, all_in_range, all_sound}
 use Rattle.store_files.proofs.RangeRows.{range_has_rows}
 use Rattle.store_files.proofs.store_files.StoreFiles.rows_in.Goals as goal
 
+-- memory has not failed
+pub unwrap-requires : goal.unwrap-requires
+unwrap-requires g c =
+    is_answered c.of_memtable.result c.of_memtable.ensures.only
+    (λ is. c.requires.memtable.works (c.of_memtable.ensures.failed.0 is))
+
 -- the cursors have the entries of the store in the range, which show the rows of the map
-pub returns-clause-shows : goal.returns-clause-shows
-returns-clause-shows g c = λ meant files list honest hold blocks floor count.
+pub returns : goal.returns
+returns g c = λ meant files list honest hold blocks floor count.
     let self = c.args.self.now in
     let range = c.args.range.now in
     let known = hold.known in
@@ -21,13 +29,13 @@ returns-clause-shows g c = λ meant files list honest hold blocks floor count.
     let store = known_store self tables in
     let G = ghosts g.row.D g.D.Disk no_dict no_dict in
     let cursors = c.in_ok-cursors.cursors.items in
-    let memory = c.in_ok-of_memtable.field-0 in
+    let memory = c.unwrap.result in
     let served = zip_was (g.D.Disk.state files.disk) meant self.tables.tables.items tables
     known.served blocks in
     let own = c.versions_name_own_files.ensures (known_version self).version known.usable.version
     (contents meant) tables known.read in
     let told = c.in_ok-cursors.ensures meant files tables honest served in
-    let mine = c.in_ok-of_memtable.ensures.serves meant files in
+    let mine = IfOk-at_ok _ c.unwrap.ensures c.of_memtable.ensures.serves meant files in
     let holds : IsAlike (G.holds meant memory files) (memory_entries list store) =
     λ entry. (
       (λ h. (known.entries entry).0 ((mine.holds entry).0 h)),

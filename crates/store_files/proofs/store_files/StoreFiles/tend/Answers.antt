@@ -1,11 +1,9 @@
-use Rattle.std.proofs.Common.{◌≡◌, ◌<◌, Ok, arith, drop, refl, suc}
-use Rattle.store_tables.specs.declared.error.EngineError.TheVariants as engine
+use Rattle.std.proofs.Common.{◌<◌, Ok, arith, drop, refl, suc}
 use Rattle.store_files.specs.declared.tended.Tended.TheVariants as tended
 use Rattle.batch_logs.specs.BatchLogs.{newest_length}
 use Rattle.store_files.specs.OpenFiles.{known_version, trimmed_count}
 use Rattle.store_files.specs.Tending.{FlushIsDue, RewriteIsDue, IsTend as tend}
 use Rattle.store_files.specs.Tending.{IsWorkAnswer as work}
-use Rattle.store_tables.specs.RefusalLemmas.{refuses}
 use Rattle.store_files.proofs.Meant.{logs_are_held}
 use Rattle.store_files.proofs.MeantTends.{manifest_holds}
 use Rattle.store_files.proofs.TendKeeps.{did_so, nothing_done, tended_as}
@@ -21,7 +19,7 @@ returns-then-has_long_slot-clause-tends g c =
 
 pub returns-clause-tends : goal.returns-clause-tends
 returns-clause-tends g c =
-    let some = c.in_ok-has_entries.ensures.any.0 c.if-not-branch.false in
+    let some = c.has_entries.ensures.0 c.if-not-has_entries.false in
     tended_as g.D.Disk (λ cause. cause) (λ answer did. tend.WasFlush some did)
     c.args.disk.now c.flush.new.disk c.args.self.now c.flush.new.self c.flush.result
     c.flush.ensures
@@ -34,18 +32,10 @@ returns-then-newest_length-limit-clause-tends g c =
     nothing_done g.D.Disk c.durable_file_is_left.ensures c.held_versions_are_left.ensures.left
     c.args.disk.now c.args.self.now c.requires (Ok tended.Idle) (tend.WasRest refl refl)
 
-pub returns-then-not-branch-clause-tends : goal.returns-then-not-branch-clause-tends
-returns-then-not-branch-clause-tends g c =
+pub returns-then-not-has_entries-clause-tends : goal.returns-then-not-has_entries-clause-tends
+returns-then-not-has_entries-clause-tends g c =
     nothing_done g.D.Disk c.durable_file_is_left.ensures c.held_versions_are_left.ensures.left
     c.args.disk.now c.args.self.now c.requires (Ok tended.Idle) (tend.WasRest refl refl)
-
--- memory is out
-pub returns-in_err-has_entries-clause-tends : goal.returns-in_err-has_entries-clause-tends
-returns-in_err-has_entries-clause-tends g c =
-    nothing_done g.D.Disk c.durable_file_is_left.ensures c.held_versions_are_left.ensures.left
-    c.args.disk.now c.args.self.now c.requires c.from_residual.result
-    (refuses c.from_residual.result _ (λ e. e ≡ engine.Memory) c.from_residual.ensures.1
-    c.in_err-has_entries.ensures.memory)
 
 -- ---- what is due
 
@@ -73,8 +63,8 @@ returns-then-newest_length-limit-clause-work g c = λ list honest w.
     let more = due.0 in omega (arith, is, few, more) in
     work.Rests short rests refl refl
 
-pub returns-then-not-branch-clause-work : goal.returns-then-not-branch-clause-work
-returns-then-not-branch-clause-work g c = λ list honest w.
+pub returns-then-not-has_entries-clause-work : goal.returns-then-not-has_entries-clause-work
+returns-then-not-has_entries-clause-work g c = λ list honest w.
     let disk = g.D.Disk.state c.args.disk.now in
     let files = c.args.self.now in
     let short : RewriteIsDue files → ⊥ = λ long.
@@ -82,8 +72,8 @@ returns-then-not-branch-clause-work g c = λ list honest w.
     (manifest_holds disk files list w c.held_versions_are_left.ensures.same)).1 long in
     let no = c.if-has_long_slot.false in cc in
     let rests : FlushIsDue c.args.limit files → ⊥ = λ due.
-    let any = c.in_ok-has_entries.ensures.any.1 due.1 in
-    let none = c.if-not-branch.true in cc in
+    let any = c.has_entries.ensures.1 due.1 in
+    let none = c.if-not-has_entries.true in cc in
     work.Rests short rests refl refl
 
 pub returns-clause-work : goal.returns-clause-work
@@ -98,5 +88,5 @@ returns-clause-work g c = λ list honest w.
     (drop (trimmed_count files) list) (logs_are_held disk files list w) in
     let more = c.if-newest_length-limit.false in
     let long : c.args.limit < newest_length files.logs = omega (arith, is, more) in
-    let some = c.in_ok-has_entries.ensures.any.0 c.if-not-branch.false in
+    let some = c.has_entries.ensures.0 c.if-not-has_entries.false in
     did_so _ (λ answer did. work.Flushes short (long, some) did) c.flush.result c.flush.ensures.did
