@@ -18,3 +18,4 @@ pub mod Merging
 pub mod LogExamples
 pub mod HeldFiles
 pub mod RangeEntries
+pub mod BesideFiles
