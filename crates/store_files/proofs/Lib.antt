@@ -43,6 +43,7 @@ pub mod MeantNames
 pub mod MeantFiles
 pub mod MeantMoments
 pub mod MeantTends
+pub mod BesideFiles
 pub mod MeantInstalls
 pub mod RangeRows
 pub mod RangeCursors

@@ -1,5 +1,6 @@
 //! Laws of the definitions that contracts use. The functions do nothing: their clauses are the
 //! laws.
+ghost use Rattle.store_files.specs.BesideFiles.{OtherFilesAreFree};
 ghost use Rattle.store_files.specs.FloorExamples.{FloorsPassLogs};
 ghost use Rattle.store_files.specs.HeldFiles.{HeldFilesAreLeft};
 ghost use Rattle.store_files.specs.StoreFiles.{DamagedFilesOpen, FirstFilesRepresent};
@@ -40,6 +41,18 @@ pub fn held_files_are_left()
     held_versions_are_left();
     durable_file_is_left();
     reads_are_outcomes();
+}
+
+/// What open files hold does not depend on files that their version does not name: with any first
+/// free file from which on none exists they hold the same, and what a crash leaves of the named
+/// files represents it. So it is with what they were meant to hold.
+// law: of `FilesHold` and `WereMeantToHold`
+pub fn other_files_are_free()
+    ensures { OtherFilesAreFree }
+{
+    // laws: slots that stay hold the version, and what a crash leaves of the named files
+    held_versions_are_left();
+    durable_file_is_left();
 }
 
 /// Files that were meant to represent a list open as it, where of tables only blocks are damaged.

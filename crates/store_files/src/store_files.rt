@@ -7,6 +7,7 @@ ghost use Rattle.kv_types.specs.{map_of};
 ghost use Rattle.disk.specs.{IsEnvironmental, IsSame, IsSameBut, KeepsDisk};
 ghost use Rattle.chain_model.specs.{place};
 ghost use Rattle.batch_logs.specs.BatchLogs.{HasFullLog, newest_file};
+ghost use Rattle.store_files.specs.BesideFiles.{with_free};
 ghost use Rattle.store_tables.specs.declared.error.EngineError.TheVariants.{Disk, Memory};
 ghost use Rattle.store_tables.specs.Errors.{IsEnd};
 ghost use Rattle.store_files.specs.OpenFiles.{AreUsableFiles, FilesHold, batch_count, known_facts};
@@ -84,6 +85,20 @@ impl StoreFiles {
         ensures { result ≡ (known_facts self.now).floor }
     {
         Number::new(self.manifest.state().floor).unwrap()
+    }
+
+    /// The first file that is free.
+    pub fn free_file(&self) -> u64
+        ensures { result ≡ self.now.free_file }
+    {
+        self.free_file
+    }
+
+    /// Tells it that this is the first file that is free.
+    pub fn set_free_file(&mut self, free: u64)
+        ensures { self.new ≡ with_free self.old free }
+    {
+        self.free_file = free;
     }
 
     /// Appends the batch with the next number. It needs four device calls.
