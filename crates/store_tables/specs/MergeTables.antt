@@ -1,6 +1,6 @@
 -- The tables of a merge: its inputs among the open ones, and its outputs in their places.
 use Rattle.std.specs.Prelude.{◌≡◌, ℕ, List, map, not, nat_lt, ◌&&◌, ◌||◌, ◌==◌, Bool, Result}
-use Rattle.std.specs.Prelude.{if◌then◌else◌, Contains, IfErr, OnErr, OnOk, Some}
+use Rattle.std.specs.Prelude.{if◌then◌else◌, Contains, OnErr, OnOk, Some}
 use Rattle.std.specs.List.{AllZip, filter, fold, list_any}
 use Rattle.std.specs.Ordering.{is_lt}
 use Rattle.disk.specs.{Contents, State}
@@ -12,8 +12,7 @@ use Rattle.version_edits.specs.Versions.{placed, tables_left, with_table}
 use Rattle.compaction.specs.Merges.{table_name}
 use Rattle.compaction.specs.Plans.{IsLineOf, range_of}
 use Rattle.compaction.specs.declared.plan.Plan.{Plan}
-use Rattle.store_tables.specs.declared.error.EngineError.{EngineError}
-use Rattle.store_tables.specs.declared.error.EngineError.TheVariants as engine
+use Rattle.std.specs.declared.alloc.AllocError.{AllocError}
 use Rattle.store_tables.specs.declared.levels.OpenTable.{OpenTable}
 use Rattle.store_tables.specs.declared.levels.LevelTables.{LevelTables}
 use Rattle.store_tables.specs.LevelTables.{AreTablesOf, WasServed, WereServed, table_lines}
@@ -65,7 +64,7 @@ open_lines opened = map (λ it. it.line) opened
 
 -- what a call promises that replaces open tables
 pub record ReplacesTables (old new : LevelTables) (gone : List TableName) (opened : List OpenTable)
-    (result : Result (Unit {0}) EngineError) : Type 0 where
+    (result : Result (Unit {0}) AllocError) : Type 0 where
   -- their lines are those of the version after the edit
   pub lines : OnOk result (table_lines new ≡ replaced_lines gone (open_lines opened)
       (table_lines old))
@@ -76,8 +75,6 @@ pub record ReplacesTables (old new : LevelTables) (gone : List TableName) (opene
       OnOk result (WereServed disk meant new (replaced_tables gone outputs tables))
   -- a refusal changes nothing
   pub unchanged : OnErr result (new.tables.items ≡ old.tables.items)
-  -- it is refused for want of memory alone
-  pub memory : IfErr result (λ e. e ≡ engine.Memory)
 
 -- tables of which some are given up and others are added are so edited
 abbrev pub ReplacedTablesAreEdited : Type 0

@@ -346,7 +346,7 @@ impl LevelTables {
     /// Replaces open tables as an edit of a version does their lines: those of these names are no
     /// longer open, and the others stand in the places that their lines have there. A refusal
     /// changes nothing.
-    pub fn replace(&mut self, gone: &[TableName], opened: Vec<OpenTable>) -> Result<(), EngineError>
+    pub fn replace(&mut self, gone: &[TableName], opened: Vec<OpenTable>) -> Result<(), AllocError>
         ensures { ReplacesTables self.old self.new gone.now opened.items result }
     {
         self.tables.reserve(opened.len())?;

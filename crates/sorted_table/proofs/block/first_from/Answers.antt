@@ -40,7 +40,8 @@ returns-then-not-is_earlier c = λ entries each is.
     let rest = c.loop-rest.rest.now in
     let entry = lent_entry c.in_ok-entry.entry in
     walk_finds place c.args.text.now rest entry c.in_ok-entry.after.now c.loop-rest.invariant
-    entries each is (not_empty (length rest) c.is_empty.result c.is_empty.ensures c.loop-rest-test.true)
+    entries each is
+    (not_empty (length rest) c.is_empty.result c.is_empty.ensures c.loop-rest-test.true)
     c.in_ok-entry.ensures
     (late_by entry place c.is_earlier.result c.is_earlier.ensures c.if-not-is_earlier.true)
 

@@ -138,7 +138,6 @@ returns-in_err-replace-clause-merges g c =
     let law = c.durable_file_is_left.ensures in
     let held = c.held_versions_are_left.ensures in
     let versions = c.edits_keep_versions.ensures in
-    let memory = c.in_err-replace.ensures.memory in
     let result = c.from_residual-in_err-replace.result in
     let told = c.from_residual-in_err-replace.ensures.1 in
     let s1 = g.D.Disk.state c.args.disk.now in
@@ -159,7 +158,7 @@ returns-in_err-replace-clause-merges g c =
       kept = kept_behind g.D.Disk (λ a b d before after. tt) reads.kept
           (answered c.«open».result c.in_ok-opened.was) (kept_but g.D.Disk
           (λ room. c.slots_reach_gates.ensures.full files.manifest edit may.fit may.within room)
-          (kept_as g.D.Disk (neither (λ f. absurd cc) (refused_device result told memory))
+          (kept_as g.D.Disk (neither (λ f. absurd cc) (refused_device result told refl))
           (λ a b same. same) c.in_default.ensures.changes.kept));
       touches = λ honest.
           let honest2 = reads.kept.honest.1 honest in
@@ -167,14 +166,14 @@ returns-in_err-replace-clause-merges g c =
           file other ∙ reads.kept.files honest file;
       numbers = (refl, facts_recorded may new c.in_default.ensures.told.0 refl);
       usable = refusal_on_ok result _ _ told;
-      did = refuses result _ IsEnd told (subst IsEnd (sym memory) tt);
+      did = refuses result _ IsEnd told tt;
       tended = λ list honest hs.
           let honest2 = reads.kept.honest.1 honest in
           let same = reads.kept.files honest in
           let holds = held.same s1 s2 files.manifest known hs.held.known.manifest
           (λ slot one. same slot) in
           record {
-            list = refuses result _ (IsEnvironmental engine.Disk engine.Memory) told (inr memory);
+            list = refuses result _ (IsEnvironmental engine.Disk engine.Memory) told (inr refl);
             any_moment = merge_is_recorded may names law held.left versions list s1 hs s2 same p1 p2
                 p3 s3 (reads.still honest)
                 (c.record.ensures.changes.any_moment known honest2 holds);
@@ -185,7 +184,7 @@ returns-in_err-replace-clause-merges g c =
           let holds = held.same s1 s2 files.manifest known
           (manifest_holds s1 files list ms.was held.same) (λ slot one. same slot) in
           record {
-            list = refuses result _ (IsEnvironmental engine.Disk engine.Memory) told (inr memory);
+            list = refuses result _ (IsEnvironmental engine.Disk engine.Memory) told (inr refl);
             any_moment = merge_was_recorded may names law held.left held.same versions list s1 ms s2
                 same p1 p2 p3 s3 (reads.still honest)
                 (c.record.ensures.changes.any_moment known honest2 holds);

@@ -1,4 +1,4 @@
-use Rattle.std.proofs.Common.{◌≡◌, ◌∙◌, ◌++◌, ◌∷◌, [], ℕ, List, ap, arith, map, not, rules, subst}
+use Rattle.std.proofs.Common.{◌∙◌, ℕ, List, ap, arith, not, rules, subst}
 use Rattle.std.proofs.Common.{sym}
 use Rattle.std.specs.List.{AllZip, insert}
 use Rattle.std.proofs.lemmas.Fn.{filter_same}
@@ -78,5 +78,4 @@ returns c =
           AllZip (WasServed disk meant) l (replaced_tables gone outputs tables)) (sym ended)
           (replaced_served disk meant gone items opened tables outputs named also was more);
       unchanged = tt;
-      memory = tt;
     }
