@@ -1,18 +1,23 @@
 -- The logs of a store's batches: which batches their files have, and what open logs hold.
-use Rattle.std.specs.Prelude.{◌≡◌, ◌≢◌, ◌⊎◌, ℕ, ◌+◌, ◌-◌, List, [], ◌∷◌, ◌++◌, length, map, All}
-use Rattle.std.specs.Prelude.{MatchResult, Result, Some, slice_get}
-use Rattle.kv_types.specs.{BatchContent}
+use Rattle.std.specs.Prelude.{◌≡◌, ◌≢◌, ◌⊎◌, ℕ, ◌+◌, ◌-◌, ◌<◌, ◌≤◌, List, [], ◌∷◌, ◌++◌, length}
+use Rattle.std.specs.Prelude.{map, All, Contains, IsErrOf, MatchResult, Result, Some, slice_get}
+use Rattle.kv_types.specs.declared.bounds.TheConstants.{MAX_NUMBER}
+use Rattle.kv_types.specs.{BatchContent, IsBatch}
 use Rattle.disk.specs.declared.Disk.{Ghosts}
-use Rattle.disk.specs.{Contents, EndsOutOfRange, IsEnvironmental, IsFileOutcome, State}
+use Rattle.disk.specs.{AlwaysLeaves, Contents, EndsOutOfRange, IsEnvironmental, IsFileOutcome}
+use Rattle.disk.specs.{IsLeftAt, IsSame, IsSameBut, KeepsDisk, State, seen}
 use Rattle.record_log.specs.declared.log.TheConstants.{MAX_RECORD}
-use Rattle.record_log.specs.{HasFailed, LogHolds, count_of, file_of, gate_of, start_of}
+use Rattle.record_log.specs.{EndsInRange, HasFailed, LogHolds, count_of, file_of, gate_of, start_of}
 use Rattle.version_edits.specs.declared.line.LogLine.{LogLine}
 use Rattle.batch_logs.specs.declared.batch_logs.BatchLog.{BatchLog}
 use Rattle.batch_logs.specs.declared.batch_logs.BatchLogs.{BatchLogs}
 use Rattle.batch_logs.specs.Layout.{IsLog}
 use Rattle.batch_logs.specs.Layout.{records_from}
+use Rattle.batch_logs.specs.Lists.{ListFollowsOn}
+use Rattle.batch_logs.specs.Reads.{OnlyReads}
 use Rattle.store_tables.specs.declared.error.EngineError.TheVariants as engine
 use Rattle.store_tables.specs.declared.error.EngineError.{EngineError}
+use Rattle.store_tables.specs.Errors.{IsEnd}
 
 -- ---- the batches of files
 
@@ -134,3 +139,71 @@ abbrev pub IsBatchAnswer : ℕ → List BatchContent → ℕ → Result BatchCon
 IsBatchAnswer first batches number result =
     MatchResult result (λ batch. slice_get batches (number - first) ≡ Some batch)
     (IsEnvironmental engine.Disk engine.Memory)
+
+-- ---- what the calls promise
+
+-- if the log of an honest disk holds batches from its number on, this is said of both
+abbrev pub IfLogHolds : {D : Type 0} → Ghosts D → D → BatchLog →
+    (ℕ → List BatchContent → Type 0) → Type 0
+IfLogHolds g disk one IsSaid = (here : List BatchContent) → g.is_honest disk →
+    LogHolds (g.state disk) one.log (records_from one.first here) → IsSaid one.first here
+
+-- the log has a batch of this number
+abbrev pub HasBatch : BatchLog → ℕ → Type 0
+HasBatch one number = (one.first ≤ number) × (number < end_of_log one)
+
+-- the log is one of these, and has the batch of this number
+pub record IsLogOf (older : List BatchLog) (newest : BatchLog) (number : ℕ) (one : BatchLog)
+    : Type 0 where
+  pub among : Contains older one ⊎ (newest ≡ one)
+  pub has : HasBatch one number
+
+-- what a read of the batch of this number promises, of the batches that one log or all hold
+pub record ReadsBatch {D : Type 0} (g : Ghosts D)
+    (IfHeld : (ℕ → List BatchContent → Type 0) → Type 0) (old new : D) (number : ℕ)
+    (result : Result BatchContent EngineError) : Type 0 where
+  -- the files stay as they are
+  pub reads : OnlyReads g old new IsSame result
+  -- the answer is the batch of that number, and a refusal is external
+  pub found : IfHeld (λ first batches. All IsBatch batches → IsBatchAnswer first batches number
+      result)
+
+-- what the append of a batch to usable logs promises
+pub record AppendsBatch {D : Type 0} (g : Ghosts D) (was : BatchLogs) (batch : BatchContent)
+    (old : D) (now : BatchLogs) (new : D) (result : Result (Unit {0}) EngineError) : Type 0 where
+  -- a device that works fails only where the newest log is full, and no other file changes
+  pub kept : KeepsDisk g old new (IsErrOf result engine.Disk) (HasFullLog was)
+      (IsSameBut (newest_file was))
+  -- after `Ok` the logs hold the batches with this one behind them, and a crash at any moment
+  -- leaves them with or without it
+  pub appended : IfLogsHold g old was (λ first batches. ListFollowsOn g
+      (λ _ state. LogsHold state now first (batches ++ batch ∷ []))
+      (AreLeftWith (g.state old) was first batches batch) old new result)
+  -- the lines of the logs stay
+  pub lines : lines_of now ≡ lines_of was
+  -- the batch's number is one that a batch may have
+  pub room : next_number was ≤ MAX_NUMBER
+  -- after `Ok` they can take another batch, with the number behind; a refusal leaves the number
+  pub counts : MatchResult result
+      (λ _. AreUsable now × (next_number now ≡ next_number was + 1))
+      (λ e. (next_number now ≡ next_number was) × IsEnd e)
+
+-- what the beginning of a log in a new file promises
+pub record BeginsLog {D : Type 0} (g : Ghosts D) (file : ℕ) (was : BatchLogs) (old : D)
+    (now : BatchLogs) (new : D) (result : Result (Unit {0}) EngineError) : Type 0 where
+  -- a device that works never fails, and no other file changes
+  pub kept : KeepsDisk g old new (IsErrOf result engine.Disk) ⊥ (IsSameBut file)
+  -- after `Ok` the logs hold what they held, and a refusal is external
+  pub begun : (first : ℕ) (batches : List BatchContent) → g.is_honest old →
+      EndsInRange (seen (g.state old file)) → LogsHold (g.state old) was first batches →
+      MatchResult result (λ _. LogsHold (g.state new) now first batches)
+      (IsEnvironmental engine.Disk engine.Memory)
+  -- after `Ok` the new log is behind the others, and they can take another batch; a refusal leaves
+  -- the lines and the next number
+  pub told : MatchResult result
+      (λ _. AreUsable now × (next_number now ≡ next_number was)
+      × (lines_of now ≡ with_line was file))
+      (λ e. (next_number now ≡ next_number was) × (lines_of now ≡ lines_of was) × IsEnd e)
+  -- a crash at any moment since the call began leaves each other file as it was
+  pub any_moment : g.is_honest old → AlwaysLeaves g old new
+      (IsLeftAt (g.state old) file (λ left. Unit {0}))

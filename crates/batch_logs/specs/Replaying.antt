@@ -1,21 +1,28 @@
 -- What is read of the logs that lines name: their batches, and the entries that a memtable takes.
+use Rattle.std.specs.Global.{Vec}
 use Rattle.std.specs.Prelude.{◌≡◌, ◌≢◌, ◌↔◌, ◌⊎◌, ℕ, suc, ◌+◌, ◌-◌, ◌<◌, ◌≤◌, List, ◌∷◌, ◌++◌}
-use Rattle.std.specs.Prelude.{map, All, length}
+use Rattle.std.specs.Prelude.{map, All, IfErr, IfOk, MatchResult, OnOk, Result, length}
 use Rattle.kv_types.specs.declared.bounds.TheConstants.{MAX_NUMBER}
 use Rattle.kv_types.specs.{BatchContent, Entry, IsBatch, entries_of}
-use Rattle.disk.specs.{Contents, State, contents, seen}
+use Rattle.disk.specs.declared.Disk.{Ghosts}
+use Rattle.disk.specs.{AddsNoOutcome, Contents, IsEnvironmental, State, contents, seen}
 use Rattle.memtable.specs.declared.Memtable.{Memtable}
 use Rattle.memtable.specs.{TableHolds}
-use Rattle.record_log.specs.{count_of, file_of}
+use Rattle.record_log.specs.declared.OpenedLog.{OpenedLog}
+use Rattle.record_log.specs.{HasRead, count_of, file_of}
 use Rattle.store_model.specs.{replayed_entries}
+use Rattle.store_tables.specs.declared.error.EngineError.TheVariants as engine
+use Rattle.store_tables.specs.declared.error.EngineError.{EngineError}
 use Rattle.version_edits.specs.declared.line.LogLine.{LogLine}
 use Rattle.batch_logs.specs.declared.batch_logs.BatchLog.{BatchLog}
 use Rattle.batch_logs.specs.declared.batch_logs.BatchLogs.{BatchLogs}
 use Rattle.batch_logs.specs.BatchLogs.{AreJoined, AreParted, HaveBatches, HoldsPart, IsWorking}
-use Rattle.batch_logs.specs.BatchLogs.{AreUsable, first_number, line_of, lines_of, next_number}
+use Rattle.batch_logs.specs.BatchLogs.{AreUsable, LogsHold, first_number, line_of, lines_of}
+use Rattle.batch_logs.specs.BatchLogs.{next_number}
 use Rattle.batch_logs.specs.Layout.{IsLog}
 use Rattle.batch_logs.specs.Layout.{batch_record, records_from}
-use Rattle.batch_logs.specs.Syncs.{SlotSettles}
+use Rattle.batch_logs.specs.Reads.{OnlyReads}
+use Rattle.batch_logs.specs.Syncs.{AddsNothing, LogsSettle, SlotSettles, SparesAllBut}
 use Rattle.batch_logs.specs.Memtables.{IsNumberedTo}
 
 -- ---- one record, and the records of one log
@@ -126,3 +133,87 @@ pub record AreOpenLogs (lines : List LogLine) (logs : BatchLogs) (memtable : Mem
     pub usable : AreUsable logs
     pub numbered : IsNumberedTo memtable (next_number logs - 1)
     pub few : next_number logs ≤ suc MAX_NUMBER
+
+-- ---- what the calls promise
+
+-- what the replay of one record promises
+pub record ReplaysRecord (bytes : List ℕ) (number flushed : ℕ) (old new : Memtable)
+    (result : Result (Unit {0}) EngineError) : Type 0 where
+  -- after `Ok` it was a batch's with this number, and the memtable took the batch
+  pub taken : OnOk result (IsBatchAdded bytes number flushed old new)
+  -- after `Ok` the memtable can take the next batch
+  pub numbered : OnOk result (IsNumberedTo new number)
+  -- the record of a batch is refused only for the environment
+  pub damaged : (batch : BatchContent) → IsBatch batch → bytes ≡ batch_record number batch →
+      IfErr result (IsEnvironmental engine.Disk engine.Memory)
+  -- it is refused for `Damaged` or `Memory` alone
+  pub only : IfErr result (λ e. (e ≡ engine.Damaged) ⊎ (e ≡ engine.Memory))
+
+-- what the replay of an opened log promises
+pub record ReplaysLog (opened : OpenedLog) (before flushed : ℕ) (old new : Memtable)
+    (result : Result (Unit {0}) EngineError) : Type 0 where
+  -- after `Ok` its records are those of batches behind this number, and the memtable took them
+  pub taken : (records : List (List ℕ)) → HasRead opened records →
+      OnOk result (AreBatchesAdded records before flushed old new)
+  -- after `Ok` the memtable can take the next batch
+  pub numbered : OnOk result (IsNumberedTo new (before + count_of opened.log)
+      × (before + count_of opened.log ≤ MAX_NUMBER))
+  -- the records of batches are refused only for the environment
+  pub damaged : (batches : List BatchContent) → HasRead opened (records_from (suc before) batches) →
+      All IsBatch batches → before + length batches ≤ MAX_NUMBER →
+      IfErr result (IsEnvironmental engine.Disk engine.Memory)
+  -- it is refused for `Damaged` or `Memory` alone
+  pub only : IfErr result (λ e. (e ≡ engine.Damaged) ⊎ (e ≡ engine.Memory))
+
+-- what the opening of one log promises, with the replay of its batches
+pub record OpensLog {D : Type 0} (g : Ghosts D) (file before flushed : ℕ) (old : D)
+    (was : Memtable) (new : D) (now : Memtable) (result : Result BatchLog EngineError) : Type 0
+  where
+    -- it syncs that file at most
+    pub reads : OnlyReads g old new (AddsNoOutcome file) result
+    -- a log of batches behind this number is refused only for the environment
+    pub opened : (batches : List BatchContent) → g.is_honest old →
+        IsLog (seen (g.state old file)) (records_from (suc before) batches) →
+        All IsBatch batches → before + length batches ≤ MAX_NUMBER →
+        IfErr result (IsEnvironmental engine.Disk engine.Memory)
+    -- of any honest disk, what was read is what the file had
+    pub read : g.is_honest old → IfOk result
+        (λ one. IsReadLog (g.state old) (g.state new) file before flushed one was now)
+    -- the log is that of the file, behind this number
+    pub told : IfOk result (λ one. IsOpenedBehind file before one now)
+
+-- what the opening of the logs of these lines promises
+pub record ReadsLogs {D : Type 0} (g : Ghosts D) (lines : List LogLine) (before flushed : ℕ)
+    (old new : D) (result : Result (Vec BatchLog × Memtable) EngineError) : Type 0 where
+  -- it syncs files at most
+  pub reads : OnlyReads g old new AddsNothing result
+  -- logs of batches behind this number are refused only for the environment
+  pub opened : (batches : List BatchContent) → g.is_honest old →
+      HaveBatches (contents (g.state old)) (suc before) lines batches → All IsBatch batches →
+      before + length batches ≤ MAX_NUMBER →
+      IfErr result (IsEnvironmental engine.Disk engine.Memory)
+  -- of any honest disk, what was read is what the files had, and the other files are as they were
+  pub read : g.is_honest old → IfOk result (λ it. SparesAllBut lines (g.state old) (g.state new)
+      × (count : ℕ) × AreReadLogs (g.state old) (g.state new) lines before flushed count it.0.items
+      it.1)
+  -- the logs are those of the lines, and follow one another
+  pub told : IfOk result (λ it. (count : ℕ) × AreInLine lines before count it.0.items it.1)
+
+-- what the opening of the logs of a version promises
+pub record OpensLogs {D : Type 0} (g : Ghosts D) (lines : List LogLine) (flushed : ℕ) (old new : D)
+    (result : Result (BatchLogs × Memtable) EngineError) : Type 0 where
+  -- it syncs files at most
+  pub reads : OnlyReads g old new AddsNothing result
+  -- files that have batches by the lines are opened as logs that hold them, with a memtable of
+  -- those that no table has
+  pub opened : (first : ℕ) (batches : List BatchContent) → g.is_honest old →
+      AreBatchesOf (contents (g.state old)) lines first batches →
+      MatchResult result (λ it. LogsHold (g.state new) it.0 first batches
+      × HasReplayed it.1 first flushed batches) (IsEnvironmental engine.Disk engine.Memory)
+  -- of any honest disk, what was read is what the files had
+  pub told : g.is_honest old →
+      IfOk result (λ it. AreReplayed (contents (g.state old)) lines flushed it.0 it.1)
+  -- the logs are those of the lines, and can take another batch
+  pub usable : IfOk result (λ it. AreOpenLogs lines it.0 it.1)
+  -- each log's file is as it was, or durably has the bytes that it had; the others are as they were
+  pub settled : g.is_honest old → OnOk result (LogsSettle lines (g.state old) (g.state new))

@@ -1,22 +1,16 @@
 //! The logs of a store's batches, in order: the newest takes appends, and a batch is read from the
 //! log that has its number.
-ghost use Rattle.std.specs.Prelude.{◌≡◌, ◌≢◌, IsErrOf, ℕ, ◌+◌, ◌-◌, ◌<◌, ◌≤◌, ◌∷◌, [], ◌++◌, List};
-ghost use Rattle.std.specs.Prelude.{All, Contains, MatchResult, Some, ◌⊎◌, drop, length};
+ghost use Rattle.std.specs.Prelude.{◌≡◌, ◌≢◌, ℕ, ◌+◌, ◌-◌, ◌<◌, ◌≤◌, ◌∷◌, [], List};
+ghost use Rattle.std.specs.Prelude.{drop, length};
 ghost use Rattle.kv_types.specs.declared.bounds.TheConstants.{MAX_NUMBER};
-ghost use Rattle.kv_types.specs.{BatchContent, IsBatch};
-ghost use Rattle.disk.specs.{AlwaysLeaves, IsLeftAt, IsSame, IsSameBut, KeepsDisk, State};
-ghost use Rattle.disk.specs.{IsEnvironmental, seen};
-ghost use Rattle.record_log.specs.{EndsInRange, LogHolds};
-ghost use Rattle.batch_logs.specs.BatchLogs.{AreBeside, AreJoined, AreLeftWith, AreUsable};
-ghost use Rattle.batch_logs.specs.BatchLogs.{HasFullLog, IfLogsHold, IsBatchAnswer, IsWorking};
-ghost use Rattle.batch_logs.specs.BatchLogs.{LogsHold, first_number, oldest_first, line_of};
-ghost use Rattle.batch_logs.specs.BatchLogs.{lines_of, newest_file, newest_length, next_number};
-ghost use Rattle.batch_logs.specs.BatchLogs.{end_of_log, with_line};
-ghost use Rattle.store_tables.specs.declared.error.EngineError.TheVariants.{Disk, Memory};
-ghost use Rattle.store_tables.specs.Errors.{IsEnd};
-ghost use Rattle.batch_logs.specs.Layout.{records_from};
-ghost use Rattle.batch_logs.specs.Lists.{ListFollowsOn};
-ghost use Rattle.batch_logs.specs.Reads.{OnlyReads};
+ghost use Rattle.kv_types.specs.{BatchContent};
+ghost use Rattle.disk.specs.{State};
+ghost use Rattle.batch_logs.specs.BatchLogs.{AppendsBatch, AreBeside, AreJoined, AreUsable};
+ghost use Rattle.batch_logs.specs.BatchLogs.{BeginsLog, HasBatch, IfLogHolds, IfLogsHold};
+ghost use Rattle.batch_logs.specs.BatchLogs.{IsLogOf, IsWorking, LogsHold, ReadsBatch};
+ghost use Rattle.batch_logs.specs.BatchLogs.{end_of_log, first_number, line_of, lines_of};
+ghost use Rattle.batch_logs.specs.BatchLogs.{newest_file, newest_length, next_number};
+ghost use Rattle.batch_logs.specs.BatchLogs.{oldest_first};
 
 use crate::layout::{batch_of, batch_record};
 use disk::Disk;
@@ -51,11 +45,9 @@ fn batch_in<D: Disk>(
     number: Number,
 ) -> Result<Batch, EngineError>
     requires works { IsWorking one.now }
-    requires within { (one.now.first ≤ number) × (number < end_of_log one.now) }
-    ensures reads { OnlyReads D.Disk disk.old disk.new IsSame result }
-    ensures found { (here : List BatchContent) → D.is_honest disk.old →
-        LogHolds (D.state disk.old) one.now.log (records_from one.now.first here) →
-        All IsBatch here → IsBatchAnswer one.now.first here number result }
+    requires within { HasBatch one.now number }
+    ensures { ReadsBatch D.Disk (IfLogHolds D.Disk disk.old one.now) disk.old disk.new number
+        result }
 {
     spellings_differ(); // law: no two batches have one spelling
     let index = (number.get() - one.first) as usize;
@@ -68,8 +60,7 @@ fn log_with<'a>(older: &'a [BatchLog], newest: &'a BatchLog, number: u64) -> &'a
     requires joined { AreJoined (oldest_first older.now newest.now) older.now newest.now.first }
     requires there { (oldest_first older.now newest.now ≤ number)
         × (number < end_of_log newest.now) }
-    ensures among { Contains older.now result.now ⊎ (newest.now ≡ result.now) }
-    ensures has { (result.now.first ≤ number) × (number < end_of_log result.now) }
+    ensures { IsLogOf older.now newest.now number result.now }
 {
     match older.split_last() {
         Some((last, rest)) if number < newest.first => log_with(rest, last, number),
@@ -134,18 +125,7 @@ impl BatchLogs {
     ) -> Result<(), EngineError>
         requires usable { AreUsable self.old }
         requires next { number ≡ next_number self.old }
-        ensures kept { KeepsDisk D.Disk disk.old disk.new
-            (IsErrOf result Disk) (HasFullLog self.old)
-            (IsSameBut (newest_file self.old)) }
-        ensures appended { IfLogsHold D.Disk disk.old self.old (λ first batches. ListFollowsOn
-            D.Disk (λ _ state. LogsHold state self.new first (batches ++ batch.now ∷ []))
-            (AreLeftWith (D.state disk.old) self.old first batches batch.now)
-            disk.old disk.new result) }
-        ensures lines { lines_of self.new ≡ lines_of self.old }
-        ensures room { next_number self.old ≤ MAX_NUMBER }
-        ensures counts { MatchResult result
-            (λ _. AreUsable self.new × (next_number self.new ≡ next_number self.old + 1))
-            (λ e. (next_number self.new ≡ next_number self.old) × IsEnd e) }
+        ensures { AppendsBatch D.Disk self.old batch.now disk.old self.new disk.new result }
     {
         // laws: a crash leaves what is durable, file by file
         durable_is_left();
@@ -164,9 +144,8 @@ impl BatchLogs {
     ) -> Result<Batch, EngineError>
         requires usable { AreUsable self.now }
         requires there { (first_number self.now ≤ number) × (number < next_number self.now) }
-        ensures reads { OnlyReads D.Disk disk.old disk.new IsSame result }
-        ensures found { IfLogsHold D.Disk disk.old self.now (λ first batches.
-            All IsBatch batches → IsBatchAnswer first batches number result) }
+        ensures { ReadsBatch D.Disk (IfLogsHold D.Disk disk.old self.now) disk.old disk.new number
+            result }
     {
         let one = log_with(&self.older, &self.newest, number.get());
         batch_in(alloc, disk, one, number)
@@ -191,21 +170,7 @@ impl BatchLogs {
         requires usable { AreUsable self.old }
         requires few { next_number self.old ≤ MAX_NUMBER + 1 }
         requires new { AreBeside file self.old.older.items × (newest_file self.old ≢ file) }
-        ensures kept { KeepsDisk D.Disk disk.old disk.new (IsErrOf result Disk) ⊥ (IsSameBut file) }
-        ensures begun { (first : ℕ) (batches : List BatchContent) → D.is_honest disk.old →
-            EndsInRange (seen (D.state disk.old file)) →
-            LogsHold (D.state disk.old) self.old first batches →
-            MatchResult result (λ _. LogsHold (D.state disk.new) self.new first batches)
-            (IsEnvironmental Disk Memory) }
-        ensures told { MatchResult result
-            (λ _. AreUsable self.new × (next_number self.new ≡ next_number self.old)
-            × (lines_of self.new ≡ with_line self.old file))
-            (λ e. (next_number self.new ≡ next_number self.old)
-            × (lines_of self.new ≡ lines_of self.old) × IsEnd e) }
-
-        // A crash at any moment since the call began leaves each other file as it was.
-        ensures any_moment { D.is_honest disk.old → AlwaysLeaves D.Disk disk.old disk.new
-            (IsLeftAt (D.state disk.old) file (λ left. Unit {0})) }
+        ensures { BeginsLog D.Disk file self.old disk.old self.new disk.new result }
     {
         self.older.reserve(1)?;
         let log = Log::create(alloc, disk, file)?;

@@ -1,21 +1,9 @@
 // Reading the logs that a version names, and the entries that no table has yet.
-ghost use Rattle.std.specs.Prelude.{◌≡◌, ◌⊎◌, ℕ, suc, ◌+◌, ◌-◌, ◌<◌, ◌≤◌, List, length, All, OnOk};
-ghost use Rattle.store_tables.specs.declared.error.EngineError.TheVariants.{Disk, Memory};
-ghost use Rattle.std.specs.Prelude.{IfOk, IfErr, MatchResult};
+ghost use Rattle.std.specs.Prelude.{◌-◌, ◌<◌, ◌≤◌};
 ghost use Rattle.kv_types.specs.declared.bounds.TheConstants.{MAX_NUMBER};
-ghost use Rattle.kv_types.specs.{BatchContent, IsBatch};
-ghost use Rattle.disk.specs.{AddsNoOutcome, IsEnvironmental, contents, seen};
-ghost use Rattle.record_log.specs.{HasRead, count_of};
-ghost use Rattle.batch_logs.specs.BatchLogs.{HaveBatches, LogsHold};
-ghost use Rattle.batch_logs.specs.Layout.{IsLog};
-ghost use Rattle.batch_logs.specs.Layout.{batch_record, records_from};
-ghost use Rattle.batch_logs.specs.Replaying.{AreBatchesOf, AreOpenLogs, AreReplayed, HasReplayed};
-ghost use Rattle.batch_logs.specs.Replaying.{AreInLine, AreOfDifferentFiles};
-ghost use Rattle.batch_logs.specs.Replaying.{AreReadLogs, AreBatchesAdded};
-ghost use Rattle.batch_logs.specs.Replaying.{IsOpenedBehind, IsReadLog, IsBatchAdded};
-ghost use Rattle.batch_logs.specs.Reads.{OnlyReads};
-ghost use Rattle.batch_logs.specs.Syncs.{AddsNothing, LogsSettle, SparesAllBut};
 ghost use Rattle.batch_logs.specs.Memtables.{IsNumberedTo};
+ghost use Rattle.batch_logs.specs.Replaying.{AreOfDifferentFiles, OpensLog, OpensLogs, ReadsLogs};
+ghost use Rattle.batch_logs.specs.Replaying.{ReplaysLog, ReplaysRecord};
 
 use crate::batch_logs::{BatchLog, BatchLogs};
 use crate::layout::batch_of;
@@ -39,11 +27,7 @@ fn replay_record(
 ) -> Result<(), EngineError>
     requires positive { 0 < number }
     requires numbered { IsNumberedTo memtable.old (number - 1) }
-    ensures taken { OnOk result (IsBatchAdded bytes.now number flushed memtable.old memtable.new) }
-    ensures numbered { OnOk result (IsNumberedTo memtable.new number) }
-    ensures damaged { (batch : BatchContent) → IsBatch batch →
-        bytes.now ≡ batch_record number batch → IfErr result (IsEnvironmental Disk Memory) }
-    ensures only { IfErr result (λ e. (e ≡ EngineError.Damaged) ⊎ (e ≡ EngineError.Memory)) }
+    ensures { ReplaysRecord bytes.now number flushed memtable.old memtable.new result }
 {
     let batch = batch_of(alloc, number.get(), bytes)?;
     if number.get() > flushed {
@@ -62,14 +46,7 @@ fn replay(
 ) -> Result<(), EngineError>
     requires numbered { IsNumberedTo memtable.old before }
     requires few { before ≤ MAX_NUMBER }
-    ensures taken { (records : List (List ℕ)) → HasRead opened.now records →
-        OnOk result (AreBatchesAdded records before flushed memtable.old memtable.new) }
-    ensures numbered { OnOk result (IsNumberedTo memtable.new (before + count_of opened.now.log)
-        × (before + count_of opened.now.log ≤ MAX_NUMBER)) }
-    ensures damaged { (batches : List BatchContent) →
-        HasRead opened.now (records_from (suc before) batches) → All IsBatch batches →
-        before + length batches ≤ MAX_NUMBER → IfErr result (IsEnvironmental Disk Memory) }
-    ensures only { IfErr result (λ e. (e ≡ EngineError.Damaged) ⊎ (e ≡ EngineError.Memory)) }
+    ensures { ReplaysLog opened.now before flushed memtable.old memtable.new result }
 {
     let count = opened.log.len();
     if count as u64 > MAX_NUMBER - before {
@@ -94,14 +71,8 @@ fn open_log<D: Disk>(
 ) -> Result<BatchLog, EngineError>
     requires numbered { IsNumberedTo memtable.old before }
     requires few { before ≤ MAX_NUMBER }
-    ensures reads { OnlyReads D.Disk disk.old disk.new (AddsNoOutcome file) result }
-    ensures opened { (batches : List BatchContent) → D.is_honest disk.old →
-        IsLog (seen (D.state disk.old file)) (records_from (suc before) batches) →
-        All IsBatch batches → before + length batches ≤ MAX_NUMBER → IfErr result
-        (IsEnvironmental Disk Memory) }
-    ensures read { D.is_honest disk.old → IfOk result (λ one. IsReadLog (D.state disk.old)
-        (D.state disk.new) file before flushed one memtable.old memtable.new) }
-    ensures told { IfOk result (λ one. IsOpenedBehind file before one memtable.new) }
+    ensures { OpensLog D.Disk file before flushed disk.old memtable.old disk.new memtable.new
+        result }
 {
     let opened = Log::open(alloc, disk, file, 0)?;
     replay(alloc, &opened, before, flushed, memtable)?;
@@ -122,16 +93,7 @@ fn read_logs<D: Disk>(
 ) -> Result<(Vec<BatchLog>, Memtable), EngineError>
     requires apart { AreOfDifferentFiles lines.now }
     requires few { before ≤ MAX_NUMBER }
-    ensures reads { OnlyReads D.Disk disk.old disk.new AddsNothing result }
-    ensures opened { (batches : List BatchContent) → D.is_honest disk.old →
-        HaveBatches (contents (D.state disk.old)) (suc before) lines.now batches →
-        All IsBatch batches → before + length batches ≤ MAX_NUMBER → IfErr result
-        (IsEnvironmental Disk Memory) }
-    ensures read { D.is_honest disk.old → IfOk result (λ it.
-        SparesAllBut lines.now (D.state disk.old) (D.state disk.new) × (count : ℕ) × AreReadLogs
-        (D.state disk.old) (D.state disk.new) lines.now before flushed count it.0.items it.1) }
-    ensures told { IfOk result (λ it. (count : ℕ)
-        × AreInLine lines.now before count it.0.items it.1) }
+    ensures { ReadsLogs D.Disk lines.now before flushed disk.old disk.new result }
 {
     // laws: bytes are those of one list of batches at most
     records_are_unique();
@@ -158,18 +120,8 @@ pub fn open_logs<D: Disk>(
     disk: &mut D,
     version: &StoreVersion,
 ) -> Result<(BatchLogs, Memtable), EngineError>
-    ensures reads { OnlyReads D.Disk disk.old disk.new AddsNothing result }
-    ensures opened { (first : ℕ) (batches : List BatchContent) → D.is_honest disk.old →
-        AreBatchesOf (contents (D.state disk.old)) version.now.version.logs first batches →
-        MatchResult result (λ it. LogsHold (D.state disk.new) it.0 first batches
-        × HasReplayed it.1 first version.now.version.flushed batches)
-        (IsEnvironmental Disk Memory) }
-    ensures told { D.is_honest disk.old → IfOk result (λ it.
-        AreReplayed (contents (D.state disk.old)) version.now.version.logs
-        version.now.version.flushed it.0 it.1) }
-    ensures usable { IfOk result (λ it. AreOpenLogs version.now.version.logs it.0 it.1) }
-    ensures settled { D.is_honest disk.old → OnOk result
-        (LogsSettle version.now.version.logs (D.state disk.old) (D.state disk.new)) }
+    ensures { OpensLogs D.Disk version.now.version.logs version.now.version.flushed disk.old
+        disk.new result }
 {
     // laws: bytes are those of one list of batches at most
     records_are_unique();

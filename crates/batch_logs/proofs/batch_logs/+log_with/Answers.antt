@@ -20,7 +20,9 @@ log_with-requires n c =
     let to : c.args.number < end_of_log last = omega (arith, back.2, c.if-number-newest.true) in
     (shorter, (back.1, (from, to)))
 
-pub returns-in-Some-clause-among : goal.returns-in-Some-clause-among
-returns-in-Some-clause-among n c =
-    still_among c.args.older.now c.in-Some.rest.now c.in-Some.last.now c.args.newest.now
-    c.log_with.result.now c.in-Some.ensures.cases.0 c.log_with.ensures.among
+pub returns-in-Some : goal.returns-in-Some
+returns-in-Some n c = record {
+  among = still_among c.args.older.now c.in-Some.rest.now c.in-Some.last.now c.args.newest.now
+      c.log_with.result.now c.in-Some.ensures.cases.0 c.log_with.ensures.among;
+  has = c.log_with.ensures.has;
+}

@@ -12,83 +12,86 @@ use Rattle.batch_logs.proofs.Keeping.{bytes_only, log_failed}
 use Rattle.store_tables.specs.RefusalLemmas.{done, passed_on}
 use Rattle.batch_logs.proofs.replaying.open_log.Goals as goal
 
--- the log's file was synced
-pub returns-in_err-opened-clause-reads : goal.returns-in_err-opened-clause-reads
-returns-in_err-opened-clause-reads g c = record {
-  kept = let failed = log_failed c.open.result c.in_err-opened.field-0.0 c.from_residual.result
-      c.in_err-opened.was c.from_residual.ensures.1 in
-      kept_as g.D.Disk failed (λ a b added. added) c.open.ensures.kept;
-  -- where it was not opened, the files have to be opened again
-  causes = refuses c.from_residual.result _ IsEnd c.from_residual.ensures.1
-      (log_ends c.in_err-opened.field-0.0);
-  still = search rules;
+-- where it was not opened, the files have to be opened again
+pub returns-in_err-opened : goal.returns-in_err-opened
+returns-in_err-opened g c = record {
+  reads = record {
+    kept =
+        let failed = log_failed c.open.result c.in_err-opened.field-0.0 c.from_residual.result
+        c.in_err-opened.was c.from_residual.ensures.1 in
+        kept_as g.D.Disk failed (λ a b added. added) c.open.ensures.kept;
+    causes = refuses c.from_residual.result _ IsEnd c.from_residual.ensures.1
+        (log_ends c.in_err-opened.field-0.0);
+    still = search rules;
+  };
+  opened = λ batches honest stood each few.
+      refuses c.from_residual.result _
+      (IsEnvironmental engine.Disk engine.Memory) c.from_residual.ensures.1
+      (log_is_external c.in_err-opened.field-0.0
+      (c.in_err-opened.ensures.opened (records_from (suc c.args.before) batches) honest stood));
+  read = search rules;
+  told = search rules;
 }
 
-pub returns-in_err-replay-clause-reads : goal.returns-in_err-replay-clause-reads
-returns-in_err-replay-clause-reads g c = record {
-  kept = let failed = passed_on c.replay.result c.in_err-replay.field-0.0
-      c.from_residual-in_err-replay.result c.in_err-replay.was
-      c.from_residual-in_err-replay.ensures.1 in
-      kept_as g.D.Disk (neither (answered c.open.result c.in_ok-opened.was)
-      (λ fails. bytes_only c.replay.result c.replay.ensures.only (failed.1 fails)))
-      (λ a b added. added) c.open.ensures.kept;
-  causes = refuses c.from_residual-in_err-replay.result _ IsEnd
+-- the file was a log of batches, so its batches were read
+pub returns-in_err-replay : goal.returns-in_err-replay
+returns-in_err-replay g c = record {
+  reads = record {
+    kept =
+        let failed = passed_on c.replay.result c.in_err-replay.field-0.0
+        c.from_residual-in_err-replay.result c.in_err-replay.was
+        c.from_residual-in_err-replay.ensures.1 in
+        kept_as g.D.Disk (neither (answered c.open.result c.in_ok-opened.was)
+        (λ fails. bytes_only c.replay.result c.replay.ensures.only (failed.1 fails)))
+        (λ a b added. added) c.open.ensures.kept;
+    causes = refuses c.from_residual-in_err-replay.result _ IsEnd
+        c.from_residual-in_err-replay.ensures.1
+        (bytes_end c.in_err-replay.ensures.only);
+    still = search rules;
+  };
+  opened = λ batches honest stood each few.
+      let read = (c.in_ok-opened.ensures.opened (records_from (suc c.args.before) batches) honest
+      stood).1 in
+      refuses c.from_residual-in_err-replay.result _ (IsEnvironmental engine.Disk engine.Memory)
       c.from_residual-in_err-replay.ensures.1
-      (bytes_end c.in_err-replay.ensures.only);
-  still = search rules;
+      (c.in_err-replay.ensures.damaged batches read each few);
+  read = search rules;
+  told = search rules;
 }
 
-pub returns-clause-reads : goal.returns-clause-reads
-returns-clause-reads g c = record {
-  kept = kept_as g.D.Disk (neither (answered c.open.result c.in_ok-opened.was) done)
-      (λ a b added. added) c.open.ensures.kept;
-  causes = search rules;
-  still = search rules;
-}
-
--- the file was a log of batches, so it was opened and its batches were read
-pub returns-in_err-opened-clause-opened : goal.returns-in_err-opened-clause-opened
-returns-in_err-opened-clause-opened g c = λ batches honest stood each few.
-    refuses c.from_residual.result _
-    (IsEnvironmental engine.Disk engine.Memory) c.from_residual.ensures.1
-    (log_is_external c.in_err-opened.field-0.0
-    (c.in_err-opened.ensures.opened (records_from (suc c.args.before) batches) honest stood))
-
-pub returns-in_err-replay-clause-opened : goal.returns-in_err-replay-clause-opened
-returns-in_err-replay-clause-opened g c = λ batches honest stood each few.
-    let read = (c.in_ok-opened.ensures.opened (records_from (suc c.args.before) batches) honest
-    stood).1 in
-    refuses c.from_residual-in_err-replay.result _ (IsEnvironmental engine.Disk engine.Memory)
-    c.from_residual-in_err-replay.ensures.1
-    (c.in_err-replay.ensures.damaged batches read each few)
-
--- its records are those that were read
-pub returns-clause-read : goal.returns-clause-read
-returns-clause-read g c = λ honest.
-    let s0 = g.D.Disk.state c.args.disk.now in
-    let s1 = g.D.Disk.state c.open.new.disk in
-    let opened = c.in_ok-opened.opened in
-    let o = c.in_ok-opened.ensures.told honest in
-    let taken = c.in_ok-replay.ensures.taken o.records o.read in
-    record {
-      here = taken.batches;
-      had = subst (IsLog (seen (s0 c.args.file))) taken.spelled o.stood;
-      settles = inr (o.bytes, o.was, o.sure);
-      each = taken.each;
-      holds = record {
-        first = omega arith;
-        from = c.in_ok-opened.ensures.at.from;
-        log = subst (λ (r : List (List ℕ)). LogHolds s1 opened.log r) taken.spelled o.holds;
+-- its records are those that were read, and its batches are numbered behind the number
+pub returns : goal.returns
+returns g c = record {
+  reads = record {
+    kept = kept_as g.D.Disk (neither (answered c.open.result c.in_ok-opened.was) done)
+        (λ a b added. added) c.open.ensures.kept;
+    causes = search rules;
+    still = search rules;
+  };
+  opened = search rules;
+  read = λ honest.
+      let s0 = g.D.Disk.state c.args.disk.now in
+      let s1 = g.D.Disk.state c.open.new.disk in
+      let opened = c.in_ok-opened.opened in
+      let o = c.in_ok-opened.ensures.told honest in
+      let taken = c.in_ok-replay.ensures.taken o.records o.read in
+      record {
+        here = taken.batches;
+        had = subst (IsLog (seen (s0 c.args.file))) taken.spelled o.stood;
+        settles = inr (o.bytes, o.was, o.sure);
+        each = taken.each;
+        holds = record {
+          first = omega arith;
+          from = c.in_ok-opened.ensures.at.from;
+          log = subst (λ (r : List (List ℕ)). LogHolds s1 opened.log r) taken.spelled o.holds;
+        };
+        entries = taken.entries;
       };
-      entries = taken.entries;
-    }
-
--- it begins behind the number, and its batches are numbered
-pub returns-clause-told : goal.returns-clause-told
-returns-clause-told g c = record {
-  in_file = c.in_ok-opened.ensures.at.in_file;
-  first = omega arith;
-  works = c.in_ok-opened.ensures.at.works;
-  numbered = c.in_ok-replay.ensures.numbered.0;
-  few = c.in_ok-replay.ensures.numbered.1;
+  told = record {
+    in_file = c.in_ok-opened.ensures.at.in_file;
+    first = omega arith;
+    works = c.in_ok-opened.ensures.at.works;
+    numbered = c.in_ok-replay.ensures.numbered.0;
+    few = c.in_ok-replay.ensures.numbered.1;
+  };
 }

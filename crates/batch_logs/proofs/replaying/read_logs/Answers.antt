@@ -40,88 +40,97 @@ pub open_log-requires-clause-few : goal.open_log-requires-clause-few
 open_log-requires-clause-few g c = c.loop-line.invariant.line.few
 
 -- the line begins elsewhere, so the files have no batches
-pub returns-then-line-count-clause-reads : goal.returns-then-line-count-clause-reads
-returns-then-line-count-clause-reads g c = record {
-  kept = synced_all g.D.Disk (take c.loop-line.line-index c.args.lines.now) c.args.disk.now
-      c.loop-line.disk c.loop-line.invariant.synced (refused_otherwise (λ e. cc));
-  causes = search rules;
-  still = c.loop-line.invariant.synced.still;
-}
-
-pub returns-then-line-count-clause-opened : goal.returns-then-line-count-clause-opened
-returns-then-line-count-clause-opened g c = λ batches honest have each few.
-    let s0 = g.D.Disk.state c.args.disk.now in
-    let s1 = g.D.Disk.state c.loop-line.disk in
-    let lines = c.args.lines.now in
-    let i = c.loop-line.line-index in
-    let line : LogLine = line_at lines i in
-    let behind = drop (i + 1) lines in
-    let at = lines_at lines i c.loop-line-test.true in
-    let apart = c.requires.apart (take i lines) behind line at in
-    let before = c.loop-line.invariant in
-    let same = (before.synced.kept.files honest).others line.file apart in
-    let has = has_here c.records_are_unique.ensures c.spellings_differ.ensures s0 s1 (take i lines)
-    behind line c.args.before c.args.flushed c.loop-line.count c.loop-line.logs.items
-    c.loop-line.memtable batches (before.read honest) same
-    (subst (λ (l : List LogLine). HaveBatches (contents s0) (suc c.args.before) l batches) at have)
-    each few in
-    absurd (c.if-line-count.true has.first)
-
--- the log of the line was not opened
-pub returns-in_err-one-clause-reads : goal.returns-in_err-one-clause-reads
-returns-in_err-one-clause-reads g c = record {
-  kept = let failed = passed_on c.open_log.result c.in_err-one.field-0.0 c.from_residual.result
-      c.in_err-one.was c.from_residual.ensures.1 in
+pub returns-then-line-count : goal.returns-then-line-count
+returns-then-line-count g c = record {
+  reads = record {
+    kept = synced_all g.D.Disk (take c.loop-line.line-index c.args.lines.now) c.args.disk.now
+        c.loop-line.disk c.loop-line.invariant.synced (refused_otherwise (λ e. cc));
+    causes = search rules;
+    still = c.loop-line.invariant.synced.still;
+  };
+  opened = λ batches honest have each few.
+      let s0 = g.D.Disk.state c.args.disk.now in
+      let s1 = g.D.Disk.state c.loop-line.disk in
       let lines = c.args.lines.now in
       let i = c.loop-line.line-index in
       let line : LogLine = line_at lines i in
-      synced_then g.D.Disk (take i lines) c.args.disk.now c.loop-line.disk
-      c.loop-line.invariant.synced line.file
-      (kept_as g.D.Disk failed (λ a b added. added) c.open_log.ensures.reads.kept);
-  -- where a log was not opened, the files have to be opened again
-  causes = refuses c.from_residual.result _ IsEnd c.from_residual.ensures.1
-      c.in_err-one.ensures.reads.causes;
-  still = still_then g.D.Disk (take c.loop-line.line-index c.args.lines.now) c.args.disk.now
-      c.loop-line.disk c.loop-line.invariant.synced c.open_log.ensures.reads.still;
+      let behind = drop (i + 1) lines in
+      let at = lines_at lines i c.loop-line-test.true in
+      let apart = c.requires.apart (take i lines) behind line at in
+      let before = c.loop-line.invariant in
+      let same = (before.synced.kept.files honest).others line.file apart in
+      let has = has_here c.records_are_unique.ensures c.spellings_differ.ensures s0 s1
+      (take i lines) behind line c.args.before c.args.flushed c.loop-line.count
+      c.loop-line.logs.items c.loop-line.memtable batches (before.read honest) same
+      (subst (λ (l : List LogLine). HaveBatches (contents s0) (suc c.args.before) l batches) at
+      have) each few in
+      absurd (c.if-line-count.true has.first);
+  read = search rules;
+  told = search rules;
 }
 
-pub returns-in_err-one-clause-opened : goal.returns-in_err-one-clause-opened
-returns-in_err-one-clause-opened g c = λ batches honest have each few.
-    let s0 = g.D.Disk.state c.args.disk.now in
-    let s1 = g.D.Disk.state c.loop-line.disk in
-    let lines = c.args.lines.now in
-    let i = c.loop-line.line-index in
-    let line : LogLine = line_at lines i in
-    let behind = drop (i + 1) lines in
-    let at = lines_at lines i c.loop-line-test.true in
-    let apart = c.requires.apart (take i lines) behind line at in
-    let before = c.loop-line.invariant in
-    let same = (before.synced.kept.files honest).others line.file apart in
-    let has = has_here c.records_are_unique.ensures c.spellings_differ.ensures s0 s1 (take i lines)
-    behind line c.args.before c.args.flushed c.loop-line.count c.loop-line.logs.items
-    c.loop-line.memtable batches (before.read honest) same
-    (subst (λ (l : List LogLine). HaveBatches (contents s0) (suc c.args.before) l batches) at have)
-    each few in
-    refuses c.from_residual.result _
-    (IsEnvironmental engine.Disk engine.Memory) c.from_residual.ensures.1
-    (c.in_err-one.ensures.opened has.here (before.synced.kept.honest.1 honest) has.stood has.each
-    has.few)
-
--- memory was out
-pub returns-in_err-push-clause-reads : goal.returns-in_err-push-clause-reads
-returns-in_err-push-clause-reads g c = record {
-  kept = let lines = c.args.lines.now in
+-- the log of the line was not opened
+pub returns-in_err-one : goal.returns-in_err-one
+returns-in_err-one g c = record {
+  reads = record {
+    kept = let failed = passed_on c.open_log.result c.in_err-one.field-0.0 c.from_residual.result
+        c.in_err-one.was c.from_residual.ensures.1 in
+        let lines = c.args.lines.now in
+        let i = c.loop-line.line-index in
+        let line : LogLine = line_at lines i in
+        synced_then g.D.Disk (take i lines) c.args.disk.now c.loop-line.disk
+        c.loop-line.invariant.synced line.file
+        (kept_as g.D.Disk failed (λ a b added. added) c.open_log.ensures.reads.kept);
+    -- where a log was not opened, the files have to be opened again
+    causes = refuses c.from_residual.result _ IsEnd c.from_residual.ensures.1
+        c.in_err-one.ensures.reads.causes;
+    still = still_then g.D.Disk (take c.loop-line.line-index c.args.lines.now) c.args.disk.now
+        c.loop-line.disk c.loop-line.invariant.synced c.open_log.ensures.reads.still;
+  };
+  opened = λ batches honest have each few.
+      let s0 = g.D.Disk.state c.args.disk.now in
+      let s1 = g.D.Disk.state c.loop-line.disk in
+      let lines = c.args.lines.now in
       let i = c.loop-line.line-index in
       let line : LogLine = line_at lines i in
-      synced_then g.D.Disk (take i lines) c.args.disk.now c.loop-line.disk
-      c.loop-line.invariant.synced line.file
-      (kept_as g.D.Disk (neither (answered c.open_log.result c.in_ok-one.was)
-      (lacks_memory c.from_residual-in_err-push.result c.from_residual-in_err-push.ensures.1))
-      (λ a b added. added) c.open_log.ensures.reads.kept);
-  causes = refuses c.from_residual-in_err-push.result _ IsEnd
-      c.from_residual-in_err-push.ensures.1 tt;
-  still = still_then g.D.Disk (take c.loop-line.line-index c.args.lines.now) c.args.disk.now
-      c.loop-line.disk c.loop-line.invariant.synced c.open_log.ensures.reads.still;
+      let behind = drop (i + 1) lines in
+      let at = lines_at lines i c.loop-line-test.true in
+      let apart = c.requires.apart (take i lines) behind line at in
+      let before = c.loop-line.invariant in
+      let same = (before.synced.kept.files honest).others line.file apart in
+      let has = has_here c.records_are_unique.ensures c.spellings_differ.ensures s0 s1
+      (take i lines) behind line c.args.before c.args.flushed c.loop-line.count
+      c.loop-line.logs.items c.loop-line.memtable batches (before.read honest) same
+      (subst (λ (l : List LogLine). HaveBatches (contents s0) (suc c.args.before) l batches) at
+      have) each few in
+      refuses c.from_residual.result _
+      (IsEnvironmental engine.Disk engine.Memory) c.from_residual.ensures.1
+      (c.in_err-one.ensures.opened has.here (before.synced.kept.honest.1 honest) has.stood has.each
+      has.few);
+  read = search rules;
+  told = search rules;
+}
+
+-- memory was out
+pub returns-in_err-push : goal.returns-in_err-push
+returns-in_err-push g c = record {
+  reads = record {
+    kept = let lines = c.args.lines.now in
+        let i = c.loop-line.line-index in
+        let line : LogLine = line_at lines i in
+        synced_then g.D.Disk (take i lines) c.args.disk.now c.loop-line.disk
+        c.loop-line.invariant.synced line.file
+        (kept_as g.D.Disk (neither (answered c.open_log.result c.in_ok-one.was)
+        (lacks_memory c.from_residual-in_err-push.result c.from_residual-in_err-push.ensures.1))
+        (λ a b added. added) c.open_log.ensures.reads.kept);
+    causes = refuses c.from_residual-in_err-push.result _ IsEnd
+        c.from_residual-in_err-push.ensures.1 tt;
+    still = still_then g.D.Disk (take c.loop-line.line-index c.args.lines.now) c.args.disk.now
+        c.loop-line.disk c.loop-line.invariant.synced c.open_log.ensures.reads.still;
+  };
+  opened = search rules;
+  read = search rules;
+  told = search rules;
 }
 
 -- one log more is open
@@ -168,32 +177,31 @@ loop-line-preserved g c =
     }
 
 -- all logs are open
-pub returns-clause-reads : goal.returns-clause-reads
-returns-clause-reads g c = record {
-  kept = synced_all g.D.Disk (take c.loop-line.line-index c.args.lines.now) c.args.disk.now
-      c.loop-line.disk c.loop-line.invariant.synced done;
-  causes = search rules;
-  still = c.loop-line.invariant.synced.still;
+pub returns : goal.returns
+returns g c = record {
+  reads = record {
+    kept = synced_all g.D.Disk (take c.loop-line.line-index c.args.lines.now) c.args.disk.now
+        c.loop-line.disk c.loop-line.invariant.synced done;
+    causes = search rules;
+    still = c.loop-line.invariant.synced.still;
+  };
+  opened = search rules;
+  read = λ honest.
+      let all = take_all c.loop-line.line-index c.args.lines.now c.loop-line-test.false in
+      let s0 = g.D.Disk.state c.args.disk.now in
+      let s1 = g.D.Disk.state c.loop-line.disk in (
+        subst (λ (l : List LogLine). SparesAllBut l s0 s1) all
+            (c.loop-line.invariant.synced.kept.files honest).others,
+        c.loop-line.count,
+        subst (λ (l : List LogLine). AreReadLogs s0 s1 l c.args.before c.args.flushed
+            c.loop-line.count c.loop-line.logs.items c.loop-line.memtable) all
+            (c.loop-line.invariant.read honest),
+      );
+  told = (
+    c.loop-line.count,
+    subst (λ (l : List LogLine). AreInLine l c.args.before c.loop-line.count c.loop-line.logs.items
+        c.loop-line.memtable)
+        (take_all c.loop-line.line-index c.args.lines.now c.loop-line-test.false)
+        c.loop-line.invariant.line,
+  );
 }
-
-pub returns-clause-read : goal.returns-clause-read
-returns-clause-read g c = λ honest.
-    let all = take_all c.loop-line.line-index c.args.lines.now c.loop-line-test.false in
-    let s0 = g.D.Disk.state c.args.disk.now in
-    let s1 = g.D.Disk.state c.loop-line.disk in (
-      subst (λ (l : List LogLine). SparesAllBut l s0 s1) all
-          (c.loop-line.invariant.synced.kept.files honest).others,
-      c.loop-line.count,
-      subst (λ (l : List LogLine). AreReadLogs s0 s1 l c.args.before c.args.flushed
-          c.loop-line.count c.loop-line.logs.items c.loop-line.memtable) all
-          (c.loop-line.invariant.read honest),
-    )
-
-pub returns-clause-told : goal.returns-clause-told
-returns-clause-told g c = (
-  c.loop-line.count,
-  subst (λ (l : List LogLine). AreInLine l c.args.before c.loop-line.count c.loop-line.logs.items
-      c.loop-line.memtable)
-      (take_all c.loop-line.line-index c.args.lines.now c.loop-line-test.false)
-      c.loop-line.invariant.line,
-)
