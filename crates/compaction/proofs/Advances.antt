@@ -51,6 +51,7 @@ module _ {U F : Type 0} (u : CursorGhosts U F) (d : Ghosts F) (tables : ℕ) whe
     writes = writes_nothing d (IsOwnFile writer next) files done;
     rules = record { floor = refl; target = refl; level = refl; deeper = refl };
     numbers = uses_none writer writer next (λ file is. is) (λ file output. output);
+    unused = λ meant inputs w. w.unused;
     walks = λ meant inputs w. (w, omega arith, λ intact. intact);
   }
 
@@ -90,6 +91,8 @@ module _ {U F : Type 0} (u : CursorGhosts U F) (d : Ghosts F) (tables : ℕ) whe
           (writes_wider d (IsOwnFile w n) (IsOwnFile v m) first.numbers.own next.writes);
       rules = rules_through w v q first.rules next.rules;
       numbers = uses_then w v q n m p first.numbers next.numbers;
+      unused = λ meant inputs walk.
+          next.unused meant inputs (first.walks meant inputs walk).0;
       walks = λ meant inputs walk. walks_then meant inputs walk result
           (next.walks meant inputs (first.walks meant inputs walk).0);
     }

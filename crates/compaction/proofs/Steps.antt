@@ -206,6 +206,14 @@ module _ {U F : Type 0} (u : CursorGhosts U F) (d : Ghosts F)
         → WritesOnly d (IsOwnFile writer next_file) old mid told cause → u.suits union old mid
     put_suits mid c = w.reads old mid (λ h. put_same mid c)
 
+    -- the union read alone, once the entry was put, so no more files exist
+    pub step_unused : (mid new : F) (later : ℕ) {R : Type 0} (result : Result R CursorError)
+        {told cause : Type 0} → WritesOnly d (IsOwnFile writer next_file) old mid told cause
+        → MovesFiles d (reports result) mid new → AreUnused (d.state mid) later
+        → AreUnused (d.state new) later
+    step_unused mid new later result c moves unused = same_unused (d.state mid) (d.state new) later
+        (moves.disk.files (c.kept.honest.1 w.honest)) unused
+
     -- the entry was put, and the union moved on
     pub step_goes : (mid new : F) (later : ℕ) (moved : U) (after : OutputWriter) {R : Type 0}
         (x : R) (result : Result R CursorError) {told cause : Type 0}

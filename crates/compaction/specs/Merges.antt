@@ -22,7 +22,7 @@ use Rattle.compaction.specs.declared.merge.Merge.{Merge}
 use Rattle.compaction.specs.declared.writer.OutputWriter.{OutputWriter}
 use Rattle.compaction.specs.Edits.{AcceptsMerge, OutputsAreBeside, tables_after}
 use Rattle.compaction.specs.Outputs.{IsOpenFile, IsOutput, IsOutputFile, IsOwnFile, UsesNumbers}
-use Rattle.compaction.specs.Outputs.{WritesOnly}
+use Rattle.compaction.specs.Outputs.{AreUnused, WritesOnly}
 use Rattle.compaction.specs.Plans.{IsLineOf}
 use Rattle.compaction.specs.Survivors.{AreDeeperLines}
 use Rattle.compaction.specs.Walks.{HasSameFiles, IsIntactOn, IsWalking, LeavesWalk, StepRefusal}
@@ -194,6 +194,10 @@ module _ {D F : Type 0} (u : CursorGhosts (Merged (TableCursor D)) F) (d : Ghost
         × ((length after.walk.met ≡ length before.walk.met + count) ⊎ (HasEntriesLeft now → ⊥))
         × (IsIntactMerge old was plan → IsIntactMerge new now plan))
         (StepRefusal (IsIntactMerge old was plan) tables was.writer plan.inputs)
+    -- Of a merge under way, no file exists with a number from the next one on, whatever the answer
+    -- is.
+    pub unused : (meant : u.Meant) (plan : MergePlan) (floor : ℕ) →
+        IsMerging meant old next_old was plan floor → AreUnused (d.state new) next_new
 
   -- the last output is complete, and this is the edit
   pub record EndsMerge (version : StoreVersion) (next_file : ℕ) (old : F) (was : Merge D) (new : F)
@@ -215,6 +219,10 @@ module _ {D F : Type 0} (u : CursorGhosts (Merged (TableCursor D)) F) (d : Ghost
         (IsFitMergeEdit (d.state new) version (begun_number was) next_file was.writer plan floor)
         (λ e. IsEnvironmental merge.Disk merge.Memory e
         ⊎ ((e ≡ merge.Full) × HasTooManyTables version plan floor))
+    -- Of a merge under way, no file exists with a number from the next one on, whatever the answer
+    -- is.
+    pub unused : (meant : u.Meant) (plan : MergePlan) (floor : ℕ) →
+        IsMerging meant old next_file was plan floor → AreUnused (d.state new) next_file
 
   -- ---- what other calls keep
 

@@ -121,6 +121,11 @@ module _ {U F : Type 0} (u : CursorGhosts U F) (d : Ghosts F) where
         (IsNoWalk u d old next_old union_old writer_old)
     pub rules : KeepsRules writer_old writer_new
     pub numbers : UsesNumbers writer_old next_old writer_new next_new
+    -- Where a merge was under way, no file exists with a number from the next one on, whatever the
+    -- answer is.
+    pub unused : (meant : u.Meant) (inputs : List LevelTable) →
+        IsWalking u d meant old next_old union_old writer_old inputs →
+        AreUnused (d.state new) next_new
     pub walks : (meant : u.Meant) (inputs : List LevelTable) →
         (was : IsWalking u d meant old next_old union_old writer_old inputs) →
         MatchResult result

@@ -259,13 +259,17 @@ impl OutputWriter {
             (IsErrOf result Disk) (IsAstray D.Disk disk.old next_file.old self.old) }
         ensures rules { KeepsRules self.old self.new }
         ensures numbers { UsesNumbers self.old next_file.old self.new next_file.new }
+        ensures unused { (it : Written) → D.is_honest disk.old →
+            WriterHolds (D.state disk.old) next_file.old self.old it →
+            AreUnused (D.state disk.old) next_file.old →
+            AreUnused (D.state disk.new) next_file.new }
         ensures written { (it : Written) → D.is_honest disk.old →
             WriterHolds (D.state disk.old) next_file.old self.old it →
             AreUnused (D.state disk.old) next_file.old →
             CanFollow it.opened (lent_entry entry.entry) → MatchResult result
             (λ _. WriterHolds (D.state disk.new) next_file.new self.new
             (with_written (cut_before self.old.target it (lent_entry entry.entry))
-            (lent_entry entry.entry)) × AreUnused (D.state disk.new) next_file.new)
+            (lent_entry entry.entry)))
             (PutRefusal tables next_file.old (cut_before self.old.target it
             (lent_entry entry.entry)) (lent_entry entry.entry)) }
     {
@@ -290,13 +294,17 @@ impl OutputWriter {
             (IsErrOf result Disk) (IsAstray D.Disk disk.old next_file.old self.old) }
         ensures rules { KeepsRules self.old self.new }
         ensures numbers { UsesNumbers self.old next_file.old self.new next_file.new }
+        ensures unused { (it : Written) → D.is_honest disk.old →
+            WriterHolds (D.state disk.old) next_file.old self.old it →
+            AreUnused (D.state disk.old) next_file.old →
+            AreUnused (D.state disk.new) next_file.new }
         ensures put { (it : Written) → D.is_honest disk.old →
             WriterHolds (D.state disk.old) next_file.old self.old it →
             AreUnused (D.state disk.old) next_file.old →
             CanFollow it.opened (lent_entry entry.entry) → MatchResult result
             (λ _. WriterHolds (D.state disk.new) next_file.new self.new
             (with_next self.old.floor self.old.deeper.items self.old.target it
-            (lent_entry entry.entry)) × AreUnused (D.state disk.new) next_file.new)
+            (lent_entry entry.entry)))
             (PutRefusal tables next_file.old (cut_before self.old.target it
             (lent_entry entry.entry)) (lent_entry entry.entry)) }
     {

@@ -1,5 +1,5 @@
 -- An engine over the files that it holds, and what its calls keep.
-use Rattle.std.proofs.Common.{◌≡◌, ℕ, List, [], Result, Ok, Err, inl, inr, refl}
+use Rattle.std.proofs.Common.{◌≡◌, ℕ, List, [], Option, Result, Ok, Err, inl, inr, refl}
 use Rattle.std.proofs.Common.{sym, ap, subst, ◌∙◌, Bool, false, true}
 use Rattle.std.specs.Prelude.{◌⊎◌, ◌↔◌, IfErr, IfOk, IsErrAnd, IsErrOf, IsTrue, MatchResult, OnOk}
 use Rattle.std.specs.Prelude.{is_err}
@@ -7,17 +7,25 @@ use Rattle.kv_types.specs.declared.Limits.{Limits}
 use Rattle.kv_types.specs.{BatchContent}
 use Rattle.disk.specs.declared.Disk.{Ghosts}
 use Rattle.disk.specs.{AlwaysLeaves, Contents, IsEnvironmental, IsSame}
-use Rattle.disk.specs.{LeavesSince, OnlyLeaves, State}
+use Rattle.disk.specs.{KeepsDisk, LeavesSince, OnlyLeaves, State}
 use Rattle.disk.specs.MomentsLemmas.{none_yet, weaker}
 use Rattle.engine.specs.declared.engine.Engine.{Engine}
 use Rattle.store_tables.specs.declared.error.EngineError.{EngineError}
 use Rattle.store_files.specs.declared.store_files.StoreFiles.{StoreFiles}
 use Rattle.store_tables.specs.declared.error.EngineError.TheVariants as engine
-use Rattle.engine.specs.Calls.{ExplainsRefusal, ListFollows, IsAdrift, IsNoDamage}
+use Rattle.engine.specs.Calls.{ExplainsRefusal, KeepsEngine, ListFollows, IsAdrift, IsNoDamage}
+use Rattle.store_tables.specs.KeepingLemmas.{answered, kept_as, neither}
+use Rattle.store_tables.specs.RefusalLemmas.{passed_on}
 use Rattle.engine.specs.Calls.{IsOldOrNewSince, disk_after}
 use Rattle.engine.specs.Engines.{EngineHolds, EngineReads, EngineWasMeant, HasEnded, IsInMemory}
 use Rattle.engine.specs.Engines.{IsNearlyFull, LookUps, WasMeantInMemory, engine_disk, facts_of}
 use Rattle.engine.specs.Engines.{raised_facts}
+use Rattle.engine.specs.LentFiles.{files_ghosts}
+use Rattle.engine.specs.UnderWay.{HoldsWithMerge, MergesOfEngineLast, WasMeantWithMerge}
+use Rattle.table_files.specs.{inner_disk}
+use Rattle.table_files.specs.declared.files.Files.{Files}
+use Rattle.engine.proofs.Merges.{held_same, meant_same}
+use Rattle.compaction.specs.declared.Merge.{Merge}
 use Rattle.store_tables.specs.Errors.{EndsEngine, IsEnd}
 use Rattle.store_files.specs.Files.{Facts}
 use Rattle.store_files.specs.HeldFiles.{HeldFilesAreLeft}
@@ -87,6 +95,73 @@ module _ {T : Type 0} where
       MatchResult result P Q → IfErr result Q
   of_refusal (Ok x) P Q both = tt
   of_refusal (Err e) P Q both = both
+
+-- a value that is not true is false
+off_of : (b : Bool) → (IsTrue b → ⊥) → b ≡ false
+off_of true off = absurd (off refl)
+off_of false off = refl
+
+-- a refusal is one
+is_refused : {T : Type 0} (result : Result T EngineError) (e : EngineError) →
+    IsErrAnd result (λ s. s ≡ e) → is_err result ≡ true
+is_refused (Ok x) e told = absurd told
+is_refused (Err s) e told = refl
+
+-- what is kept of files is kept of their disk
+kept_inside : {D : Type 0} (g : Ghosts D) (a b : Files D g) {told cause : Type 0}
+    {IsKept : State → State → Type 0} → KeepsDisk (files_ghosts g) a b told cause IsKept →
+    KeepsDisk g (inner_disk a) (inner_disk b) told cause IsKept
+kept_inside g a b kept = record {
+  honest = kept.honest;
+  failed = kept.failed;
+  count = kept.count;
+  only = kept.only;
+  reliable = kept.reliable;
+  files = kept.files;
+  fault = kept.fault;
+  spared = kept.spared;
+}
+
+-- a call of an engine that works, whose store is refused for the device, damage or memory, ends it
+pub refused_keeps : {D T U : Type 0} (g : Ghosts D) (old new : Engine D g)
+    (called : Result U EngineError) (e : EngineError) (result : Result T EngineError)
+    {cause : Type 0} {IsKept : State → State → Type 0} → called ≡ Err e →
+    IsErrAnd result (λ s. s ≡ e) → IsEnd e → (HasEnded old → ⊥) → HasEnded new →
+    KeepsDisk (files_ghosts g) old.files new.files (IsErrOf called engine.Disk) cause IsKept →
+    KeepsEngine g old new result cause IsKept
+refused_keeps g old new called e result was told end works ended kept =
+    let causes = of_refusal result (λ _. Unit {0}) IsEnd
+    (refuses result (λ _. Unit {0}) IsEnd told end) in
+    let off = off_of old.has_ended works in
+    record {
+      disk = kept_as g (passed_on called e result was told) (λ a b same. same)
+          (kept_inside g old.files new.files kept);
+      closed = closed_by result old.has_ended off causes;
+      ends = ends_by result old.has_ended new.has_ended off (ended ∙ sym (is_refused result e told))
+          causes;
+      refusal = λ other. absurd (no_refusal result causes other);
+    }
+
+-- one whose store answers leaves it at work
+pub answered_keeps : {D T U : Type 0} (g : Ghosts D) (old new : Engine D g)
+    (called : Result U EngineError) (x : U) (answer : T) {cause : Type 0}
+    {IsKept : State → State → Type 0} → called ≡ Ok x → (HasEnded old → ⊥) →
+    (HasEnded new → ⊥) →
+    KeepsDisk (files_ghosts g) old.files new.files (IsErrOf called engine.Disk) cause IsKept →
+    KeepsEngine g old new (Ok answer) cause IsKept
+answered_keeps g old new called x answer was works on kept = record {
+  disk = kept_as g (neither (answered called was) (λ fails. absurd cc)) (λ a b same. same)
+      (kept_inside g old.files new.files kept);
+  closed = (λ failed. absurd cc, λ h. absurd (works h));
+  ends = (
+    λ h. absurd (on h),
+    λ one. elim one [
+      | inl h ↦ absurd (works h)
+      | inr none ↦ absurd none
+    ],
+  );
+  refusal = λ told. absurd told;
+}
 
 -- look-ups with equal facts and counts are equal
 pub told_alike : {facts is : Facts} {count number committed : ℕ} {limits : Limits}
@@ -163,14 +238,27 @@ explains engine.Exhausted left told opens = told
 pub held_of : {D : Type 0} (g : Ghosts D) (engine : Engine D g) (list : List BatchContent) →
     EngineReads g engine list → FilesHold (g.state (engine_disk engine)) engine.store list
 unfolding IsInMemory
-held_of g engine list r = r.inside
+held_of g engine list r = r.inside.held
+
+-- and its merge is under way over them
+pub merged_of : {D : Type 0} (g : Ghosts D) (engine : Engine D g) (list : List BatchContent) →
+    EngineReads g engine list → HoldsWithMerge g engine.files engine.store engine.merge list
+unfolding IsInMemory
+merged_of g engine list r = r.inside
 
 -- and its files were meant to hold what it was
 pub were_meant : {D : Type 0} (g : Ghosts D) (engine : Engine D g) (list : List BatchContent) →
     EngineWasMeant g engine list →
     WereMeantToHold (g.state (engine_disk engine)) engine.store list
 unfolding WasMeantInMemory
-were_meant g engine list m = m.inside
+were_meant g engine list m = m.inside.was
+
+-- with a merge under way over them
+pub meant_with_merge : {D : Type 0} (g : Ghosts D) (engine : Engine D g)
+    (list : List BatchContent) → EngineWasMeant g engine list →
+    WasMeantWithMerge g engine.files engine.store engine.merge list
+unfolding WasMeantInMemory
+meant_with_merge g engine list m = m.inside
 
 -- where a tend of its files may fail, they are nearly full, or the disk has none of the engine
 pub may_fail : {D : Type 0} (g : Ghosts D) (engine : Engine D g) →
@@ -182,22 +270,22 @@ module _ {D : Type 0} (g : Ghosts D) (laws : HeldFilesAreLeft) where
   -- ---- what it holds
 
   is_inside : (engine : Engine D g) (list : List BatchContent) →
-      FilesHold (g.state (engine_disk engine)) engine.store list → IsInMemory g engine list
+      HoldsWithMerge g engine.files engine.store engine.merge list → IsInMemory g engine list
   unfolding IsInMemory
   is_inside engine list h = h
 
   -- an engine whose store holds the list reads it
   pub reads_of : (engine : Engine D g) (list : List BatchContent) →
       g.is_honest (engine_disk engine) → (HasEnded engine → ⊥) →
-      FilesHold (g.state (engine_disk engine)) engine.store list → EngineReads g engine list
-  reads_of engine list honest works held =
+      HoldsWithMerge g engine.files engine.store engine.merge list → EngineReads g engine list
+  reads_of engine list honest works h =
       let disk = g.state (engine_disk engine) in
       record {
         honest = honest;
         works = works;
-        represents = laws.held.reads disk engine.store list held;
-        count = held.known.count;
-        inside = is_inside engine list held;
+        represents = laws.held.reads disk engine.store list h.held;
+        count = h.held.known.count;
+        inside = is_inside engine list h;
       }
 
   -- all of it is durable
@@ -214,7 +302,7 @@ module _ {D : Type 0} (g : Ghosts D) (laws : HeldFilesAreLeft) where
   -- an engine whose store was meant to hold the list
   pub meant_of : (engine : Engine D g) (list : List BatchContent) →
       g.is_honest (engine_disk engine) → (HasEnded engine → ⊥) →
-      WereMeantToHold (g.state (engine_disk engine)) engine.store list →
+      WasMeantWithMerge g engine.files engine.store engine.merge list →
       EngineWasMeant g engine list
   unfolding WasMeantInMemory
   meant_of engine list honest works w =
@@ -222,9 +310,9 @@ module _ {D : Type 0} (g : Ghosts D) (laws : HeldFilesAreLeft) where
       record {
         honest = honest;
         works = works;
-        represents = laws.meant.reads disk engine.store list w;
-        crash = laws.meant.crash disk engine.store list w;
-        count = w.hold.known.count;
+        represents = laws.meant.reads disk engine.store list w.was;
+        crash = laws.meant.crash disk engine.store list w.was;
+        count = w.was.hold.known.count;
         inside = w;
       }
 
@@ -235,56 +323,68 @@ module _ {D : Type 0} (g : Ghosts D) (laws : HeldFilesAreLeft) where
       (result : Result T EngineError) →
       (g.is_honest (engine_disk old) → g.is_honest (engine_disk new)) →
       OnOk result (HasEnded new → ⊥) →
-      (g.is_honest (engine_disk old) → FilesHold (g.state (engine_disk old)) old.store list →
-      OnOk result (FilesHold (g.state (engine_disk new)) new.store more)) →
-      (g.is_honest (engine_disk old) →
-      WereMeantToHold (g.state (engine_disk old)) old.store list →
-      OnOk result (WereMeantToHold (g.state (engine_disk new)) new.store more)) →
+      (g.is_honest (engine_disk old) → HoldsWithMerge g old.files old.store old.merge list →
+      OnOk result (HoldsWithMerge g new.files new.store new.merge more)) →
+      (g.is_honest (engine_disk old) → WasMeantWithMerge g old.files old.store old.merge list →
+      OnOk result (WasMeantWithMerge g new.files new.store new.merge more)) →
       ListFollows g old new list more result
   goes_to old new list more (Ok x) honest works held were =
       let next : EngineReads g old list → EngineReads g new more = λ r.
-      reads_of new more (honest r.honest) works (held r.honest (held_of g old list r)) in
+      reads_of new more (honest r.honest) works (held r.honest (merged_of g old list r)) in
       record {
         reads = next;
         holds = λ h. holds_of new more (next h.reads);
         meant = λ m. meant_of new more (honest m.honest) works
-            (were m.honest (were_meant g old list m));
+            (were m.honest (meant_with_merge g old list m));
       }
   goes_to old new list more (Err e) honest works held were =
       record { reads = λ r. tt; holds = λ h. tt; meant = λ m. tt }
 
-  -- the disk and the store of an engine are the same
+  -- the disk, the store and the merge of an engine are the same
   pub record IsAsBefore (old new : Engine D g) : Type 0 where
     pub store : new.store ≡ old.store
+    pub merge : new.merge ≡ old.merge
     pub honest : g.is_honest (engine_disk old) → g.is_honest (engine_disk new)
     pub same : g.is_honest (engine_disk old) →
         IsSame (g.state (engine_disk old)) (g.state (engine_disk new))
 
-  stays_held : (old new : Engine D g) (list : List BatchContent) → IsAsBefore old new →
-      g.is_honest (engine_disk old) → FilesHold (g.state (engine_disk old)) old.store list →
-      FilesHold (g.state (engine_disk new)) new.store list
-  stays_held old new list as_before honest held =
-      subst (λ (s : StoreFiles). FilesHold (g.state (engine_disk new)) s list) (sym as_before.store)
-      (laws.held.stays (g.state (engine_disk old)) (g.state (engine_disk new)) old.store list
-      (as_before.same honest) held)
+  module _ (lasts : MergesOfEngineLast g) where
+    -- what the old engine held, the new one holds
+    stays_held : (old new : Engine D g) (list : List BatchContent) → IsAsBefore old new →
+        g.is_honest (engine_disk old) → HoldsWithMerge g old.files old.store old.merge list →
+        HoldsWithMerge g new.files new.store new.merge list
+    stays_held old new list as_before honest held =
+        subst (λ (s : StoreFiles). HoldsWithMerge g new.files s new.merge list)
+        (sym as_before.store)
+        (subst (λ (m : Option (Merge D)). HoldsWithMerge g new.files old.store m list)
+        (sym as_before.merge) (held_same g lasts old.files new.files (as_before.honest honest)
+        (as_before.same honest) old.store old.merge list held))
 
-  pub reads_on : (old new : Engine D g) (list : List BatchContent) → IsAsBefore old new →
-      (HasEnded new → ⊥) → EngineReads g old list → EngineReads g new list
-  reads_on old new list as_before works r =
-      reads_of new list (as_before.honest r.honest) works
-      (stays_held old new list as_before r.honest (held_of g old list r))
+    -- and what it was meant to hold
+    stays_meant : (old new : Engine D g) (list : List BatchContent) → IsAsBefore old new →
+        g.is_honest (engine_disk old) → WasMeantWithMerge g old.files old.store old.merge list →
+        WasMeantWithMerge g new.files new.store new.merge list
+    stays_meant old new list as_before honest w =
+        subst (λ (s : StoreFiles). WasMeantWithMerge g new.files s new.merge list)
+        (sym as_before.store)
+        (subst (λ (m : Option (Merge D)). WasMeantWithMerge g new.files old.store m list)
+        (sym as_before.merge) (meant_same g lasts old.files new.files (as_before.honest honest)
+        (as_before.same honest) old.store old.merge list w))
 
-  -- an answer leaves the list
-  pub goes_on : {T : Type 0} (old new : Engine D g) (list : List BatchContent)
-      (result : Result T EngineError) → IsAsBefore old new → OnOk result (HasEnded new → ⊥) →
-      ListFollows g old new list list result
-  goes_on old new list result as_before works =
-      goes_to old new list list result as_before.honest works
-      (λ honest held. on_ok result (stays_held old new list as_before honest held))
-      (λ honest w. on_ok result
-      (subst (λ (s : StoreFiles). WereMeantToHold (g.state (engine_disk new)) s list)
-      (sym as_before.store) (laws.meant.stays (g.state (engine_disk old))
-      (g.state (engine_disk new)) old.store list (as_before.same honest) w)))
+    pub reads_on : (old new : Engine D g) (list : List BatchContent) → IsAsBefore old new →
+        (HasEnded new → ⊥) → EngineReads g old list → EngineReads g new list
+    reads_on old new list as_before works r =
+        reads_of new list (as_before.honest r.honest) works
+        (stays_held old new list as_before r.honest (merged_of g old list r))
+
+    -- an answer leaves the list
+    pub goes_on : {T : Type 0} (old new : Engine D g) (list : List BatchContent)
+        (result : Result T EngineError) → IsAsBefore old new → OnOk result (HasEnded new → ⊥) →
+        ListFollows g old new list list result
+    goes_on old new list result as_before works =
+        goes_to old new list list result as_before.honest works
+        (λ honest held. on_ok result (stays_held old new list as_before honest held))
+        (λ honest w. on_ok result (stays_meant old new list as_before honest w))
 
   -- ---- moments
 

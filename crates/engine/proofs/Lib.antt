@@ -1,2 +1,14 @@
+pub mod Merges
 pub mod Engines
 pub mod Removals
+pub mod Begins
+pub mod BegunParts
+pub mod Beside
+pub mod Abandons
+pub mod Advances
+pub mod Completes
+pub mod Parts
+pub mod PartFiles
+pub mod PartDid
+pub mod PartDue
+pub mod PartBegins

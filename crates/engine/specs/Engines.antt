@@ -7,19 +7,20 @@ use Rattle.disk.specs.declared.Disk.{Ghosts}
 use Rattle.disk.specs.{State, EndsOutOfRange, OnlyLeaves, contents, seen}
 use Rattle.record_log.specs.declared.log.TheConstants.{MAX_RECORD}
 use Rattle.table_files.specs.{inner_disk}
-use Rattle.chain_model.specs.Machine.{without}
+use Rattle.chain_model.specs.Machine.{least, without}
 use Rattle.engine.specs.declared.engine.Engine.{Engine}
 use Rattle.store_files.specs.Files.{Facts}
 use Rattle.manifest.specs.{HasFullSlot}
 use Rattle.batch_logs.specs.BatchLogs.{HasFullLog, newest_file}
 use Rattle.store_tables.specs.LevelTables.{level_count}
-use Rattle.store_files.specs.OpenFiles.{FilesHold, WereMeantToHold, batch_count, known_facts}
-use Rattle.store_files.specs.OpenFiles.{known_version}
+use Rattle.store_files.specs.OpenFiles.{batch_count, known_facts, known_version}
 use Rattle.store_files.specs.Openings.{kept_files}
+use Rattle.store_files.specs.Raising.{facts_with_floor}
 use Rattle.store_files.specs.Settling.{AreAlone}
 use Rattle.store_files.specs.StoreFiles.{FilesRepresent, WereMeant}
-use Rattle.store_files.specs.Tending.{tended_files}
 use Rattle.engine.specs.Snapshots.{AreReadable}
+use Rattle.engine.specs.MergeParts.{IsTendedFile}
+use Rattle.engine.specs.UnderWay.{HoldsWithMerge, WasMeantWithMerge}
 
 -- ---- what an engine tells
 
@@ -37,9 +38,14 @@ module _ {D : Type 0} {g : Ghosts D} where
   abbrev pub facts_of : Engine D g → Facts
   facts_of engine = known_facts engine.store
 
-  -- the facts that a tend of it may leave: it merges nothing and raises no floor, so they stay
+  -- the least number that may still be asked for
+  abbrev pub least_read : Engine D g → ℕ
+  least_read engine = least engine.committed engine.snapshots
+
+  -- the facts that a tend of it leaves where it begins a merge: the floor is the least number that
+  -- may still be asked for, and the logs up to it are given up
   abbrev pub raised_facts : Engine D g → Facts
-  raised_facts engine = facts_of engine
+  raised_facts engine = facts_with_floor engine.store (least_read engine)
 
   -- what an engine tells of itself
   abbrev pub look_ups : Engine D g → LookUps
@@ -67,9 +73,9 @@ module _ {D : Type 0} {g : Ghosts D} where
   abbrev pub engine_files : Engine D g → List ℕ
   engine_files engine = kept_files (known_version engine.store).version
 
-  -- the files that a tend of it may change: the slots, the first free file, and the one behind it
-  abbrev pub files_of_tend : Engine D g → List ℕ
-  files_of_tend engine = tended_files engine.store
+  -- the files that a tend of it may change
+  abbrev pub IsTendFile : Engine D g → ℕ → Type 0
+  IsTendFile engine = IsTendedFile engine.store engine.merge (least_read engine)
 
   -- its newest log is so long that the next record may end past the greatest place of a file
   abbrev pub HasNearlyFullLog : Engine D g → Type 0
@@ -99,6 +105,21 @@ with_opened told at = record told { snapshots = at ∷ told.snapshots }
 abbrev pub with_closed : LookUps → ℕ → LookUps
 with_closed told number = record told { snapshots = without number told.snapshots }
 
+-- these facts
+abbrev pub with_facts : LookUps → Facts → LookUps
+with_facts told facts = record told { facts = facts }
+
+-- an engine tells the same behind a tend, or raised facts, where it may have begun a merge
+abbrev pub IsToldByTend : {D : Type 0} {g : Ghosts D} → Engine D g → Engine D g → Type 0
+IsToldByTend old new =
+    (look_ups new ≡ look_ups old) ⊎ (look_ups new ≡ with_facts (look_ups old) (raised_facts old))
+
+-- floor and trimmed batches rise, and no batch above the floor is trimmed
+pub record FactsRise (old new : Facts) : Type 0 where
+  pub floor : old.floor ≤ new.floor
+  pub kept : old.kept ≤ new.kept
+  pub readable : new.kept ≤ new.floor
+
 -- the committed number lies between the floor and the count, and the open snapshots from the floor
 -- to the committed number
 pub record AreOrdered (told : LookUps) : Type 0 where
@@ -115,10 +136,9 @@ HasOnlyFiles g engine files =
 
 -- ---- what an engine holds
 
--- what the engine has in memory is what its files say
+-- what the engine has in memory is what its files say, and its merge is under way over them
 unfoldable pub IsInMemory : {D : Type 0} (g : Ghosts D) → Engine D g → List BatchContent → Type 0
-IsInMemory g engine list =
-    FilesHold (g.state (engine_disk engine)) engine.store list
+IsInMemory g engine list = HoldsWithMerge g engine.files engine.store engine.merge list
 
 -- The engine works, and what its disk reads represents the list and what the engine tells.
 pub record EngineReads {D : Type 0} (g : Ghosts D) (engine : Engine D g) (list : List BatchContent)
@@ -137,11 +157,11 @@ pub record EngineHolds {D : Type 0} (g : Ghosts D) (engine : Engine D g) (list :
 
 -- ---- damaged tables
 
--- what the engine has in memory is what its files say, but for damaged blocks of tables
+-- what the engine has in memory is what its files say, but for damaged blocks of tables, and its
+-- merge is under way over them
 unfoldable pub WasMeantInMemory : {D : Type 0} (g : Ghosts D) → Engine D g → List BatchContent →
     Type 0
-WasMeantInMemory g engine list =
-    WereMeantToHold (g.state (engine_disk engine)) engine.store list
+WasMeantInMemory g engine list = WasMeantWithMerge g engine.files engine.store engine.merge list
 
 -- The engine works, and what its disk reads was meant to represent the list and what the engine
 -- tells: it would, had no table a damaged block. And so was whatever a crash now leaves.

@@ -6,12 +6,15 @@ ghost use Rattle.store_files.specs.OpenFiles.{AreCounted, AreUsableFiles, known_
 ghost use Rattle.store_files.specs.UsableProps.{props};
 ghost use Rattle.engine.specs.Snapshots.{AreReadable};
 
+use crate::merging::tend_merge;
 use crate::snapshots::Snapshots;
+use compaction::laws::{merges_outlive_calls, merges_stay_beside};
+use compaction::{Merge, Turn};
 use configurations::{Config, Epoch, NodeId};
 use disk::{Crash, Disk, Fault};
 use kv_types::{Batch, Key, Limits, Number, Value};
 use std::alloc::Global;
-use store_files::laws::held_files_are_left;
+use store_files::laws::{held_files_are_left, open_files_are_apart, raised_facts_rise};
 use store_files::{EngineError, StoreFiles, Tended};
 use table_files::Files;
 
@@ -26,24 +29,30 @@ pub struct Engine<D: Disk + Drop> {
     limits: Limits,
     pub(crate) committed: Number,
     pub(crate) snapshots: Snapshots,
+    // The merge that is under way, and the keys last taken from each level.
+    pub(crate) merge: Option<Merge<D>>,
+    pub(crate) turn: Turn,
     pub(crate) has_ended: bool,
     ghost readable: { AreReadable (known_facts store).floor committed snapshots },
     ghost counted: { AreCounted store committed },
     ghost usable: { has_ended ≡ false → AreUsableFiles store } by { Prim.hlevel props },
 }
 
-// The disk with its cache of blocks; a refusal returns the disk.
+// The disk with its cache of blocks, and the turn of each level; a refusal returns the disk.
 fn files_over<D: Disk + Drop>(
     alloc: Global,
     disk: D,
     limits: &Limits,
-) -> Result<Files<D>, (EngineError, D)>
-    ensures files { IfOk result (λ files. inner_disk files ≡ disk) }
+) -> Result<(Files<D>, Turn), (EngineError, D)>
+    ensures files { IfOk result (λ made. inner_disk made.0 ≡ disk) }
     ensures refused { IfErr result (λ refused.
         (refused.0 ≡ EngineError.Memory) × (refused.1 ≡ disk)) }
 {
+    let Ok(turn) = Turn::new(alloc) else {
+        return Err((EngineError::Memory, disk));
+    };
     match Files::new(alloc, disk, limits.cache as usize) {
-        Ok(files) => Ok(files),
+        Ok(files) => Ok((files, turn)),
         Err(refused) => Err((EngineError::Memory, refused.value)),
     }
 }
@@ -56,18 +65,19 @@ impl<D: Disk + Drop> Engine<D> {
     ghost use Rattle.disk.specs.{contents, IsEnvironmental, IsSameBut, IsStill};
     ghost use Rattle.chain_model.specs.{place};
     ghost use Rattle.engine.specs.Calls.{ChangesList, ExplainsRefusal, IsAdrift, IsJustOpened};
-    ghost use Rattle.engine.specs.Calls.{IsNewEngine, IsOpened, IsTendAnswer, IsTendOf};
+    ghost use Rattle.engine.specs.Calls.{IsNewEngine, IsOpened, IsTendOf, TendsAsDue};
     ghost use Rattle.engine.specs.Calls.{KeepsOwnedDisk, OfEachList, OpensEngineFor, ReadsEngine};
     ghost use Rattle.engine.specs.Calls.{StaysAsItWas, disk_after};
-    ghost use Rattle.engine.specs.Engines.{AreOrdered, EngineHolds, HasEnded};
+    ghost use Rattle.engine.specs.Engines.{AreOrdered, EngineHolds, FactsRise, HasEnded};
+    ghost use Rattle.engine.specs.Engines.{IsToldByTend};
     ghost use Rattle.engine.specs.Engines.{HasNearlyFullLog, IsNearlyFull};
-    ghost use Rattle.engine.specs.Engines.{engine_disk, engine_files, facts_of, files_of_tend};
+    ghost use Rattle.engine.specs.Engines.{engine_disk, engine_files, facts_of, IsTendFile};
     ghost use Rattle.engine.specs.Engines.{look_ups, newest_log_file, raised_facts};
     ghost use Rattle.engine.specs.Engines.{table_count, with_one_more, with_committed};
     ghost use Rattle.store_files.specs.Files.{Facts};
     ghost use Rattle.store_files.specs.Settling.{AreReadAlike};
     ghost use Rattle.store_files.specs.StoreFiles.{StillLeavesOneOf};
-    ghost use Rattle.store_files.specs.Tending.{IsSameBeside};
+    ghost use Rattle.compaction.specs.Outputs.{IsSameBeyond};
 
     /// Creates a store without batches on a disk, whose files are all removed first. A refusal
     /// returns the disk, with any files.
@@ -85,7 +95,7 @@ impl<D: Disk + Drop> Engine<D> {
         ensures begun { IfOk result (IsNewEngine id config.now limits.now) }
     {
         held_files_are_left(); // law: what the disk of open files reads as, and leaves
-        let mut files = files_over(alloc, disk, limits)?;
+        let (mut files, turn) = files_over(alloc, disk, limits)?;
         match StoreFiles::create(alloc, &mut files, id, config) {
             Ok(store) => Ok(Engine {
                 files,
@@ -93,6 +103,8 @@ impl<D: Disk + Drop> Engine<D> {
                 limits: *limits,
                 committed: Number::ZERO,
                 snapshots: Snapshots::new(alloc),
+                merge: None,
+                turn,
                 has_ended: false,
             }),
             Err(e) => Err((e, files.into_disk())),
@@ -125,7 +137,7 @@ impl<D: Disk + Drop> Engine<D> {
             IsStill D.Disk disk refused.1) }
     {
         held_files_are_left(); // law: what the disk of open files reads as, and leaves
-        let mut files = files_over(alloc, disk, limits)?;
+        let (mut files, turn) = files_over(alloc, disk, limits)?;
         match StoreFiles::open(alloc, &mut files) {
             Ok(store) => {
                 let committed = store.floor();
@@ -135,6 +147,8 @@ impl<D: Disk + Drop> Engine<D> {
                     limits: *limits,
                     committed,
                     snapshots: Snapshots::new(alloc),
+                    merge: None,
+                    turn,
                     has_ended: false,
                 })
             }
@@ -171,6 +185,8 @@ impl<D: Disk + Drop> Engine<D> {
             ⊎ ((e ≡ EngineError.Exhausted) × (MAX_NUMBER ≤ (look_ups self.old).count)))) }
     {
         held_files_are_left(); // law: what the disk of open files reads as, and leaves
+        merges_outlive_calls::<D>(); // law: a merge outlives calls that leave its files
+        open_files_are_apart(); // law: which files an append and a tend change
         let number = self.next_number()?;
         self.has_ended = true;
         self.store.append(alloc, &mut self.files, number, batch)?;
@@ -187,6 +203,7 @@ impl<D: Disk + Drop> Engine<D> {
             (λ batch. place list number ≡ Some batch) (IsEnvironmental Disk Memory)) }
     {
         held_files_are_left(); // law: what the disk of open files reads as, and leaves
+        merges_outlive_calls::<D>(); // law: a merge outlives calls that leave its files
         if self.has_ended {
             return Err(EngineError::Failed);
         }
@@ -201,17 +218,34 @@ impl<D: Disk + Drop> Engine<D> {
     pub fn tend(&mut self, alloc: Global) -> Result<Tended, EngineError>
         ensures changes { ChangesList D.Disk self.old self.new result
             (IsNearlyFull self.old ⊎ IsAdrift D.Disk self.old)
-            (IsSameBeside (files_of_tend self.old)) (raised_facts self.old) (λ list. list) }
-        ensures told { look_ups self.new ≡ look_ups self.old }
-        ensures work { OfEachList D.Disk self.old (λ list.
-            MatchResult result (IsTendAnswer self.old self.new) (IsEnvironmental Disk Memory)) }
+            (IsSameBeyond (IsTendFile self.old)) (raised_facts self.old) (λ list. list) }
+        ensures told { IsToldByTend self.old self.new }
+        ensures raised { OfEachList D.Disk self.old (λ _.
+            FactsRise (facts_of self.old) (raised_facts self.old)) }
+        ensures work { TendsAsDue D.Disk self.old self.new result }
         ensures did { IfOk result (IsTendOf self.old self.new) }
     {
         held_files_are_left(); // law: what the disk of open files reads as, and leaves
+        merges_outlive_calls::<D>(); // law: a merge outlives calls that leave its files
+        open_files_are_apart(); // law: which files an append and a tend change
+        merges_stay_beside::<D>(); // law: a flush names no output of a merge
+        raised_facts_rise(); // law: floor and trimmed batches rise
         if self.has_ended {
             return Err(EngineError::Failed);
         }
-        let answer = self.store.tend(alloc, &mut self.files, self.limits.log);
+        let floor = self.snapshots.least(self.committed);
+        let answer = match self.store.tend(alloc, &mut self.files, self.limits.log) {
+            Ok(Tended::Idle) => tend_merge(
+                alloc,
+                &mut self.files,
+                &mut self.store,
+                &mut self.merge,
+                &mut self.turn,
+                &self.limits,
+                floor,
+            ),
+            done => done,
+        };
         self.has_ended = answer.is_err();
         answer
     }
@@ -308,6 +342,7 @@ impl<D: Crash + Drop> Engine<D> {
         ensures stays { StaysAsItWas D.Disk self.old self.new }
     {
         held_files_are_left(); // law: what the disk of open files reads as, and leaves
+        merges_outlive_calls::<D>(); // law: a merge outlives calls that leave its files
         self.files.arm(fault);
     }
 }

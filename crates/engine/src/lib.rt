@@ -3,6 +3,7 @@
 
 mod engine;
 pub mod laws;
+mod merging;
 mod reading;
 mod snapshots;
 

@@ -3,6 +3,7 @@ ghost use Rattle.std.specs.Prelude.{◌≡◌, IfErr, IfOk};
 ghost use Rattle.store_files.specs.OpenFiles.{AreUsableFiles};
 
 use crate::Engine;
+use compaction::laws::merges_outlive_calls;
 use disk::Disk;
 use kv_types::{Key, Number, Page, Range, Value};
 use std::alloc::Global;
@@ -56,6 +57,7 @@ impl<D: Disk + Drop> Engine<D> {
             IsNoDamage result }
     {
         held_files_are_left(); // law: what the disk of open files reads as, and leaves
+        merges_outlive_calls::<D>(); // law: a merge outlives calls that leave its files
         self.may_read(at)?;
         let answer = self.store.get(alloc, &mut self.files, at, key);
         self.has_ended = answer.is_err();
@@ -75,6 +77,7 @@ impl<D: Disk + Drop> Engine<D> {
             IsNoDamage result }
     {
         held_files_are_left(); // law: what the disk of open files reads as, and leaves
+        merges_outlive_calls::<D>(); // law: a merge outlives calls that leave its files
         self.may_read(at)?;
         let answer = self.store.rows(alloc, &mut self.files, at, range);
         self.has_ended = answer.is_err();
@@ -88,6 +91,7 @@ impl<D: Disk + Drop> Engine<D> {
         ensures opened { IsOpenAnswer (look_ups self.old) at result }
     {
         held_files_are_left(); // law: what the disk of open files reads as, and leaves
+        merges_outlive_calls::<D>(); // law: a merge outlives calls that leave its files
         self.may_read(at)?;
         if self.snapshots.is_full() {
             return Err(EngineError::TooManySnapshots);
@@ -108,6 +112,7 @@ impl<D: Disk + Drop> Engine<D> {
         ensures closed { IsCloseAnswer (look_ups self.old) number result }
     {
         held_files_are_left(); // law: what the disk of open files reads as, and leaves
+        merges_outlive_calls::<D>(); // law: a merge outlives calls that leave its files
         if self.has_ended {
             return Err(EngineError::Failed);
         }

@@ -1,7 +1,7 @@
 //! The open snapshots of a store.
 ghost use Rattle.std.specs.Prelude.{◌≡◌, ◌↔◌, ◌≤◌, ◌==◌, [], ◌∷◌, length, IsTrue, MatchResult};
 ghost use Rattle.std.specs.List.{position};
-ghost use Rattle.chain_model.specs.Machine.{is_open, without};
+ghost use Rattle.chain_model.specs.Machine.{is_open, least, without};
 
 use kv_types::Number;
 use std::alloc::{AllocError, Global};
@@ -59,6 +59,17 @@ impl Snapshots {
         Snapshots {
             numbers: VecDeque::new(alloc),
         }
+    }
+
+    /// The least of a number and the open snapshots.
+    pub fn least(&self, number: Number) -> Number
+        ensures { result ≡ least number self.now }
+    {
+        let mut least = number;
+        for open in self.numbers.iter() {
+            least = least.min(*open);
+        }
+        least
     }
 
     /// Whether as many are open as may be.

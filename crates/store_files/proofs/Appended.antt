@@ -2,7 +2,7 @@
 use Rattle.std.proofs.Common.{◌≡◌, ◌≢◌, ◌⊎◌, ◌↔◌, ℕ, suc, ◌+◌, ◌-◌, ◌<◌, ◌≤◌, List, [], ◌∷◌, ◌++◌}
 use Rattle.std.proofs.Common.{All, Contains, ap, arith, drop, inl, inr, length, map, refl}
 use Rattle.std.proofs.Common.{Err, Ok, Result, subst, sym, ◌∙◌}
-use Rattle.std.specs.Prelude.{IsNone, MatchResult}
+use Rattle.std.specs.Prelude.{IsNone, MatchResult, OnOk}
 use Rattle.std.proofs.lemmas.List.{drop-append-le, length_push}
 use Rattle.std.proofs.lemmas.List.Elements.{All-contains, All-contains_itself, All-push, All-weaker}
 use Rattle.kv_types.specs.declared.bounds.TheConstants.{MAX_NUMBER}
@@ -36,6 +36,8 @@ use Rattle.store_files.proofs.FilesApart.{newest_positive}
 use Rattle.store_files.proofs.KeptFiles.{served_in}
 use Rattle.store_files.proofs.NamedFiles.{tables_same}
 use Rattle.batch_logs.specs.PartsLemmas.{batches_left as whole_left}
+use Rattle.store_model.specs.{IsUnderWay, MergePlan}
+use Rattle.store_files.specs.Plans.{HoldWithPlan}
 
 -- ---- the same lines
 
@@ -165,7 +167,7 @@ module _ (disk : State) (files : StoreFiles) (list : List BatchContent)
     abbrev pub longer : List BatchContent
     longer = list ++ batch ∷ []
 
-    dropped : drop trimmed longer ≡ drop trimmed list ++ batch ∷ []
+    pub dropped : drop trimmed longer ≡ drop trimmed list ++ batch ∷ []
     dropped = drop-append-le trimmed list (batch ∷ []) trimmed_few
 
     -- the list, or the list with the batch
@@ -208,14 +210,15 @@ module _ (disk : State) (files : StoreFiles) (list : List BatchContent)
       abbrev after : StoreFiles
       after = after_append files logs memtable
 
-      trimmed_is : trimmed_count after ≡ trimmed
+      pub trimmed_is : trimmed_count after ≡ trimmed
       trimmed_is = trimmed_same files logs memtable lines
 
-      table_stays : (line : TableLine) → Contains version.tables line
+      pub table_stays : (line : TableLine) → Contains version.tables line
           → new line.file ≡ disk line.file
       table_stays line has = others line.file (newest_no_table files h.known.usable line has)
 
-      pub held_after : AppendsKeep → HeldVersionStays → AreUsableFiles after
+      -- the open files hold the longer list, with the same tables
+      abbrev pub held_after : AppendsKeep → HeldVersionStays → AreUsableFiles after
           → batch_count after ≡ batch_count files + 1
           → ((entry : Entry) → TableHolds memtable entry
           ↔ memory_entries longer (known_store files h.known.tables) entry)
@@ -257,6 +260,12 @@ module _ (disk : State) (files : StoreFiles) (list : List BatchContent)
             (sym (others other (λ same. omega (arith, same, le, first, given))))
             (h.unused other le);
       }
+
+      -- a merge can end as before
+      pub ends_after : (plan : MergePlan) → IsUnderWay (known_store files h.known.tables) plan
+          → IsUnderWay (known_store after h.known.tables) plan
+      ends_after plan can_end = subst (λ (t : ℕ).
+          IsUnderWay (store_of_version version t h.known.tables) plan) (sym trimmed_is) can_end
 
 -- ---- what an append told
 
@@ -303,3 +312,26 @@ appended_told disk files list h batch is new logs memtable lines others keeps st
 appended_told disk files list h batch is new logs memtable lines others keeps stays entries Q (Err
     e)
     counts machine = machine
+
+-- the open files after it hold the longer list, and a merge can end as before
+pub appended_with_plan : (disk : State) (files : StoreFiles) (list : List BatchContent)
+    (h : FilesHold disk files list) (batch : BatchContent) (is : IsBatch batch) (new : State)
+    (logs : BatchLogs) (memtable : Memtable) → lines_of logs ≡ lines_of files.logs
+    → IsSameBut (newest_file files.logs) disk new → AppendsKeep → HeldVersionStays
+    → ((entry : Entry) → TableHolds memtable entry
+    ↔ memory_entries (list ++ batch ∷ []) (known_store files h.known.tables) entry)
+    → {T : Type 0} (Q : EngineError → Type 0) (result : Result T EngineError)
+    → MatchResult result (λ _. AreUsableFiles (after_append files logs memtable)
+    × (batch_count (after_append files logs memtable) ≡ batch_count files + 1)) Q
+    → MatchResult result (λ _. LogsHold new logs (suc (trimmed_count files))
+    (drop (trimmed_count files) list ++ batch ∷ [])) (IsEnvironmental engine.Disk engine.Memory)
+    → (plan : MergePlan) → IsUnderWay (known_store files h.known.tables) plan
+    → OnOk result (HoldWithPlan new (after_append files logs memtable) (list ++ batch ∷ []) plan)
+appended_with_plan disk files list h batch is new logs memtable lines others keeps stays entries Q
+    (Ok x) counts held plan can_end = record {
+      held = held_after disk files list h batch is new logs memtable lines others keeps stays
+          counts.0 counts.1 entries held;
+      can_end = ends_after disk files list h batch is new logs memtable lines others plan can_end;
+    }
+appended_with_plan disk files list h batch is new logs memtable lines others keeps stays entries Q
+    (Err e) counts held plan can_end = tt

@@ -1,7 +1,7 @@
 -- A flush that is installed: what the files named by the old version and by the new one represent
 -- together, and what a crash leaves of them meanwhile.
 use Rattle.std.proofs.Common.{◌≡◌, ◌≢◌, ◌⊎◌, ℕ, suc, ◌+◌, ◌<◌, ◌≤◌, ◌∙◌, List}
-use Rattle.std.proofs.Common.{drop, arith, inl, inr, subst, sym, ap}
+use Rattle.std.proofs.Common.{drop, arith, inl, inr, refl, subst, sym, ap}
 use Rattle.std.specs.Prelude.{All, Contains, IsNone}
 use Rattle.kv_types.specs.{BatchContent, Entry}
 use Rattle.disk.specs.{Contents, DurableFileIsLeft, IsDurable, IsFileOutcome, IsLeftAt, IsSameBut}
@@ -43,6 +43,9 @@ use Rattle.store_files.proofs.NamedHolds.{table_no_slot}
 use Rattle.store_files.proofs.FlushVersions.{IsFlushOf, after_is, count_kept, free_above, known}
 use Rattle.store_files.proofs.FlushVersions.{lines_begun}
 use Rattle.store_files.proofs.FlushVersions.{newest_is, tables_are, trimmed_kept}
+use Rattle.store_model.specs.Claims.{FlushesLeaveMerges}
+use Rattle.store_model.specs.{IsUnderWay, MergePlan, flushed_store}
+use Rattle.store_files.proofs.Plans.{ends_in}
 
 module _ {files : StoreFiles} {line : TableLine} {file : ℕ} {edit : Change}
     (so : IsFlushOf files line file edit)
@@ -267,7 +270,7 @@ module _ {files : StoreFiles} {line : TableLine} {file : ℕ} {edit : Change}
 
         module _ (s3 : State) (slot : ℕ) (is_slot : IsSlotFile slot) (same : IsSameBut slot s2 s3)
           where
-            stays_behind : (file : ℕ) → free ≤ file → s3 file ≡ s2 file
+            pub stays_behind : (file : ℕ) → free ≤ file → s3 file ≡ s2 file
             stays_behind file above = same file
                 (λ is. let lt = slot_less slot is_slot in omega (arith, is, lt, above))
 
@@ -290,7 +293,7 @@ module _ {files : StoreFiles} {line : TableLine} {file : ℕ} {edit : Change}
                 (stays_behind line.file (omega (arith, next.file)) ∙ new_stays)
                 hs.spilled.written.is hs.spilled.served
 
-            named_last : EditsKeepVersions
+            pub named_last : EditsKeepVersions
                 → NamedHold s3 after logs trimmed (with_flushed tables table) list
             named_last versions =
                 named_in s2 after logs trimmed (with_flushed tables table) list named_new s3
@@ -300,7 +303,7 @@ module _ {files : StoreFiles} {line : TableLine} {file : ℕ} {edit : Change}
                 (subst IsSlotFile (sym is) is_slot)))
 
             -- the open files after the flush hold the list
-            pub installed_holds : EditsKeepVersions → (new : StoreFiles) → new.logs ≡ logs
+            abbrev pub installed_holds : EditsKeepVersions → (new : StoreFiles) → new.logs ≡ logs
                 → known_version new ≡ node_version_after (known_version files) edit
                 → next_number new.logs ≡ next_number files.logs → AreUsableFiles new
                 → ManifestHolds s3 new.manifest (node_version_after (known_version files) edit)
@@ -359,3 +362,20 @@ module _ {files : StoreFiles} {line : TableLine} {file : ℕ} {edit : Change}
                       ∙ hs.spilled.spares other (λ is. omega (arith, is, above, first, next_file))))
                       (hs.held.unused other (omega (arith, above, first, next_file)));
                 }
+
+            -- and a merge can end as before
+            pub ends_behind : FlushesLeaveMerges → (new : StoreFiles)
+                → known_version new ≡ node_version_after (known_version files) edit
+                → (plan : MergePlan) → IsUnderWay (known_store files tables) plan
+                → IsUnderWay (known_store new (with_flushed tables table)) plan
+            ends_behind leaves new told plan can_end =
+                let version_is : (known_version new).version ≡ changed version edit =
+                ap (λ (n : NodeVersion). n.version) told in
+                let flushed : (known_version new).version.flushed ≡ batch_count files =
+                ap (λ (v : StoreVersion). v.flushed) version_is
+                ∙ ap (λ (e : Change). (changed version e).flushed) so.is in
+                let was = hs.held.known.count in
+                ends_in (flushed_store list (known_store files tables) (with_flushed tables table))
+                (known_store new (with_flushed tables table)) plan (omega (arith, flushed, was))
+                refl (leaves list (known_store files tables) table (with_flushed tables table) plan
+                hs.held.known.store is_flush (flushed_edited table tables) can_end)

@@ -36,6 +36,8 @@ use Rattle.store_files.specs.Settling.{AreAlone, SparesFiles}
 use Rattle.store_files.specs.StoreFiles.{FilesRepresent}
 use Rattle.store_files.proofs.NamedFiles.{tables_same}
 use Rattle.batch_logs.specs.PartsLemmas.{AreKept, part_in, part_left, parted_in, parted_push}
+use Rattle.store_model.specs.{IsUnderWay, MergePlan, StoreState}
+use Rattle.store_files.specs.OpenFiles.{known_store}
 
 -- ---- which files are kept
 
@@ -250,6 +252,11 @@ with_manifest files manifest = record {
   free_file = files.free_file;
 }
 
+-- the open files hold the list, and a merge can end in their store that could end in this one
+abbrev pub HoldsLater : StoreState → State → StoreFiles → List BatchContent → Type 0
+HoldsLater store new files list = (held : FilesHold new files list) × ((plan : MergePlan) →
+    IsUnderWay store plan → IsUnderWay (known_store files held.known.tables) plan)
+
 module _ (disk : State) (files : StoreFiles) (list : List BatchContent)
     (h : FilesAreRead disk files list) where
   abbrev version : StoreVersion
@@ -302,6 +309,56 @@ module _ (disk : State) (files : StoreFiles) (list : List BatchContent)
 
   -- where a manifest holds the version, the files of its lines stay, and no file has a number that
   -- was not given, the open files hold it with that manifest
+  pub held_later : (new : State) (manifest : Manifest) →
+      ManifestHolds new manifest (known_version files) →
+      ((line : LogLine) → Contains version.logs line → new line.file ≡ disk line.file) →
+      ((line : TableLine) → Contains version.tables line → new line.file ≡ disk line.file) →
+      ((file : ℕ) → files.free_file ≤ file → IsNone (seen (new file))) →
+      HoldsLater (known_store files h.tables) new (with_manifest files manifest) list
+  held_later new manifest holds logs_stay same unused =
+      subst (λ (named : NodeVersion). HoldsLater (known_store files h.tables) new
+      (with_manifest files (with_version manifest named)) list) (sym holds.knows) (
+        record {
+          known = record {
+            usable = record {
+              works = holds.works;
+              version = h.usable.version;
+              logs = h.usable.logs;
+              lines = h.usable.lines;
+              tables = h.usable.tables;
+              memtable = h.usable.memtable;
+              numbers = h.usable.numbers;
+              free = h.usable.free;
+              free_few = h.usable.free_few;
+            };
+            manifest = subst (λ (named : NodeVersion). ManifestHolds new
+                (with_version manifest named)
+                (known_version files)) holds.knows holds;
+            logs = named_logs_in disk new files.logs (suc (trimmed_count files))
+                (drop (trimmed_count files) list) (λ line has. logs_stay line
+                (subst (λ (lines : List LogLine). Contains lines line) h.usable.lines has)) h.logs;
+            tables = h.tables;
+            read = tables_same (contents disk) (contents new) version.tables h.tables
+                (λ line has. ap seen (same line has)) h.read;
+            served = served_in disk new version.tables files.tables.tables.items h.tables same
+                h.read
+                h.served;
+            durable = All-weaker (Contains version.tables)
+                (λ (line : TableLine). IsDurable (new line.file))
+                (λ line has. subst IsDurable (sym (same line has))
+                (All-contains (λ (one : TableLine). IsDurable (disk one.file)) version.tables line
+                h.durable has)) version.tables (All-contains_itself version.tables);
+            store = h.store;
+            entries = h.entries;
+            count = h.count;
+            each = h.each;
+          };
+          unused = unused;
+        },
+        λ plan can_end. can_end,
+      )
+
+  -- so the open files hold it
   pub held_with : (new : State) (manifest : Manifest) →
       ManifestHolds new manifest (known_version files) →
       ((line : LogLine) → Contains version.logs line → new line.file ≡ disk line.file) →
@@ -309,52 +366,24 @@ module _ (disk : State) (files : StoreFiles) (list : List BatchContent)
       ((file : ℕ) → files.free_file ≤ file → IsNone (seen (new file))) →
       FilesHold new (with_manifest files manifest) list
   held_with new manifest holds logs_stay same unused =
-      subst (λ (named : NodeVersion). FilesHold new (with_manifest files
-      (with_version manifest named)) list) (sym holds.knows) (record {
-        known = record {
-          usable = record {
-            works = holds.works;
-            version = h.usable.version;
-            logs = h.usable.logs;
-            lines = h.usable.lines;
-            tables = h.usable.tables;
-            memtable = h.usable.memtable;
-            numbers = h.usable.numbers;
-            free = h.usable.free;
-            free_few = h.usable.free_few;
-          };
-          manifest = subst (λ (named : NodeVersion). ManifestHolds new (with_version manifest named)
-              (known_version files)) holds.knows holds;
-          logs = named_logs_in disk new files.logs (suc (trimmed_count files))
-              (drop (trimmed_count files) list) (λ line has. logs_stay line
-              (subst (λ (lines : List LogLine). Contains lines line) h.usable.lines has)) h.logs;
-          tables = h.tables;
-          read = tables_same (contents disk) (contents new) version.tables h.tables
-              (λ line has. ap seen (same line has)) h.read;
-          served = served_in disk new version.tables files.tables.tables.items h.tables same h.read
-              h.served;
-          durable = All-weaker (Contains version.tables)
-              (λ (line : TableLine). IsDurable (new line.file))
-              (λ line has. subst IsDurable (sym (same line has))
-              (All-contains (λ (one : TableLine). IsDurable (disk one.file)) version.tables line
-              h.durable has)) version.tables (All-contains_itself version.tables);
-          store = h.store;
-          entries = h.entries;
-          count = h.count;
-          each = h.each;
-        };
-        unused = unused;
-      })
+      (held_later new manifest holds logs_stay same unused).0
 
-  -- where the named files stay, and no file has a number that was not given, the open files hold it
-  pub stay_held : HeldVersionStays → (new : State) → SparesFiles (kept_files version) disk new →
+  -- where the named files stay, and no file has a number that was not given, the open files hold
+  -- it, and a merge can end as before
+  pub stay_later : HeldVersionStays → (new : State) → SparesFiles (kept_files version) disk new →
       ((file : ℕ) → files.free_file ≤ file → IsNone (seen (new file))) →
-      FilesHold new files list
-  stay_held held_stays new keeps unused =
-      held_with new files.manifest (held_stays disk new files.manifest (known_version files)
+      HoldsLater (known_store files h.tables) new files list
+  stay_later held_stays new keeps unused =
+      held_later new files.manifest (held_stays disk new files.manifest (known_version files)
       h.manifest (λ slot is_slot. keeps slot (slot_is_kept version slot is_slot)))
       (λ line has. keeps line.file (log_is_kept version line has))
       (λ line has. keeps line.file (table_is_kept version line has)) unused
+
+  -- so they hold it
+  pub stay_held : HeldVersionStays → (new : State) → SparesFiles (kept_files version) disk new →
+      ((file : ℕ) → files.free_file ≤ file → IsNone (seen (new file))) →
+      FilesHold new files list
+  stay_held held_stays new keeps unused = (stay_later held_stays new keeps unused).0
 
   -- so it is where they stay and no other exists
   pub settled_hold : HeldVersionStays → (new : State) → SparesFiles (kept_files version) disk new →

@@ -1,3 +1,5 @@
+pub mod ApartFiles
+pub mod Plans
 pub mod Entries
 pub mod Records
 pub mod NamedFiles

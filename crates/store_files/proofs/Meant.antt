@@ -1,7 +1,7 @@
 -- Open files that were meant to hold a list, on a disk with damaged blocks of tables.
 use Rattle.std.proofs.Common.{◌≡◌, ◌≢◌, ℕ, List, [], ◌∷◌, ◌++◌, refl, sym, ◌∙◌, subst, drop}
 use Rattle.std.proofs.Common.{Result, Ok, Err, inl, inr, suc, ◌↔◌, ◌+◌}
-use Rattle.std.specs.Prelude.{All, Contains, MatchResult, ◌==◌, if◌then◌else◌}
+use Rattle.std.specs.Prelude.{All, Contains, MatchResult, OnOk, ◌==◌, if◌then◌else◌}
 use Rattle.std.specs.List.{AllZip}
 use Rattle.std.proofs.lemmas.Bool.Decides.{eqb_tells}
 use Rattle.std.proofs.lemmas.List.Elements.{All-contains, All-contains_itself, All-head, All-nil}
@@ -31,6 +31,9 @@ use Rattle.store_files.specs.OpenFiles.{batch_count, known_store, known_version,
 use Rattle.store_files.proofs.Appended.{after_append, appended_told}
 use Rattle.store_files.proofs.FilesApart.{log_no_table, newest_no_table}
 use Rattle.store_files.proofs.KeptFiles.{named_logs_in}
+use Rattle.store_model.specs.{IsUnderWay, MergePlan}
+use Rattle.store_files.specs.Plans.{MeantWithPlan}
+use Rattle.store_files.proofs.Appended.{appended_with_plan}
 
 -- ---- where nothing is damaged
 
@@ -203,7 +206,8 @@ module _ (disk : State) (files : StoreFiles) (list : List BatchContent)
       | inr is ↦ others other is.1 ∙ was ∙ sym (with_others file new w.meant other is.1)
     ]
 
-    now_meant : (more : List BatchContent) (logs : BatchLogs) (memtable : Memtable)
+    -- the open files were meant to hold what they hold as meant
+    abbrev now_meant : (more : List BatchContent) (logs : BatchLogs) (memtable : Memtable)
         → FilesHold later (after_append files logs memtable) more
         → WereMeantToHold new (after_append files logs memtable) more
     now_meant more logs memtable hold =
@@ -243,3 +247,34 @@ module _ (disk : State) (files : StoreFiles) (list : List BatchContent)
         (appended_told w.meant files list w.hold batch is later logs memtable lines
         (with_others file new w.meant) keeps stays entries Q (Ok x) counts mine)
     appended_as_meant batch is logs memtable lines keeps stays entries Q (Err e) counts held = held
+
+    -- they were meant to hold the longer list, and a merge can end as before
+    pub appended_meant_with_plan : (batch : BatchContent) → IsBatch batch → (logs : BatchLogs)
+        (memtable : Memtable) → lines_of logs ≡ lines_of files.logs → AppendsKeep
+        → HeldVersionStays
+        → ((entry : Entry) → TableHolds memtable entry
+        ↔ memory_entries (list ++ batch ∷ []) (known_store files w.hold.known.tables) entry)
+        → {T : Type 0} (Q : EngineError → Type 0) (result : Result T EngineError)
+        → MatchResult result (λ _. AreUsableFiles (after_append files logs memtable)
+        × (batch_count (after_append files logs memtable) ≡ batch_count files + 1)) Q
+        → MatchResult result (λ _. LogsHold new logs (suc (trimmed_count files))
+        (drop (trimmed_count files) list ++ batch ∷ [])) (IsEnvironmental engine.Disk engine.Memory)
+        → (plan : MergePlan) → IsUnderWay (known_store files w.hold.known.tables) plan
+        → OnOk result (MeantWithPlan new (after_append files logs memtable) (list ++ batch ∷ [])
+        plan)
+    appended_meant_with_plan batch is logs memtable lines keeps stays entries Q (Ok x) counts held
+        plan can_end =
+        let mine : LogsHold later logs (suc (trimmed_count files))
+        (drop (trimmed_count files) list ++ batch ∷ []) =
+        named_logs_in new later logs (suc (trimmed_count files))
+        (drop (trimmed_count files) list ++ batch ∷ [])
+        (λ line has. sym (as_meant line.file (log_is_meant disk files list w line
+        (subst (λ (l : List LogLine). Contains l line) lines has)))) held in
+        let both = appended_with_plan w.meant files list w.hold batch is later logs memtable lines
+        (with_others file new w.meant) keeps stays entries Q (Ok x) counts mine plan can_end in
+        record {
+          was = now_meant (list ++ batch ∷ []) logs memtable both.held;
+          can_end = both.can_end;
+        }
+    appended_meant_with_plan batch is logs memtable lines keeps stays entries Q (Err e) counts held
+        plan can_end = tt

@@ -54,6 +54,10 @@ use Rattle.store_files.proofs.MeantOpenings.{log_beside, mended, mended_at, mend
 use Rattle.store_files.proofs.MeantOpenings.{slot_beside}
 use Rattle.store_files.proofs.MeantOpenings.{zip_blocks, zip_serves}
 use Rattle.store_files.proofs.NamedFiles.{table_same}
+use Rattle.store_model.specs.Claims.{FlushesLeaveMerges}
+use Rattle.store_files.specs.OpenFiles.{known_store}
+use Rattle.store_files.proofs.Installed.{ends_behind}
+use Rattle.store_files.proofs.MeantTends.{MeantLater}
 
 -- what holds of each line, with a flushed one, holds of the others
 all_before : (P : TableLine → Type 0) (lines : List TableLine) (line : TableLine)
@@ -366,35 +370,42 @@ module _ {files : StoreFiles} {line : TableLine} {file : ℕ} {edit : Change}
           },
         )
 
-        -- the open files after the flush were meant to hold the list
-        pub installed_as_meant : EditsKeepVersions → HeldVersionStays → (new : StoreFiles)
+        -- the open files after the flush were meant to hold the list, and a merge can end as before
+        pub installed_as_meant : FlushesLeaveMerges → EditsKeepVersions → HeldVersionStays
+            → (new : StoreFiles)
             → new.logs ≡ logs
             → known_version new ≡ node_version_after (known_version files) edit
             → next_number new.logs ≡ next_number files.logs → AreUsableFiles new
             → ManifestHolds s3 new.manifest (node_version_after (known_version files) edit)
             → WereServed s3 m3 new.tables (with_flushed tables table)
-            → ((entry : Entry) → TableHolds new.memtable entry → ⊥) → WereMeantToHold s3 new list
-        installed_as_meant versions stays new of told counts usable manifest served empty =
+            → ((entry : Entry) → TableHolds new.memtable entry → ⊥)
+            → MeantLater (known_store files tables) s3 new list
+        installed_as_meant leaves versions stays new of told counts usable manifest served empty =
             let now = known so new told
             (ap lines_of of ∙ lines) in
             let all = with_new s3 m3 t3 line_now
-            (subst IsDurable (sym line_last) line_is_durable) in
-            record {
-              meant = m3;
-              hold = installed_holds so m1 list one
-                  meant_spilled m2 spares_meant logs lines began_meant keeps m3 slot is_slot
-                  same_meant versions new of told counts usable
-                  (stays s3 m3 new.manifest (node_version_after (known_version files) edit) manifest
-                  (λ one is_one. mended_beside version.tables m2 s3 one
-                  (slot_beside version u.version one is_one)))
-                  (zip_serves s3 m3 new.tables.tables.items (with_flushed tables table) served)
-                  empty;
-              disk_is = subst (λ (n : NodeVersion). IsAsMeant s3 m3 n.version new.tables) (sym now)
-                  (record {
-                    others = all.others;
-                    tables = all.tables;
-                    blocks = zip_blocks s3 m3 new.tables.tables.items (with_flushed tables table)
-                        served;
-                    durable = all.durable;
-                  });
-            }
+            (subst IsDurable (sym line_last) line_is_durable) in (
+              record {
+                meant = m3;
+                hold = installed_holds so m1 list one
+                    meant_spilled m2 spares_meant logs lines began_meant keeps m3 slot is_slot
+                    same_meant versions new of told counts usable
+                    (stays s3 m3 new.manifest (node_version_after (known_version files) edit)
+                    manifest
+                    (λ one is_one. mended_beside version.tables m2 s3 one
+                    (slot_beside version u.version one is_one)))
+                    (zip_serves s3 m3 new.tables.tables.items (with_flushed tables table) served)
+                    empty;
+                disk_is = subst (λ (n : NodeVersion). IsAsMeant s3 m3 n.version new.tables)
+                    (sym now)
+                    (record {
+                      others = all.others;
+                      tables = all.tables;
+                      blocks = zip_blocks s3 m3 new.tables.tables.items (with_flushed tables table)
+                          served;
+                      durable = all.durable;
+                    });
+              },
+              ends_behind so m1 list one meant_spilled m2 spares_meant logs lines began_meant keeps
+                  m3 slot is_slot same_meant leaves new told,
+            )

@@ -15,7 +15,8 @@ use Rattle.manifest.specs.{HeldVersionIsLeft, HeldVersionStays, IsSlotFile, Mani
 use Rattle.manifest.specs.{ManifestRepresents, NodeVersion, SlotsAreLeft, StoreVersion}
 use Rattle.store_files.specs.declared.store_files.StoreFiles.{StoreFiles}
 use Rattle.store_files.specs.OpenFiles.{FilesAreRead, IsAsMeant, WereMeantToHold, known_facts}
-use Rattle.store_files.specs.OpenFiles.{known_version, trimmed_count}
+use Rattle.store_files.specs.OpenFiles.{known_store, known_version, trimmed_count}
+use Rattle.store_model.specs.{IsUnderWay, MergePlan, StoreState}
 use Rattle.store_files.specs.StoreFiles.{WereMeant}
 use Rattle.store_files.proofs.NamedHolds.{NamedHold, log_no_slot, table_no_slot}
 use Rattle.store_files.proofs.KeptFiles.{with_manifest}
@@ -26,8 +27,8 @@ use Rattle.store_files.proofs.MeantFiles.{named_were_left, tables_of_meant, unna
 use Rattle.store_files.proofs.MeantFiles.{unnamed_is_left}
 use Rattle.store_files.proofs.MeantMoments.{meant_now}
 use Rattle.store_files.proofs.MeantOpenings.{mended, mended_at, mended_beside, slot_beside}
-use Rattle.store_files.proofs.Spills.{held_again, next_is_fresh}
-use Rattle.store_files.proofs.Tends.{held_rewritten}
+use Rattle.store_files.proofs.Spills.{held_again_later, next_is_fresh}
+use Rattle.store_files.proofs.Tends.{rewritten_later}
 
 -- what open files know is what the files that their version names have
 pub named_of : (disk : State) (files : StoreFiles) (list : List BatchContent)
@@ -42,6 +43,12 @@ named_of disk files list r = record {
   each = r.each;
   few = let few = r.usable.numbers.few in let count = r.count in omega (arith, few, count);
 }
+
+-- the open files were meant to hold the list, and a merge can end in their store that could end in
+-- this one
+abbrev pub MeantLater : StoreState → State → StoreFiles → List BatchContent → Type 0
+MeantLater store new files list = (was : WereMeantToHold new files list) × ((plan : MergePlan) →
+    IsUnderWay store plan → IsUnderWay (known_store files was.hold.known.tables) plan)
 
 module _ (disk : State) (files : StoreFiles) (list : List BatchContent)
     (w : WereMeantToHold disk files list) where
@@ -94,11 +101,12 @@ module _ (disk : State) (files : StoreFiles) (list : List BatchContent)
       (λ line has. at.others line.file
       (table_no_slot version w.hold.known.usable.version line has))) run
 
-  -- with the manifest that wrote one they were meant to hold what they held
-  pub rewritten_as_meant : HeldVersionStays → (new : State) (manifest : Manifest) (slot : ℕ)
+  -- with the manifest that wrote one they were meant to hold what they held, and a merge can end as
+  -- before
+  pub meant_later : HeldVersionStays → (new : State) (manifest : Manifest) (slot : ℕ)
       → IsSlotFile slot → IsSameBut slot disk new → ManifestHolds new manifest known
-      → WereMeantToHold new (with_manifest files manifest) list
-  rewritten_as_meant stays new manifest slot is spares holds =
+      → MeantLater (known_store files w.hold.known.tables) new (with_manifest files manifest) list
+  meant_later stays new manifest slot is spares holds =
       let later = mended version.tables w.meant new in
       let usable = w.hold.known.usable in
       let hold = stays new later manifest known holds
@@ -108,18 +116,28 @@ module _ (disk : State) (files : StoreFiles) (list : List BatchContent)
       → new line.file ≡ disk line.file = λ line has.
       spares line.file (λ at. table_no_slot version usable.version line has
       (subst IsSlotFile (sym at) is)) in
-      record {
-        meant = later;
-        hold = held_rewritten w.meant files list w.hold later manifest slot is
-            (follow_but disk w.meant version.tables as_meant new slot spares) hold;
-        disk_is = subst (λ (n : NodeVersion). IsAsMeant new later n.version files.tables)
-            (sym holds.knows)
-            (as_meant_stays disk new w.meant later version files.tables w.hold.known.tables
-            w.hold.known.read w.hold.known.served same
-            (λ line has. mended_at version.tables w.meant new line has)
-            (λ file beside. sym (mended_beside version.tables w.meant new file beside))
-            w.disk_is);
-      }
+      let both = rewritten_later w.meant files list w.hold later manifest slot is
+      (follow_but disk w.meant version.tables as_meant new slot spares) hold in (
+        record {
+          meant = later;
+          hold = both.0;
+          disk_is = subst (λ (n : NodeVersion). IsAsMeant new later n.version files.tables)
+              (sym holds.knows)
+              (as_meant_stays disk new w.meant later version files.tables w.hold.known.tables
+              w.hold.known.read w.hold.known.served same
+              (λ line has. mended_at version.tables w.meant new line has)
+              (λ file beside. sym (mended_beside version.tables w.meant new file beside))
+              w.disk_is);
+        },
+        both.1,
+      )
+
+  -- so they were meant to hold it
+  pub rewritten_as_meant : HeldVersionStays → (new : State) (manifest : Manifest) (slot : ℕ)
+      → IsSlotFile slot → IsSameBut slot disk new → ManifestHolds new manifest known
+      → WereMeantToHold new (with_manifest files manifest) list
+  rewritten_as_meant stays new manifest slot is spares holds =
+      (meant_later stays new manifest slot is spares holds).0
 
   -- ---- a table in the first free file
 
@@ -136,26 +154,35 @@ module _ (disk : State) (files : StoreFiles) (list : List BatchContent)
         (sym (w.disk_is.others next next_beside)) (next_is_fresh w.meant files list w.hold next is)
 
     -- where it is gone again, the open files were meant to hold what they were
-    pub meant_again : HeldVersionStays → (new : State) → IsSameBut next disk new
-        → IsNone (seen (new next)) → WereMeantToHold new files list
-    meant_again stays new spares none =
+    pub again_later : HeldVersionStays → (new : State) → IsSameBut next disk new
+        → IsNone (seen (new next))
+        → MeantLater (known_store files w.hold.known.tables) new files list
+    again_later stays new spares none =
         let later = mended version.tables w.meant new in
         let same : (line : TableLine) → Contains version.tables line
         → new line.file ≡ disk line.file = λ line has.
         spares line.file (All-contains (λ (one : TableLine). one.file ≢ next) version.tables line
         next_beside has) in
-        record {
-          meant = later;
-          hold = held_again w.meant files list w.hold next is stays later
-              (follow_but disk w.meant version.tables as_meant new next spares)
-              (subst (λ (s : Slot). IsNone (seen s))
-              (sym (mended_beside version.tables w.meant new next next_beside)) none);
-          disk_is = as_meant_stays disk new w.meant later version files.tables
-              w.hold.known.tables w.hold.known.read w.hold.known.served same
-              (λ line has. mended_at version.tables w.meant new line has)
-              (λ file beside. sym (mended_beside version.tables w.meant new file beside))
-              w.disk_is;
-        }
+        let both = held_again_later w.meant files list w.hold next is stays later
+        (follow_but disk w.meant version.tables as_meant new next spares)
+        (subst (λ (s : Slot). IsNone (seen s))
+        (sym (mended_beside version.tables w.meant new next next_beside)) none) in (
+          record {
+            meant = later;
+            hold = both.0;
+            disk_is = as_meant_stays disk new w.meant later version files.tables
+                w.hold.known.tables w.hold.known.read w.hold.known.served same
+                (λ line has. mended_at version.tables w.meant new line has)
+                (λ file beside. sym (mended_beside version.tables w.meant new file beside))
+                w.disk_is;
+          },
+          both.1,
+        )
+
+    -- so they were meant to hold it
+    pub meant_again : HeldVersionStays → (new : State) → IsSameBut next disk new
+        → IsNone (seen (new next)) → WereMeantToHold new files list
+    meant_again stays new spares none = (again_later stays new spares none).0
 
     module _ (law : DurableFileIsLeft) (held : HeldVersionIsLeft) (stays : HeldVersionStays) where
       -- at each moment of calls on the next file, a crash leaves files of the same store

@@ -19,9 +19,11 @@ use Rattle.store_tables.specs.TableWriting.{IsWrittenTable}
 use Rattle.store_files.specs.Openings.{kept_files}
 use Rattle.store_files.specs.StoreFiles.{FilesRepresent}
 use Rattle.store_files.specs.Tending.{HasSpilled}
-use Rattle.store_files.proofs.KeptFiles.{kept_is_given, read_is_left, stay_held}
+use Rattle.store_files.proofs.KeptFiles.{kept_is_given, read_is_left}
 use Rattle.store_files.proofs.StillFiles.{still_keeps}
 use Rattle.store_files.proofs.NamedFiles.{table_same}
+use Rattle.store_files.proofs.KeptFiles.{HoldsLater, stay_later}
+use Rattle.store_files.specs.OpenFiles.{known_store}
 
 -- a file without bytes of which nothing was synced
 unused_is_fresh : (slot : Slot) → IsNone (seen slot) → IsFresh slot []
@@ -66,11 +68,12 @@ module _ (disk : State) (files : StoreFiles) (list : List BatchContent)
       let first = h.known.usable.free in
       omega (arith, same, is, first, below)
 
-  -- where the next file is gone again, the open files hold what they held
-  pub held_again : HeldVersionStays → (new : State) → IsSameBut next disk new →
-      IsNone (seen (new next)) → FilesHold new files list
-  held_again held_stays new spares none =
-      stay_held disk files list h.known held_stays new
+  -- where the next file is gone again, the open files hold what they held, and a merge can end as
+  -- before
+  pub held_again_later : HeldVersionStays → (new : State) → IsSameBut next disk new →
+      IsNone (seen (new next)) → HoldsLater (known_store files h.known.tables) new files list
+  held_again_later held_stays new spares none =
+      stay_later disk files list h.known held_stays new
       (λ file has. spares file (kept_no_next file has)) unused
     where
       unused : (file : ℕ) → files.free_file ≤ file → IsNone (seen (new file))
@@ -79,6 +82,11 @@ module _ (disk : State) (files : StoreFiles) (list : List BatchContent)
         | inr apart ↦ subst (λ (slot : Slot). IsNone (seen slot)) (sym (spares file apart))
             (h.unused file above)
       ]
+
+  -- so they hold it
+  pub held_again : HeldVersionStays → (new : State) → IsSameBut next disk new →
+      IsNone (seen (new next)) → FilesHold new files list
+  held_again held_stays new spares none = (held_again_later held_stays new spares none).0
 
   module _ (held_is_left : HeldVersionIsLeft) (durable_is_left : DurableFileIsLeft) where
     -- at each moment of calls on the next file, a crash leaves files of the same store

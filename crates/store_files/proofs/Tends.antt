@@ -23,11 +23,12 @@ use Rattle.batch_logs.specs.BatchLogs.{lines_of}
 use Rattle.store_tables.specs.Errors.{IsEnd, error_of_edit}
 use Rattle.store_tables.specs.LevelTables.{table_lines}
 use Rattle.store_files.specs.OpenFiles.{AreUsableFiles, FilesHold, batch_count, known_facts}
-use Rattle.store_files.specs.OpenFiles.{known_version, trimmed_count}
+use Rattle.store_files.specs.OpenFiles.{known_store, known_version, trimmed_count}
 use Rattle.store_files.specs.StoreFiles.{AreOrderedNumbers, FilesRepresent}
 use Rattle.store_files.proofs.Appended.{left_now}
 use Rattle.store_files.proofs.FilesApart.{given_no_slot}
-use Rattle.store_files.proofs.KeptFiles.{held_with, kept_is_given, lines_are_left, slot_is_kept}
+use Rattle.store_files.proofs.KeptFiles.{HoldsLater, held_later, kept_is_given, lines_are_left}
+use Rattle.store_files.proofs.KeptFiles.{slot_is_kept}
 use Rattle.store_files.proofs.KeptFiles.{with_manifest}
 use Rattle.store_files.proofs.NamedHolds.{facts_of}
 
@@ -116,12 +117,12 @@ module _ (disk : State) (files : StoreFiles) (list : List BatchContent)
       at.here (λ line has. at.others line.file (log_no_slot line has))
       (λ line has. at.others line.file (table_no_slot line has))) run
 
-  -- with the manifest that wrote one they hold what they held
-  pub held_rewritten : (new : State) (manifest : Manifest) (slot : ℕ) → IsSlotFile slot →
+  -- with the manifest that wrote one they hold what they held, and a merge can end as before
+  pub rewritten_later : (new : State) (manifest : Manifest) (slot : ℕ) → IsSlotFile slot →
       IsSameBut slot disk new → ManifestHolds new manifest (known_version files) →
-      FilesHold new (with_manifest files manifest) list
-  held_rewritten new manifest slot is spares holds =
-      held_with disk files list h.known new manifest holds
+      HoldsLater (known_store files h.known.tables) new (with_manifest files manifest) list
+  rewritten_later new manifest slot is spares holds =
+      held_later disk files list h.known new manifest holds
       (λ line has. spares line.file (λ same. log_no_slot line has (subst IsSlotFile (sym same) is)))
       (λ line has. spares line.file
       (λ same. table_no_slot line has (subst IsSlotFile (sym same) is))) unused
@@ -132,3 +133,10 @@ module _ (disk : State) (files : StoreFiles) (list : List BatchContent)
           (slot_is_kept version slot is) in
           let first = h.known.usable.free in
           omega (arith, same, below, first, above)))) (h.unused file above)
+
+  -- so they hold it
+  pub held_rewritten : (new : State) (manifest : Manifest) (slot : ℕ) → IsSlotFile slot →
+      IsSameBut slot disk new → ManifestHolds new manifest (known_version files) →
+      FilesHold new (with_manifest files manifest) list
+  held_rewritten new manifest slot is spares holds =
+      (rewritten_later new manifest slot is spares holds).0

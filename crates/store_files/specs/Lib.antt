@@ -6,10 +6,12 @@ pub mod UsableProps
 pub mod Openings
 pub mod Tending
 pub mod TendKeeps
+pub mod Plans
+pub mod Apart
+pub mod BesideFiles
 pub mod Removing
 pub mod Raising
 pub mod Merging
 pub mod FloorExamples
 pub mod HeldFiles
 pub mod RangeEntries
-pub mod BesideFiles

@@ -92,3 +92,10 @@ RaisesFloor g floor disk later old new result =
     (λ state list. WereMeantToHold state old list) (raised_files old floor)
     (OfEitherFacts (known_facts old) (facts_with_floor old floor)) (HasFullSlot old.manifest)
     (λ _. IsRaisedBy floor old new) disk later old new result
+
+-- Where the floor may rise to this number, floor and trimmed batches rise, and no batch above the
+-- floor is trimmed.
+abbrev pub RaisedFactsRise : Type 0
+RaisedFactsRise = (files : StoreFiles) (floor : ℕ) → MayRise files floor →
+    ((known_facts files).kept ≤ (facts_with_floor files floor).kept)
+    × ((facts_with_floor files floor).kept ≤ floor)

@@ -10,6 +10,7 @@ ghost use Rattle.store_files.specs.OpenFiles.{AreUsableFiles, FilesHold};
 ghost use Rattle.store_tables.specs.TableWriting.{HasEntry, IsTooLarge, IsNewLine};
 ghost use Rattle.store_files.specs.OpenFiles.{WereMeantToHold, known_version};
 ghost use Rattle.store_files.specs.StoreFiles.{FilesRepresent, WereMeant, flush_change};
+ghost use Rattle.store_files.specs.Plans.{InstallKeepsPlans};
 ghost use Rattle.store_files.specs.TendKeeps.{TendKeeps};
 ghost use Rattle.store_files.specs.Tending.{HeldAndSpilled, IsFlushedBy, IsNewTable, LacksPlace};
 ghost use Rattle.store_files.specs.Tending.{ListIsSpilled, MeantAndSpilled, TendMayFail};
@@ -131,7 +132,8 @@ impl StoreFiles {
         requires usable { AreUsableFiles self.old }
         requires place { LacksPlace (known_version self.old).version self.old.free_file → ⊥ }
         requires next { IsNewTable self.old made }
-        ensures { TendKeeps D.Disk (λ state list. HeldAndSpilled state self.old list made)
+        ensures plans { InstallKeepsPlans D.Disk made disk.old disk.new self.old self.new result }
+        ensures installs { TendKeeps D.Disk (λ state list. HeldAndSpilled state self.old list made)
             (λ state list. MeantAndSpilled state self.old list made) (HasFullSlot self.old.manifest)
             (λ _. IsFlushedBy made.line self.old self.new) disk.old disk.new self.old self.new
             result }

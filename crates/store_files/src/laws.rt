@@ -1,8 +1,10 @@
 //! Laws of the definitions that contracts use. The functions do nothing: their clauses are the
 //! laws.
+ghost use Rattle.store_files.specs.Apart.{OpenFilesAreApart};
 ghost use Rattle.store_files.specs.BesideFiles.{OtherFilesAreFree};
 ghost use Rattle.store_files.specs.FloorExamples.{FloorsPassLogs};
 ghost use Rattle.store_files.specs.HeldFiles.{HeldFilesAreLeft};
+ghost use Rattle.store_files.specs.Raising.{RaisedFactsRise};
 ghost use Rattle.store_files.specs.StoreFiles.{DamagedFilesOpen, FirstFilesRepresent};
 ghost use Rattle.store_files.specs.StoreFiles.{FlushesRepresent, LongerLogsRepresent};
 ghost use Rattle.store_files.specs.StoreFiles.{StoreFilesAreNamed, StoreFilesAreOne};
@@ -10,7 +12,7 @@ ghost use Rattle.store_files.specs.StoreFiles.{StoreFilesShowMaps};
 
 use disk::laws::{durable_file_is_left, reads_are_outcomes};
 use kv_types::laws::spellings_differ;
-use manifest::laws::{held_versions_are_left, version_is_one};
+use manifest::laws::{held_versions_are_left, manifest_has_slots, version_is_one};
 use record_log::records_are_unique;
 use store_model::{appends_keep, empty_represents, flushes_keep, look_ups_are_maps};
 
@@ -95,6 +97,21 @@ pub fn longer_logs_represent()
 {
     appends_keep();
 }
+
+/// The files of tables are apart from those that an append and a tend change, and no file exists
+/// from the first free one on.
+// law: of `AreUsableFiles`
+pub fn open_files_are_apart()
+    ensures { OpenFilesAreApart }
+{
+    manifest_has_slots(); // law: a manifest has the slots
+}
+
+/// Where the floor rises, so do the trimmed batches, and none above the floor is trimmed.
+// law: of `facts_with_floor`
+pub fn raised_facts_rise()
+    ensures { RaisedFactsRise }
+{}
 
 /// Which of three logs are obsolete at a floor.
 pub fn floor_examples()

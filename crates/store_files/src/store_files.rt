@@ -12,10 +12,12 @@ ghost use Rattle.store_tables.specs.declared.error.EngineError.TheVariants.{Disk
 ghost use Rattle.store_tables.specs.Errors.{IsEnd};
 ghost use Rattle.store_files.specs.OpenFiles.{AreUsableFiles, FilesHold, batch_count, known_facts};
 ghost use Rattle.store_files.specs.OpenFiles.{HasSameFacts, IfHeld, IfMeant, ListGrows};
-ghost use Rattle.store_files.specs.OpenFiles.{WereMeantToHold, trimmed_count};
+ghost use Rattle.store_files.specs.OpenFiles.{WereMeantToHold, known_version, trimmed_count};
 ghost use Rattle.memtable.specs.{HasFailedAdd, TableHolds};
 ghost use Rattle.store_tables.specs.LevelTables.{EntriesHave, found_value};
 ghost use Rattle.batch_logs.specs.Reads.{OnlyReads};
+ghost use Rattle.std.specs.Prelude.{◌++◌, ◌∷◌, []};
+ghost use Rattle.store_files.specs.Plans.{KeepsPlans};
 ghost use Rattle.store_files.specs.StoreFiles.{FilesRepresent, WereMeant};
 
 use crate::EngineError;
@@ -121,6 +123,9 @@ impl StoreFiles {
             (λ _. AreUsableFiles self.new × (batch_count self.new ≡ batch_count self.old + 1))
             (λ e. (batch_count self.new ≡ batch_count self.old) × IsEnd e) }
         ensures facts { HasSameFacts self.old self.new }
+        ensures version { known_version self.new ≡ known_version self.old }
+        ensures plans { KeepsPlans D.Disk (λ list. list ++ batch.now ∷ []) disk.old disk.new
+            self.old self.new result }
     {
         // laws: a crash leaves what is durable, and the version of an open manifest
         durable_is_left();

@@ -2,6 +2,7 @@
 ghost use Rattle.std.specs.Prelude.{IfOk};
 ghost use Rattle.store_files.specs.OpenFiles.{AreUsableFiles, IfMeant};
 ghost use Rattle.store_tables.specs.TableWriting.{HasEntry};
+ghost use Rattle.store_files.specs.Plans.{KeepsPlans};
 ghost use Rattle.store_files.specs.TendKeeps.{FilesAreTended};
 ghost use Rattle.store_files.specs.Tending.{IsFlushAnswer, IsRewriteAnswer, IsTend, IsWorkAnswer};
 ghost use Rattle.store_files.specs.Tending.{TendMayFail};
@@ -21,8 +22,10 @@ impl StoreFiles {
     // Rewrites the manifest, which is due.
     fn shorten<D: Disk>(&mut self, alloc: Global, disk: &mut D) -> Result<Tended, EngineError>
         requires { AreUsableFiles self.old }
-        ensures { FilesAreTended D.Disk ⊥ (IsRewriteAnswer self.old self.new) disk.old disk.new
-            self.old self.new result }
+        ensures plans { KeepsPlans D.Disk (λ list. list) disk.old disk.new self.old self.new
+            result }
+        ensures tends { FilesAreTended D.Disk ⊥ (IsRewriteAnswer self.old self.new) disk.old
+            disk.new self.old self.new result }
     {
         // laws: what a crash leaves of the files that are named, and that a manifest has the slots
         held_versions_are_left();
@@ -41,7 +44,9 @@ impl StoreFiles {
     fn flush<D: Disk>(&mut self, alloc: Global, disk: &mut D) -> Result<Tended, EngineError>
         requires usable { AreUsableFiles self.old }
         requires some { HasEntry self.old.memtable }
-        ensures { FilesAreTended D.Disk (TendMayFail D.Disk disk.old self.old)
+        ensures plans { KeepsPlans D.Disk (λ list. list) disk.old disk.new self.old self.new
+            result }
+        ensures tends { FilesAreTended D.Disk (TendMayFail D.Disk disk.old self.old)
             (IsFlushAnswer self.old self.new) disk.old disk.new self.old self.new result }
     {
         // laws: what a crash leaves of the files that are named
@@ -73,6 +78,8 @@ impl StoreFiles {
             (IsTend self.old self.new) disk.old disk.new self.old self.new result }
         ensures work { IfMeant D.Disk disk.old self.old (λ list.
             IfOk result (IsWorkAnswer limit self.old self.new)) }
+        ensures plans { KeepsPlans D.Disk (λ list. list) disk.old disk.new self.old self.new
+            result }
     {
         // laws: what a crash leaves of the files that are named
         held_versions_are_left();

@@ -3,7 +3,7 @@ use Rattle.compaction.specs.Outputs.{IsOwnFile}
 use Rattle.compaction.specs.Walks.{written_by}
 use Rattle.compaction.proofs.Calls.{passed_on, writes_as, writes_behind}
 use Rattle.compaction.proofs.Steps.{cursor_failed, cursor_works, ok_works, step_follows, step_goes}
-use Rattle.compaction.proofs.Steps.{step_refused, step_stops, writes_read}
+use Rattle.compaction.proofs.Steps.{step_refused, step_stops, step_unused, writes_read}
 use Rattle.compaction.proofs.Writing.{refuses}
 use Rattle.compaction.proofs.walking.write_next.Goals as goal
 
@@ -21,6 +21,8 @@ returns-in_err-put g c =
           c.put.ensures.writes;
       rules = c.put.ensures.rules;
       numbers = c.put.ensures.numbers;
+      unused = λ meant inputs w.
+          c.put.ensures.unused (written_by c.args.writer.now w.met) w.honest w.writes w.unused;
       walks = λ meant inputs w. refuses c.from_residual.result _ _ c.from_residual.ensures.1
           (step_refused _ _ c.are_lawful.ensures meant inputs c.args.files.now
           c.args.next_file.now c.args.union.now c.args.writer.now entry w c.requires.on
@@ -45,6 +47,11 @@ returns-in_err-next g c =
           c.in_err-next.was c.from_residual-in_err-next.ensures.1) c.next.ensures.device);
       rules = c.put.ensures.rules;
       numbers = c.put.ensures.numbers;
+      unused = λ meant inputs w. step_unused _ _ c.are_lawful.ensures meant inputs
+          c.args.files.now c.args.next_file.now c.args.union.now c.args.writer.now entry w
+          c.requires.on c.entry_at.ensures.is c.put.new.disk c.next.new.source
+          c.put.new.next_file c.next.result c.put.ensures.writes c.next.ensures.device
+          (c.put.ensures.unused (written_by c.args.writer.now w.met) w.honest w.writes w.unused);
       walks = λ meant inputs w. refuses c.from_residual-in_err-next.result _ _
           c.from_residual-in_err-next.ensures.1
           (step_stops _ _ c.are_lawful.ensures meant inputs c.args.files.now
@@ -66,6 +73,11 @@ returns g c =
           c.next.ensures.device);
       rules = c.put.ensures.rules;
       numbers = c.put.ensures.numbers;
+      unused = λ meant inputs w. step_unused _ _ c.are_lawful.ensures meant inputs
+          c.args.files.now c.args.next_file.now c.args.union.now c.args.writer.now entry w
+          c.requires.on c.entry_at.ensures.is c.put.new.disk c.next.new.source
+          c.put.new.next_file c.next.result c.put.ensures.writes c.next.ensures.device
+          (c.put.ensures.unused (written_by c.args.writer.now w.met) w.honest w.writes w.unused);
       walks = λ meant inputs w.
           let put = c.in_ok-put.ensures.put (written_by c.args.writer.now w.met) w.honest w.writes
           w.unused (step_follows _ _ c.are_lawful.ensures meant inputs c.args.files.now
@@ -75,6 +87,8 @@ returns g c =
           c.args.union.now c.args.writer.now entry w c.requires.on c.entry_at.ensures.is
           c.put.new.disk c.next.new.source c.put.new.next_file c.next.new.self c.put.new.self
           c.in_ok-next.field-0 c.next.result c.put.ensures.writes c.put.ensures.rules
-          c.put.ensures.numbers.own put.0 put.1 c.next.ensures.moves c.next.ensures.device
+          c.put.ensures.numbers.own put (c.put.ensures.unused
+          (written_by c.args.writer.now w.met) w.honest w.writes w.unused) c.next.ensures.moves
+          c.next.ensures.device
           c.next.ensures.finds c.in_ok-next.was;
     }

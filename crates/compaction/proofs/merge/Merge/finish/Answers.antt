@@ -15,7 +15,7 @@ use Rattle.compaction.proofs.Calls.{writes_nothing}
 use Rattle.compaction.proofs.Merging.{closed_all, merge_done, merge_edit, too_many}
 use Rattle.compaction.proofs.Numbers.{new_files}
 use Rattle.compaction.proofs.Shapes.{none_shaped, shaped}
-use Rattle.compaction.proofs.Writing.{refuses}
+use Rattle.compaction.proofs.Writing.{refuses, unused_kept}
 use Rattle.compaction.proofs.merge.Merge.finish.Goals as goal
 
 pub returns-then-self : goal.returns-then-self
@@ -26,6 +26,7 @@ returns-then-self g c = record {
   failed = λ f. refl;
   shape = tt;
   ends = λ meant plan floor m off. absurd (m.works c.if-self.true);
+  unused = λ meant plan floor m. absurd (m.works c.if-self.true);
 }
 
 pub returns-in_err-close : goal.returns-in_err-close
@@ -47,6 +48,9 @@ returns-in_err-close g c = record {
       (written_by c.args.self.now.writer m.walk.met) m.walk.honest m.walk.writes some)
       c.in_err-close.ensures.empty in
       refuses c.from_residual.result _ _ c.from_residual.ensures.1 (inl zip);
+  unused = λ meant plan floor m. unused_kept _ _ c.args.self.now.writer c.args.next_file
+      m.walk.writes.numbered
+      ((c.close.ensures.writes c.args.next_file).kept.files m.walk.honest) m.walk.unused;
 }
 
 pub returns-then-len : goal.returns-then-len
@@ -93,6 +97,9 @@ returns-then-len g c = record {
             c.replace-gone.result.items c.drain-added.result.items out.0 out.1 holds many gone
             (omega (arith, a, b, k, t, over)),
       );
+  unused = λ meant plan floor m. unused_kept _ _ c.args.self.now.writer c.args.next_file
+      m.walk.writes.numbered
+      ((c.close.ensures.writes c.args.next_file).kept.files m.walk.honest) m.walk.unused;
 }
 
 pub returns-in_err-edit_of : goal.returns-in_err-edit_of
@@ -110,6 +117,9 @@ returns-in_err-edit_of g c = record {
       c.from_residual-in_err-edit_of.ensures.1;
   ends = λ meant plan floor m off. refuses c.from_residual-in_err-edit_of.result _ _
       c.from_residual-in_err-edit_of.ensures.1 (inl (inr refl));
+  unused = λ meant plan floor m. unused_kept _ _ c.args.self.now.writer c.args.next_file
+      m.walk.writes.numbered
+      ((c.close.ensures.writes c.args.next_file).kept.files m.walk.honest) m.walk.unused;
 }
 
 pub returns : goal.returns
@@ -180,4 +190,7 @@ returns g c = record {
             c.args.next_file c.args.self.now.writer plan floor c.in_ok-edit_of.field-0 lawful edit
             may;
       };
+  unused = λ meant plan floor m. unused_kept _ _ c.args.self.now.writer c.args.next_file
+      m.walk.writes.numbered
+      ((c.close.ensures.writes c.args.next_file).kept.files m.walk.honest) m.walk.unused;
 }

@@ -20,6 +20,7 @@ returns-then-self g c = record {
   beside = λ version is le beside. beside;
   status = (c.if-self.true, λ failed. refl);
   steps = λ meant plan floor m. absurd (m.works c.if-self.true);
+  unused = λ meant plan floor m. absurd (m.works c.if-self.true);
 }
 
 pub returns-in_err-write_some : goal.returns-in_err-write_some
@@ -37,6 +38,8 @@ returns-in_err-write_some g c = record {
       (refl, λ failed. absurd (both_ways _ c.if-self.false failed));
   steps = λ meant plan floor m. refuses c.from_residual.result _ _ c.from_residual.ensures.1
       (c.in_err-write_some.ensures.1.walks meant plan.inputs m.walk);
+  unused = λ meant plan floor m.
+      c.write_some.ensures.1.unused meant plan.inputs m.walk;
 }
 
 pub returns : goal.returns
@@ -71,4 +74,6 @@ returns g c =
             step_count _ _ _ _ _ went.1 c.in_ok-write_some.ensures.2,
             went.2,
           );
+      unused = λ meant plan floor m.
+          c.write_some.ensures.1.unused meant plan.inputs m.walk;
     }

@@ -1,4 +1,4 @@
-use Rattle.std.proofs.Common.{inl, inr, ℕ, refl, subst}
+use Rattle.std.proofs.Common.{inl, inr, ℕ, refl, subst, sym}
 use Rattle.compaction.specs.Outputs.{HasNoPlace, IsOpenFile, IsOutput, IsOwnFile, AreUnused}
 use Rattle.compaction.specs.Outputs.{PutRefusal, WriterHolds}
 use Rattle.compaction.specs.WrittenTables.{cut_before, with_written}
@@ -96,17 +96,49 @@ returns-clause-written g c = λ it honest w unused follows.
     let w1 = c.in_ok-cut.ensures.cut next it entry honest w refl in
     let unused1 = unused_kept old mid writer next w.numbered (calls.kept.files honest) unused in
     let w2 = c.in_ok-begin.ensures.begun mid cut w1 unused1 in
-    let unused2 = unused_kept mid new c.begin.new.self later w2.0.numbered
-    ((c.add.ensures.writes later).kept.files honest1) w2.1 in
     told_more (λ _. WriterHolds new later c.add.new.self (with_written cut entry))
-    (λ _. WriterHolds new later c.add.new.self (with_written cut entry) × AreUnused new later)
-    _ (PutRefusal c.args.tables next cut entry) c.add.result (λ x h. (h, unused2))
+    (λ _. WriterHolds new later c.add.new.self (with_written cut entry))
+    _ (PutRefusal c.args.tables next cut entry) c.add.result (λ x h. h)
     (λ e h. elim h [
       | inl external ↦ inl external
       | inr full ↦ inr (full.0, inr full.1)
     ])
     (c.add.ensures.added later cut honest1 w2.0 c.in_ok-begin.ensures.some
     (cut_follows writer.target it entry follows))
+
+-- ---- no file from the next number on
+
+pub returns-in_err-cut-clause-unused : goal.returns-in_err-cut-clause-unused
+returns-in_err-cut-clause-unused g c = λ it honest w unused.
+    unused_kept (g.D.Disk.state c.args.disk.now) (g.D.Disk.state c.cut.new.disk) c.args.self.now
+    c.args.next_file.now w.numbered
+    ((c.cut.ensures.writes c.args.next_file.now).kept.files honest) unused
+
+pub returns-in_err-begin-clause-unused : goal.returns-in_err-begin-clause-unused
+returns-in_err-begin-clause-unused g c = λ it honest w unused.
+    let mid = g.D.Disk.state c.cut.new.disk in
+    let next = c.args.next_file.now in
+    subst (λ (n : ℕ). AreUnused mid n) (sym c.in_err-begin.ensures.full.4)
+    (unused_kept (g.D.Disk.state c.args.disk.now) mid c.args.self.now next w.numbered
+    ((c.cut.ensures.writes next).kept.files honest) unused)
+
+pub returns-clause-unused : goal.returns-clause-unused
+returns-clause-unused g c = λ it honest w unused.
+    let writer = c.args.self.now in
+    let next = c.args.next_file.now in
+    let later = c.begin.new.next_file in
+    let entry = lent_entry c.args.entry in
+    let old = g.D.Disk.state c.args.disk.now in
+    let mid = g.D.Disk.state c.cut.new.disk in
+    let new = g.D.Disk.state c.add.new.disk in
+    let calls = c.cut.ensures.writes next in
+    let w1 = c.in_ok-cut.ensures.cut next it entry honest w refl in
+    let unused1 = unused_kept old mid writer next w.numbered (calls.kept.files honest) unused in
+    let w2 = c.in_ok-begin.ensures.begun mid (cut_before writer.target it entry) w1 unused1 in
+    unused_kept mid new c.begin.new.self later w2.0.numbered
+    ((c.add.ensures.writes later).kept.files (calls.kept.honest.1 honest)) w2.1
+
+-- ---- numbers
 
 pub returns-in_err-cut-clause-numbers : goal.returns-in_err-cut-clause-numbers
 returns-in_err-cut-clause-numbers g c = uses_none c.args.self.now c.cut.new.self

@@ -1,8 +1,12 @@
-use Rattle.std.proofs.Common.{◌∷◌, [], ◌++◌, Err, ap, inl, rules}
+use Rattle.std.proofs.Common.{◌∷◌, [], ◌++◌, List, Ok, Err, ap, inl, refl, rules}
+use Rattle.kv_types.specs.{BatchContent}
+use Rattle.table_files.specs.{inner_disk}
+use Rattle.engine.proofs.Merges.{goes_with_merge, log_leaves, meant_with_merge}
 use Rattle.disk.specs.MomentsLemmas.{weaker}
 use Rattle.engine.specs.Engines.{engine_disk, facts_of}
 use Rattle.store_files.specs.StoreFiles.{FilesRepresent, IsOneOf}
-use Rattle.engine.proofs.Engines.{not_true, refuses, goes_to, held_of, none_since, one_left}
+use Rattle.engine.proofs.Engines.{answered_keeps, not_true, refused_keeps, refuses, goes_to}
+use Rattle.engine.proofs.Engines.{held_of, none_since, one_left}
 use Rattle.engine.proofs.Engines.{only_exhausted, were_meant}
 use Rattle.engine.proofs.engine.Engine.append.Goals as goal
 
@@ -53,7 +57,11 @@ returns-in_err-append-clause-met g c = record {
 -- what the files were left as, also where blocks of tables are damaged
 pub returns-in_err-append-clause-changes : goal.returns-in_err-append-clause-changes
 returns-in_err-append-clause-changes g c = record {
-  keeps = search rules;
+  keeps = refused_keeps g.D.Disk c.args.self.now _ c.append.result c.in_err-append.field-0.0
+      c.from_residual-in_err-append.result c.in_err-append.was
+      c.from_residual-in_err-append.ensures.1 c.in_err-append.ensures.counts.1
+      (λ h. let failed = c.in_ok-number.ensures.closed.1 h in absurd cc) refl
+      c.append.ensures.kept;
   list = search rules;
   any_moment = λ list h.
       (c.append.ensures.appended list h.reads.honest
@@ -65,17 +73,45 @@ returns-in_err-append-clause-changes g c = record {
 
 -- one batch more
 pub returns-clause-changes : goal.returns-clause-changes
-returns-clause-changes g c = record {
-  keeps = search rules;
-  list = λ list.
-      goes_to g.D.Disk c.held_files_are_left.ensures c.args.self.now _ list
-      (list ++ c.args.batch.now ∷ []) _ c.append.ensures.kept.honest.1 not_true
-      (λ honest held. (c.in_ok-append.ensures.appended list honest held).list)
-      (λ honest w. (c.in_ok-append.ensures.meant list honest w).list);
-  any_moment = λ list h.
-      (c.append.ensures.appended list h.reads.honest
-      (held_of g.D.Disk c.args.self.now list h.reads)).any_moment;
-  meant = λ list m.
-      (c.append.ensures.meant list m.honest
-      (were_meant g.D.Disk c.args.self.now list m)).any_moment;
-}
+returns-clause-changes g c =
+    let d = g.D.Disk in
+    let lasts = c.merges_outlive_calls.ensures in
+    let apart = c.open_files_are_apart.ensures in
+    let old = c.args.self.now in
+    let a = old.files in
+    let b = c.append.new.disk in
+    let store = old.store in
+    let later = c.append.new.self in
+    let more : List BatchContent → List BatchContent = λ list. list ++ c.args.batch.now ∷ [] in
+    let plans = c.in_ok-append.ensures.plans in
+    record {
+      keeps = answered_keeps d old _ c.append.result tt _ c.in_ok-append.was
+          (λ h. let failed = c.in_ok-number.ensures.closed.1 h in absurd cc) not_true
+          c.append.ensures.kept;
+      list = λ list.
+          goes_to d c.held_files_are_left.ensures old _ list (more list) _
+          c.append.ensures.kept.honest.1 not_true
+          (λ honest h.
+          let held = (c.in_ok-append.ensures.appended list honest h.held).list in
+          goes_with_merge d lasts a b store later old.merge list more (Ok tt) honest plans held h
+          (λ m plan is it. log_leaves d lasts apart a b store later h.held.known.tables m plan it
+          h.held.known.usable
+          (apart.tables (d.state (engine_disk old)) store list h.held.known)
+          (c.append.ensures.kept.honest.1 honest) (c.append.ensures.kept.files honest)
+          c.append.ensures.version plans.free held.unused))
+          (λ honest w.
+          let held = (c.in_ok-append.ensures.meant list honest w.was).list in
+          let meant = w.was.hold.known in
+          meant_with_merge d lasts a b store later old.merge list more (Ok tt) honest plans held w
+          (λ m plan is it. log_leaves d lasts apart a b store later meant.tables m plan it
+          meant.usable (apart.tables w.was.meant store list meant)
+          (c.append.ensures.kept.honest.1 honest) (c.append.ensures.kept.files honest)
+          c.append.ensures.version plans.free
+          (apart.unused (d.state (inner_disk b)) later (more list) held)));
+      any_moment = λ list h.
+          (c.append.ensures.appended list h.reads.honest
+          (held_of g.D.Disk c.args.self.now list h.reads)).any_moment;
+      meant = λ list m.
+          (c.append.ensures.meant list m.honest
+          (were_meant g.D.Disk c.args.self.now list m)).any_moment;
+    }

@@ -8,15 +8,18 @@ returns-clause-stays g c = record {
   ended = search rules;
   reads = λ list r.
       let laws = c.held_files_are_left.ensures in
-      reads_on g.D.Disk laws c.args.self.now _ list (record {
+      reads_on g.D.Disk laws c.merges_outlive_calls.ensures c.args.self.now _ list (record {
         store = refl;
+        merge = refl;
         honest = c.arm.ensures.honest.1;
         same = c.arm.ensures.same;
       }) r.works r;
   holds = λ list h.
       let laws = c.held_files_are_left.ensures in
-      holds_of g.D.Disk laws _ list (reads_on g.D.Disk laws c.args.self.now _ list (record {
+      holds_of g.D.Disk laws _ list (reads_on g.D.Disk laws c.merges_outlive_calls.ensures
+      c.args.self.now _ list (record {
         store = refl;
+        merge = refl;
         honest = c.arm.ensures.honest.1;
         same = c.arm.ensures.same;
       }) h.reads.works h.reads);

@@ -21,8 +21,10 @@ returns-clause-changes g c = record {
   keeps = search rules;
   told = search rules;
   kept = λ list.
-      goes_on g.D.Disk c.held_files_are_left.ensures c.args.self.now _ list _ (record {
+      goes_on g.D.Disk c.held_files_are_left.ensures c.merges_outlive_calls.ensures
+      c.args.self.now _ list _ (record {
         store = refl;
+        merge = refl;
         honest = λ honest. honest;
         same = λ honest file. refl;
       }) (λ h. absurd cc);

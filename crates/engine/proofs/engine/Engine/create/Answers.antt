@@ -9,7 +9,7 @@ returns-in-Ok-clause-created g c = λ honest.
     let honest' = subst g.D.Disk.is_honest (sym c.in_ok-files.ensures.files) honest in
     holds_of g.D.Disk laws _ []
     (reads_of g.D.Disk laws _ [] (c.create.ensures.kept.honest.1 honest') not_true
-    (c.in-Ok.ensures.created honest'))
+    (record { held = c.in-Ok.ensures.created honest'; merges = tt }))
 
 -- nor does it tell any
 pub returns-in-Ok-clause-begun : goal.returns-in-Ok-clause-begun

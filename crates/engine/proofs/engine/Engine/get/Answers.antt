@@ -42,8 +42,10 @@ returns-clause-reads g c = record {
   told = search rules;
   kept = λ list.
       let laws = c.held_files_are_left.ensures in
-      goes_on g.D.Disk laws c.args.self.now _ list c.get-answer.result (record {
+      goes_on g.D.Disk laws c.merges_outlive_calls.ensures c.args.self.now _ list
+      c.get-answer.result (record {
         store = refl;
+        merge = refl;
         honest = c.get-answer.ensures.reads.kept.honest.1;
         same = c.get-answer.ensures.reads.kept.files;
       }) (works_on_ok c.get-answer.result c.is_err-self.result c.is_err-self.ensures.value);

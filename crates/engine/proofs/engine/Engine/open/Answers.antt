@@ -36,12 +36,16 @@ returns-in-Ok-clause-opened g c = λ facts list honest.
           record {
             facts = opened.0;
             holds = holds_of g.D.Disk laws _ list (reads_of g.D.Disk laws _ list now not_true
-                opened.1);
+                (record { held = opened.1; merges = tt }));
           };
       meant = λ were.
           let opened = opens.meant (subst
           (λ d. WereMeant facts list (contents (g.D.Disk.state d))) same were) in
-          record { facts = opened.0; meant = meant_of g.D.Disk laws _ list now not_true opened.1 };
+          record {
+            facts = opened.0;
+            meant = meant_of g.D.Disk laws _ list now not_true
+                (record { was = opened.1; merges = tt });
+          };
     }
 
 -- it knows the floor, and no file is left that its version does not name

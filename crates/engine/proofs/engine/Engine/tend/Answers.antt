@@ -1,3 +1,13 @@
+use Rattle.std.proofs.Common.{ℕ, List, [], ◌∷◌, ◌≤◌, arith, inl}
+use Rattle.std.proofs.lemmas.List.Elements.{recursion_from_All}
+use Rattle.std.specs.List.{AllByRecursion}
+use Rattle.std.specs.Prelude.{min}
+use Rattle.chain_model.specs.Machine.{least}
+use Rattle.table_files.specs.{inner_disk}
+use Rattle.engine.specs.Engines.{FactsRise, facts_of, least_read, raised_facts}
+use Rattle.engine.specs.Snapshots.{IsReadable}
+use Rattle.engine.proofs.Merges.{goes_with_merge, meant_with_merge, tend_leaves_ok, unused_held}
+use Rattle.engine.proofs.Merges.{unused_meant}
 use Rattle.store_tables.specs.Errors.{IsEnd}
 use Rattle.engine.specs.Engines.{engine_disk}
 use Rattle.engine.proofs.Engines.{closed_by, ends_by, goes_to, held_of, match_of, may_fail}
@@ -9,8 +19,17 @@ use Rattle.engine.proofs.engine.Engine.tend.Goals as goal
 -- each moment, and also where blocks of tables are damaged.
 pub returns-clause-changes : goal.returns-clause-changes
 returns-clause-changes g c =
+    let d = g.D.Disk in
+    let lasts = c.merges_outlive_calls.ensures in
+    let apart = c.open_files_are_apart.ensures in
+    let edits = c.merges_stay_beside.ensures in
     let old = c.args.self.now in
     let answer = c.tend-answer.result in
+    let a = old.files in
+    let b = c.tend-answer.new.disk in
+    let store = old.store in
+    let later = c.tend-answer.new.self in
+    let plans = c.tend-answer.ensures.plans in
     let tends = c.tend-answer.ensures.tends in
     let kept = tends.kept in
     let causes = of_refusal answer _ IsEnd tends.did in
@@ -32,10 +51,26 @@ returns-clause-changes g c =
         refusal = λ told. absurd (no_refusal answer causes told);
       };
       list = λ list.
-          goes_to g.D.Disk c.held_files_are_left.ensures old _ list list answer kept.honest.1
+          goes_to d c.held_files_are_left.ensures old _ list list answer kept.honest.1
           (works_on_ok answer c.is_err-self.result c.is_err-self.ensures.value)
-          (λ honest held. on_answer answer _ _ (tends.tended list honest held).list)
-          (λ honest w. on_answer answer _ _ (tends.meant list honest w).list);
+          (λ honest h.
+          let held = on_answer answer _ _ (tends.tended list honest h.held).list in
+          goes_with_merge d lasts a b store later old.merge list (λ l. l) answer honest plans held h
+          (λ m plan is it. tend_leaves_ok d lasts apart a b store later h.held.known.tables m plan
+          it edits answer tends.did
+          (apart.tended (d.state (engine_disk old)) store list h.held.known)
+          (apart.tables (d.state (engine_disk old)) store list h.held.known)
+          (kept.honest.1 honest) (tends.touches honest) tends.numbers.1 plans.free
+          (unused_held (d.state (inner_disk b)) later list answer held)))
+          (λ honest w.
+          let held = on_answer answer _ _ (tends.meant list honest w.was).list in
+          let meant = w.was.hold.known in
+          meant_with_merge d lasts a b store later old.merge list (λ l. l) answer honest plans held
+          w (λ m plan is it. tend_leaves_ok d lasts apart a b store later meant.tables m plan it
+          edits answer tends.did (apart.tended w.was.meant store list meant)
+          (apart.tables w.was.meant store list meant)
+          (kept.honest.1 honest) (tends.touches honest) tends.numbers.1 plans.free
+          (unused_meant apart (d.state (inner_disk b)) later list answer held)));
       any_moment = λ list h. not_raised g.D.Disk old _ list
           (tends.tended list h.reads.honest (held_of g.D.Disk old list h.reads)).any_moment;
       meant = λ list m. were_not_raised g.D.Disk old _ list
@@ -44,7 +79,38 @@ returns-clause-changes g c =
 
 pub returns-clause-told : goal.returns-clause-told
 returns-clause-told g c =
-    told_alike c.tend-answer.ensures.tends.numbers.1 c.tend-answer.ensures.tends.numbers.0
+    inl (told_alike c.tend-answer.ensures.tends.numbers.1 c.tend-answer.ensures.tends.numbers.0)
+
+-- the least number that may be asked for is no less than the floor
+least_above : (most floor number : ℕ) (open_ones : List ℕ) → floor ≤ number →
+    AllByRecursion (IsReadable floor most) open_ones → floor ≤ least number open_ones
+least_above most floor number [] le each = le
+least_above most floor number (t ∷ ts) le each =
+    let first = each.0.0 in
+    least_above most floor (min number t) ts (omega (arith, le, first)) each.1
+
+-- and no greater than the committed number
+least_below : (number : ℕ) (open_ones : List ℕ) → least number open_ones ≤ number
+least_below number [] = omega arith
+least_below number (t ∷ ts) =
+    let le = least_below (min number t) ts in omega (arith, le)
+
+-- so the facts of a raised floor rise
+pub returns-clause-raised : goal.returns-clause-raised
+returns-clause-raised g c =
+    let old = c.args.self.now in
+    let floor = least_above old.committed (facts_of old).floor old.committed old.snapshots
+    old.counted.floor (recursion_from_All _ old.snapshots old.readable.each) in
+    let below = least_below old.committed old.snapshots in
+    let counted = old.counted.committed in
+    let rises = c.raised_facts_rise.ensures old.store (least_read old) (record {
+      usable = old.usable c.if-self.false;
+      rises = floor;
+      counted = omega (arith, below, counted);
+    }) in
+    let rise : FactsRise (facts_of old) (raised_facts old) =
+    record { floor = floor; kept = rises.0; readable = rises.1 } in
+    record { reads = λ list r. rise; meant = λ list m. rise }
 
 -- what was due was done
 pub returns-clause-work : goal.returns-clause-work

@@ -8,6 +8,9 @@ use Rattle.store_files.proofs.FilesApart.{newest_positive}
 use Rattle.store_files.proofs.Meant.{appended_as_meant, logs_are_held}
 use Rattle.store_files.proofs.MeantMoments.{CrashLaws, none_meant, some_meant}
 use Rattle.store_files.proofs.Records.{not_true}
+use Rattle.store_files.proofs.Appended.{appended_with_plan}
+use Rattle.store_files.proofs.Meant.{appended_meant_with_plan}
+use Rattle.store_files.proofs.Plans.{refused_plans}
 use Rattle.store_files.proofs.store_files.StoreFiles.append.Goals as goal
 
 -- nothing was written
@@ -114,4 +117,49 @@ returns-in_err-add-clause-meant g c = λ list honest w.
       list = search rules;
       any_moment = none_meant laws (g.D.Disk.state c.args.disk.now) c.args.self.now list w
           c.args.batch.now c.edits-edits.ensures.batch (g.D.Disk.past c.args.disk.now);
+    }
+
+-- a merge can end as before
+pub returns-in_err-add-clause-plans : goal.returns-in_err-add-clause-plans
+returns-in_err-add-clause-plans g c =
+    refused_plans g.D.Disk c.from_residual.result _ c.from_residual.ensures.1 (omega arith)
+
+pub returns-clause-plans : goal.returns-clause-plans
+returns-clause-plans g c =
+    let files = c.args.self.now in
+    let trimmed = trimmed_count files in
+    let next = c.requires.next in
+    let told = counts_told files c.requires.usable c.append.new.self c.add.new.self
+    c.args.batch.now c.args.number c.requires.next c.append.ensures.lines c.append.ensures.room
+    (λ failed. not_true (c.in_ok-add.ensures.fails.0 failed)) c.in_ok-add.ensures.adds
+    c.append.result c.append.ensures.counts in
+    record {
+      free = omega arith;
+      held = λ list plan honest it.
+          let h = it.held in
+          let disk = g.D.Disk.state c.args.disk.now in
+          let count = h.known.count in
+          appended_with_plan disk files list h c.args.batch.now c.edits-edits.ensures.batch
+          (g.D.Disk.state c.append.new.disk) c.append.new.self c.add.new.self
+          c.append.ensures.lines (c.append.ensures.kept.files honest) c.appends_keep.ensures
+          c.held_versions_are_left.ensures.same
+          (one_more_above files.memtable c.add.new.self list c.args.batch.now c.args.number
+          (known_store files h.known.tables) h.known.entries (omega (arith, next, count))
+          (trimmed_few disk files list h) h.known.store.flushed_count c.in_ok-add.ensures.adds) _
+          c.append.result told (c.append.ensures.appended (suc trimmed) (drop trimmed list) honest
+          h.known.logs).list plan it.can_end;
+      meant = λ list plan honest it.
+          let w = it.was in
+          let h = w.hold in
+          let disk = g.D.Disk.state c.args.disk.now in
+          let count = h.known.count in
+          appended_meant_with_plan disk files list w (g.D.Disk.state c.append.new.disk)
+          (c.append.ensures.kept.files honest) c.args.batch.now c.edits-edits.ensures.batch
+          c.append.new.self c.add.new.self c.append.ensures.lines c.appends_keep.ensures
+          c.held_versions_are_left.ensures.same
+          (one_more_above files.memtable c.add.new.self list c.args.batch.now c.args.number
+          (known_store files h.known.tables) h.known.entries (omega (arith, next, count))
+          (trimmed_few w.meant files list h) h.known.store.flushed_count
+          c.in_ok-add.ensures.adds) _ c.append.result told (c.append.ensures.appended (suc trimmed)
+          (drop trimmed list) honest (logs_are_held disk files list w)).list plan it.can_end;
     }

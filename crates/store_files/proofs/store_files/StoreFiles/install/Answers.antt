@@ -1,4 +1,4 @@
-use Rattle.std.proofs.Common.{◌+◌, ◌-◌, ℕ, ap, drop, inr, refl, subst, suc, sym, ◌∙◌}
+use Rattle.std.proofs.Common.{◌+◌, ◌-◌, ℕ, ap, arith, drop, inr, refl, subst, suc, sym, ◌∙◌}
 use Rattle.disk.specs.{IsEnvironmental}
 use Rattle.kv_types.specs.{Entry}
 use Rattle.manifest.specs.declared.TableLine.{TableLine}
@@ -29,6 +29,8 @@ use Rattle.store_files.proofs.NamedHolds.{facts_same, first_begun}
 use Rattle.store_files.proofs.TendKeeps.{refusal_on_ok, refused_before, refused_device}
 use Rattle.store_files.proofs.TendedFiles.{beside_both, counting_alone, log_alone}
 use Rattle.store_files.proofs.Tends.{edit_ends, edit_failed, edit_is_external}
+use Rattle.store_files.proofs.Installed.{ends_behind}
+use Rattle.store_files.proofs.Plans.{refused_plans}
 use Rattle.store_files.proofs.store_files.StoreFiles.install.Goals as goal
 
 -- the new log has a file of its own
@@ -43,8 +45,8 @@ begin-requires-clause-new g c =
     beside_new so
 
 -- nothing was called yet
-pub returns-in_err-edit : goal.returns-in_err-edit
-returns-in_err-edit g c =
+pub returns-in_err-edit-clause-installs : goal.returns-in_err-edit-clause-installs
+returns-in_err-edit-clause-installs g c =
     let files = c.args.self.now in
     let line = c.args.made.line in
     let edit = flush_change (known_version files).version files.free_file (batch_count files) line
@@ -62,8 +64,8 @@ returns-in_err-edit g c =
 -- ---- the log
 
 -- it was not begun
-pub returns-in_err-begin : goal.returns-in_err-begin
-returns-in_err-begin g c =
+pub returns-in_err-begin-clause-installs : goal.returns-in_err-begin-clause-installs
+returns-in_err-begin-clause-installs g c =
     let files = c.args.self.now in
     let line = c.args.made.line in
     let so = flush_by files line c.in_ok-edit.edit c.requires.usable c.requires.place
@@ -116,8 +118,8 @@ returns-in_err-begin g c =
 -- ---- the edit
 
 -- it was not recorded, or a crash may leave it recorded
-pub returns-in-Err : goal.returns-in-Err
-returns-in-Err g c =
+pub returns-in-Err-clause-installs : goal.returns-in-Err-clause-installs
+returns-in-Err-clause-installs g c =
     let files = c.args.self.now in
     let line = c.args.made.line in
     let so = flush_by files line c.in_ok-edit.edit c.requires.usable c.requires.place
@@ -195,8 +197,8 @@ returns-in-Err g c =
     }
 
 -- the table was not added: memory is out
-pub returns-in_err-add : goal.returns-in_err-add
-returns-in_err-add g c =
+pub returns-in_err-add-clause-installs : goal.returns-in_err-add-clause-installs
+returns-in_err-add-clause-installs g c =
     let files = c.args.self.now in
     let line = c.args.made.line in
     let so = flush_by files line c.in_ok-edit.edit c.requires.usable c.requires.place
@@ -275,8 +277,8 @@ returns-in_err-add g c =
 
 -- ---- the new version names the log and the table
 
-pub returns : goal.returns
-returns g c =
+pub returns-clause-installs : goal.returns-clause-installs
+returns-clause-installs g c =
     let files = c.args.self.now in
     let line = c.args.made.line in
     let so = flush_by files line c.in_ok-edit.edit c.requires.usable c.requires.place
@@ -387,14 +389,144 @@ returns g c =
           let mended = m3 so s1 list c.args.made.table ms s2 spares logs begun.2 began
           keeps s3 _ slot same in
           record {
-            list = installed_as_meant so s1 list c.args.made.table ms s2 spares logs
+            list = (installed_as_meant so s1 list c.args.made.table ms s2 spares logs
                 begun.2 began keeps s3 _
-                slot same edits stays new refl c.in_default.ensures.told.0 begun.1 usable
+                slot same c.flushes_keep.ensures.merge edits stays new refl
+                c.in_default.ensures.told.0 begun.1 usable
                 (c.in_default.ensures.changes.changed (known_version files) honest2 held)
                 (c.in_ok-add.ensures.added s3 mended ms.meant.hold.known.tables
-                ms.spilled.written.table served.0 served.1) empty;
+                ms.spilled.written.table served.0 served.1) empty).0;
             any_moment = edit_was_recorded so s1 list table ms s2 spares logs begun.2 began
                 keeps law left stays edits p1 p2 p3 s3 (c.begin.ensures.any_moment honest)
                 (c.record.ensures.changes.any_moment (known_version files) honest2 held);
           };
+    }
+
+-- ---- plans
+
+pub returns-in_err-edit-clause-plans : goal.returns-in_err-edit-clause-plans
+returns-in_err-edit-clause-plans g c =
+    refused_plans g.D.Disk c.from_residual.result _ c.from_residual.ensures.1 (omega arith)
+
+pub returns-in_err-begin-clause-plans : goal.returns-in_err-begin-clause-plans
+returns-in_err-begin-clause-plans g c =
+    refused_plans g.D.Disk c.from_residual-in_err-begin.result _
+    c.from_residual-in_err-begin.ensures.1 (omega arith)
+
+pub returns-in-Err-clause-plans : goal.returns-in-Err-clause-plans
+returns-in-Err-clause-plans g c =
+    record {
+      free = omega arith;
+      held = λ list plan honest it. tt;
+      meant = λ list plan honest it. tt;
+    }
+
+pub returns-in_err-add-clause-plans : goal.returns-in_err-add-clause-plans
+returns-in_err-add-clause-plans g c =
+    refused_plans g.D.Disk c.from_residual-in_err-add.result _
+    c.from_residual-in_err-add.ensures.1 (omega arith)
+
+-- a merge can end as before
+pub returns-clause-plans : goal.returns-clause-plans
+returns-clause-plans g c =
+    let files = c.args.self.now in
+    let line = c.args.made.line in
+    let so = flush_by files line c.in_ok-edit.edit c.requires.usable c.requires.place
+    c.requires.next.next
+    (edit_is files line c.state.result.now c.last_number-count.result c.in_ok-edit.edit
+    c.state.ensures c.last_number-count.ensures c.in_ok-edit.ensures.edit) in
+    let begun = c.in_ok-begin.ensures.told in
+    let fit = c.in_ok-edit.ensures.fit in
+    let fits = subst (λ (n : NodeVersion). IsFit n.version c.in_ok-edit.edit) c.state.ensures
+    fit.0 in
+    let law = c.durable_file_is_left.ensures in
+    let left = c.held_versions_are_left.ensures.left in
+    let stays = c.held_versions_are_left.ensures.same in
+    let keeps = c.flushes_keep.ensures.list in
+    let edits = c.edits_keep_versions.ensures in
+    let s1 = g.D.Disk.state c.args.disk.now in
+    let s2 = g.D.Disk.state c.begin.new.disk in
+    let s3 = g.D.Disk.state c.record.new.disk in
+    let p1 = g.D.Disk.past c.args.disk.now in
+    let p2 = g.D.Disk.past c.begin.new.disk in
+    let p3 = g.D.Disk.past c.record.new.disk in
+    let logs = c.begin.new.self in
+    let table = c.args.made.table in
+    let empty = subst (λ (m : Memtable). (entry : Entry) → TableHolds m entry → ⊥)
+    (sym c.replace.ensures.after) c.new.ensures.empty in
+    let new : StoreFiles = record {
+      manifest = c.record.new.self;
+      logs = logs;
+      tables = c.add.new.self;
+      memtable = c.replace.new.dest;
+      free_file = files.free_file + 2;
+    } in
+    let usable = installed_usable so new c.in_default.ensures.told.0 begun.2 begun.1
+    edits
+    c.in_default.ensures.told.1 begun.0
+    (c.in_ok-add.ensures.lines ∙ ap (λ (l : TableLine).
+    with_flushed_line (table_lines files.tables) l) c.requires.next.opened)
+    (subst (λ (m : Memtable). HasFailedAdd m → ⊥) (sym c.replace.ensures.after)
+    c.new.ensures.works) empty refl in
+    let leaves = c.flushes_keep.ensures.merge in
+    record {
+      free = omega arith;
+      held = λ list plan honest it.
+          let hs = it.spilled in
+          let spares = c.begin.ensures.kept.files honest in
+          let honest2 = c.begin.ensures.kept.honest.1 honest in
+          let began = c.in_ok-begin.ensures.begun (suc (trimmed_count files))
+          (drop (trimmed_count files) list) honest
+          (new_ends so s1 list table hs) (spilled_named so s1 list table hs).held in
+          let held =
+          manifest_begun so s1 list table hs s2 spares logs begun.2 began keeps stays in
+          let slot = (c.manifest_has_slots.ensures s2 files.manifest (known_version files) held).0
+          in
+          let same = c.record.ensures.changes.kept.files honest2 in
+          record {
+            held = installed_holds so s1 list c.args.made.table hs s2 spares logs
+                begun.2 began keeps s3 _ slot
+                same edits new refl c.in_default.ensures.told.0 begun.1 usable
+                (c.in_default.ensures.changes.changed (known_version files) honest2 held)
+                (zip_serves s3 s3 c.add.new.self.tables.items
+                (with_flushed hs.held.known.tables hs.spilled.written.table)
+                (c.in_ok-add.ensures.added s3 s3 hs.held.known.tables hs.spilled.written.table
+                (zip_was s3 s3 files.tables.tables.items hs.held.known.tables
+                (old_served so s1 list c.args.made.table hs s2 spares logs begun.2 began
+                keeps s3 _ slot same)
+                (own_blocks s3 files.tables.tables.items))
+                (record {
+                  serves = new_served so s1 list c.args.made.table hs s2 spares logs
+                      begun.2 began keeps s3 _
+                      slot same;
+                  blocks = as_meant_itself (s3 (table_file c.args.made.table.table)) (index_lines
+                      c.args.made.table.table);
+                }))) empty;
+            can_end = ends_behind so s1 list c.args.made.table hs s2 spares logs begun.2 began
+                keeps s3 _ slot same leaves new c.in_default.ensures.told.0 plan it.can_end;
+          };
+      meant = λ list plan honest it.
+          let ms = it.spilled in
+          let spares = c.begin.ensures.kept.files honest in
+          let honest2 = c.begin.ensures.kept.honest.1 honest in
+          let began = c.in_ok-begin.ensures.begun (suc (trimmed_count files))
+          (drop (trimmed_count files) list) honest
+          (meant_ends so s1 list table ms) (meant_logs so s1 list table ms) in
+          let held =
+          manifest_was_begun so s1 list table ms s2 spares logs begun.2 began keeps stays in
+          let slot = (c.manifest_has_slots.ensures s2 files.manifest (known_version files) held).0
+          in
+          let same = c.record.ensures.changes.kept.files honest2 in
+          let served = all_served so s1 list c.args.made.table ms s2 spares logs begun.2
+          began keeps s3 _ slot
+          same in
+          let mended = m3 so s1 list c.args.made.table ms s2 spares logs begun.2 began
+          keeps s3 _ slot same in
+          let both = installed_as_meant so s1 list c.args.made.table ms s2 spares logs
+          begun.2 began keeps s3 _
+          slot same leaves edits stays new refl c.in_default.ensures.told.0 begun.1 usable
+          (c.in_default.ensures.changes.changed (known_version files) honest2 held)
+          (c.in_ok-add.ensures.added s3 mended ms.meant.hold.known.tables
+          ms.spilled.written.table served.0 served.1) empty in
+          record { was = both.0; can_end = both.1 plan it.can_end };
     }

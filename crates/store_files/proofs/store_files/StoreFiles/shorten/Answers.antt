@@ -10,11 +10,14 @@ use Rattle.store_files.proofs.TendKeeps.{nothing_done}
 use Rattle.store_files.proofs.TendedFiles.{spare_alone}
 use Rattle.store_files.proofs.Tends.{edit_ends, edit_failed, edit_is_external, facts_with}
 use Rattle.store_files.proofs.Tends.{held_rewritten, slots_are_written, usable_with}
+use Rattle.store_files.proofs.MeantTends.{meant_later}
+use Rattle.store_files.proofs.Tends.{rewritten_later}
 use Rattle.store_files.proofs.store_files.StoreFiles.shorten.Goals as goal
 
 -- no call of the disk
-pub returns-then-generation-ge-MAX_NUMBER : goal.returns-then-generation-ge-MAX_NUMBER
-returns-then-generation-ge-MAX_NUMBER g c =
+pub returns-then-generation-ge-MAX_NUMBER-clause-tends :
+    goal.returns-then-generation-ge-MAX_NUMBER-clause-tends
+returns-then-generation-ge-MAX_NUMBER-clause-tends g c =
     let at = c.if-generation-ge-MAX_NUMBER.true in
     let is = c.generation.ensures in
     nothing_done g.D.Disk c.durable_file_is_left.ensures c.held_versions_are_left.ensures.left
@@ -22,8 +25,8 @@ returns-then-generation-ge-MAX_NUMBER g c =
 
 -- The manifest was rewritten. Whether it answers or not, it wrote the other slot alone, and a crash
 -- leaves slots that represent the version.
-pub returns-in-Ok : goal.returns-in-Ok
-returns-in-Ok g c =
+pub returns-in-Ok-clause-tends : goal.returns-in-Ok-clause-tends
+returns-in-Ok-clause-tends g c =
     let files = c.args.self.now in
     let known = known_version files in
     let disk = g.D.Disk.state c.args.disk.now in
@@ -60,8 +63,8 @@ returns-in-Ok g c =
           };
     }
 
-pub returns-in-Err : goal.returns-in-Err
-returns-in-Err g c =
+pub returns-in-Err-clause-tends : goal.returns-in-Err-clause-tends
+returns-in-Err-clause-tends g c =
     let files = c.args.self.now in
     let known = known_version files in
     let disk = g.D.Disk.state c.args.disk.now in
@@ -93,4 +96,48 @@ returns-in-Err g c =
             any_moment = slots_were_written disk files list w law past since new
                 (c.rewrite.ensures.changes.any_moment known honest held);
           };
+    }
+
+-- ---- plans
+
+pub returns-then-generation-ge-MAX_NUMBER-clause-plans :
+    goal.returns-then-generation-ge-MAX_NUMBER-clause-plans
+returns-then-generation-ge-MAX_NUMBER-clause-plans g c =
+    record {
+      free = omega arith;
+      held = λ list plan honest it. it;
+      meant = λ list plan honest it. it;
+    }
+
+-- a merge can end as before
+pub returns-in-Ok-clause-plans : goal.returns-in-Ok-clause-plans
+returns-in-Ok-clause-plans g c =
+    let files = c.args.self.now in
+    let known = known_version files in
+    let disk = g.D.Disk.state c.args.disk.now in
+    let new = g.D.Disk.state c.rewrite.new.disk in
+    record {
+      free = omega arith;
+      held = λ list plan honest it.
+          let both = rewritten_later disk files list it.held new c.rewrite.new.self _
+          (c.manifest_has_slots.ensures disk files.manifest known it.held.known.manifest).1
+          (c.rewrite.ensures.changes.kept.files honest)
+          (c.in-Ok.ensures.changes.changed known honest it.held.known.manifest).holds in
+          record { held = both.0; can_end = both.1 plan it.can_end };
+      meant = λ list plan honest it.
+          let stays = c.held_versions_are_left.ensures.same in
+          let held = manifest_holds disk files list it.was stays in
+          let both = meant_later disk files list it.was stays new c.rewrite.new.self _
+          (c.manifest_has_slots.ensures disk files.manifest known held).1
+          (c.rewrite.ensures.changes.kept.files honest)
+          (c.in-Ok.ensures.changes.changed known honest held).holds in
+          record { was = both.0; can_end = both.1 plan it.can_end };
+    }
+
+pub returns-in-Err-clause-plans : goal.returns-in-Err-clause-plans
+returns-in-Err-clause-plans g c =
+    record {
+      free = omega arith;
+      held = λ list plan honest it. tt;
+      meant = λ list plan honest it. tt;
     }

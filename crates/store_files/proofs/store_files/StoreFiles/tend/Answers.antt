@@ -7,6 +7,7 @@ use Rattle.store_files.specs.Tending.{IsWorkAnswer as work}
 use Rattle.store_files.proofs.Meant.{logs_are_held}
 use Rattle.store_files.proofs.MeantTends.{manifest_holds}
 use Rattle.store_files.proofs.TendKeeps.{did_so, nothing_done, tended_as}
+use Rattle.store_files.proofs.Plans.{refused_plans}
 use Rattle.store_files.proofs.store_files.StoreFiles.tend.Goals as goal
 
 -- ---- what is due is done
@@ -15,14 +16,14 @@ pub returns-then-has_long_slot-clause-tends : goal.returns-then-has_long_slot-cl
 returns-then-has_long_slot-clause-tends g c =
     tended_as g.D.Disk (λ none. absurd none) (λ answer did. tend.WasRewrite did)
     c.args.disk.now c.shorten.new.disk c.args.self.now c.shorten.new.self c.shorten.result
-    c.shorten.ensures
+    c.shorten.ensures.tends
 
 pub returns-clause-tends : goal.returns-clause-tends
 returns-clause-tends g c =
     let some = c.has_entries.ensures.0 c.if-not-has_entries.false in
     tended_as g.D.Disk (λ cause. cause) (λ answer did. tend.WasFlush some did)
     c.args.disk.now c.flush.new.disk c.args.self.now c.flush.new.self c.flush.result
-    c.flush.ensures
+    c.flush.ensures.tends
 
 -- ---- or nothing is
 
@@ -46,7 +47,7 @@ returns-then-has_long_slot-clause-work g c = λ list honest w.
     (c.has_long_slot.ensures.due (g.D.Disk.state c.args.disk.now) (known_version files)
     (manifest_holds (g.D.Disk.state c.args.disk.now) files list w
     c.held_versions_are_left.ensures.same)).0 c.if-has_long_slot.true in
-    did_so _ (λ answer did. work.Rewrites due did) c.shorten.result c.shorten.ensures.did
+    did_so _ (λ answer did. work.Rewrites due did) c.shorten.result c.shorten.ensures.tends.did
 
 pub returns-then-newest_length-limit-clause-work : goal.returns-then-newest_length-limit-clause-work
 returns-then-newest_length-limit-clause-work g c = λ list honest w.
@@ -89,4 +90,30 @@ returns-clause-work g c = λ list honest w.
     let more = c.if-newest_length-limit.false in
     let long : c.args.limit < newest_length files.logs = omega (arith, is, more) in
     let some = c.has_entries.ensures.0 c.if-not-has_entries.false in
-    did_so _ (λ answer did. work.Flushes short (long, some) did) c.flush.result c.flush.ensures.did
+    did_so _ (λ answer did. work.Flushes short (long, some) did) c.flush.result
+    c.flush.ensures.tends.did
+
+-- ---- plans
+
+pub returns-then-has_long_slot-clause-plans : goal.returns-then-has_long_slot-clause-plans
+returns-then-has_long_slot-clause-plans g c = c.shorten.ensures.plans
+
+pub returns-clause-plans : goal.returns-clause-plans
+returns-clause-plans g c = c.flush.ensures.plans
+
+pub returns-then-newest_length-limit-clause-plans :
+    goal.returns-then-newest_length-limit-clause-plans
+returns-then-newest_length-limit-clause-plans g c =
+    record {
+      free = omega arith;
+      held = λ list plan honest it. it;
+      meant = λ list plan honest it. it;
+    }
+
+pub returns-then-not-has_entries-clause-plans : goal.returns-then-not-has_entries-clause-plans
+returns-then-not-has_entries-clause-plans g c =
+    record {
+      free = omega arith;
+      held = λ list plan honest it. it;
+      meant = λ list plan honest it. it;
+    }

@@ -1,0 +1,355 @@
+-- A merge that goes on leaves the list, and is under way then or has no room.
+use Rattle.std.proofs.Common.{◌≡◌, ◌⊎◌, ◌↔◌, ℕ, Bool, true, false, List, Some}
+use Rattle.std.proofs.Common.{Result, Ok, Err, arith, inl, inr, length, refl, subst, sym}
+use Rattle.std.specs.Prelude.{IfErr, IfOk, IsErrOf, MatchResult, OnOk}
+use Rattle.kv_types.specs.{BatchContent}
+use Rattle.disk.specs.{IsEnvironmental}
+use Rattle.disk.specs.declared.Disk.{Ghosts}
+use Rattle.version_edits.specs.{StoreVersion}
+use Rattle.compaction.specs.declared.Merge.{Merge}
+use Rattle.compaction.specs.declared.error.MergeError.{MergeError}
+use Rattle.compaction.specs.declared.error.MergeError.TheVariants as merging
+use Rattle.compaction.specs.declared.writer.OutputWriter.{OutputWriter}
+use Rattle.compaction.specs.Merges.{HasEntriesLeft, IsMerging, StepsMerge}
+use Rattle.compaction.specs.Outputs.{AreUnused, IsOwnFile}
+use Rattle.compaction.specs.Walks.{FindsNoRoom, StepRefusal}
+use Rattle.store_model.specs.{LevelTable, MergePlan}
+use Rattle.store_tables.specs.declared.error.EngineError.{EngineError}
+use Rattle.store_tables.specs.declared.error.EngineError.TheVariants as engine
+use Rattle.store_tables.specs.Errors.{IsEnd}
+use Rattle.store_tables.specs.KeepingLemmas.{kept_as, kept_but}
+use Rattle.store_files.specs.declared.store_files.StoreFiles.{StoreFiles}
+use Rattle.store_files.specs.BesideFiles.{HasSameNamed, IsNamedFile, OtherFilesAreFree, with_free}
+use Rattle.store_files.specs.OpenFiles.{AreUsableFiles, known_facts, known_version}
+use Rattle.table_files.specs.{inner_disk}
+use Rattle.table_files.specs.declared.files.Files.{Files}
+use Rattle.engine.specs.declared.merging.Progress.{Progress}
+use Rattle.engine.specs.declared.merging.Progress.TheVariants as progress
+use Rattle.engine.specs.LentFiles.{files_ghosts, union_ghosts}
+use Rattle.engine.specs.MergeParts.{AdvancesPlanned, IsMergeFile, KeepsMerge}
+use Rattle.engine.specs.MergeParts.{IsMergeFile as file_of, error_of_merge, merge_after}
+use Rattle.engine.specs.MergeParts.{step_length}
+use Rattle.engine.specs.UnderWay.{HoldsWithMerge, IsMergeOf, WasMeantWithMerge}
+use Rattle.engine.proofs.Abandons.{environment}
+use Rattle.engine.proofs.Beside.{beside_named, free_named, meant_beside, represent_beside}
+use Rattle.engine.proofs.Beside.{usable_with}
+
+-- how a merge went on that answered so
+abbrev pub progress_of : Result Bool MergeError → Result Progress EngineError
+progress_of (Ok true) = Ok progress.More
+progress_of (Ok false) = Ok progress.Done
+progress_of (Err merging.Disk) = Err engine.Disk
+progress_of (Err merging.Damaged) = Err engine.Damaged
+progress_of (Err merging.Memory) = Err engine.Memory
+progress_of (Err merging.Failed) = Err engine.Damaged
+progress_of (Err merging.Full) = Ok progress.Full
+
+-- the device failed where the merge says so
+alike : (answer : Result Bool MergeError) →
+    IsErrOf answer merging.Disk ↔ IsErrOf (progress_of answer) engine.Disk
+alike (Ok true) = (λ f. cc, λ f. cc)
+alike (Ok false) = (λ f. cc, λ f. cc)
+alike (Err merging.Disk) = (λ _. refl, λ _. refl)
+alike (Err merging.Damaged) = (λ f. cc, λ f. cc)
+alike (Err merging.Memory) = (λ f. cc, λ f. cc)
+alike (Err merging.Failed) = (λ f. cc, λ f. cc)
+alike (Err merging.Full) = (λ f. cc, λ f. cc)
+
+-- a refusal but for want of room is one of the store
+pub refusal_is : (e : MergeError) → (e ≡ merging.Full → ⊥) →
+    Err (error_of_merge e) ≡ progress_of (Err e)
+refusal_is merging.Disk room = refl
+refusal_is merging.Damaged room = refl
+refusal_is merging.Memory room = refl
+refusal_is merging.Failed room = refl
+refusal_is merging.Full room = absurd (room refl)
+
+-- each refusal ends an engine
+refused : (answer : Result Bool MergeError) → IfErr (progress_of answer) IsEnd
+refused (Ok true) = tt
+refused (Ok false) = tt
+refused (Err merging.Disk) = tt
+refused (Err merging.Damaged) = tt
+refused (Err merging.Memory) = tt
+refused (Err merging.Failed) = tt
+refused (Err merging.Full) = tt
+
+-- a merge over intact inputs that has room is refused by the environment alone
+only_environment : (e : MergeError) (intact : Type 0) (tables : ℕ) (writer : OutputWriter)
+    (inputs : List LevelTable) → (e ≡ merging.Full → ⊥) → intact →
+    StepRefusal intact tables writer inputs e → IsEnvironmental merging.Disk merging.Memory e
+only_environment e intact tables writer inputs room is (inl outside) = outside
+only_environment e intact tables writer inputs room is (inr (inl damaged)) =
+    absurd (damaged.1 is)
+only_environment e intact tables writer inputs room is (inr (inr full)) = absurd (room full.0)
+
+module _ {D : Type 0} (g : Ghosts D) (old : StoreFiles) (u : AreUsableFiles old) (a : Files D g)
+    (was : Merge D) where
+  abbrev version : StoreVersion
+  version = (known_version old).version
+
+  abbrev own : ℕ → Type 0
+  own = IsOwnFile was.writer old.free_file
+
+  -- the files that a merge under way writes to are not named
+  pub own_named : (tables : List LevelTable) (plan : MergePlan) →
+      IsMergeOf g a old tables was plan → (file : ℕ) → own file → IsNamedFile old file → ⊥
+  own_named tables plan m file (inl opened) named =
+      let late = m.merging.numbers.late in
+      let from = (m.merging.numbers.outputs file (inl opened)).0 in
+      beside_named old u file (omega (arith, late, from)) (m.beside file (inl opened)) named
+  own_named tables plan m file (inr free) named = free_named old u file free named
+
+  -- they are files of the merge
+  pub own_file : (file : ℕ) → own file → IsMergeFile old (Some was) file
+  own_file file (inl opened) = file_of.IsOpened opened
+  own_file file (inr free) = file_of.IsFree free
+
+  module _ (free : OtherFilesAreFree) (count : ℕ) (b : Files D g) (now : Merge D) (next : ℕ) where
+    -- the merge went on and answered so
+    abbrev Did : Result Bool MergeError → Type 0
+    Did answer = StepsMerge (union_ghosts g) (files_ghosts g) count step_length a old.free_file was
+        b next now answer
+
+    abbrev later : StoreFiles
+    later = with_free old next
+
+    -- where it has no room, no file is left from the next number on
+    abbrev IsClean : Result Bool MergeError → Type 0
+    IsClean answer = answer ≡ Err merging.Full → (tables : List LevelTable) (plan : MergePlan) →
+        IsMergeOf g a old tables was plan → AreUnused (g.state (inner_disk b)) next
+
+    -- the named files are as they were
+    same : (answer : Result Bool MergeError) → Did answer → (tables : List LevelTable)
+        (plan : MergePlan) → IsMergeOf g a old tables was plan →
+        AreUnused (g.state (inner_disk b)) next →
+        HasSameNamed old next (g.state (inner_disk a)) (g.state (inner_disk b))
+    same answer did tables plan m unused =
+        let above = u.free in
+        let rises = did.numbers.rises in
+        record {
+          named = λ file named. did.writes.kept.files m.merging.walk.honest file
+              (λ is. own_named tables plan m file is named);
+          unused = unused;
+          above = omega (arith, above, rises);
+          few = did.numbers.few u.free_few;
+        }
+
+    -- the merge is under way
+    after_of : (answer : Result Bool MergeError) → Did answer → (tables : List LevelTable)
+        (plan : MergePlan) (m : IsMergeOf g a old tables was plan) →
+        IsMerging (union_ghosts g) (files_ghosts g) m.meant b next now plan
+        (known_facts old).floor → IsMergeOf g b later tables now plan
+    after_of answer did tables plan m after = record {
+      meant = m.meant;
+      merging = after;
+      can_end = m.can_end;
+      beside = did.beside version u.version u.free m.beside;
+    }
+
+    -- after an answer the files hold the list, with the merge
+    holds : (more : Bool) → Did (Ok more) → (list : List BatchContent) →
+        HoldsWithMerge g a old (Some was) list → HoldsWithMerge g b later (Some now) list
+    holds more did list h =
+        let plan = h.merges.plan in
+        let tables = h.held.known.tables in
+        let m = h.merges.under_way in
+        let step = did.steps m.meant plan (known_facts old).floor m.merging in
+        let both = free.held (g.state (inner_disk a)) (g.state (inner_disk b)) old next list h.held
+        (same (Ok more) did tables plan m step.0.walk.unused) in
+        record {
+          held = both.0;
+          merges = record {
+            plan = plan;
+            under_way = subst (λ (t : List LevelTable). IsMergeOf g b later t now plan)
+                (sym both.1) (after_of (Ok more) did tables plan m step.0);
+            intact = step.2 h.merges.intact;
+          };
+        }
+
+    was_meant : (more : Bool) → Did (Ok more) → (list : List BatchContent) →
+        WasMeantWithMerge g a old (Some was) list → WasMeantWithMerge g b later (Some now) list
+    was_meant more did list w =
+        let plan = w.merges.plan in
+        let tables = w.was.hold.known.tables in
+        let m = w.merges.under_way in
+        let step = did.steps m.meant plan (known_facts old).floor m.merging in
+        let both = free.meant (g.state (inner_disk a)) (g.state (inner_disk b)) old next list w.was
+        (same (Ok more) did tables plan m step.0.walk.unused) in
+        record {
+          was = both.0;
+          merges = record {
+            plan = plan;
+            under_way = subst (λ (t : List LevelTable). IsMergeOf g b later t now plan)
+                (sym both.1) (after_of (Ok more) did tables plan m step.0);
+          };
+        }
+
+    -- a refusal is the environment's
+    outside : (e : MergeError) → (e ≡ merging.Full → ⊥) → Did (Err e) →
+        (list : List BatchContent) → HoldsWithMerge g a old (Some was) list →
+        IsEnvironmental engine.Disk engine.Memory (error_of_merge e)
+    outside e room did list h =
+        let m = h.merges.under_way in
+        environment e (only_environment e _ count was.writer h.merges.plan.inputs room
+        h.merges.intact (did.steps m.meant h.merges.plan (known_facts old).floor m.merging))
+
+    held : (answer : Result Bool MergeError) → Did answer → IsClean answer →
+        (list : List BatchContent) → HoldsWithMerge g a old (Some was) list →
+        MatchResult (progress_of answer)
+        (λ told. HoldsWithMerge g b later (merge_after now told) list)
+        (IsEnvironmental engine.Disk engine.Memory)
+    held (Ok true) did clean list h = holds true did list h
+    held (Ok false) did clean list h = holds false did list h
+    held (Err merging.Disk) did clean list h = inl refl
+    held (Err merging.Damaged) did clean list h = outside merging.Damaged (λ is. cc) did list h
+    held (Err merging.Memory) did clean list h = inr refl
+    held (Err merging.Failed) did clean list h = outside merging.Failed (λ is. cc) did list h
+    held (Err merging.Full) did clean list h =
+        let m = h.merges.under_way in
+        record {
+          held = (free.held (g.state (inner_disk a)) (g.state (inner_disk b)) old next list h.held
+              (same (Err merging.Full) did h.held.known.tables h.merges.plan m
+              (clean refl h.held.known.tables h.merges.plan m))).0;
+          merges = tt;
+        }
+
+    meant : (answer : Result Bool MergeError) → Did answer → IsClean answer →
+        (list : List BatchContent) → WasMeantWithMerge g a old (Some was) list →
+        IfOk (progress_of answer)
+        (λ told. WasMeantWithMerge g b later (merge_after now told) list)
+    meant (Ok true) did clean list w = was_meant true did list w
+    meant (Ok false) did clean list w = was_meant false did list w
+    meant (Err merging.Disk) did clean list w = tt
+    meant (Err merging.Damaged) did clean list w = tt
+    meant (Err merging.Memory) did clean list w = tt
+    meant (Err merging.Failed) did clean list w = tt
+    meant (Err merging.Full) did clean list w =
+        let m = w.merges.under_way in
+        record {
+          was = (free.meant (g.state (inner_disk a)) (g.state (inner_disk b)) old next list w.was
+              (same (Err merging.Full) did w.was.hold.known.tables w.merges.plan m
+              (clean refl w.was.hold.known.tables w.merges.plan m))).0;
+          merges = tt;
+        }
+
+    usable : (answer : Result Bool MergeError) → Did answer →
+        OnOk (progress_of answer) (AreUsableFiles later)
+    usable answer did = each (progress_of answer)
+      where
+        each : (result : Result Progress EngineError) → OnOk result (AreUsableFiles later)
+        each (Ok told) =
+            let above = u.free in
+            let rises = did.numbers.rises in
+            usable_with old u next (omega (arith, above, rises)) (did.numbers.few u.free_few)
+        each (Err e) = tt
+
+    -- what going on keeps
+    pub advances : (answer : Result Bool MergeError) → Did answer → IsClean answer →
+        KeepsMerge g (merge_after now) (Some was) a b old later (progress_of answer)
+    advances answer did clean = record {
+      kept = kept_but (files_ghosts g)
+          (λ no. inr (λ list honest h. let m = h.merges.under_way in
+          no m.meant h.merges.plan (known_facts old).floor m.merging))
+          (kept_as (files_ghosts g) (alike answer) (λ s t is. tt) did.writes.kept);
+      touches = λ honest file no.
+          did.writes.kept.files honest file (λ is. no (own_file file is));
+      numbers = (refl, refl);
+      usable = usable answer did;
+      refused = refused answer;
+      held = λ list honest h. held answer did clean list h;
+      any_moment = λ list honest h. represent_beside (files_ghosts g) free old list own
+          (own_named h.held.known.tables h.merges.plan h.merges.under_way) a b
+          (did.writes.any_moment honest) h.held;
+      meant = λ list honest w. meant answer did clean list w;
+      meant_moment = λ list honest w. meant_beside (files_ghosts g) free old list own
+          (own_named w.was.hold.known.tables w.merges.plan w.merges.under_way) a b
+          (did.writes.any_moment honest) w.was;
+    }
+
+    -- none is left where all are merged
+    none_left : (answer : Result Bool MergeError) → Did answer → IfOk (progress_of answer)
+        (λ told. told ≡ progress.Done →
+        HasEntriesLeft (union_ghosts g) (files_ghosts g) now → ⊥)
+    none_left (Ok true) did = λ is. absurd cc
+    none_left (Ok false) did = λ is left. let so = did.status.2.1 left in cc
+    none_left (Err merging.Disk) did = tt
+    none_left (Err merging.Damaged) did = tt
+    none_left (Err merging.Memory) did = tt
+    none_left (Err merging.Failed) did = tt
+    none_left (Err merging.Full) did = λ is. absurd cc
+
+    -- ---- by any plan
+
+    -- so many entries were met where others are left
+    so_many : {x y : ℕ} {left : Type 0} → (x ≡ y) ⊎ (left → ⊥) → left → x ≡ y
+    so_many (inl is) there = is
+    so_many (inr none) there = absurd (none there)
+
+    -- there was no room
+    no_room : (e : MergeError) (intact : Type 0) (inputs : List LevelTable) → e ≡ merging.Full →
+        StepRefusal intact count was.writer inputs e → FindsNoRoom count was.writer inputs
+    no_room e intact inputs is (inl (inl disk)) = absurd cc
+    no_room e intact inputs is (inl (inr memory)) = absurd cc
+    no_room e intact inputs is (inr (inl damaged)) = let so = damaged.0 in absurd cc
+    no_room e intact inputs is (inr (inr full)) = full.1
+
+    pub planned : (answer : Result Bool MergeError) → Did answer →
+        count ≡ length version.tables →
+        AdvancesPlanned g a b old later was now (progress_of answer)
+    unfolding after_of
+    planned (Ok true) did counted tables plan m =
+        let step = did.steps m.meant plan (known_facts old).floor m.merging in
+        let left = did.status.2.0 refl in
+        (after_of (Ok true) did tables plan m step.0, so_many step.1 left, left)
+    planned (Ok false) did counted tables plan m =
+        let step = did.steps m.meant plan (known_facts old).floor m.merging in (
+          after_of (Ok false) did tables plan m step.0,
+          λ left. let is = did.status.2.1 left in cc,
+        )
+    planned (Err merging.Disk) did counted tables plan m = tt
+    planned (Err merging.Damaged) did counted tables plan m = tt
+    planned (Err merging.Memory) did counted tables plan m = tt
+    planned (Err merging.Failed) did counted tables plan m = tt
+    planned (Err merging.Full) did counted tables plan m =
+        subst (λ (n : ℕ). FindsNoRoom n was.writer plan.inputs) counted
+        (no_room merging.Full _ plan.inputs refl
+        (did.steps m.meant plan (known_facts old).floor m.merging))
+
+  -- ---- as the call was told
+
+  module _ (free : OtherFilesAreFree) (count : ℕ) (counted : count ≡ length version.tables)
+      (b : Files D g) (now : Merge D) (start : ℕ) (start_is : start ≡ old.free_file) (next : ℕ)
+      (answer outcome : Result Bool MergeError) (outcome_is : answer ≡ outcome)
+      (did : StepsMerge (union_ghosts g) (files_ghosts g) count step_length a start was b next now
+      answer) (after : StoreFiles) (after_is : after ≡ with_free old next) where
+    did_so : Did free count b now next outcome
+    did_so = subst (Did free count b now next) outcome_is (subst (λ (n : ℕ).
+        StepsMerge (union_ghosts g) (files_ghosts g) count step_length a n was b next now answer)
+        start_is did)
+
+    pub keeps_told : IsClean free count b now next outcome →
+        (result : Result Progress EngineError) → result ≡ progress_of outcome →
+        KeepsMerge g (merge_after now) (Some was) a b old after result
+    keeps_told clean result result_is =
+        let told = subst (λ (r : Result Progress EngineError).
+        KeepsMerge g (merge_after now) (Some was) a b old (with_free old next) r) (sym result_is)
+        (advances free count b now next outcome did_so clean) in
+        subst (λ (s : StoreFiles). KeepsMerge g (merge_after now) (Some was) a b old s result)
+        (sym after_is) told
+
+    pub planned_told : (result : Result Progress EngineError) → result ≡ progress_of outcome →
+        AdvancesPlanned g a b old after was now result
+    planned_told result result_is =
+        let told = subst (λ (r : Result Progress EngineError).
+        AdvancesPlanned g a b old (with_free old next) was now r) (sym result_is)
+        (planned free count b now next outcome did_so counted) in
+        subst (λ (s : StoreFiles). AdvancesPlanned g a b old s was now result) (sym after_is) told
+
+    pub none_told : (result : Result Progress EngineError) → result ≡ progress_of outcome →
+        IfOk result (λ told. told ≡ progress.Done →
+        HasEntriesLeft (union_ghosts g) (files_ghosts g) now → ⊥)
+    none_told result result_is = subst (λ (r : Result Progress EngineError).
+        IfOk r (λ told. told ≡ progress.Done →
+        HasEntriesLeft (union_ghosts g) (files_ghosts g) now → ⊥)) (sym result_is)
+        (none_left free count b now next outcome did_so)

@@ -1,0 +1,202 @@
+-- What a merge that begins keeps of open files: the floor rises, and then no file changes.
+use Rattle.std.proofs.Common.{◌≡◌, ◌⊎◌, ◌∙◌, List, Some, Result, Ok, Err, inl, inr, refl}
+use Rattle.std.proofs.Common.{subst, sym}
+use Rattle.std.proofs.Math.Path.{fun_ext}
+use Rattle.std.specs.Prelude.{Contains, IfErr, IfOk, IsErrAnd, IsErrOf, MatchResult, ℕ}
+use Rattle.kv_types.specs.{BatchContent}
+use Rattle.disk.specs.{AlwaysLeaves, Contents, IsEnvironmental, State}
+use Rattle.disk.specs.MomentsLemmas.{join, weaker}
+use Rattle.disk.specs.declared.Disk.{Ghosts}
+use Rattle.manifest.specs.{HasFullSlot}
+use Rattle.compaction.specs.declared.Merge.{Merge}
+use Rattle.compaction.specs.declared.Plan.{Plan}
+use Rattle.compaction.specs.{model_plan}
+use Rattle.compaction.specs.Outputs.{IsLeftBeyond, WritesOnly}
+use Rattle.store_model.specs.{LevelTable}
+use Rattle.store_tables.specs.declared.error.EngineError.{EngineError}
+use Rattle.store_tables.specs.declared.error.EngineError.TheVariants as engine
+use Rattle.store_tables.specs.Errors.{IsEnd}
+use Rattle.store_tables.specs.KeepingLemmas.{kept_as, kept_behind, kept_but}
+use Rattle.store_tables.specs.LevelTables.{AreServed}
+use Rattle.store_tables.specs.RefusalLemmas.{answers_nothing, done, if_refuses, on_ok, passed_on}
+use Rattle.store_tables.specs.RefusalLemmas.{refuses}
+use Rattle.store_files.specs.declared.store_files.StoreFiles.{StoreFiles}
+use Rattle.store_files.specs.Apart.{OpenFilesAreApart}
+use Rattle.store_files.specs.OpenFiles.{AreUsableFiles, FilesAreRead, FilesHold, WereMeantToHold}
+use Rattle.store_files.specs.OpenFiles.{known_facts, known_version}
+use Rattle.store_files.specs.Raising.{RaisesFloor, facts_with_floor, raised_files}
+use Rattle.store_files.specs.TendKeeps.{OfEitherFacts}
+use Rattle.table_files.specs.{inner_disk}
+use Rattle.table_files.specs.declared.files.Files.{Files}
+use Rattle.engine.specs.BeginParts.{BeginsMerge, BeginsOver}
+use Rattle.engine.specs.LentFiles.{files_ghosts}
+use Rattle.engine.specs.MergeParts.{IsBegun, KeepsPart}
+use Rattle.engine.specs.UnderWay.{HoldsWithMerge, IsIntactMergeOf, IsSomeMergeOf}
+use Rattle.engine.specs.UnderWay.{WasMeantWithMerge}
+use Rattle.engine.proofs.Begins.{are_served, lines_of_tables, were_served}
+
+module _ {D : Type 0} (g : Ghosts D) where
+  -- what the beginning of a merge keeps of open files
+  abbrev pub KeepsBegun : ℕ → (a b : Files D g) → (old new : StoreFiles) →
+      Result (Merge D) EngineError → Type 0
+  KeepsBegun floor a b old new result =
+      KeepsPart g (Contains (raised_files old floor))
+      (OfEitherFacts (known_facts old) (facts_with_floor old floor)) (HasFullSlot old.manifest)
+      (FilesHold (g.state (inner_disk a)) old) (WereMeantToHold (g.state (inner_disk a)) old)
+      (λ it. HoldsWithMerge g b new (Some it)) (λ it. WasMeantWithMerge g b new (Some it))
+      a b old new result
+
+  -- a rise that is refused is all that was done
+  pub not_raised : (floor : ℕ) (a m : Files D g) (old new : StoreFiles) (e : EngineError)
+      (result : Result (Merge D) EngineError) →
+      RaisesFloor (files_ghosts g) floor a m old new (Err e) → IsErrAnd result (λ s. s ≡ e) →
+      KeepsBegun floor a m old new result
+  not_raised floor a m old new e result raises told = record {
+    kept = kept_as (files_ghosts g) (passed_on (Err e) e result refl told) (λ s t same. same)
+        raises.kept;
+    touches = raises.touches;
+    numbers = raises.numbers;
+    usable = answers_nothing result _ (λ _. AreUsableFiles new) told;
+    refused = if_refuses result IsEnd told raises.did;
+    held = λ list honest h. refuses result (λ it. HoldsWithMerge g m new (Some it) list)
+        (IsEnvironmental engine.Disk engine.Memory) told (raises.tended list honest h).list;
+    any_moment = λ list honest h. (raises.tended list honest h).any_moment;
+    meant = λ list honest w. answers_nothing result _
+        (λ it. WasMeantWithMerge g m new (Some it) list) told;
+    meant_moment = λ list honest w. (raises.meant list honest w).any_moment;
+  }
+
+  module _ (plan : Plan) (m b : Files D g) (store : StoreFiles) (list : List BatchContent) where
+    -- the disk of the files before the merge began, and after it
+    abbrev mid : State
+    mid = g.state (inner_disk m)
+
+    abbrev now : State
+    now = g.state (inner_disk b)
+
+    -- how a merge began over these tables
+    abbrev HasBegun : List LevelTable → Result (Merge D) EngineError → Type 0
+    HasBegun tables result = MatchResult result (BeginsOver g plan m b store tables)
+        (λ e. IsEnvironmental engine.Disk engine.Memory e ⊎ ((e ≡ engine.Damaged)
+        × (AreServed mid store.tables tables → ⊥)))
+
+    -- files that hold a list hold it with the merge, and no block of theirs is damaged
+    held_begun : (h : FilesHold mid store list) (result : Result (Merge D) EngineError) →
+        HasBegun h.known.tables result → mid ≡ now →
+        MatchResult result (λ it. HoldsWithMerge g b store (Some it) list)
+        (IsEnvironmental engine.Disk engine.Memory)
+    held_begun h (Ok it) over same =
+        let both = subst (λ (s : State). (held : FilesHold s store list)
+        × IsIntactMergeOf g b store held.known.tables it) same (
+          h,
+          record {
+            plan = model_plan plan over.range h.known.tables;
+            under_way = over.under_way;
+            intact = over.intact h.known.served;
+          },
+        ) in
+        record { held = both.0; merges = both.1 }
+    held_begun h (Err e) (inl external) same = external
+    held_begun h (Err e) (inr damaged) same = absurd (damaged.1 h.known.served)
+
+    -- so were they meant to hold it
+    meant_begun : (w : WereMeantToHold mid store list) (result : Result (Merge D) EngineError) →
+        HasBegun w.hold.known.tables result → mid ≡ now →
+        IfOk result (λ it. WasMeantWithMerge g b store (Some it) list)
+    meant_begun w (Ok it) over same =
+        let both = subst (λ (s : State). (was : WereMeantToHold s store list)
+        × IsSomeMergeOf g b store was.hold.known.tables it) same (
+          w,
+          record {
+            plan = model_plan plan over.range w.hold.known.tables;
+            under_way = over.under_way;
+          },
+        ) in
+        record { was = both.0; merges = both.1 }
+    meant_begun w (Err e) over same = tt
+
+    -- and none of the inputs' entries is merged yet
+    is_begun : (meant : State) (read : FilesAreRead meant store list)
+        (result : Result (Merge D) EngineError) → HasBegun read.tables result →
+        IfOk result (IsBegun g plan b store)
+    is_begun meant read (Ok it) over = record {
+      tables = read.tables;
+      lines = lines_of_tables _ (known_version store).version.tables read.tables read.read;
+      range = over.range;
+      joint = over.joint;
+      under_way = over.under_way;
+      none = over.none;
+    }
+    is_begun meant read (Err e) over = tt
+
+  -- a merge began behind a rise of the floor
+  module _ (apart : OpenFilesAreApart) (floor : ℕ) (plan : Plan) (a m b : Files D g)
+      (old new : StoreFiles) (unit : Unit {0})
+      (raises : RaisesFloor (files_ghosts g) floor a m old new (Ok unit))
+      (result : Result (Merge D) EngineError)
+      (writes : WritesOnly (files_ghosts g) (λ _. ⊥) m b (IsErrOf result engine.Disk) ⊥)
+      (begins : BeginsMerge g plan m b new result) where
+    -- files that hold a list behind the rise
+    begins_held : (list : List BatchContent) → g.is_honest (inner_disk a) →
+        (h : FilesHold (g.state (inner_disk m)) new list) →
+        HasBegun plan m b new list h.known.tables result
+    begins_held list honest h =
+        begins list (g.state (inner_disk m)) h.known (raises.kept.honest.1 honest)
+        (are_served (g.state (inner_disk m)) new.tables.tables.items h.known.tables h.known.served)
+        h.unused
+
+    -- and files that were meant to
+    begins_meant : (list : List BatchContent) → g.is_honest (inner_disk a) →
+        (w : WereMeantToHold (g.state (inner_disk m)) new list) →
+        HasBegun plan m b new list w.hold.known.tables result
+    begins_meant list honest w =
+        begins list w.meant w.hold.known (raises.kept.honest.1 honest)
+        (were_served (g.state (inner_disk m)) w.meant new.tables.tables.items w.hold.known.tables
+        w.hold.known.served w.disk_is.blocks)
+        (apart.unused (g.state (inner_disk m)) new list w)
+
+    -- no file changed
+    same_state : g.is_honest (inner_disk a) → g.state (inner_disk m) ≡ g.state (inner_disk b)
+    same_state honest =
+        fun_ext (λ file. sym (writes.kept.files (raises.kept.honest.1 honest) file (λ no. no)))
+
+    -- so a crash leaves what it might have left behind the rise
+    moments : (P : Contents → Type 0) → g.is_honest (inner_disk a) →
+        AlwaysLeaves (files_ghosts g) a m P → AlwaysLeaves g (inner_disk a) (inner_disk b) P
+    moments P honest before =
+        let s = g.state (inner_disk m) in
+        let past = g.past (inner_disk m) in
+        let later = g.state (inner_disk b) in
+        let since = g.past (inner_disk b) in
+        join P (g.state (inner_disk a)) s later (g.past (inner_disk a)) past since before
+        (weaker (IsLeftBeyond (λ _. ⊥) s) P s past later since
+        (λ left at. before.now left (λ file. at file (λ no. no)))
+        (writes.any_moment (raises.kept.honest.1 honest)))
+
+    pub keeps_begun : IfErr result IsEnd → KeepsBegun floor a b old new result
+    keeps_begun ends = record {
+      kept = kept_behind (files_ghosts g) (λ s t u before after. tt) raises.kept done
+          (kept_but (files_ghosts g) (λ no. absurd no) writes.kept);
+      touches = λ honest file spares.
+          writes.kept.files (raises.kept.honest.1 honest) file (λ no. no)
+          ∙ raises.touches honest file spares;
+      numbers = raises.numbers;
+      usable = on_ok result raises.usable;
+      refused = ends;
+      held = λ list honest h.
+          let held = (raises.tended list honest h).list in
+          held_begun plan m b new list held result (begins_held list honest held)
+          (same_state honest);
+      any_moment = λ list honest h. moments _ honest (raises.tended list honest h).any_moment;
+      meant = λ list honest w.
+          let was = (raises.meant list honest w).list in
+          meant_begun plan m b new list was result (begins_meant list honest was)
+          (same_state honest);
+      meant_moment = λ list honest w. moments _ honest (raises.meant list honest w).any_moment;
+    }
+
+    pub begun_behind : (list : List BatchContent) → g.is_honest (inner_disk a) →
+        WereMeantToHold (g.state (inner_disk a)) old list → IfOk result (IsBegun g plan b new)
+    begun_behind list honest w =
+        let was = (raises.meant list honest w).list in
+        is_begun plan m b new list was.meant was.hold.known result (begins_meant list honest was)

@@ -1,0 +1,366 @@
+// The merges of a store: one begins, goes on by so many entries in a tend, and ends or is given up.
+ghost use Rattle.std.specs.Prelude.{◌≡◌, ◌<◌, ◌≤◌, ℕ, IfOk, IfSome, IsNone, List, None, OnOk};
+ghost use Rattle.std.specs.Prelude.{Contains, IfErr, IsErrOf, IsSome, Option, Some};
+ghost use Rattle.kv_types.specs.{BatchContent};
+ghost use Rattle.manifest.specs.{HasFullSlot};
+ghost use Rattle.store_model.specs.{LevelTable, MergePlan};
+ghost use Rattle.table_files.specs.{inner_disk};
+ghost use Rattle.compaction.specs.Leftovers.{IsLeftover};
+ghost use Rattle.compaction.specs.Merges.{HasEntriesLeft, begun_number};
+ghost use Rattle.store_files.specs.BesideFiles.{with_free};
+ghost use Rattle.store_files.specs.Merging.{MayMerge};
+ghost use Rattle.store_files.specs.OpenFiles.{AreUsableFiles, FilesHold, WereMeantToHold};
+ghost use Rattle.store_files.specs.OpenFiles.{known_facts, known_version};
+ghost use Rattle.store_files.specs.Raising.{IsRaisedBy, MayRise, facts_with_floor, raised_files};
+ghost use Rattle.store_files.specs.TendKeeps.{OfEitherFacts};
+ghost use Rattle.compaction.specs.Outputs.{WritesOnly};
+ghost use Rattle.store_tables.specs.Errors.{IsEnd};
+ghost use Rattle.engine.specs.BeginParts.{BeginsMerge};
+ghost use Rattle.engine.specs.LentFiles.{files_ghosts, union_ghosts};
+ghost use Rattle.engine.specs.declared.merging.Progress.TheVariants.{Done};
+ghost use Rattle.engine.specs.MergeParts.{AdvancesPlanned, GoesOn, HoldEdit, IsBegun, IsEditOf};
+ghost use Rattle.engine.specs.MergeParts.{IsMergeFile, IsMergeIn, IsPicked, KeepsMerge, KeepsPart};
+ghost use Rattle.engine.specs.MergeParts.{HasNoLeftovers, IsEndedBy, IsTendedFile, PartMayFail};
+ghost use Rattle.engine.specs.MergeParts.{BeganLate, WereMeantEdit, error_of_merge, free_behind};
+ghost use Rattle.engine.specs.MergeParts.{merge_after};
+ghost use Rattle.engine.specs.Tends.{HasMerged, MergesAsDue, key_of_plan};
+ghost use Rattle.compaction.specs.declared.Turn.{Turn};
+ghost use Rattle.kv_types.specs.declared.Limits.{Limits};
+ghost use Rattle.engine.specs.UnderWay.{HoldsWithMerge, WasMeantWithMerge};
+
+use compaction::laws::{merge_edits_keep, picks_are_planned};
+use compaction::{Merge, MergeError, Plan, Turn, pick};
+use disk::Disk;
+use kv_types::{Key, Limits, Number};
+use std::alloc::{AllocError, Global};
+use store_files::laws::{held_files_are_left, open_files_are_apart, other_files_are_free};
+use store_files::{EngineError, StoreFiles, Tended};
+use store_model::plans_fit;
+use store_tables::laws::versions_name_own_files;
+use table_files::Files;
+use version_edits::{TableLine, VersionEdit, is_fit};
+
+// The greatest number of entries that one tend merges.
+const STEP_LENGTH: usize = 256;
+
+// How a merge went on.
+enum Progress {
+    // Entries are left.
+    More,
+    // None is left.
+    Done,
+    // The next entry wants a place that there is not.
+    Full,
+}
+
+// The refusal of a store for that of a merge; one that lacks room is none, and one that has failed
+// is never kept.
+fn refusal_of(e: MergeError) -> EngineError
+    ensures { result ≡ error_of_merge e }
+{
+    match e {
+        MergeError::Disk => EngineError::Disk,
+        MergeError::Memory => EngineError::Memory,
+        MergeError::Damaged | MergeError::Failed | MergeError::Full => EngineError::Damaged,
+    }
+}
+
+// Begins the merge of a plan over open files whose floor has risen: the cursors over the inputs
+// stand on their first entries.
+fn begin_raised<D: Disk + Drop>(
+    alloc: Global,
+    files: &mut Files<D>,
+    store: &StoreFiles,
+    plan: Plan,
+    target: u64,
+) -> Result<Merge<D>, EngineError>
+    requires picked { IsPicked store.now plan }
+    requires within { (plan.level ≤ 5) × (0 < target) }
+    ensures writes { WritesOnly (files_ghosts D.Disk) (λ _. ⊥) files.old files.new
+        (IsErrOf result EngineError.Disk) ⊥ }
+    ensures refused { IfErr result IsEnd }
+    ensures first { IfOk result (λ merge. begun_number merge ≡ store.now.free_file) }
+    ensures begins { BeginsMerge D.Disk plan files.old files.new store.now result }
+{
+    // laws: that a picked plan is one of the model, that its merge can end in the store, and that
+    // no two tables have one file
+    picks_are_planned();
+    plans_fit();
+    versions_name_own_files();
+    let next = store.free_file();
+    let version = store.manifest.state();
+    let cursors = store.tables.merge_cursors(alloc, plan, &version.tables)?;
+    match Merge::begin(alloc, files, version, plan, target, next, cursors) {
+        Ok(merge) => Ok(merge),
+        Err(e) => Err(refusal_of(e)),
+    }
+}
+
+// Begins the merge of a plan: the floor rises, and the cursors over the inputs stand on their
+// first entries.
+pub(crate) fn begin<D: Disk + Drop>(
+    alloc: Global,
+    files: &mut Files<D>,
+    store: &mut StoreFiles,
+    plan: Plan,
+    floor: Number,
+    target: u64,
+) -> Result<Merge<D>, EngineError>
+    requires rises { MayRise store.old floor }
+    requires picked { IsPicked store.old plan }
+    requires within { (plan.level ≤ 5) × (0 < target) }
+    ensures kept { KeepsPart D.Disk (Contains (raised_files store.old floor))
+        (OfEitherFacts (known_facts store.old) (facts_with_floor store.old floor))
+        (HasFullSlot store.old.manifest)
+        (FilesHold (D.state (inner_disk files.old)) store.old)
+        (WereMeantToHold (D.state (inner_disk files.old)) store.old)
+        (λ merge. HoldsWithMerge D.Disk files.new store.new (Some merge))
+        (λ merge. WasMeantWithMerge D.Disk files.new store.new (Some merge))
+        files.old files.new store.old store.new result }
+    ensures raised { OnOk result (IsRaisedBy floor store.old store.new
+        × (store.new.free_file ≡ store.old.free_file)) }
+    ensures first { IfOk result (λ merge. begun_number merge ≡ store.new.free_file) }
+    ensures begun { (list : List BatchContent) → D.is_honest (inner_disk files.old) →
+        WereMeantToHold (D.state (inner_disk files.old)) store.old list →
+        IfOk result (IsBegun D.Disk plan files.new store.new) }
+{
+    open_files_are_apart(); // law: no file exists from the first free one on
+    store.raise_floor(alloc, files, floor)?;
+    begin_raised(alloc, files, store, plan, target)
+}
+
+// Merges the next entries of the inputs.
+fn advance<D: Disk + Drop>(
+    alloc: Global,
+    files: &mut Files<D>,
+    store: &mut StoreFiles,
+    merge: &mut Merge<D>,
+) -> Result<Progress, EngineError>
+    requires { AreUsableFiles store.old }
+    ensures kept { KeepsMerge D.Disk (merge_after merge.new) (Some merge.old) files.old files.new
+        store.old store.new result }
+    ensures goes_on { GoesOn store.old store.new merge.old merge.new }
+    ensures advances { AdvancesPlanned D.Disk files.old files.new store.old store.new merge.old
+        merge.new result }
+    ensures done { IfOk result (λ progress. progress ≡ Done →
+        HasEntriesLeft (union_ghosts D.Disk) (files_ghosts D.Disk) merge.new → ⊥) }
+{
+    // laws: what open files hold does not depend on others, and which these are
+    other_files_are_free();
+    open_files_are_apart();
+    let tables = store.manifest.state().tables.len();
+    let mut next = store.free_file();
+    let step = merge.step(alloc, files, STEP_LENGTH, tables, &mut next);
+    store.set_free_file(next);
+    match step {
+        Ok(true) => Ok(Progress::More),
+        Ok(false) => Ok(Progress::Done),
+        Err(MergeError::Full) => Ok(Progress::Full),
+        Err(e) => Err(refusal_of(e)),
+    }
+}
+
+// Completes the last output of a merge of which no entry is left, and makes the edit. `None` where
+// the version would have too many tables.
+fn complete<D: Disk + Drop>(
+    alloc: Global,
+    files: &mut Files<D>,
+    store: &StoreFiles,
+    merge: &mut Merge<D>,
+) -> Result<Option<VersionEdit>, EngineError>
+    requires usable { AreUsableFiles store.now }
+    requires done { HasEntriesLeft (union_ghosts D.Disk) (files_ghosts D.Disk) merge.old → ⊥ }
+    ensures kept { KeepsPart D.Disk (IsMergeFile store.now (Some merge.old))
+        (λ IsSaid. IsSaid (known_facts store.now))
+        (PartMayFail D.Disk files.old store.now (Some merge.old))
+        (HoldsWithMerge D.Disk files.old store.now (Some merge.old))
+        (WasMeantWithMerge D.Disk files.old store.now (Some merge.old))
+        (HoldEdit D.Disk files.new store.now) (WereMeantEdit D.Disk files.new store.now)
+        files.old files.new store.now store.now result }
+    ensures fit { IfOk result (λ made. IfSome made (λ edit. MayMerge store.now edit
+        × (edit.tables_gone ≡ merge.old.gone.items))) }
+    ensures first { begun_number merge.new ≡ begun_number merge.old }
+    ensures ends { (tables : List LevelTable) (plan : MergePlan) →
+        IsMergeIn D.Disk files.old store.now tables merge.old plan →
+        IfOk result (IsEditOf store.now plan) }
+{
+    // laws: what open files hold does not depend on others; and a merge keeps the list
+    other_files_are_free();
+    open_files_are_apart();
+    merge_edits_keep();
+    let (version, next) = (store.manifest.state(), store.free_file());
+    let edit = match merge.finish(alloc, files, version, next) {
+        Ok(edit) => edit,
+        Err(MergeError::Full) => return Ok(None),
+        Err(e) => return Err(refusal_of(e)),
+    };
+    // A disk that lies may show entries of which no edit can be made.
+    if is_fit(alloc, version, &edit)? {
+        Ok(Some(edit))
+    } else {
+        Err(EngineError::Damaged)
+    }
+}
+
+// Gives a merge up: its files are removed, and their numbers are free again.
+fn abandon<D: Disk + Drop>(
+    files: &mut Files<D>,
+    store: &mut StoreFiles,
+    merge: Merge<D>,
+) -> Result<(), EngineError>
+    requires { AreUsableFiles store.old }
+    ensures kept { KeepsPart D.Disk (IsLeftover (begun_number merge) store.old.free_file
+        (known_version store.old).version) (λ IsSaid. IsSaid (known_facts store.old)) ⊥
+        (BeganLate merge (HoldsWithMerge D.Disk files.old store.old None))
+        (BeganLate merge (WasMeantWithMerge D.Disk files.old store.old None))
+        (λ _. HoldsWithMerge D.Disk files.new store.new None)
+        (λ _. WasMeantWithMerge D.Disk files.new store.new None)
+        files.old files.new store.old store.new result }
+    ensures freed { store.new ≡ with_free store.old (free_behind (begun_number merge) store.old) }
+    ensures removed { D.is_honest (inner_disk files.old) →
+        OnOk result (HasNoLeftovers D.Disk (begun_number merge) store.old files.new) }
+{
+    // laws: what open files hold does not depend on others, and which these are
+    other_files_are_free();
+    open_files_are_apart();
+    let (begun, free) = (merge.begun(), store.free_file());
+    let next = store.manifest.state().next_file;
+    let answer = merge.abandon(files, store.manifest.state(), free);
+    store.set_free_file(begun.max(next).min(free));
+    match answer {
+        Ok(()) => Ok(()),
+        Err(e) => Err(refusal_of(e)),
+    }
+}
+
+// Ends a merge of which no entry is left, and answers its edit, which is recorded. `None` where the
+// version would have too many tables: then the merge is given up.
+fn end<D: Disk + Drop>(
+    alloc: Global,
+    files: &mut Files<D>,
+    store: &mut StoreFiles,
+    mut merge: Merge<D>,
+) -> Result<Option<VersionEdit>, EngineError>
+    requires usable { AreUsableFiles store.old }
+    requires done { HasEntriesLeft (union_ghosts D.Disk) (files_ghosts D.Disk) merge → ⊥ }
+    ensures kept { KeepsMerge D.Disk (λ _. None) (Some merge) files.old files.new store.old
+        store.new result }
+    ensures ended { IfOk result (IsEndedBy (begun_number merge) store.old store.new) }
+    ensures edit { (tables : List LevelTable) (plan : MergePlan) →
+        IsMergeIn D.Disk files.old store.old tables merge plan →
+        IfOk result (IsEditOf store.old plan) }
+    ensures removed { D.is_honest (inner_disk files.old) → IfOk result (λ edit. edit ≡ None →
+        HasNoLeftovers D.Disk (begun_number merge) store.old files.new) }
+{
+    match complete(alloc, files, store, &mut merge)? {
+        Some(edit) => {
+            store.install_merge(alloc, files, &edit)?;
+            Ok(Some(edit))
+        }
+        None => {
+            abandon(files, store, merge)?;
+            Ok(None)
+        }
+    }
+}
+
+// Does the next part of the merge that is under way.
+fn go_on<D: Disk + Drop>(
+    alloc: Global,
+    files: &mut Files<D>,
+    store: &mut StoreFiles,
+    merge: &mut Option<Merge<D>>,
+) -> Result<Tended, EngineError>
+    requires usable { AreUsableFiles store.old }
+    requires some { IsSome merge.old }
+    ensures kept { KeepsMerge D.Disk (λ _. merge.new) merge.old files.old files.new store.old
+        store.new result }
+    ensures did { (limits : Limits) (floor : ℕ) (turn : Turn) → IfOk result (HasMerged limits floor
+        (record { files = files.old; store = store.old; merge = merge.old; turn = turn })
+        (record { files = files.new; store = store.new; merge = merge.new; turn = turn })) }
+    ensures as_due { (limits : Limits) (floor : ℕ) (turn : Turn) (list : List BatchContent) →
+        D.is_honest (inner_disk files.old) →
+        WasMeantWithMerge D.Disk files.old store.old merge.old list →
+        IfOk result (MergesAsDue D.Disk limits floor
+        (record { files = files.old; store = store.old; merge = merge.old; turn = turn })
+        (record { files = files.new; store = store.new; merge = merge.new; turn = turn })) }
+{
+    let Some(mut it) = merge.take() else {
+        return Ok(Tended::Idle);
+    };
+    match advance(alloc, files, store, &mut it)? {
+        Progress::More => {
+            *merge = Some(it);
+            Ok(Tended::Worked)
+        }
+        Progress::Done => match end(alloc, files, store, it)? {
+            Some(_) => Ok(Tended::Worked),
+            None => Ok(Tended::Full),
+        },
+        Progress::Full => {
+            abandon(files, store, it)?;
+            Ok(Tended::Full)
+        }
+    }
+}
+
+// The greatest key of the one table that the plan takes from its level, if it takes one alone.
+fn key_of(plan: Plan, tables: &[TableLine]) -> Result<Option<Key>, AllocError>
+    ensures { IfOk result (λ key. key ≡ key_of_plan plan tables.now) }
+{
+    let Some(file) = plan.file else {
+        return Ok(None);
+    };
+    let mut rest = tables;
+    while let [line, later @ ..] = rest {
+        if line.level == plan.level && line.file == file {
+            return Ok(Some(line.greatest.clone()?));
+        }
+        rest = later;
+    }
+    Ok(None)
+}
+
+/// Does the next part of the merge that is under way, or begins the one that is due: then the floor
+/// rises to this number.
+pub(crate) fn tend_merge<D: Disk + Drop>(
+    alloc: Global,
+    files: &mut Files<D>,
+    store: &mut StoreFiles,
+    merge: &mut Option<Merge<D>>,
+    turn: &mut Turn,
+    limits: &Limits,
+    floor: Number,
+) -> Result<Tended, EngineError>
+    requires { MayRise store.old floor }
+    ensures kept { KeepsPart D.Disk (IsTendedFile store.old merge.old floor)
+        (OfEitherFacts (known_facts store.old) (facts_with_floor store.old floor))
+        (PartMayFail D.Disk files.old store.old merge.old)
+        (HoldsWithMerge D.Disk files.old store.old merge.old)
+        (WasMeantWithMerge D.Disk files.old store.old merge.old)
+        (λ _. HoldsWithMerge D.Disk files.new store.new merge.new)
+        (λ _. WasMeantWithMerge D.Disk files.new store.new merge.new)
+        files.old files.new store.old store.new result }
+    ensures did { IfOk result (HasMerged limits.now floor
+        (record { files = files.old; store = store.old; merge = merge.old; turn = turn.old })
+        (record { files = files.new; store = store.new; merge = merge.new; turn = turn.new })) }
+    ensures as_due { (list : List BatchContent) → D.is_honest (inner_disk files.old) →
+        WasMeantWithMerge D.Disk files.old store.old merge.old list →
+        IfOk result (MergesAsDue D.Disk limits.now floor
+        (record { files = files.old; store = store.old; merge = merge.old; turn = turn.old })
+        (record { files = files.new; store = store.new; merge = merge.new; turn = turn.new })) }
+{
+    held_files_are_left(); // law: what the disk of open files reads as, and leaves
+    if merge.is_some() {
+        return go_on(alloc, files, store, merge);
+    }
+    let Some(plan) = pick(store.manifest.state(), limits, turn) else {
+        return Ok(Tended::Idle);
+    };
+    let key = key_of(plan, &store.manifest.state().tables)?;
+    *merge = Some(begin(alloc, files, store, plan, floor, limits.table)?);
+    if let Some(key) = key {
+        turn.advance(plan.level, key);
+    }
+    Ok(Tended::Worked)
+}
