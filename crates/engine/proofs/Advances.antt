@@ -11,7 +11,7 @@ use Rattle.compaction.specs.declared.error.MergeError.{MergeError}
 use Rattle.compaction.specs.declared.error.MergeError.TheVariants as merging
 use Rattle.compaction.specs.declared.writer.OutputWriter.{OutputWriter}
 use Rattle.compaction.specs.Merges.{HasEntriesLeft, IsMerging, StepsMerge}
-use Rattle.compaction.specs.Outputs.{AreUnused, IsOwnFile}
+use Rattle.compaction.specs.Outputs.{IsOwnFile}
 use Rattle.compaction.specs.Walks.{FindsNoRoom, StepRefusal}
 use Rattle.store_model.specs.{LevelTable, MergePlan}
 use Rattle.store_tables.specs.declared.error.EngineError.{EngineError}
@@ -114,23 +114,17 @@ module _ {D : Type 0} (g : Ghosts D) (old : StoreFiles) (u : AreUsableFiles old)
     abbrev later : StoreFiles
     later = with_free old next
 
-    -- where it has no room, no file is left from the next number on
-    abbrev IsClean : Result Bool MergeError → Type 0
-    IsClean answer = answer ≡ Err merging.Full → (tables : List LevelTable) (plan : MergePlan) →
-        IsMergeOf g a old tables was plan → AreUnused (g.state (inner_disk b)) next
-
     -- the named files are as they were
     same : (answer : Result Bool MergeError) → Did answer → (tables : List LevelTable)
         (plan : MergePlan) → IsMergeOf g a old tables was plan →
-        AreUnused (g.state (inner_disk b)) next →
         HasSameNamed old next (g.state (inner_disk a)) (g.state (inner_disk b))
-    same answer did tables plan m unused =
+    same answer did tables plan m =
         let above = u.free in
         let rises = did.numbers.rises in
         record {
           named = λ file named. did.writes.kept.files m.merging.walk.honest file
               (λ is. own_named tables plan m file is named);
-          unused = unused;
+          unused = did.unused m.meant plan (known_facts old).floor m.merging;
           above = omega (arith, above, rises);
           few = did.numbers.few u.free_few;
         }
@@ -156,7 +150,7 @@ module _ {D : Type 0} (g : Ghosts D) (old : StoreFiles) (u : AreUsableFiles old)
         let m = h.merges.under_way in
         let step = did.steps m.meant plan (known_facts old).floor m.merging in
         let both = free.held (g.state (inner_disk a)) (g.state (inner_disk b)) old next list h.held
-        (same (Ok more) did tables plan m step.0.walk.unused) in
+        (same (Ok more) did tables plan m) in
         record {
           held = both.0;
           merges = record {
@@ -175,7 +169,7 @@ module _ {D : Type 0} (g : Ghosts D) (old : StoreFiles) (u : AreUsableFiles old)
         let m = w.merges.under_way in
         let step = did.steps m.meant plan (known_facts old).floor m.merging in
         let both = free.meant (g.state (inner_disk a)) (g.state (inner_disk b)) old next list w.was
-        (same (Ok more) did tables plan m step.0.walk.unused) in
+        (same (Ok more) did tables plan m) in
         record {
           was = both.0;
           merges = record {
@@ -194,42 +188,40 @@ module _ {D : Type 0} (g : Ghosts D) (old : StoreFiles) (u : AreUsableFiles old)
         environment e (only_environment e _ count was.writer h.merges.plan.inputs room
         h.merges.intact (did.steps m.meant h.merges.plan (known_facts old).floor m.merging))
 
-    held : (answer : Result Bool MergeError) → Did answer → IsClean answer →
+    held : (answer : Result Bool MergeError) → Did answer →
         (list : List BatchContent) → HoldsWithMerge g a old (Some was) list →
         MatchResult (progress_of answer)
         (λ told. HoldsWithMerge g b later (merge_after now told) list)
         (IsEnvironmental engine.Disk engine.Memory)
-    held (Ok true) did clean list h = holds true did list h
-    held (Ok false) did clean list h = holds false did list h
-    held (Err merging.Disk) did clean list h = inl refl
-    held (Err merging.Damaged) did clean list h = outside merging.Damaged (λ is. cc) did list h
-    held (Err merging.Memory) did clean list h = inr refl
-    held (Err merging.Failed) did clean list h = outside merging.Failed (λ is. cc) did list h
-    held (Err merging.Full) did clean list h =
+    held (Ok true) did list h = holds true did list h
+    held (Ok false) did list h = holds false did list h
+    held (Err merging.Disk) did list h = inl refl
+    held (Err merging.Damaged) did list h = outside merging.Damaged (λ is. cc) did list h
+    held (Err merging.Memory) did list h = inr refl
+    held (Err merging.Failed) did list h = outside merging.Failed (λ is. cc) did list h
+    held (Err merging.Full) did list h =
         let m = h.merges.under_way in
         record {
           held = (free.held (g.state (inner_disk a)) (g.state (inner_disk b)) old next list h.held
-              (same (Err merging.Full) did h.held.known.tables h.merges.plan m
-              (clean refl h.held.known.tables h.merges.plan m))).0;
+              (same (Err merging.Full) did h.held.known.tables h.merges.plan m)).0;
           merges = tt;
         }
 
-    meant : (answer : Result Bool MergeError) → Did answer → IsClean answer →
+    meant : (answer : Result Bool MergeError) → Did answer →
         (list : List BatchContent) → WasMeantWithMerge g a old (Some was) list →
         IfOk (progress_of answer)
         (λ told. WasMeantWithMerge g b later (merge_after now told) list)
-    meant (Ok true) did clean list w = was_meant true did list w
-    meant (Ok false) did clean list w = was_meant false did list w
-    meant (Err merging.Disk) did clean list w = tt
-    meant (Err merging.Damaged) did clean list w = tt
-    meant (Err merging.Memory) did clean list w = tt
-    meant (Err merging.Failed) did clean list w = tt
-    meant (Err merging.Full) did clean list w =
+    meant (Ok true) did list w = was_meant true did list w
+    meant (Ok false) did list w = was_meant false did list w
+    meant (Err merging.Disk) did list w = tt
+    meant (Err merging.Damaged) did list w = tt
+    meant (Err merging.Memory) did list w = tt
+    meant (Err merging.Failed) did list w = tt
+    meant (Err merging.Full) did list w =
         let m = w.merges.under_way in
         record {
           was = (free.meant (g.state (inner_disk a)) (g.state (inner_disk b)) old next list w.was
-              (same (Err merging.Full) did w.was.hold.known.tables w.merges.plan m
-              (clean refl w.was.hold.known.tables w.merges.plan m))).0;
+              (same (Err merging.Full) did w.was.hold.known.tables w.merges.plan m)).0;
           merges = tt;
         }
 
@@ -245,9 +237,9 @@ module _ {D : Type 0} (g : Ghosts D) (old : StoreFiles) (u : AreUsableFiles old)
         each (Err e) = tt
 
     -- what going on keeps
-    pub advances : (answer : Result Bool MergeError) → Did answer → IsClean answer →
+    pub advances : (answer : Result Bool MergeError) → Did answer →
         KeepsMerge g (merge_after now) (Some was) a b old later (progress_of answer)
-    advances answer did clean = record {
+    advances answer did = record {
       kept = kept_but (files_ghosts g)
           (λ no. inr (λ list honest h. let m = h.merges.under_way in
           no m.meant h.merges.plan (known_facts old).floor m.merging))
@@ -257,11 +249,11 @@ module _ {D : Type 0} (g : Ghosts D) (old : StoreFiles) (u : AreUsableFiles old)
       numbers = (refl, refl);
       usable = usable answer did;
       refused = refused answer;
-      held = λ list honest h. held answer did clean list h;
+      held = λ list honest h. held answer did list h;
       any_moment = λ list honest h. represent_beside (files_ghosts g) free old list own
           (own_named h.held.known.tables h.merges.plan h.merges.under_way) a b
           (did.writes.any_moment honest) h.held;
-      meant = λ list honest w. meant answer did clean list w;
+      meant = λ list honest w. meant answer did list w;
       meant_moment = λ list honest w. meant_beside (files_ghosts g) free old list own
           (own_named w.was.hold.known.tables w.merges.plan w.merges.under_way) a b
           (did.writes.any_moment honest) w.was;
@@ -328,13 +320,12 @@ module _ {D : Type 0} (g : Ghosts D) (old : StoreFiles) (u : AreUsableFiles old)
         StepsMerge (union_ghosts g) (files_ghosts g) count step_length a n was b next now answer)
         start_is did)
 
-    pub keeps_told : IsClean free count b now next outcome →
-        (result : Result Progress EngineError) → result ≡ progress_of outcome →
+    pub keeps_told : (result : Result Progress EngineError) → result ≡ progress_of outcome →
         KeepsMerge g (merge_after now) (Some was) a b old after result
-    keeps_told clean result result_is =
+    keeps_told result result_is =
         let told = subst (λ (r : Result Progress EngineError).
         KeepsMerge g (merge_after now) (Some was) a b old (with_free old next) r) (sym result_is)
-        (advances free count b now next outcome did_so clean) in
+        (advances free count b now next outcome did_so) in
         subst (λ (s : StoreFiles). KeepsMerge g (merge_after now) (Some was) a b old s result)
         (sym after_is) told
 

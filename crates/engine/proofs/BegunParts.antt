@@ -30,7 +30,7 @@ use Rattle.table_files.specs.{inner_disk}
 use Rattle.table_files.specs.declared.files.Files.{Files}
 use Rattle.engine.specs.BeginParts.{BeginsMerge, BeginsOver}
 use Rattle.engine.specs.LentFiles.{files_ghosts}
-use Rattle.engine.specs.MergeParts.{IsBegun, KeepsPart}
+use Rattle.engine.specs.MergeParts.{IsNewMerge, KeepsPart}
 use Rattle.engine.specs.UnderWay.{HoldsWithMerge, IsIntactMergeOf, IsSomeMergeOf}
 use Rattle.engine.specs.UnderWay.{WasMeantWithMerge}
 use Rattle.engine.proofs.Begins.{are_served, lines_of_tables, were_served}
@@ -118,7 +118,7 @@ module _ {D : Type 0} (g : Ghosts D) where
     -- and none of the inputs' entries is merged yet
     is_begun : (meant : State) (read : FilesAreRead meant store list)
         (result : Result (Merge D) EngineError) → HasBegun read.tables result →
-        IfOk result (IsBegun g plan b store)
+        IfOk result (IsNewMerge g plan b store)
     is_begun meant read (Ok it) over = record {
       tables = read.tables;
       lines = lines_of_tables _ (known_version store).version.tables read.tables read.read;
@@ -196,7 +196,7 @@ module _ {D : Type 0} (g : Ghosts D) where
     }
 
     pub begun_behind : (list : List BatchContent) → g.is_honest (inner_disk a) →
-        WereMeantToHold (g.state (inner_disk a)) old list → IfOk result (IsBegun g plan b new)
+        WereMeantToHold (g.state (inner_disk a)) old list → IfOk result (IsNewMerge g plan b new)
     begun_behind list honest w =
         let was = (raises.meant list honest w).list in
         is_begun plan m b new list was.meant was.hold.known result (begins_meant list honest was)

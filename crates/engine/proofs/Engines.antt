@@ -24,6 +24,8 @@ use Rattle.engine.specs.LentFiles.{files_ghosts}
 use Rattle.engine.specs.UnderWay.{HoldsWithMerge, MergesOfEngineLast, WasMeantWithMerge}
 use Rattle.table_files.specs.{inner_disk}
 use Rattle.table_files.specs.declared.files.Files.{Files}
+use Rattle.engine.proofs.Results.{closed_by, ends_by, is_refused, no_refusal, of_refusal, off_of}
+use Rattle.engine.proofs.Results.{on_ok, refuses}
 use Rattle.engine.proofs.Merges.{held_same, meant_same}
 use Rattle.compaction.specs.declared.Merge.{Merge}
 use Rattle.store_tables.specs.Errors.{EndsEngine, IsEnd}
@@ -32,80 +34,9 @@ use Rattle.store_files.specs.HeldFiles.{HeldFilesAreLeft}
 use Rattle.store_files.specs.OpenFiles.{FilesHold, OpeningRefusal, WereMeantToHold}
 use Rattle.store_files.specs.StoreFiles.{FilesRepresent, IsOneOf, StillLeavesOneOf, WereMeant}
 use Rattle.store_files.specs.StoreFiles.{WereOneOf}
-use Rattle.store_files.specs.Tending.{TendMayFail}
+use Rattle.engine.specs.MergeParts.{PartMayFail}
 
--- ---- what an answer says
-
--- a refusal is none
-pub not_true : false ≡ true → ⊥
-not_true e = cc
-
--- a property of every result holds of an answer
-pub on_ok : {T E P : Type 0} (result : Result T E) → P → OnOk result P
-on_ok (Ok x) p = p
-on_ok (Err e) p = tt
-
--- what holds of the cause holds of the refusal that tells it
-pub refuses : {T E : Type 0} (result : Result T E) {e : E} (P : T → Type 0) (Q : E → Type 0) →
-    IsErrAnd result (λ s. s ≡ e) → Q e → MatchResult result P Q
-refuses (Ok x) P Q told q = absurd told
-refuses (Err s) P Q told q = subst Q (sym told) q
-
--- an answer leaves an engine that works
-pub works_on_ok : {T : Type 0} (result : Result T EngineError) (ended : Bool) →
-    ended ≡ is_err result → OnOk result (IsTrue ended → ⊥)
-works_on_ok (Ok x) ended is = λ h. cc
-works_on_ok (Err e) ended is = tt
-
--- a call of an engine that works ends it where it is refused, and only there
-module _ {T : Type 0} where
-  pub closed_by : (result : Result T EngineError) (was : Bool) → was ≡ false →
-      IfErr result IsEnd → IsErrOf result engine.Failed ↔ IsTrue was
-  closed_by (Ok x) was off causes = (λ failed. absurd cc, λ h. absurd cc)
-  closed_by (Err e) was off causes = (
-    λ failed.
-        let is : e ≡ engine.Failed = cc in
-        absurd (subst IsEnd is causes),
-    λ h. absurd cc,
-  )
-
-  pub ends_by : (result : Result T EngineError) (was ended : Bool) → was ≡ false →
-      ended ≡ is_err result → IfErr result IsEnd → IsTrue ended ↔ (IsTrue was ⊎ EndsEngine result)
-  ends_by (Ok x) was ended off is causes =
-      (λ h. absurd cc, λ either. elim either [ inl h ↦ absurd cc | inr none ↦ absurd none ])
-  ends_by (Err e) was ended off is causes = (λ h. inr causes, λ either. is)
-
-  pub no_refusal : (result : Result T EngineError) → IfErr result IsEnd →
-      IsErrAnd result (λ e. IsEnd e → ⊥) → ⊥
-  no_refusal (Ok x) causes told = told
-  no_refusal (Err e) causes told = told causes
-
-  -- what holds of an answer and what holds of a refusal
-  pub of_answer : (result : Result T EngineError) (P : T → Type 0) (Q : EngineError → Type 0) →
-      MatchResult result P Q → IfOk result P
-  of_answer (Ok x) P Q both = both
-  of_answer (Err e) P Q both = tt
-
-  pub on_answer : (result : Result T EngineError) (P : Type 0) (Q : EngineError → Type 0) →
-      MatchResult result (λ _. P) Q → OnOk result P
-  on_answer (Ok x) P Q both = both
-  on_answer (Err e) P Q both = tt
-
-  pub of_refusal : (result : Result T EngineError) (P : T → Type 0) (Q : EngineError → Type 0) →
-      MatchResult result P Q → IfErr result Q
-  of_refusal (Ok x) P Q both = tt
-  of_refusal (Err e) P Q both = both
-
--- a value that is not true is false
-off_of : (b : Bool) → (IsTrue b → ⊥) → b ≡ false
-off_of true off = absurd (off refl)
-off_of false off = refl
-
--- a refusal is one
-is_refused : {T : Type 0} (result : Result T EngineError) (e : EngineError) →
-    IsErrAnd result (λ s. s ≡ e) → is_err result ≡ true
-is_refused (Ok x) e told = absurd told
-is_refused (Err s) e told = refl
+-- ---- what is kept
 
 -- what is kept of files is kept of their disk
 kept_inside : {D : Type 0} (g : Ghosts D) (a b : Files D g) {told cause : Type 0}
@@ -206,13 +137,6 @@ no_damage (Err e) why = λ damaged.
     let is : e ≡ engine.Damaged = cc in
     not_external (subst (IsEnvironmental engine.Disk engine.Memory) is why)
 
--- an answer and a refusal
-pub match_of : {T : Type 0} (result : Result T EngineError) (P : T → Type 0) →
-    IfOk result P → IfErr result (IsEnvironmental engine.Disk engine.Memory) →
-    MatchResult result P (IsEnvironmental engine.Disk engine.Memory)
-match_of (Ok x) P answer why = answer
-match_of (Err e) P answer why = why
-
 -- a refusal to open files says what is wrong with them
 pub explains : (e : EngineError) (left : Contents) → OpeningRefusal e left →
     ((facts : Facts) (list : List BatchContent) → FilesRepresent facts list left →
@@ -262,12 +186,43 @@ meant_with_merge g engine list m = m.inside
 
 -- where a tend of its files may fail, they are nearly full, or the disk has none of the engine
 pub may_fail : {D : Type 0} (g : Ghosts D) (engine : Engine D g) →
-    TendMayFail g (engine_disk engine) engine.store → IsNearlyFull engine ⊎ IsAdrift g engine
+    PartMayFail g engine.files engine.store engine.merge → IsNearlyFull engine ⊎ IsAdrift g engine
 may_fail g engine (inl full) = inl (inr full)
-may_fail g engine (inr none) = inr (λ list r. none list r.honest (held_of g engine list r))
+may_fail g engine (inr none) = inr (λ list r. none list r.honest (merged_of g engine list r))
 
 module _ {D : Type 0} (g : Ghosts D) (laws : HeldFilesAreLeft) where
   -- ---- what it holds
+
+  -- what it holds, it was meant to
+  pub meant_as_held : (engine : Engine D g) (list : List BatchContent) →
+      EngineReads g engine list → WereMeantToHold (g.state (engine_disk engine)) engine.store list
+  meant_as_held engine list r =
+      let disk = g.state (engine_disk engine) in
+      let held = held_of g engine list r in
+      record { meant = disk; hold = held; disk_is = laws.as_is disk engine.store list held }
+
+  -- with its merge
+  merge_as_held : (files : Files D g) (store : StoreFiles) (merge : Option (Merge D))
+      (list : List BatchContent) → HoldsWithMerge g files store merge list →
+      WasMeantWithMerge g files store merge list
+  merge_as_held files store None list h =
+      let disk = g.state (inner_disk files) in
+      record {
+        was = record { meant = disk; hold = h.held; disk_is = laws.as_is disk store list h.held };
+        merges = tt;
+      }
+  merge_as_held files store (Some merge) list h =
+      let disk = g.state (inner_disk files) in
+      record {
+        was = record { meant = disk; hold = h.held; disk_is = laws.as_is disk store list h.held };
+        merges = record { plan = h.merges.plan; under_way = h.merges.under_way };
+      }
+
+  pub meant_merge_as_held : (engine : Engine D g) (list : List BatchContent) →
+      EngineReads g engine list →
+      WasMeantWithMerge g engine.files engine.store engine.merge list
+  meant_merge_as_held engine list r =
+      merge_as_held engine.files engine.store engine.merge list (merged_of g engine list r)
 
   is_inside : (engine : Engine D g) (list : List BatchContent) →
       HoldsWithMerge g engine.files engine.store engine.merge list → IsInMemory g engine list
@@ -438,24 +393,3 @@ pub leaves_since_same : {D : Type 0} (g : Ghosts D) {disk was new : D} (facts : 
 leaves_since_same {D = D} g {new = new} facts list facts' list' is whole meant =
     subst (λ (d : D). StillLeavesOneOf g d new facts list facts' list') is
     (record { whole = whole; meant = meant })
-
--- files of one store are those of a store whose floor was not raised
-pub not_raised : {D : Type 0} (g : Ghosts D) (engine : Engine D g) (new : D)
-    (list : List BatchContent) →
-    AlwaysLeaves g (engine_disk engine) new (FilesRepresent (facts_of engine) list) →
-    IsOldOrNewSince g (engine_disk engine) new (facts_of engine) list (raised_facts engine) list
-not_raised g engine new list run =
-    weaker (FilesRepresent (facts_of engine) list)
-    (IsOneOf (facts_of engine) list (raised_facts engine) list) (g.state (engine_disk engine))
-    (g.past (engine_disk engine)) (g.state new) (g.past new) (λ left it. inl it) run
-
--- .. and so were they, where they were meant to be
-pub were_not_raised : {D : Type 0} (g : Ghosts D) (engine : Engine D g) (new : D)
-    (list : List BatchContent) →
-    AlwaysLeaves g (engine_disk engine) new (WereMeant (facts_of engine) list) →
-    AlwaysLeaves g (engine_disk engine) new
-    (WereOneOf (facts_of engine) list (raised_facts engine) list)
-were_not_raised g engine new list run =
-    weaker (WereMeant (facts_of engine) list)
-    (WereOneOf (facts_of engine) list (raised_facts engine) list) (g.state (engine_disk engine))
-    (g.past (engine_disk engine)) (g.state new) (g.past new) (λ left it. inl it) run

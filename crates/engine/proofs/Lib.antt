@@ -1,4 +1,5 @@
 pub mod Merges
+pub mod Results
 pub mod Engines
 pub mod Removals
 pub mod Begins
@@ -12,3 +13,4 @@ pub mod PartFiles
 pub mod PartDid
 pub mod PartDue
 pub mod PartBegins
+pub mod StoreTends

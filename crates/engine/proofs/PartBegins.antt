@@ -18,7 +18,7 @@ use Rattle.store_files.specs.OpenFiles.{WereMeantToHold, known_version}
 use Rattle.store_files.specs.Raising.{IsRaisedBy}
 use Rattle.table_files.specs.{inner_disk}
 use Rattle.table_files.specs.declared.files.Files.{Files}
-use Rattle.engine.specs.MergeParts.{IsBegun}
+use Rattle.engine.specs.MergeParts.{IsNewMerge}
 use Rattle.engine.specs.Tends.{BeginsPlanned, MergeBegins, TendedStore, key_of_plan, turn_after}
 use Rattle.engine.specs.UnderWay.{WasMeantWithMerge}
 
@@ -87,13 +87,13 @@ module _ {D : Type 0} (g : Ghosts D) (limits : Limits) (floor : ℕ) (plan : Pla
 
     -- by the plan that was due
     pub begins_planned : ((list : List BatchContent) → g.is_honest (inner_disk a) →
-        WereMeantToHold (g.state (inner_disk a)) old list → IfOk called (IsBegun g plan b new)) →
+        WereMeantToHold (g.state (inner_disk a)) old list → IfOk called (IsNewMerge g plan b new)) →
         (list : List BatchContent) → g.is_honest (inner_disk a) →
         WasMeantWithMerge g a old was list → BeginsPlanned g limits floor before after
     begins_planned begun list honest w = record {
       plan = plan;
       merge = merge;
       begins = begins;
-      begun = subst (λ (r : Result (Merge D) EngineError). IfOk r (IsBegun g plan b new)) is
+      begun = subst (λ (r : Result (Merge D) EngineError). IfOk r (IsNewMerge g plan b new)) is
           (begun list honest w.was);
     }

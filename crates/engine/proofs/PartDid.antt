@@ -14,12 +14,12 @@ use Rattle.store_files.specs.declared.tended.Tended.TheVariants as answer
 use Rattle.store_files.specs.BesideFiles.{with_free}
 use Rattle.store_files.specs.Merging.{IsMergedBy}
 use Rattle.table_files.specs.declared.files.Files.{Files}
-use Rattle.engine.specs.MergeParts.{GoesOn, IsEndedBy, free_behind}
+use Rattle.engine.specs.MergeParts.{IsAdvanced, IsEndedBy, free_behind}
 use Rattle.engine.specs.Tends.{HasMerged, HasMerged as merged}
 
 module _ {D : Type 0} where
   -- the files of a merge that went on and is given up
-  pub abandoned_store : (old mid new : StoreFiles) (was now : Merge D) → GoesOn old mid was now →
+  pub abandoned_store : (old mid new : StoreFiles) (was now : Merge D) → IsAdvanced old mid was now →
       new ≡ with_free mid (free_behind (begun_number now) mid) →
       new ≡ with_free old (free_behind (begun_number was) (with_free old mid.free_file))
   abandoned_store old mid new was now on freed =
@@ -36,7 +36,7 @@ EndsSo (Some edit) result = result ≡ Ok answer.Worked
 pub ended_did : {D : Type 0} (g : Ghosts D) (limits : Limits) (floor : ℕ) (turn : Turn)
     (a c : Files D g) (old mid new : StoreFiles) (before after : Option (Merge D))
     (was now : Merge D) (made : Option Change) (result : Result Tended EngineError) →
-    before ≡ Some was → after ≡ None → GoesOn old mid was now →
+    before ≡ Some was → after ≡ None → IsAdvanced old mid was now →
     IsEndedBy (begun_number now) mid new made → EndsSo made result →
     IfOk result (HasMerged {g = g} limits floor
     (record { files = a; store = old; merge = before; turn = turn })

@@ -16,7 +16,7 @@ use Rattle.store_files.specs.declared.tended.Tended.{Tended}
 use Rattle.store_files.specs.Merging.{IsMergedBy}
 use Rattle.store_files.specs.OpenFiles.{known_version}
 use Rattle.table_files.specs.declared.files.Files.{Files}
-use Rattle.engine.specs.MergeParts.{GoesOn, HasNoLeftovers, IsEditOf, IsEndedBy}
+use Rattle.engine.specs.MergeParts.{IsAdvanced, HasNoLeftovers, IsEditOf, IsEndedBy}
 use Rattle.engine.specs.Tends.{MergesAsDue, MergesAsDue as due}
 use Rattle.engine.specs.UnderWay.{IsMergeOf}
 use Rattle.engine.proofs.PartDid.{EndsSo, abandoned_store}
@@ -24,7 +24,7 @@ use Rattle.engine.proofs.PartFiles.{same_version}
 
 module _ {D : Type 0} where
   -- what a merge has written, it has where numbers of files were used
-  pub leftover_on : (old mid : StoreFiles) (was now : Merge D) → GoesOn old mid was now →
+  pub leftover_on : (old mid : StoreFiles) (was now : Merge D) → IsAdvanced old mid was now →
       (file : ℕ) → IsLeftover (begun_number was) mid.free_file (known_version old).version file →
       IsLeftover (begun_number now) mid.free_file (known_version mid).version file
   leftover_on old mid was now on file left = record {
@@ -38,7 +38,7 @@ module _ {D : Type 0} where
 pub ended_as_due : {D : Type 0} (g : Ghosts D) (limits : Limits) (floor : ℕ) (turn : Turn)
     (a c : Files D g) (old mid new : StoreFiles) (before after : Option (Merge D))
     (was now : Merge D) (made : Option Change) (result : Result Tended EngineError) →
-    before ≡ Some was → after ≡ None → GoesOn old mid was now →
+    before ≡ Some was → after ≡ None → IsAdvanced old mid was now →
     IsEndedBy (begun_number now) mid new made → EndsSo made result → (tables : List LevelTable)
     (plan : MergePlan) → IsMergeOf g a old tables was plan → IsEditOf mid plan made →
     (made ≡ None → HasNoLeftovers g (begun_number now) mid c) →

@@ -18,7 +18,7 @@ use Rattle.store_files.specs.Merging.{merged_files, replaced_files}
 use Rattle.store_files.specs.OpenFiles.{known_version}
 use Rattle.store_files.specs.Raising.{obsolete_files, raised_files}
 use Rattle.table_files.specs.declared.files.Files.{Files}
-use Rattle.engine.specs.MergeParts.{GoesOn, IsMergeFile, KeepsMerge, PartMayFail}
+use Rattle.engine.specs.MergeParts.{IsAdvanced, IsMergeFile, KeepsMerge, PartMayFail}
 use Rattle.engine.specs.MergeParts.{IsMergeFile as own, IsTendedFile as tended, IsTendedFile}
 use Rattle.engine.specs.UnderWay.{HoldsWithMerge, WasMeantWithMerge}
 
@@ -52,16 +52,16 @@ module _ {D : Type 0} where
       store.free_file (known_version store).version file) first left)
 
   -- the version is the same where numbers of files were used
-  pub same_version : (old new : StoreFiles) (was now : Merge D) → GoesOn old new was now →
+  pub same_version : (old new : StoreFiles) (was now : Merge D) → IsAdvanced old new was now →
       known_version new ≡ known_version old
   same_version old new was now on = ap (λ (s : StoreFiles). known_version s) on.store
 
-  pub same_manifest : (old new : StoreFiles) (was now : Merge D) → GoesOn old new was now →
+  pub same_manifest : (old new : StoreFiles) (was now : Merge D) → IsAdvanced old new was now →
       new.manifest ≡ old.manifest
   same_manifest old new was now on = ap (λ (s : StoreFiles). s.manifest) on.store
 
   -- what a merge that went on may touch, it might have touched before
-  pub went_within : (old new : StoreFiles) (was now : Merge D) → GoesOn old new was now →
+  pub went_within : (old new : StoreFiles) (was now : Merge D) → IsAdvanced old new was now →
       (file : ℕ) → IsMergeFile new (Some now) file → IsMergeFile old (Some was) file
   went_within old new was now on file (own.IsSlot either) =
       own.IsSlot (subst (λ (m : Manifest). (file ≡ counting_file m) ⊎ (file ≡ spare_file m))
@@ -86,7 +86,7 @@ module _ {D : Type 0} where
       Contains (map (λ one. one.file) them.items) file) on.gone has)
 
   -- so is what it has written
-  pub went_leftover : (old new : StoreFiles) (was now : Merge D) → GoesOn old new was now →
+  pub went_leftover : (old new : StoreFiles) (was now : Merge D) → IsAdvanced old new was now →
       (file : ℕ) → IsLeftover (begun_number now) new.free_file (known_version new).version file →
       IsMergeFile old (Some was) file
   went_leftover old new was now on file left =

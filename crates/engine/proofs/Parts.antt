@@ -20,7 +20,7 @@ use Rattle.table_files.specs.{inner_disk}
 use Rattle.table_files.specs.declared.files.Files.{Files}
 use Rattle.engine.specs.LentFiles.{files_ghosts}
 use Rattle.engine.specs.MergeParts.{KeepsPart}
-use Rattle.engine.proofs.Engines.{of_answer, of_refusal}
+use Rattle.engine.proofs.Results.{of_answer, of_refusal}
 
 -- these facts alone
 abbrev pub OfFactsOf : StoreFiles → (Facts → Type 0) → Type 0

@@ -1,5 +1,5 @@
 -- What the calls of an engine answer, and what they make of its disk.
-use Rattle.std.specs.Prelude.{◌≡◌, ◌≢◌, ◌⊎◌, ◌↔◌, ℕ, ◌<◌, List, [], length, true, false}
+use Rattle.std.specs.Prelude.{◌≡◌, ◌⊎◌, ◌↔◌, ℕ, ◌<◌, List, [], length, true, false}
 use Rattle.std.specs.Prelude.{Result, Ok, Err, IsErrOf, IfOk, IsErrAnd, MatchResult, OnOk}
 use Rattle.chain_model.specs.Machine.{is_open}
 use Rattle.kv_types.specs.declared.Limits.{Limits}
@@ -13,12 +13,11 @@ use Rattle.engine.specs.Engines.{EngineHolds, EngineReads, EngineWasMeant, HasEn
 use Rattle.engine.specs.Snapshots.{IsReadable}
 use Rattle.engine.specs.Engines.{LookUps, engine_disk, engine_files, facts_of}
 use Rattle.engine.specs.Engines.{least_read, look_ups}
-use Rattle.engine.specs.Tends.{HasMerged, MergesAsDue, TendedStore}
-use Rattle.store_files.specs.declared.tended.Tended.TheVariants as tended
+use Rattle.engine.specs.Tends.{TendsStore, TendedStore, TendsAsPlanned, TendsInOrder}
+use Rattle.engine.specs.Tends.{tended_store}
 use Rattle.engine.specs.declared.snapshots.TheConstants.{MAX_SNAPSHOTS}
 use Rattle.store_files.specs.declared.tended.Tended.{Tended}
 use Rattle.store_tables.specs.Errors.{EndsEngine, IsEnd}
-use Rattle.store_files.specs.Tending.{FlushIsDue, IsTend, IsWorkAnswer, RewriteIsDue}
 use Rattle.manifest.specs.{IsNotCreated}
 use Rattle.store_files.specs.Files.{Facts, IsOwned, first_facts}
 use Rattle.store_files.specs.StoreFiles.{FilesRepresent, HasFirstFiles, IsDamaged, IsOneOf, OpensAs}
@@ -161,58 +160,27 @@ IsAdrift g engine = (list : List BatchContent) → EngineReads g engine list →
 
 -- what a tend of an engine works on
 abbrev pub tended_of : {D : Type 0} {g : Ghosts D} → Engine D g → TendedStore D g
-tended_of engine = record {
-  files = engine.files;
-  store = engine.store;
-  merge = engine.merge;
-  turn = engine.turn;
-}
+tended_of engine = tended_store engine.files engine.store engine.merge engine.turn
 
--- no part of a merge was done: it is as it was, and so is the turn
-pub record MergeStays {D : Type 0} {g : Ghosts D} (old new : Engine D g) : Type 0 where
-  pub merge : new.merge ≡ old.merge
-  pub turn : new.turn ≡ old.turn
+-- what a tend of any disk did
+abbrev pub IsTendOf : {D : Type 0} {g : Ghosts D} → Engine D g → Engine D g → Tended → Type 0
+IsTendOf old new = TendsStore (look_ups old).limits (least_read old) (tended_of old) (tended_of new)
 
--- What a tend of any disk did: it rewrote or flushed, or did part of a merge, or nothing. So it is
--- full only where those lack a place, or a merge is given up.
-pub data IsTendOf {D : Type 0} {g : Ghosts D} (old new : Engine D g) (answer : Tended) : Type 0
-  where
-    OfStore : answer ≢ tended.Idle → IsTend old.store new.store answer → MergeStays old new →
-        IsTendOf old new answer
-    OfMerge : HasMerged (look_ups old).limits (least_read old) (tended_of old) (tended_of new)
-        answer → IsTendOf old new answer
-
--- neither a rewrite of the manifest nor a flush is due, which go before a merge
-pub record MergesAreNext {D : Type 0} {g : Ghosts D} (engine : Engine D g) : Type 0 where
-  pub rewritten : RewriteIsDue engine.store → ⊥
-  pub flushed : FlushIsDue (look_ups engine).limits.log engine.store → ⊥
-
--- a tend does the first that is due: a rewrite, a flush, or part of a merge
-pub data IsTendAnswer {D : Type 0} {g : Ghosts D} (old new : Engine D g) (answer : Tended) : Type 0
-  where
-    Works : answer ≢ tended.Idle →
-        IsWorkAnswer (look_ups old).limits.log old.store new.store answer → MergeStays old new →
-        IsTendAnswer old new answer
-    Merges : MergesAreNext old → HasMerged (look_ups old).limits (least_read old) (tended_of old)
-        (tended_of new) answer → IsTendAnswer old new answer
-
--- where a tend did part of a merge, it is of the plan that is due, or of the one under way
-pub data IsPlannedTend {D : Type 0} {g : Ghosts D} (old new : Engine D g) (answer : Tended)
-    : Type 0 where
-  IsOfStore : answer ≢ tended.Idle → IsTend old.store new.store answer → MergeStays old new →
-      IsPlannedTend old new answer
-  IsOfPlan : MergesAsDue g (look_ups old).limits (least_read old) (tended_of old) (tended_of new)
-      answer → IsPlannedTend old new answer
+-- it did the first that was due
+abbrev pub IsTendAnswer : {D : Type 0} {g : Ghosts D} → Engine D g → Engine D g → Tended → Type 0
+IsTendAnswer old new =
+    TendsInOrder (look_ups old).limits (least_read old) (tended_of old) (tended_of new)
 
 -- A tend does what is due: of files that hold a list, or else it is refused for the environment;
--- and of files that were meant to, where it answers.
+-- and of files that were meant to, where it answers. Of both a merge goes as it was planned.
 pub record TendsAsDue {D : Type 0} (g : Ghosts D) (old new : Engine D g)
     (result : Result Tended EngineError) : Type 0 where
   pub reads : (list : List BatchContent) → EngineReads g old list →
       MatchResult result (IsTendAnswer old new) (IsEnvironmental engine.Disk engine.Memory)
   pub meant : (list : List BatchContent) → EngineWasMeant g old list →
       IfOk result (IsTendAnswer old new)
-  pub planned : OfEachList g old (λ list. IfOk result (IsPlannedTend old new))
+  pub planned : OfEachList g old (λ list. IfOk result (TendsAsPlanned g (look_ups old).limits
+      (least_read old) (tended_of old) (tended_of new)))
 
 -- two engines tell the same of their tends
 abbrev pub TendsAlike : {D : Type 0} {g : Ghosts D} → Engine D g → Engine D g → Type 0

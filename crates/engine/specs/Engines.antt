@@ -110,8 +110,8 @@ abbrev pub with_facts : LookUps → Facts → LookUps
 with_facts told facts = record told { facts = facts }
 
 -- an engine tells the same behind a tend, or raised facts, where it may have begun a merge
-abbrev pub IsToldByTend : {D : Type 0} {g : Ghosts D} → Engine D g → Engine D g → Type 0
-IsToldByTend old new =
+abbrev pub RaisesFactsAtMost : {D : Type 0} {g : Ghosts D} → Engine D g → Engine D g → Type 0
+RaisesFactsAtMost old new =
     (look_ups new ≡ look_ups old) ⊎ (look_ups new ≡ with_facts (look_ups old) (raised_facts old))
 
 -- floor and trimmed batches rise, and no batch above the floor is trimmed

@@ -19,7 +19,7 @@ pub use Rattle.engine.specs.Engines.{HasNearlyFullLog, IsNearlyFull}
 pub use Rattle.engine.specs.Snapshots.{AreReadable, IsReadable}
 pub use Rattle.engine.specs.Engines.{EngineWasMeant, LookUps, EngineReads, engine_disk}
 pub use Rattle.engine.specs.Engines.{engine_files, facts_of}
-pub use Rattle.engine.specs.Engines.{FactsRise, IsToldByTend, least_read, with_facts}
+pub use Rattle.engine.specs.Engines.{FactsRise, RaisesFactsAtMost, least_read, with_facts}
 pub use Rattle.engine.specs.Engines.{IsTendFile, look_ups, newest_log_file, raised_facts}
 pub use Rattle.engine.specs.Engines.{table_count, with_one_more, with_committed}
 pub use Rattle.engine.specs.Engines.{with_closed, with_opened}

@@ -141,7 +141,7 @@ pub record IsPicked (store : StoreFiles) (plan : Plan) : Type 0 where
   pub is : picked most base turn (known_version store).version ≡ Some plan
 
 -- the merge of the plan's inputs is under way, and none of their entries is merged yet
-pub record IsBegun {D : Type 0} (g : Ghosts D) (plan : Plan) (files : Files D g)
+pub record IsNewMerge {D : Type 0} (g : Ghosts D) (plan : Plan) (files : Files D g)
     (store : StoreFiles) (merge : Merge D) : Type 0 where
   pub tables : List LevelTable
   pub lines : AllZip IsLineOf (known_version store).version.tables tables
@@ -160,7 +160,7 @@ merge_after now progress.Full = None
 
 -- what a merge that went on made of any files: numbers of files were used, and it gives up what it
 -- did
-pub record GoesOn {D : Type 0} (old new : StoreFiles) (was now : Merge D) : Type 0 where
+pub record IsAdvanced {D : Type 0} (old new : StoreFiles) (was now : Merge D) : Type 0 where
   pub store : new ≡ with_free old new.free_file
   pub numbers : UsesNumbers was.writer old.free_file now.writer new.free_file
   pub first : begun_number now ≡ begun_number was

@@ -1,6 +1,6 @@
--- A tend of an engine's merges: what is due, and what it did.
-use Rattle.std.specs.Prelude.{◌≡◌, ◌⊎◌, ◌==◌, ◌&&◌, ℕ, ◌+◌, List, length, if◌then◌else◌}
-use Rattle.std.specs.Prelude.{IsNone, Option, Some, None, option_map}
+-- A tend of an engine's files: what is due, and what it did.
+use Rattle.std.specs.Prelude.{◌≡◌, ◌≢◌, ◌⊎◌, ◌==◌, ◌&&◌, ℕ, ◌+◌, List, length, if◌then◌else◌}
+use Rattle.std.specs.Prelude.{IsNone, Option, Result, Some, None, option_map}
 use Rattle.std.specs.List.{find}
 use Rattle.std.specs.Option.{option_and_then, option_or}
 use Rattle.disk.specs.{seen}
@@ -18,18 +18,22 @@ use Rattle.compaction.specs.{picked, turn_key}
 use Rattle.compaction.specs.Leftovers.{IsLeftover}
 use Rattle.compaction.specs.Merges.{HasEntriesLeft, begun_number}
 use Rattle.compaction.specs.Walks.{FindsNoRoom}
+use Rattle.store_tables.specs.declared.error.EngineError.{EngineError}
 use Rattle.store_files.specs.declared.store_files.StoreFiles.{StoreFiles}
 use Rattle.store_files.specs.declared.tended.Tended.{Tended}
 use Rattle.store_files.specs.declared.tended.Tended.TheVariants as tended
 use Rattle.store_files.specs.BesideFiles.{with_free}
 use Rattle.store_files.specs.Merging.{IsMergedBy}
-use Rattle.store_files.specs.OpenFiles.{known_version}
-use Rattle.store_files.specs.Raising.{IsRaisedBy}
+use Rattle.store_files.specs.OpenFiles.{known_facts, known_version}
+use Rattle.store_files.specs.Raising.{IsRaisedBy, facts_with_floor}
+use Rattle.store_files.specs.TendKeeps.{OfEitherFacts}
+use Rattle.store_files.specs.Tending.{FlushIsDue, IsTend, IsWorkAnswer, RewriteIsDue}
 use Rattle.table_files.specs.{inner_disk}
 use Rattle.table_files.specs.declared.files.Files.{Files}
 use Rattle.engine.specs.LentFiles.{files_ghosts, union_ghosts}
-use Rattle.engine.specs.MergeParts.{GoesOn, IsBegun, IsEditOf, free_behind, step_length}
-use Rattle.engine.specs.UnderWay.{IsMergeOf}
+use Rattle.engine.specs.MergeParts.{IsAdvanced, IsNewMerge, IsEditOf, IsTendedFile, KeepsPart}
+use Rattle.engine.specs.MergeParts.{PartMayFail, free_behind, step_length}
+use Rattle.engine.specs.UnderWay.{HoldsWithMerge, IsMergeOf, WasMeantWithMerge}
 
 -- ---- whose turn it is
 
@@ -54,6 +58,11 @@ pub record TendedStore (D : Type 0) (g : Ghosts D) : Type 0 where
   pub turn : Turn
 
 module _ {D : Type 0} {g : Ghosts D} where
+  -- these files of this store, with this merge and this turn
+  abbrev pub tended_store : Files D g → StoreFiles → Option (Merge D) → Turn → TendedStore D g
+  tended_store files store merge turn =
+      record { files = files; store = store; merge = merge; turn = turn }
+
   -- their version
   abbrev pub tended_version : TendedStore D g → StoreVersion
   tended_version it = (known_version it.store).version
@@ -80,7 +89,7 @@ module _ {D : Type 0} {g : Ghosts D} where
   pub record MergeAdvances (old new : TendedStore D g) (was now : Merge D) : Type 0 where
     pub before : old.merge ≡ Some was
     pub after : new.merge ≡ Some now
-    pub goes_on : GoesOn old.store new.store was now
+    pub goes_on : IsAdvanced old.store new.store was now
     pub turn : new.turn ≡ old.turn
 
   -- a merge was under way, and its edit is recorded
@@ -122,7 +131,52 @@ module _ {D : Type 0} {g : Ghosts D} where
     HasRested : old.merge ≡ None → due_plan limits old ≡ None → IsUntended old new →
         answer ≡ tended.Idle → HasMerged limits floor old new answer
 
+  -- ---- a tend
+
+  -- a rewrite of the manifest or a flush was done, or lacks a place, and no part of a merge
+  pub record StoreIsTended (IsDone : StoreFiles → StoreFiles → Tended → Type 0)
+      (old new : TendedStore D g) (answer : Tended) : Type 0 where
+    pub some : answer ≢ tended.Idle
+    pub did : IsDone old.store new.store answer
+    pub merge : new.merge ≡ old.merge
+    pub turn : new.turn ≡ old.turn
+
+  -- What a tend of any disk did: it rewrote or flushed, or did part of a merge, or nothing. So it
+  -- is full only where those lack a place, or a merge is given up.
+  pub data TendsStore (limits : Limits) (floor : ℕ) (old new : TendedStore D g) (answer : Tended)
+      : Type 0 where
+    OfStore : StoreIsTended IsTend old new answer → TendsStore limits floor old new answer
+    OfMerge : HasMerged limits floor old new answer → TendsStore limits floor old new answer
+
+  -- neither a rewrite of the manifest nor a flush is due, which go before a merge
+  pub record MergesAreNext (limits : Limits) (it : TendedStore D g) : Type 0 where
+    pub rewritten : RewriteIsDue it.store → ⊥
+    pub flushed : FlushIsDue limits.log it.store → ⊥
+
+  -- a tend does the first that is due: a rewrite, a flush, or part of a merge
+  pub data TendsInOrder (limits : Limits) (floor : ℕ) (old new : TendedStore D g) (answer : Tended)
+      : Type 0 where
+    Works : StoreIsTended (IsWorkAnswer limits.log) old new answer →
+        TendsInOrder limits floor old new answer
+    Merges : MergesAreNext limits old → HasMerged limits floor old new answer →
+        TendsInOrder limits floor old new answer
+
 module _ {D : Type 0} (g : Ghosts D) where
+  -- ---- what it keeps
+
+  -- What a tend keeps of the files, the store and the merge, for which the floor may rise to this
+  -- number.
+  abbrev pub KeepsTended : ℕ → (old new : TendedStore D g) → Result Tended EngineError → Type 0
+  KeepsTended floor old new result =
+      KeepsPart g (IsTendedFile old.store old.merge floor)
+      (OfEitherFacts (known_facts old.store) (facts_with_floor old.store floor))
+      (PartMayFail g old.files old.store old.merge)
+      (HoldsWithMerge g old.files old.store old.merge)
+      (WasMeantWithMerge g old.files old.store old.merge)
+      (λ _. HoldsWithMerge g new.files new.store new.merge)
+      (λ _. WasMeantWithMerge g new.files new.store new.merge)
+      old.files new.files old.store new.store result
+
   -- ---- what it did of files that hold a list, or were meant to
 
   -- the merge of this plan is under way in the store, which has these tables
@@ -134,7 +188,7 @@ module _ {D : Type 0} (g : Ghosts D) where
     pub plan : Plan
     pub merge : Merge D
     pub begins : MergeBegins limits floor plan old new merge
-    pub begun : IsBegun g plan new.files new.store merge
+    pub begun : IsNewMerge g plan new.files new.store merge
 
   -- So many entries more of the inputs are merged, and others are left.
   pub record StepsOn (old new : TendedStore D g) : Type 0 where
@@ -181,3 +235,9 @@ module _ {D : Type 0} (g : Ghosts D) where
     Abandons : AbandonsFull old new → answer ≡ tended.Full → MergesAsDue limits floor old new answer
     Rests : old.merge ≡ None → due_plan limits old ≡ None → IsUntended old new →
         answer ≡ tended.Idle → MergesAsDue limits floor old new answer
+
+  -- where a tend did part of a merge, it is of the plan that is due, or of the one under way
+  pub data TendsAsPlanned (limits : Limits) (floor : ℕ) (old new : TendedStore D g)
+      (answer : Tended) : Type 0 where
+    IsOfStore : StoreIsTended IsTend old new answer → TendsAsPlanned limits floor old new answer
+    IsOfPlan : MergesAsDue limits floor old new answer → TendsAsPlanned limits floor old new answer

@@ -6,9 +6,9 @@ ghost use Rattle.store_files.specs.OpenFiles.{AreCounted, AreUsableFiles, known_
 ghost use Rattle.store_files.specs.UsableProps.{props};
 ghost use Rattle.engine.specs.Snapshots.{AreReadable};
 
-use crate::merging::tend_merge;
+use crate::merging::tend_store;
 use crate::snapshots::Snapshots;
-use compaction::laws::{merges_outlive_calls, merges_stay_beside};
+use compaction::laws::merges_outlive_calls;
 use compaction::{Merge, Turn};
 use configurations::{Config, Epoch, NodeId};
 use disk::{Crash, Disk, Fault};
@@ -69,7 +69,7 @@ impl<D: Disk + Drop> Engine<D> {
     ghost use Rattle.engine.specs.Calls.{KeepsOwnedDisk, OfEachList, OpensEngineFor, ReadsEngine};
     ghost use Rattle.engine.specs.Calls.{StaysAsItWas, disk_after};
     ghost use Rattle.engine.specs.Engines.{AreOrdered, EngineHolds, FactsRise, HasEnded};
-    ghost use Rattle.engine.specs.Engines.{IsToldByTend};
+    ghost use Rattle.engine.specs.Engines.{RaisesFactsAtMost};
     ghost use Rattle.engine.specs.Engines.{HasNearlyFullLog, IsNearlyFull};
     ghost use Rattle.engine.specs.Engines.{engine_disk, engine_files, facts_of, IsTendFile};
     ghost use Rattle.engine.specs.Engines.{look_ups, newest_log_file, raised_facts};
@@ -186,7 +186,7 @@ impl<D: Disk + Drop> Engine<D> {
     {
         held_files_are_left(); // law: what the disk of open files reads as, and leaves
         merges_outlive_calls::<D>(); // law: a merge outlives calls that leave its files
-        open_files_are_apart(); // law: which files an append and a tend change
+        open_files_are_apart(); // law: which files an append changes
         let number = self.next_number()?;
         self.has_ended = true;
         self.store.append(alloc, &mut self.files, number, batch)?;
@@ -213,39 +213,35 @@ impl<D: Disk + Drop> Engine<D> {
     }
 
     /// Does the first that is due: a rewrite of the manifest, where its slot is longer than twice
-    /// its first edit and 65,536 bytes; or a flush, where the newest log is longer than the limit
-    /// and entries are in memory. `Full` where that has no place.
+    /// its first edit and 65,536 bytes; a flush, where the newest log is longer than the limit and
+    /// entries are in memory; or the next part of a merge, at most 256 entries. One that begins
+    /// raises the floor to the least number that may still be asked for. `Full` where the first
+    /// that is due has no place; a merge is given up then.
     pub fn tend(&mut self, alloc: Global) -> Result<Tended, EngineError>
         ensures changes { ChangesList D.Disk self.old self.new result
             (IsNearlyFull self.old ⊎ IsAdrift D.Disk self.old)
             (IsSameBeyond (IsTendFile self.old)) (raised_facts self.old) (λ list. list) }
-        ensures told { IsToldByTend self.old self.new }
+        ensures told { RaisesFactsAtMost self.old self.new }
         ensures raised { OfEachList D.Disk self.old (λ _.
             FactsRise (facts_of self.old) (raised_facts self.old)) }
         ensures work { TendsAsDue D.Disk self.old self.new result }
         ensures did { IfOk result (IsTendOf self.old self.new) }
     {
         held_files_are_left(); // law: what the disk of open files reads as, and leaves
-        merges_outlive_calls::<D>(); // law: a merge outlives calls that leave its files
-        open_files_are_apart(); // law: which files an append and a tend change
-        merges_stay_beside::<D>(); // law: a flush names no output of a merge
         raised_facts_rise(); // law: floor and trimmed batches rise
         if self.has_ended {
             return Err(EngineError::Failed);
         }
         let floor = self.snapshots.least(self.committed);
-        let answer = match self.store.tend(alloc, &mut self.files, self.limits.log) {
-            Ok(Tended::Idle) => tend_merge(
-                alloc,
-                &mut self.files,
-                &mut self.store,
-                &mut self.merge,
-                &mut self.turn,
-                &self.limits,
-                floor,
-            ),
-            done => done,
-        };
+        let answer = tend_store(
+            alloc,
+            &mut self.files,
+            &mut self.store,
+            &mut self.merge,
+            &mut self.turn,
+            &self.limits,
+            floor,
+        );
         self.has_ended = answer.is_err();
         answer
     }

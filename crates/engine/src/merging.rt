@@ -18,17 +18,20 @@ ghost use Rattle.store_tables.specs.Errors.{IsEnd};
 ghost use Rattle.engine.specs.BeginParts.{BeginsMerge};
 ghost use Rattle.engine.specs.LentFiles.{files_ghosts, union_ghosts};
 ghost use Rattle.engine.specs.declared.merging.Progress.TheVariants.{Done};
-ghost use Rattle.engine.specs.MergeParts.{AdvancesPlanned, GoesOn, HoldEdit, IsBegun, IsEditOf};
+ghost use Rattle.engine.specs.MergeParts.{AdvancesPlanned, IsAdvanced, HoldEdit, IsNewMerge, IsEditOf};
 ghost use Rattle.engine.specs.MergeParts.{IsMergeFile, IsMergeIn, IsPicked, KeepsMerge, KeepsPart};
 ghost use Rattle.engine.specs.MergeParts.{HasNoLeftovers, IsEndedBy, IsTendedFile, PartMayFail};
 ghost use Rattle.engine.specs.MergeParts.{BeganLate, WereMeantEdit, error_of_merge, free_behind};
 ghost use Rattle.engine.specs.MergeParts.{merge_after};
-ghost use Rattle.engine.specs.Tends.{HasMerged, MergesAsDue, key_of_plan};
+ghost use Rattle.engine.specs.Tends.{HasMerged, TendsStore, KeepsTended, MergesAsDue};
+ghost use Rattle.engine.specs.Tends.{TendsAsPlanned, TendsInOrder, key_of_plan, tended_store};
 ghost use Rattle.compaction.specs.declared.Turn.{Turn};
 ghost use Rattle.kv_types.specs.declared.Limits.{Limits};
 ghost use Rattle.engine.specs.UnderWay.{HoldsWithMerge, WasMeantWithMerge};
 
-use compaction::laws::{merge_edits_keep, picks_are_planned};
+use compaction::laws::{
+    merge_edits_keep, merges_outlive_calls, merges_stay_beside, picks_are_planned,
+};
 use compaction::{Merge, MergeError, Plan, Turn, pick};
 use disk::Disk;
 use kv_types::{Key, Limits, Number};
@@ -122,7 +125,7 @@ pub(crate) fn begin<D: Disk + Drop>(
     ensures first { IfOk result (λ merge. begun_number merge ≡ store.new.free_file) }
     ensures begun { (list : List BatchContent) → D.is_honest (inner_disk files.old) →
         WereMeantToHold (D.state (inner_disk files.old)) store.old list →
-        IfOk result (IsBegun D.Disk plan files.new store.new) }
+        IfOk result (IsNewMerge D.Disk plan files.new store.new) }
 {
     open_files_are_apart(); // law: no file exists from the first free one on
     store.raise_floor(alloc, files, floor)?;
@@ -139,7 +142,7 @@ fn advance<D: Disk + Drop>(
     requires { AreUsableFiles store.old }
     ensures kept { KeepsMerge D.Disk (merge_after merge.new) (Some merge.old) files.old files.new
         store.old store.new result }
-    ensures goes_on { GoesOn store.old store.new merge.old merge.new }
+    ensures goes_on { IsAdvanced store.old store.new merge.old merge.new }
     ensures advances { AdvancesPlanned D.Disk files.old files.new store.old store.new merge.old
         merge.new result }
     ensures done { IfOk result (λ progress. progress ≡ Done →
@@ -265,7 +268,7 @@ fn end<D: Disk + Drop>(
 }
 
 // Does the next part of the merge that is under way.
-fn go_on<D: Disk + Drop>(
+fn continue_merge<D: Disk + Drop>(
     alloc: Global,
     files: &mut Files<D>,
     store: &mut StoreFiles,
@@ -276,14 +279,14 @@ fn go_on<D: Disk + Drop>(
     ensures kept { KeepsMerge D.Disk (λ _. merge.new) merge.old files.old files.new store.old
         store.new result }
     ensures did { (limits : Limits) (floor : ℕ) (turn : Turn) → IfOk result (HasMerged limits floor
-        (record { files = files.old; store = store.old; merge = merge.old; turn = turn })
-        (record { files = files.new; store = store.new; merge = merge.new; turn = turn })) }
+        (tended_store files.old store.old merge.old turn)
+        (tended_store files.new store.new merge.new turn)) }
     ensures as_due { (limits : Limits) (floor : ℕ) (turn : Turn) (list : List BatchContent) →
         D.is_honest (inner_disk files.old) →
         WasMeantWithMerge D.Disk files.old store.old merge.old list →
         IfOk result (MergesAsDue D.Disk limits floor
-        (record { files = files.old; store = store.old; merge = merge.old; turn = turn })
-        (record { files = files.new; store = store.new; merge = merge.new; turn = turn })) }
+        (tended_store files.old store.old merge.old turn)
+        (tended_store files.new store.new merge.new turn)) }
 {
     let Some(mut it) = merge.take() else {
         return Ok(Tended::Idle);
@@ -321,9 +324,9 @@ fn key_of(plan: Plan, tables: &[TableLine]) -> Result<Option<Key>, AllocError>
     Ok(None)
 }
 
-/// Does the next part of the merge that is under way, or begins the one that is due: then the floor
-/// rises to this number.
-pub(crate) fn tend_merge<D: Disk + Drop>(
+// Does the next part of the merge that is under way, or begins the one that is due: then the floor
+// rises to this number.
+fn tend_merge<D: Disk + Drop>(
     alloc: Global,
     files: &mut Files<D>,
     store: &mut StoreFiles,
@@ -333,26 +336,20 @@ pub(crate) fn tend_merge<D: Disk + Drop>(
     floor: Number,
 ) -> Result<Tended, EngineError>
     requires { MayRise store.old floor }
-    ensures kept { KeepsPart D.Disk (IsTendedFile store.old merge.old floor)
-        (OfEitherFacts (known_facts store.old) (facts_with_floor store.old floor))
-        (PartMayFail D.Disk files.old store.old merge.old)
-        (HoldsWithMerge D.Disk files.old store.old merge.old)
-        (WasMeantWithMerge D.Disk files.old store.old merge.old)
-        (λ _. HoldsWithMerge D.Disk files.new store.new merge.new)
-        (λ _. WasMeantWithMerge D.Disk files.new store.new merge.new)
-        files.old files.new store.old store.new result }
+    ensures kept { KeepsTended D.Disk floor (tended_store files.old store.old merge.old turn.old)
+        (tended_store files.new store.new merge.new turn.new) result }
     ensures did { IfOk result (HasMerged limits.now floor
-        (record { files = files.old; store = store.old; merge = merge.old; turn = turn.old })
-        (record { files = files.new; store = store.new; merge = merge.new; turn = turn.new })) }
+        (tended_store files.old store.old merge.old turn.old)
+        (tended_store files.new store.new merge.new turn.new)) }
     ensures as_due { (list : List BatchContent) → D.is_honest (inner_disk files.old) →
         WasMeantWithMerge D.Disk files.old store.old merge.old list →
         IfOk result (MergesAsDue D.Disk limits.now floor
-        (record { files = files.old; store = store.old; merge = merge.old; turn = turn.old })
-        (record { files = files.new; store = store.new; merge = merge.new; turn = turn.new })) }
+        (tended_store files.old store.old merge.old turn.old)
+        (tended_store files.new store.new merge.new turn.new)) }
 {
     held_files_are_left(); // law: what the disk of open files reads as, and leaves
     if merge.is_some() {
-        return go_on(alloc, files, store, merge);
+        return continue_merge(alloc, files, store, merge);
     }
     let Some(plan) = pick(store.manifest.state(), limits, turn) else {
         return Ok(Tended::Idle);
@@ -363,4 +360,42 @@ pub(crate) fn tend_merge<D: Disk + Drop>(
         turn.advance(plan.level, key);
     }
     Ok(Tended::Worked)
+}
+
+/// Does the first that is due: a rewrite of the manifest, a flush, or the next part of a merge, for
+/// which the floor may rise to this number.
+pub(crate) fn tend_store<D: Disk + Drop>(
+    alloc: Global,
+    files: &mut Files<D>,
+    store: &mut StoreFiles,
+    merge: &mut Option<Merge<D>>,
+    turn: &mut Turn,
+    limits: &Limits,
+    floor: Number,
+) -> Result<Tended, EngineError>
+    requires { MayRise store.old floor }
+    ensures kept { KeepsTended D.Disk floor (tended_store files.old store.old merge.old turn.old)
+        (tended_store files.new store.new merge.new turn.new) result }
+    ensures did { IfOk result (TendsStore limits.now floor
+        (tended_store files.old store.old merge.old turn.old)
+        (tended_store files.new store.new merge.new turn.new)) }
+    ensures in_order { (list : List BatchContent) → D.is_honest (inner_disk files.old) →
+        WereMeantToHold (D.state (inner_disk files.old)) store.old list →
+        IfOk result (TendsInOrder limits.now floor
+        (tended_store files.old store.old merge.old turn.old)
+        (tended_store files.new store.new merge.new turn.new)) }
+    ensures planned { (list : List BatchContent) → D.is_honest (inner_disk files.old) →
+        WasMeantWithMerge D.Disk files.old store.old merge.old list →
+        IfOk result (TendsAsPlanned D.Disk limits.now floor
+        (tended_store files.old store.old merge.old turn.old)
+        (tended_store files.new store.new merge.new turn.new)) }
+{
+    held_files_are_left(); // law: what the disk of open files reads as, and leaves
+    merges_outlive_calls::<D>(); // law: a merge outlives calls that leave its files
+    open_files_are_apart(); // law: which files a tend of the store changes
+    merges_stay_beside::<D>(); // law: a flush names no output of a merge
+    match store.tend(alloc, files, limits.log) {
+        Ok(Tended::Idle) => tend_merge(alloc, files, store, merge, turn, limits, floor),
+        done => done,
+    }
 }

@@ -9,14 +9,13 @@ use Rattle.manifest.specs.declared.TableLine.{TableLine}
 use Rattle.manifest.specs.{HeldVersionIsLeft, HeldVersionStays, StoreVersion}
 use Rattle.store_files.specs.declared.store_files.StoreFiles.{StoreFiles}
 use Rattle.store_files.specs.BesideFiles.{HasSameNamed, IsNamedLeft, OtherFilesAreFree, with_free}
-use Rattle.store_files.specs.OpenFiles.{FilesAreRead, FilesHold, WereMeantToHold}
-use Rattle.store_files.specs.OpenFiles.{known_facts, known_version, trimmed_count}
+use Rattle.store_files.specs.OpenFiles.{FilesAreRead, FilesHold, WereMeantToHold, known_facts}
+use Rattle.store_files.specs.OpenFiles.{known_version, trimmed_count}
 use Rattle.store_files.specs.StoreFiles.{WereMeant}
-use Rattle.store_files.proofs.KeptFiles.{log_is_kept, named_logs_in, read_is_left, served_in}
-use Rattle.store_files.proofs.KeptFiles.{slot_is_kept, table_is_kept}
+use Rattle.store_files.proofs.KeptNames.{log_is_kept, slot_is_kept, table_is_kept}
+use Rattle.store_files.proofs.KeptFiles.{named_logs_in, read_is_left, served_in}
 use Rattle.store_files.proofs.Meant.{as_meant_stays}
-use Rattle.store_files.proofs.MeantFiles.{follows, named_were_left, tables_of_meant}
-use Rattle.store_files.proofs.MeantFiles.{unnamed_beside}
+use Rattle.store_files.proofs.MeantFiles.{follows, named_were_left, tables_of_meant, unnamed_beside}
 use Rattle.store_files.proofs.MeantOpenings.{mended, mended_at, mended_beside}
 use Rattle.store_files.proofs.MeantTends.{manifest_holds, named_of}
 use Rattle.store_files.proofs.NamedFiles.{tables_same}

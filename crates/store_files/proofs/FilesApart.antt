@@ -1,10 +1,9 @@
 -- The file of the newest log is no slot and no table's.
-use Rattle.std.proofs.Common.{◌≡◌, ◌≢◌, ℕ, ◌≤◌, List, [], ◌∷◌, ◌++◌, map, Contains, Bool}
-use Rattle.std.proofs.Common.{true, false, arith, eq-eqb, inl, inr, refl, subst, sym, ◌∙◌}
+use Rattle.std.proofs.Common.{◌≡◌, ◌≢◌, ℕ, ◌≤◌, List, [], ◌∷◌, ◌++◌, map, Contains, Bool, true}
+use Rattle.std.proofs.Common.{false, arith, eq-eqb, inl, inr, refl, subst, sym, ◌∙◌}
 use Rattle.std.specs.Prelude.{IsTrue, not, ◌&&◌, ◌==◌}
 use Rattle.std.specs.List.{list_any}
-use Rattle.std.proofs.lemmas.List.Elements.{All-contains}
-use Rattle.std.proofs.lemmas.List.Elements.{Contains-append_right}
+use Rattle.std.proofs.lemmas.List.Elements.{All-contains, Contains-append_right}
 use Rattle.store_model.specs.PlacesLemmas.{contains_cases, contains_head}
 use Rattle.manifest.specs.declared.LogLine.{LogLine}
 use Rattle.manifest.specs.declared.TableLine.{TableLine}
@@ -14,9 +13,8 @@ use Rattle.manifest.specs.{IsLogLine, IsSlotFile, StoreVersion}
 use Rattle.store_files.specs.declared.store_files.StoreFiles.{StoreFiles}
 use Rattle.batch_logs.specs.BatchLogs.{line_of, newest_file}
 use Rattle.store_files.specs.OpenFiles.{AreUsableFiles, known_version}
-use Rattle.store_files.proofs.KeptFiles.{contains_map}
-use Rattle.store_files.proofs.Records.{either}
-use Rattle.store_files.proofs.Records.{not_true}
+use Rattle.store_files.proofs.KeptNames.{contains_map}
+use Rattle.store_files.proofs.Records.{either, not_true}
 
 -- a number of the list passes the test
 pub any_at : (n : ℕ) (ns : List ℕ) → Contains ns n → list_any (λ other. other == n) ns ≡ true

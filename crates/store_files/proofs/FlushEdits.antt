@@ -7,8 +7,7 @@ use Rattle.std.specs.List.{list_all, list_any}
 use Rattle.std.proofs.lemmas.Bool.{and_from, and_parts, le-leb, lt-ltb, ne_eqb}
 use Rattle.std.proofs.lemmas.List.{length-append, map-append}
 use Rattle.std.proofs.lemmas.List.Elements.{All-append, All-cons, All-head, All-map, All-nil}
-use Rattle.std.proofs.lemmas.List.Elements.{All-tail}
-use Rattle.std.proofs.lemmas.List.Elements.{All-weaker}
+use Rattle.std.proofs.lemmas.List.Elements.{All-tail, All-weaker}
 use Rattle.std.proofs.lemmas.List.Folds.{list_all-append, list_any-append, list_any_none}
 use Rattle.kv_types.specs.declared.bounds.TheConstants.{MAX_NUMBER}
 use Rattle.chain_model.specs.{is_part}
@@ -17,15 +16,14 @@ use Rattle.manifest.specs.declared.LogLine.{LogLine}
 use Rattle.manifest.specs.declared.TableLine.{TableLine}
 use Rattle.manifest.specs.Lawful.{IsAllocated, IsVersion}
 use Rattle.manifest.specs.Versions.{all_apart, are_apart, are_once, files_of, is_new_file}
-use Rattle.manifest.specs.Versions.{keeps_ids}
-use Rattle.manifest.specs.Versions.{AreLawful, log_is_before, placed, table_is_before, with_log}
-use Rattle.manifest.specs.Versions.{with_table}
+use Rattle.manifest.specs.Versions.{keeps_ids, AreLawful, log_is_before, placed, table_is_before}
+use Rattle.manifest.specs.Versions.{with_log, with_table}
 use Rattle.manifest.specs.VersionsLemmas.{all_logs_left, all_tables_left}
 use Rattle.manifest.specs.{IsChange, IsFit, IsLogLine, IsTableLine, StoreVersion, changed}
 use Rattle.store_files.specs.StoreFiles.{begun_log, flush_change}
 use Rattle.store_tables.specs.TableWriting.{IsNewLine}
 use Rattle.store_files.specs.Tending.{LacksPlace}
-use Rattle.store_files.proofs.KeptFiles.{some_is_given}
+use Rattle.store_files.proofs.KeptNames.{some_is_given}
 use Rattle.store_files.proofs.Records.{either}
 
 -- ---- where one more stands

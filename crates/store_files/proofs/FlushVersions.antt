@@ -1,10 +1,9 @@
 -- The version that a flush makes, and the open files that know it.
-use Rattle.std.proofs.Common.{◌≡◌, ◌≢◌, ℕ, suc, ◌+◌, ◌-◌, ◌<◌, ◌≤◌, ◌∙◌, List, [], ◌∷◌, ◌++◌}
-use Rattle.std.proofs.Common.{map, arith, inr, refl, subst, sym, ap}
+use Rattle.std.proofs.Common.{◌≡◌, ◌≢◌, ℕ, suc, ◌+◌, ◌-◌, ◌<◌, ◌≤◌, ◌∙◌, List, [], ◌∷◌, ◌++◌, map}
+use Rattle.std.proofs.Common.{arith, inr, refl, subst, sym, ap}
 use Rattle.std.specs.Prelude.{All, Contains}
-use Rattle.std.proofs.lemmas.List.Elements.{All-contains_itself, All-map}
-use Rattle.std.proofs.lemmas.List.Elements.{All-push, All-weaker, Contains-append_left}
-use Rattle.std.proofs.lemmas.List.Elements.{Contains-push}
+use Rattle.std.proofs.lemmas.List.Elements.{All-contains_itself, All-map, All-push, All-weaker}
+use Rattle.std.proofs.lemmas.List.Elements.{Contains-append_left, Contains-push}
 use Rattle.kv_types.specs.{Entry}
 use Rattle.memtable.specs.{HasFailedAdd, TableHolds}
 use Rattle.record_log.specs.{file_of}
@@ -12,31 +11,25 @@ use Rattle.version_edits.specs.declared.line.TheConstants.{MAX_NEXT}
 use Rattle.manifest.specs.declared.LogLine.{LogLine}
 use Rattle.manifest.specs.declared.TableLine.{TableLine}
 use Rattle.manifest.specs.Lawful.{IsAllocated}
-use Rattle.manifest.specs.{Change, EditsKeepVersions, IsChange}
-use Rattle.manifest.specs.{IsFit, IsVersion, ManifestHasFailed}
-use Rattle.manifest.specs.{NodeVersion, StoreVersion, changed}
-use Rattle.manifest.specs.{node_version_after}
+use Rattle.manifest.specs.{Change, EditsKeepVersions, IsChange, IsFit, IsVersion, ManifestHasFailed}
+use Rattle.manifest.specs.{NodeVersion, StoreVersion, changed, node_version_after}
 use Rattle.batch_logs.specs.declared.batch_logs.BatchLog.{BatchLog}
 use Rattle.store_files.specs.declared.store_files.StoreFiles.{StoreFiles}
-use Rattle.batch_logs.specs.BatchLogs.{AreBeside, AreUsable}
-use Rattle.batch_logs.specs.BatchLogs.{first_number, line_of, lines_of, newest_file, next_number}
-use Rattle.batch_logs.specs.BatchLogs.{with_line}
-use Rattle.store_tables.specs.LevelTables.{table_lines}
-use Rattle.store_tables.specs.LevelTables.{with_flushed_line}
-use Rattle.store_files.specs.OpenFiles.{AreUsableFiles, batch_count}
-use Rattle.store_files.specs.StoreFiles.{AreOrderedNumbers}
-use Rattle.store_files.specs.OpenFiles.{known_facts, known_version, trimmed_count}
-use Rattle.store_files.specs.StoreFiles.{before_newest, begun_log, flush_change}
+use Rattle.batch_logs.specs.BatchLogs.{AreBeside, AreUsable, first_number, line_of, lines_of}
+use Rattle.batch_logs.specs.BatchLogs.{newest_file, next_number, with_line}
+use Rattle.store_tables.specs.LevelTables.{table_lines, with_flushed_line}
+use Rattle.store_files.specs.OpenFiles.{AreUsableFiles, batch_count, known_facts, known_version}
+use Rattle.store_files.specs.OpenFiles.{trimmed_count}
+use Rattle.store_files.specs.StoreFiles.{AreOrderedNumbers, before_newest, begun_log, flush_change}
 use Rattle.store_files.specs.Tending.{IsNextTable, LacksPlace}
 use Rattle.batch_logs.specs.MemtablesLemmas.{none_numbered}
 use Rattle.store_files.proofs.FilesApart.{newest_positive}
 use Rattle.store_files.proofs.FlushEdits.{flush_change_is, flush_fit}
 use Rattle.store_files.proofs.FlushedFiles.{logs_after, newest_after, tables_after}
 use Rattle.store_files.proofs.FlushedTables.{flushed_lines}
-use Rattle.store_files.proofs.KeptFiles.{contains_map}
+use Rattle.store_files.proofs.KeptNames.{contains_map}
 use Rattle.batch_logs.specs.BatchLogsLemmas.{joined_in_turn as in_turn}
-use Rattle.store_files.proofs.NamedHolds.{facts_of, first_begun, firsts_in_turn}
-use Rattle.store_files.proofs.NamedHolds.{log_given}
+use Rattle.store_files.proofs.NamedHolds.{facts_of, first_begun, firsts_in_turn, log_given}
 
 -- ---- the version after a flush
 

@@ -1,7 +1,7 @@
 -- A flush that is installed: what the files named by the old version and by the new one represent
 -- together, and what a crash leaves of them meanwhile.
-use Rattle.std.proofs.Common.{◌≡◌, ◌≢◌, ◌⊎◌, ℕ, suc, ◌+◌, ◌<◌, ◌≤◌, ◌∙◌, List}
-use Rattle.std.proofs.Common.{drop, arith, inl, inr, refl, subst, sym, ap}
+use Rattle.std.proofs.Common.{◌≡◌, ◌≢◌, ◌⊎◌, ℕ, suc, ◌+◌, ◌<◌, ◌≤◌, ◌∙◌, List, drop, arith, inl}
+use Rattle.std.proofs.Common.{inr, refl, subst, sym, ap}
 use Rattle.std.specs.Prelude.{All, Contains, IsNone}
 use Rattle.kv_types.specs.{BatchContent, Entry}
 use Rattle.disk.specs.{Contents, DurableFileIsLeft, IsDurable, IsFileOutcome, IsLeftAt, IsSameBut}
@@ -9,42 +9,33 @@ use Rattle.disk.specs.{LeavesSince, Slot, State, contents, seen}
 use Rattle.disk.specs.MomentsLemmas.{join, none_yet, weaker}
 use Rattle.memtable.specs.{TableHolds}
 use Rattle.record_log.specs.{EndsInRange}
-use Rattle.store_model.specs.Claims.{FlushesKeep}
+use Rattle.store_model.specs.Claims.{FlushesKeep, FlushesLeaveMerges}
 use Rattle.store_model.specs.StoresLemmas.{entry_within}
-use Rattle.store_model.specs.{IsFlush, LevelTable, StoreRepresents}
+use Rattle.store_model.specs.{IsFlush, LevelTable, StoreRepresents, IsUnderWay, MergePlan}
+use Rattle.store_model.specs.{flushed_store}
 use Rattle.manifest.specs.declared.LogLine.{LogLine}
 use Rattle.manifest.specs.declared.TableLine.{TableLine}
 use Rattle.manifest.specs.{Change, EditsKeepVersions, HeldVersionIsLeft, HeldVersionStays}
-use Rattle.manifest.specs.{IsSlotFile, ManifestHolds}
-use Rattle.manifest.specs.{ManifestRepresents, NodeVersion, SlotsAreLeft, StoreVersion, changed}
-use Rattle.manifest.specs.{node_version_after}
+use Rattle.manifest.specs.{IsSlotFile, ManifestHolds, ManifestRepresents, NodeVersion, SlotsAreLeft}
+use Rattle.manifest.specs.{StoreVersion, changed, node_version_after}
 use Rattle.batch_logs.specs.declared.batch_logs.BatchLogs.{BatchLogs}
 use Rattle.store_tables.specs.declared.levels.OpenTable.{OpenTable}
 use Rattle.store_files.specs.declared.store_files.StoreFiles.{StoreFiles}
-use Rattle.batch_logs.specs.BatchLogs.{LogsHold}
-use Rattle.batch_logs.specs.BatchLogs.{lines_of, next_number}
-use Rattle.batch_logs.specs.BatchLogs.{with_line}
-use Rattle.store_tables.specs.LevelTables.{AreServed, AreTablesOf, IsServed}
-use Rattle.store_tables.specs.LevelTables.{with_flushed}
-use Rattle.store_files.specs.OpenFiles.{AreUsableFiles, FilesHold, batch_count}
-use Rattle.store_files.specs.OpenFiles.{known_facts, known_store, known_version, trimmed_count}
-use Rattle.store_files.specs.StoreFiles.{FilesRepresent, flush_change}
-use Rattle.store_files.specs.StoreFiles.{store_of_version}
+use Rattle.batch_logs.specs.BatchLogs.{LogsHold, lines_of, next_number, with_line}
+use Rattle.store_tables.specs.LevelTables.{AreServed, AreTablesOf, IsServed, with_flushed}
+use Rattle.store_files.specs.OpenFiles.{AreUsableFiles, FilesHold, batch_count, known_facts}
+use Rattle.store_files.specs.OpenFiles.{known_store, known_version, trimmed_count}
+use Rattle.store_files.specs.StoreFiles.{FilesRepresent, flush_change, store_of_version}
 use Rattle.store_files.specs.Tending.{HeldAndSpilled, IsNextTable}
 use Rattle.store_files.proofs.BegunFiles.{absent_ends}
-use Rattle.store_files.proofs.FlushedTables.{all_flushed, flushed_edited}
-use Rattle.store_files.proofs.FlushedTables.{flushed_read}
-use Rattle.store_files.proofs.KeptFiles.{one_served_in}
-use Rattle.store_files.proofs.KeptFiles.{served_in, some_is_given}
+use Rattle.store_files.proofs.FlushedTables.{all_flushed, flushed_edited, flushed_read}
+use Rattle.store_files.proofs.KeptFiles.{one_served_in, served_in}
+use Rattle.store_files.proofs.KeptNames.{some_is_given}
 use Rattle.store_files.proofs.NamedFiles.{table_same}
-use Rattle.store_files.proofs.NamedHolds.{NamedHold}
-use Rattle.store_files.proofs.NamedHolds.{log_given, log_no_slot, named_in, named_left, table_given}
-use Rattle.store_files.proofs.NamedHolds.{table_no_slot}
+use Rattle.store_files.proofs.NamedHolds.{NamedHold, log_given, log_no_slot, named_in, named_left}
+use Rattle.store_files.proofs.NamedHolds.{table_given, table_no_slot}
 use Rattle.store_files.proofs.FlushVersions.{IsFlushOf, after_is, count_kept, free_above, known}
-use Rattle.store_files.proofs.FlushVersions.{lines_begun}
-use Rattle.store_files.proofs.FlushVersions.{newest_is, tables_are, trimmed_kept}
-use Rattle.store_model.specs.Claims.{FlushesLeaveMerges}
-use Rattle.store_model.specs.{IsUnderWay, MergePlan, flushed_store}
+use Rattle.store_files.proofs.FlushVersions.{lines_begun, newest_is, tables_are, trimmed_kept}
 use Rattle.store_files.proofs.Plans.{ends_in}
 
 module _ {files : StoreFiles} {line : TableLine} {file : ℕ} {edit : Change}

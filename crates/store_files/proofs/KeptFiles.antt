@@ -1,144 +1,38 @@
 -- The files that a version names: what a crash leaves of them represents what was read of them, and
 -- where they stay and no other exists, the open files hold it.
-use Rattle.std.proofs.Common.{◌≡◌, ◌<◌, ◌≤◌, ◌+◌, ◌∙◌, ℕ, suc, List, [], ◌∷◌, ◌++◌, map, drop}
-use Rattle.std.proofs.Common.{length}
-use Rattle.std.proofs.Common.{arith, inl, inr, refl, subst, sym, ap}
-use Rattle.std.specs.Prelude.{All, Contains, IsNone}
+use Rattle.std.proofs.Common.{◌≡◌, ◌≤◌, ◌+◌, ◌∙◌, ℕ, suc, List, [], ◌∷◌, map, drop, length, arith}
+use Rattle.std.proofs.Common.{refl, subst, sym, ap}
+use Rattle.std.specs.Prelude.{Contains, IsNone}
 use Rattle.std.specs.List.{AllZip}
 use Rattle.std.proofs.lemmas.List.Elements.{All-contains, All-contains_itself, All-weaker}
-use Rattle.std.proofs.lemmas.List.Elements.{Contains-append_cases, Contains-append_left}
-use Rattle.std.proofs.lemmas.List.Elements.{Contains-append_right, Contains-push}
+use Rattle.std.proofs.lemmas.List.Elements.{Contains-append_left, Contains-push}
 use Rattle.kv_types.specs.{BatchContent}
 use Rattle.disk.specs.{Contents, DurableFileIsLeft, IsDurable, IsFileOutcome, Slot, State, contents}
 use Rattle.disk.specs.{seen}
-use Rattle.store_model.specs.{LevelTable}
-use Rattle.store_model.specs.PlacesLemmas.{contains_cases, contains_head, contains_next}
+use Rattle.store_model.specs.{LevelTable, IsUnderWay, MergePlan, StoreState}
+use Rattle.store_model.specs.PlacesLemmas.{contains_head, contains_next}
 use Rattle.manifest.specs.declared.LogLine.{LogLine}
 use Rattle.manifest.specs.declared.Manifest.{Manifest}
 use Rattle.manifest.specs.declared.TableLine.{TableLine}
-use Rattle.manifest.specs.{HeldVersionIsLeft, HeldVersionStays, IsSlotFile, StoreVersion}
-use Rattle.manifest.specs.{IsVersion, ManifestHolds, ManifestRepresents, NodeVersion}
-use Rattle.manifest.specs.Lawful.{IsAllocated}
-use Rattle.manifest.specs.Versions.{files_of}
+use Rattle.manifest.specs.{HeldVersionIsLeft, HeldVersionStays, StoreVersion, ManifestHolds}
+use Rattle.manifest.specs.{ManifestRepresents, NodeVersion}
 use Rattle.sorted_table.specs.{TableServes, table_file}
 use Rattle.batch_logs.specs.declared.batch_logs.BatchLog.{BatchLog}
 use Rattle.batch_logs.specs.declared.batch_logs.BatchLogs.{BatchLogs}
 use Rattle.store_tables.specs.declared.levels.OpenTable.{OpenTable}
 use Rattle.store_files.specs.declared.store_files.StoreFiles.{StoreFiles}
 use Rattle.batch_logs.specs.BatchLogs.{AreParted, HasPart, HaveBatches, HoldsPart, LogsHold}
-use Rattle.batch_logs.specs.BatchLogs.{line_of}
-use Rattle.batch_logs.specs.BatchLogs.{lines_of}
+use Rattle.batch_logs.specs.BatchLogs.{line_of, lines_of}
 use Rattle.store_tables.specs.LevelTables.{AreTablesOf, IsServed, IsTableOf}
 use Rattle.store_files.specs.OpenFiles.{FilesAreRead, FilesHold, known_facts, known_version}
-use Rattle.store_files.specs.OpenFiles.{trimmed_count}
+use Rattle.store_files.specs.OpenFiles.{trimmed_count, known_store}
 use Rattle.store_files.specs.Openings.{kept_files}
 use Rattle.store_files.specs.Settling.{AreAlone, SparesFiles}
 use Rattle.store_files.specs.StoreFiles.{FilesRepresent}
 use Rattle.store_files.proofs.NamedFiles.{tables_same}
 use Rattle.batch_logs.specs.PartsLemmas.{AreKept, part_in, part_left, parted_in, parted_push}
-use Rattle.store_model.specs.{IsUnderWay, MergePlan, StoreState}
-use Rattle.store_files.specs.OpenFiles.{known_store}
-
--- ---- which files are kept
-
-pub contains_map : {A B : Type 0} (f : A → B) (xs : List A) (x : A) → Contains xs x →
-    Contains (map f xs) (f x)
-contains_map f [] x has = absurd (omega (arith, has.1))
-contains_map f (y ∷ ys) x has = elim (contains_cases y ys x has) [
-  | inl is ↦ subst (λ z. Contains (f y ∷ map f ys) (f z)) is (contains_head (f y) (map f ys))
-  | inr later ↦ contains_next (f y) (map f ys) (f x) (contains_map f ys x later)
-]
-
--- what stands in the list of what a function gives is given by some element
-pub map_contains : {A B : Type 0} (f : A → B) (xs : List A) (y : B) → Contains (map f xs) y →
-    (x : A) × Contains xs x × (f x ≡ y)
-map_contains f [] y has = absurd (omega (arith, has.1))
-map_contains f (x ∷ xs) y has = elim (contains_cases (f x) (map f xs) y has) [
-  | inl is ↦ (x, contains_head x xs, is)
-  | inr later ↦ further (map_contains f xs y later)
-]
-  where
-    further : (z : _) × Contains xs z × (f z ≡ y) → (z : _) × Contains (x ∷ xs) z × (f z ≡ y)
-    further found = (found.0, contains_next x xs found.0 found.1, found.2)
-
-module _ (version : StoreVersion) where
-  -- the files of the logs and of the tables
-  abbrev named : List ℕ
-  named = files_of version.logs version.tables
-
-  behind_slots : (file : ℕ) →
-      Contains (map (λ (line : LogLine). line.file) version.logs
-      ++ map (λ (line : TableLine). line.file) version.tables) file →
-      Contains (kept_files version) file
-  behind_slots file has =
-      contains_next 1 (2 ∷ named) file (contains_next 2 named file has)
-
-  pub slot_is_kept : (file : ℕ) → IsSlotFile file → Contains (kept_files version) file
-  slot_is_kept file (inl one) =
-      subst (Contains (kept_files version)) (sym one) (contains_head 1 (2 ∷ named))
-  slot_is_kept file (inr two) =
-      subst (Contains (kept_files version)) (sym two)
-      (contains_next 1 (2 ∷ named) 2 (contains_head 2 named))
-
-  pub log_is_kept : (line : LogLine) → Contains version.logs line →
-      Contains (kept_files version) line.file
-  log_is_kept line has =
-      behind_slots line.file (Contains-append_left
-      (map (λ (one : LogLine). one.file) version.logs)
-      (map (λ (one : TableLine). one.file) version.tables) line.file
-      (contains_map (λ (one : LogLine). one.file) version.logs line has))
-
-  pub table_is_kept : (line : TableLine) → Contains version.tables line →
-      Contains (kept_files version) line.file
-  table_is_kept line has =
-      behind_slots line.file (Contains-append_right
-      (map (λ (one : LogLine). one.file) version.logs)
-      (map (λ (one : TableLine). one.file) version.tables) line.file
-      (contains_map (λ (one : TableLine). one.file) version.tables line has))
-
-  -- a file that is named has a number that was given
-  module _ (is : IsVersion version) where
-    log_is_given : (file : ℕ) →
-        Contains (map (λ (one : LogLine). one.file) version.logs) file → IsAllocated version file
-    log_is_given file has =
-        let found = map_contains (λ (one : LogLine). one.file) version.logs file has in
-        subst (IsAllocated version) found.2
-        (All-contains (λ (one : LogLine). IsAllocated version one.file) version.logs found.0
-        is.lines.log_files found.1)
-
-    table_is_given : (file : ℕ) →
-        Contains (map (λ (one : TableLine). one.file) version.tables) file
-        → IsAllocated version file
-    table_is_given file has =
-        let found = map_contains (λ (one : TableLine). one.file) version.tables file has in
-        subst (IsAllocated version) found.2
-        (All-contains (λ (one : TableLine). IsAllocated version one.file) version.tables found.0
-        is.lines.table_files found.1)
-
-    pub some_is_given : (logs : List LogLine) → 0 < length logs →
-        All (λ (one : LogLine). IsAllocated version one.file) logs → 3 < version.next_file
-    some_is_given [] some all = absurd (omega (arith, some))
-    some_is_given (one ∷ logs) some all =
-        let given = All-contains (λ (line : LogLine). IsAllocated version line.file)
-        (one ∷ logs) one
-        all (contains_head one logs) in
-        omega (arith, given.0, given.1)
-
-    pub kept_is_given : (file : ℕ) → Contains (kept_files version) file → file < version.next_file
-    kept_is_given file has =
-        let least = some_is_given version.logs is.lawful.some is.lines.log_files in
-        elim (contains_cases 1 (2 ∷ named) file has) [
-          | inl one ↦ omega (arith, one, least)
-          | inr other ↦ elim (contains_cases 2 named file other) [
-            | inl two ↦ omega (arith, two, least)
-            | inr behind ↦ elim (Contains-append_cases
-                (map (λ (one : LogLine). one.file) version.logs)
-                (map (λ (one : TableLine). one.file) version.tables) file behind) [
-                  | inl log ↦ (log_is_given file log).1
-                  | inr table ↦ (table_is_given file table).1
-                ]
-          ]
-        ]
+use Rattle.store_files.proofs.KeptNames.{contains_map, kept_is_given, log_is_kept, slot_is_kept}
+use Rattle.store_files.proofs.KeptNames.{table_is_kept}
 
 -- ---- logs whose files a crash leaves
 

@@ -1,7 +1,6 @@
 -- Which logs a rise of the floor leaves, and which it gives up.
-use Rattle.std.proofs.Common.{◌≡◌, ◌≤◌, ◌<◌, ◌+◌, ◌∙◌, ℕ, List, [], ◌∷◌, ◌++◌, length}
-use Rattle.std.proofs.Common.{map, drop, ap, arith, false, inl, inr, leb-true, ltb-false, refl}
-use Rattle.std.proofs.Common.{subst, sym}
+use Rattle.std.proofs.Common.{◌≡◌, ◌≤◌, ◌<◌, ◌+◌, ◌∙◌, ℕ, List, [], ◌∷◌, ◌++◌, length, map, drop}
+use Rattle.std.proofs.Common.{ap, arith, false, inl, inr, leb-true, ltb-false, refl, subst, sym}
 use Rattle.std.specs.Prelude.{Contains, nat_le}
 use Rattle.std.proofs.lemmas.List.{length-append, length-map}
 use Rattle.std.proofs.lemmas.List.Elements.{All-head, Contains-append_left}
@@ -10,7 +9,7 @@ use Rattle.version_edits.specs.declared.line.LogLine.{LogLine}
 use Rattle.manifest.specs.Versions.{AreInOrder, log_is_before}
 use Rattle.store_files.specs.Raising.{before_oldest, obsolete_logs, live_logs}
 use Rattle.store_files.specs.StoreFiles.{before_newest}
-use Rattle.store_files.proofs.KeptFiles.{map_contains}
+use Rattle.store_files.proofs.KeptNames.{map_contains}
 use Rattle.store_files.proofs.Records.{either}
 
 -- the file of a log's line

@@ -16,6 +16,7 @@ pub mod Settles
 pub mod Removals
 pub mod Removes
 pub mod BegunFiles
+pub mod KeptNames
 pub mod KeptFiles
 pub mod StillFiles
 pub mod OpenMoments
@@ -46,6 +47,7 @@ pub mod MeantFiles
 pub mod MeantMoments
 pub mod MeantTends
 pub mod BesideFiles
+pub mod FlushedLines
 pub mod MeantInstalls
 pub mod RangeRows
 pub mod RangeCursors

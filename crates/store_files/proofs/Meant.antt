@@ -43,20 +43,16 @@ own_blocks disk [] = All-nil (HasMeantBlocks disk disk)
 own_blocks disk (it ∷ items) = All-cons (HasMeantBlocks disk disk) it items
     (as_meant_itself (disk (table_file it.table)) (index_lines it.table)) (own_blocks disk items)
 
--- open files were meant to hold what they hold
+-- a disk whose open files hold a list is as it was meant to be
 pub meant_as_is : (disk : State) (files : StoreFiles) (list : List BatchContent)
-    → FilesHold disk files list → WereMeantToHold disk files list
+    → FilesHold disk files list → IsAsMeant disk disk (known_version files).version files.tables
 meant_as_is disk files list h = record {
-  meant = disk;
-  hold = h;
-  disk_is = record {
-    others = λ file beside. refl;
-    tables = All-weaker (λ (line : TableLine). IsDurable (disk line.file))
-        (λ (line : TableLine). IsTableAsMeant (disk line.file) (disk line.file))
-        (λ line sure. inl refl) (known_version files).version.tables h.known.durable;
-    blocks = own_blocks disk files.tables.tables.items;
-    durable = h.known.durable;
-  };
+  others = λ file beside. refl;
+  tables = All-weaker (λ (line : TableLine). IsDurable (disk line.file))
+      (λ (line : TableLine). IsTableAsMeant (disk line.file) (disk line.file))
+      (λ line sure. inl refl) (known_version files).version.tables h.known.durable;
+  blocks = own_blocks disk files.tables.tables.items;
+  durable = h.known.durable;
 }
 
 -- ---- the open tables

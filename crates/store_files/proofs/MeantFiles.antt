@@ -1,7 +1,6 @@
 -- Disks whose tables' files are as they were meant, but for damaged blocks, and what a crash leaves
 -- of them.
-use Rattle.std.proofs.Common.{◌≡◌, ◌≢◌, ◌≤◌, ◌∙◌, ℕ, List, []}
-use Rattle.std.proofs.Common.{ap, arith, inl, inr, subst, sym}
+use Rattle.std.proofs.Common.{◌≡◌, ◌≢◌, ◌≤◌, ◌∙◌, ℕ, List, [], ap, arith, inl, inr, subst, sym}
 use Rattle.std.specs.Prelude.{All, Contains}
 use Rattle.std.proofs.lemmas.List.Elements.{All-contains, All-contains_itself, All-weaker}
 use Rattle.kv_types.specs.{BatchContent}
@@ -22,7 +21,7 @@ use Rattle.store_files.specs.OpenFiles.{IsAsMeant}
 use Rattle.store_files.specs.Openings.{kept_files}
 use Rattle.store_files.specs.StoreFiles.{WereMeant, durably}
 use Rattle.store_files.proofs.NamedHolds.{NamedHold, facts_of, named_left}
-use Rattle.store_files.proofs.KeptFiles.{kept_is_given, log_is_kept, slot_is_kept, table_is_kept}
+use Rattle.store_files.proofs.KeptNames.{kept_is_given, log_is_kept, slot_is_kept, table_is_kept}
 use Rattle.store_files.proofs.MeantOpenings.{mended, mended_at, mended_beside, mended_named}
 use Rattle.store_files.proofs.MeantOpenings.{named_or_beside, seen_durable, slot_beside}
 use Rattle.store_files.proofs.NamedFiles.{version_same}

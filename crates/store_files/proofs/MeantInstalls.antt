@@ -1,97 +1,47 @@
 -- A flush that is installed on a disk with damaged blocks of tables.
-use Rattle.std.proofs.Common.{◌≡◌, ◌≢◌, ◌⊎◌, ◌≤◌, ◌<◌, ◌+◌, ◌∙◌, ℕ, List, [], ◌∷◌, ap, arith}
-use Rattle.std.proofs.Common.{drop, inl, inr, refl, subst, suc, sym}
-use Rattle.std.specs.Prelude.{All, Contains, ◌==◌}
-use Rattle.std.proofs.lemmas.List.Elements.{All-contains, All-contains_itself, All-cons, All-head}
-use Rattle.std.proofs.lemmas.List.Elements.{All-nil, All-push, All-tail, All-weaker}
+use Rattle.std.proofs.Common.{◌≡◌, ◌≢◌, ◌⊎◌, ◌≤◌, ◌<◌, ◌+◌, ◌∙◌, ℕ, List, ap, arith, drop, inl, inr}
+use Rattle.std.proofs.Common.{subst, suc, sym}
+use Rattle.std.specs.Prelude.{All, Contains}
+use Rattle.std.proofs.lemmas.List.Elements.{All-contains, All-contains_itself, All-push, All-weaker}
 use Rattle.kv_types.specs.{BatchContent, Entry}
-use Rattle.disk.specs.{Contents, DurableFileIsLeft, IsDurable, IsFileOutcome, IsLeftAt}
-use Rattle.disk.specs.{IsSameBut, LeavesSince}
-use Rattle.disk.specs.{Slot, State, contents, seen}
+use Rattle.disk.specs.{Contents, DurableFileIsLeft, IsDurable, IsFileOutcome, IsLeftAt, IsSameBut}
+use Rattle.disk.specs.{LeavesSince, Slot, State, seen}
 use Rattle.disk.specs.MomentsLemmas.{join, none_yet, weaker}
 use Rattle.memtable.specs.{TableHolds}
 use Rattle.record_log.specs.{EndsInRange}
 use Rattle.sorted_table.specs.{AreAsMeant, as_meant_itself, index_lines}
-use Rattle.store_model.specs.Claims.{FlushesKeep}
+use Rattle.store_model.specs.Claims.{FlushesKeep, FlushesLeaveMerges}
 use Rattle.store_model.specs.{LevelTable}
 use Rattle.manifest.specs.declared.LogLine.{LogLine}
 use Rattle.manifest.specs.declared.TableLine.{TableLine}
 use Rattle.manifest.specs.{Change, EditsKeepVersions, HeldVersionIsLeft, HeldVersionStays}
-use Rattle.manifest.specs.{IsSlotFile, ManifestHolds, ManifestRepresents, NodeVersion}
-use Rattle.manifest.specs.{SlotsAreLeft, StoreVersion, changed, node_version_after}
+use Rattle.manifest.specs.{IsSlotFile, ManifestHolds, ManifestRepresents, NodeVersion, SlotsAreLeft}
+use Rattle.manifest.specs.{StoreVersion, changed, node_version_after}
 use Rattle.batch_logs.specs.declared.batch_logs.BatchLogs.{BatchLogs}
 use Rattle.store_tables.specs.declared.levels.OpenTable.{OpenTable}
 use Rattle.store_files.specs.declared.store_files.StoreFiles.{StoreFiles}
 use Rattle.batch_logs.specs.BatchLogs.{LogsHold, lines_of, next_number, with_line}
-use Rattle.store_tables.specs.LevelTables.{IsTableAsMeant}
-use Rattle.store_tables.specs.LevelTables.{WasServed, WereServed, with_flushed, with_flushed_line}
-use Rattle.store_files.specs.OpenFiles.{AreUsableFiles, IsAsMeant}
-use Rattle.store_tables.specs.TableWriting.{IsWrittenTable}
-use Rattle.store_files.specs.OpenFiles.{WereMeantToHold, batch_count, known_facts, known_version}
-use Rattle.store_files.specs.OpenFiles.{trimmed_count}
+use Rattle.store_tables.specs.LevelTables.{IsTableAsMeant, WasServed, WereServed, with_flushed}
+use Rattle.store_files.specs.OpenFiles.{AreUsableFiles, IsAsMeant, batch_count, known_facts}
+use Rattle.store_files.specs.OpenFiles.{known_version, trimmed_count, known_store}
 use Rattle.store_files.specs.StoreFiles.{WereMeant, flush_change}
-use Rattle.store_files.specs.Tending.{HeldAndSpilled, IsNextTable}
-use Rattle.store_files.specs.Tending.{MeantAndSpilled}
+use Rattle.store_files.specs.Tending.{HeldAndSpilled, IsNextTable, MeantAndSpilled}
 use Rattle.store_files.proofs.FlushedTables.{all_flushed}
-use Rattle.store_files.proofs.Installed.{installed_holds}
-use Rattle.store_files.proofs.FlushVersions.{IsFlushOf, after_is, free_above, known}
-use Rattle.store_files.proofs.NamedHolds.{NamedHold}
-use Rattle.store_files.proofs.Installed.{manifest_begun, named_new, named_old}
-use Rattle.store_files.proofs.NamedHolds.{log_no_slot}
-use Rattle.store_files.proofs.Installed.{new_ends}
-use Rattle.store_files.proofs.Installed.{new_served}
-use Rattle.store_files.proofs.Installed.{old_served, spilled_manifest, spilled_named}
-use Rattle.store_files.proofs.NamedHolds.{table_no_slot}
-use Rattle.store_files.proofs.FlushVersions.{tables_are}
-use Rattle.store_files.proofs.KeptFiles.{kept_is_given, named_logs_in, one_served_in, slot_is_kept}
-use Rattle.store_files.proofs.KeptFiles.{table_is_kept}
-use Rattle.store_files.proofs.Records.{either}
+use Rattle.store_files.proofs.Installed.{installed_holds, manifest_begun, named_new, named_old}
+use Rattle.store_files.proofs.Installed.{new_ends, new_served, old_served, spilled_manifest}
+use Rattle.store_files.proofs.Installed.{spilled_named, ends_behind}
+use Rattle.store_files.proofs.FlushVersions.{IsFlushOf, after_is, free_above, known, tables_are}
+use Rattle.store_files.proofs.NamedHolds.{NamedHold, log_no_slot, table_no_slot}
+use Rattle.store_files.proofs.KeptNames.{kept_is_given, slot_is_kept, table_is_kept}
+use Rattle.store_files.proofs.KeptFiles.{named_logs_in, one_served_in}
 use Rattle.store_files.proofs.Meant.{blocks_stay, zip_was}
-use Rattle.store_files.proofs.MeantFiles.{TablesAsMeant, follow_but}
-use Rattle.store_files.proofs.MeantFiles.{named_were_left, still_as_meant, tables_of_meant}
-use Rattle.store_files.proofs.MeantFiles.{unnamed_beside, unnamed_is_left}
+use Rattle.store_files.proofs.MeantFiles.{TablesAsMeant, follow_but, named_were_left}
+use Rattle.store_files.proofs.MeantFiles.{still_as_meant, tables_of_meant, unnamed_beside}
+use Rattle.store_files.proofs.MeantFiles.{unnamed_is_left}
 use Rattle.store_files.proofs.MeantOpenings.{log_beside, mended, mended_at, mended_beside}
-use Rattle.store_files.proofs.MeantOpenings.{slot_beside}
-use Rattle.store_files.proofs.MeantOpenings.{zip_blocks, zip_serves}
-use Rattle.store_files.proofs.NamedFiles.{table_same}
-use Rattle.store_model.specs.Claims.{FlushesLeaveMerges}
-use Rattle.store_files.specs.OpenFiles.{known_store}
-use Rattle.store_files.proofs.Installed.{ends_behind}
+use Rattle.store_files.proofs.MeantOpenings.{slot_beside, zip_blocks, zip_serves}
 use Rattle.store_files.proofs.MeantTends.{MeantLater}
-
--- what holds of each line, with a flushed one, holds of the others
-all_before : (P : TableLine → Type 0) (lines : List TableLine) (line : TableLine)
-    → All P (with_flushed_line lines line) → All P lines
-all_before P [] line all = All-nil P
-all_before P (other ∷ lines) line all = elim (either (other.level == 0)) [
-  | inl zeroth ↦
-      let same : with_flushed_line (other ∷ lines) line ≡ other ∷ with_flushed_line lines line =
-      rw zeroth refl in
-      let there = subst (All P) same all in
-      All-cons P other lines (All-head P other (with_flushed_line lines line) there)
-      (all_before P lines line (All-tail P other (with_flushed_line lines line) there))
-  | inr deeper ↦
-      let same : with_flushed_line (other ∷ lines) line ≡ line ∷ other ∷ lines =
-      rw deeper refl in
-      All-tail P line (other ∷ lines) (subst (All P) same all)
-]
-
--- a table that was written is one on each disk that has its file
-abbrev written_in : (old new : State) (files : StoreFiles) (line : TableLine)
-    → (w : IsWrittenTable old files.memtable files.free_file line)
-    → new line.file ≡ old line.file
-    → IsWrittenTable new files.memtable files.free_file line
-written_in old new files line w same = record {
-  table = w.table;
-  is = table_same (contents old) (contents new) line w.table (ap seen same) w.is;
-  at = w.at;
-  level = w.level;
-  proper = w.proper;
-  durable = subst (λ (f : ℕ). IsDurable (new f)) w.at (subst IsDurable (sym same)
-      (subst (λ (f : ℕ). IsDurable (old f)) (sym w.at) w.durable));
-  range = w.range;
-  entries = w.entries;
-}
+use Rattle.store_files.proofs.FlushedLines.{all_before, written_in}
 
 module _ {files : StoreFiles} {line : TableLine} {file : ℕ} {edit : Change}
     (so : IsFlushOf files line file edit)

@@ -25,7 +25,8 @@ use Rattle.store_files.specs.OpenFiles.{known_version, trimmed_count}
 use Rattle.store_files.specs.Removing.{AreLeftBeside}
 use Rattle.store_files.specs.StoreFiles.{WereMeant}
 use Rattle.store_files.specs.Tending.{IsSameBeside}
-use Rattle.store_files.proofs.KeptFiles.{kept_is_given, served_in, table_is_kept}
+use Rattle.store_files.proofs.KeptNames.{kept_is_given, table_is_kept}
+use Rattle.store_files.proofs.KeptFiles.{served_in}
 use Rattle.store_files.proofs.Meant.{blocks_stay, own_blocks, zip_was}
 use Rattle.store_files.proofs.MeantFiles.{TablesAsMeant, follow_but, named_were_left}
 use Rattle.store_files.proofs.MeantFiles.{still_as_meant}

@@ -27,18 +27,18 @@ use Rattle.store_files.specs.Files.{Facts}
 use Rattle.store_tables.specs.LevelTables.{AreTablesOf, HasMeantBlocks, IsServed, IsTableAsMeant}
 use Rattle.store_tables.specs.LevelTables.{WasServed}
 use Rattle.batch_logs.specs.Replaying.{AreBatchesOf}
-use Rattle.store_files.specs.OpenFiles.{AreUsableFiles, IsAsMeant}
-use Rattle.store_files.specs.OpenFiles.{WereMeantToHold, WereMeantToRead, known_facts}
-use Rattle.store_files.specs.OpenFiles.{known_version}
+use Rattle.store_files.specs.OpenFiles.{AreUsableFiles, IsAsMeant, WereMeantToHold, WereMeantToRead}
+use Rattle.store_files.specs.OpenFiles.{known_facts, known_version}
 use Rattle.store_files.specs.Openings.{PartsHold, PartsWereMeant, kept_files}
 use Rattle.store_files.specs.Settling.{AreAlone, SparesFiles}
 use Rattle.store_files.specs.StoreFiles.{WereMeant, durably}
 use Rattle.store_files.proofs.FilesApart.{given_no_slot, log_no_table}
-use Rattle.store_files.proofs.KeptFiles.{named_logs_in, served_in, settled_hold, table_is_kept}
+use Rattle.store_files.proofs.KeptFiles.{named_logs_in, served_in, settled_hold}
+use Rattle.store_files.proofs.KeptNames.{table_is_kept}
 use Rattle.store_files.proofs.Meant.{as_meant_stays, blocks_stay}
 use Rattle.store_files.proofs.NamedFiles.{logs_same, tables_same, version_same}
-use Rattle.store_files.proofs.ReadFiles.{batches_of, batches_then, files_of_parts}
-use Rattle.store_files.proofs.ReadFiles.{read_as, table_reads}
+use Rattle.store_files.proofs.ReadFiles.{batches_of, batches_then, files_of_parts, read_as}
+use Rattle.store_files.proofs.ReadFiles.{table_reads}
 
 -- ---- durable contents
 

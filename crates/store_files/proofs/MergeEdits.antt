@@ -4,14 +4,13 @@ use Rattle.std.proofs.Common.{eq-eqb, eqb-true, inl, inr, refl, subst, sym, true
 use Rattle.std.specs.Prelude.{Contains, not, ◌&&◌, ◌==◌}
 use Rattle.std.specs.List.{filter, fold, list_all, list_any}
 use Rattle.std.proofs.lemmas.Bool.{and_parts, or_cases}
-use Rattle.std.proofs.lemmas.List.Elements.{All-cons, All-filter, All-head, All-nil}
-use Rattle.std.proofs.lemmas.List.Elements.{All-tail}
+use Rattle.std.proofs.lemmas.List.Elements.{All-cons, All-filter, All-head, All-nil, All-tail}
 use Rattle.version_edits.specs.declared.line.LogLine.{LogLine}
 use Rattle.version_edits.specs.declared.line.TableLine.{TableLine}
 use Rattle.version_edits.specs.declared.line.TableName.{TableName}
 use Rattle.manifest.specs.Lawful.{IsAllocated, IsVersion}
-use Rattle.manifest.specs.Versions.{are_once, is_new_file, names_file, names_table}
-use Rattle.manifest.specs.Versions.{placed, table_is_before, tables_left}
+use Rattle.manifest.specs.Versions.{are_once, is_new_file, names_file, names_table, placed}
+use Rattle.manifest.specs.Versions.{table_is_before, tables_left}
 use Rattle.manifest.specs.VersionsLemmas.{all_logs_left}
 use Rattle.manifest.specs.{Change, IsFit, IsSlotFile, StoreVersion, changed}
 use Rattle.store_model.specs.PlacesLemmas.{contains_cases, contains_head, contains_next}
@@ -19,7 +18,7 @@ use Rattle.compaction.specs.Merges.{merge_change}
 use Rattle.store_tables.specs.MergeTables.{replaced_lines}
 use Rattle.store_files.specs.Merging.{replaced_files}
 use Rattle.store_files.proofs.FilesApart.{any_at, given_no_slot, log_no_table}
-use Rattle.store_files.proofs.KeptFiles.{contains_map, map_contains}
+use Rattle.store_files.proofs.KeptNames.{contains_map, map_contains}
 use Rattle.store_files.proofs.NamedHolds.{table_given}
 use Rattle.store_files.proofs.RaiseEdits.{once_behind}
 use Rattle.store_files.proofs.Records.{either, not_true}

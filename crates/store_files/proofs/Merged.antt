@@ -1,8 +1,7 @@
 -- A merge that is installed: what the files named by the old version and by the new one represent,
 -- and the open files that know the new one.
 use Rattle.std.proofs.Common.{◌≡◌, ◌↔◌, ◌≤◌, ◌-◌, ◌∙◌, length, ℕ, suc, List, [], ◌∷◌, ap, arith}
-use Rattle.std.proofs.Common.{drop, inl}
-use Rattle.std.proofs.Common.{Ok, inr, subst, sym}
+use Rattle.std.proofs.Common.{drop, inl, Ok, inr, subst, sym}
 use Rattle.std.specs.Prelude.{All, Contains, IsNone}
 use Rattle.std.specs.List.{AllZip}
 use Rattle.std.proofs.lemmas.List.Elements.{All-weaker}
@@ -28,14 +27,13 @@ use Rattle.store_tables.specs.MergeTables.{replaced_lines, replaced_tables}
 use Rattle.batch_logs.specs.declared.batch_logs.BatchLogs.{BatchLogs}
 use Rattle.store_files.specs.declared.store_files.StoreFiles.{StoreFiles}
 use Rattle.batch_logs.specs.BatchLogs.{AreUsable, LogsHold, first_number, lines_of, next_number}
-use Rattle.store_files.specs.Merging.{HasOutputs, MayMerge, replaced_files}
-use Rattle.store_files.specs.Merging.{merged_files}
-use Rattle.store_files.specs.OpenFiles.{AreUsableFiles, FilesHold, batch_count}
-use Rattle.store_files.specs.OpenFiles.{known_facts, known_store, known_version, trimmed_count}
+use Rattle.store_files.specs.Merging.{HasOutputs, MayMerge, replaced_files, merged_files}
+use Rattle.store_files.specs.OpenFiles.{AreUsableFiles, FilesHold, batch_count, known_facts}
+use Rattle.store_files.specs.OpenFiles.{known_store, known_version, trimmed_count}
 use Rattle.batch_logs.specs.Memtables.{IsNumberedTo}
 use Rattle.store_files.specs.StoreFiles.{AreOrderedNumbers, store_of_version}
 use Rattle.store_files.specs.Tending.{IsSameBeside}
-use Rattle.store_files.proofs.KeptFiles.{kept_is_given, slot_is_kept}
+use Rattle.store_files.proofs.KeptNames.{kept_is_given, slot_is_kept}
 use Rattle.store_files.proofs.MergeEdits.{all_merged, input_allocated, input_no_slot, log_no_input}
 use Rattle.store_files.proofs.MergeEdits.{merged_is, merged_version, table_no_input}
 use Rattle.store_files.proofs.NamedFiles.{tables_same}

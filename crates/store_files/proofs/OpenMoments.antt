@@ -1,8 +1,7 @@
 -- What a crash leaves at each moment of an opening: where a property looks at the files of a store
 -- alone, removals of other files keep it.
 use Rattle.std.proofs.Common.{◌≡◌, ◌≢◌, ℕ, List, [], ◌∷◌, Contains, arith, eq-eqb, eqb, false, inl}
-use Rattle.std.proofs.Common.{inr}
-use Rattle.std.proofs.Common.{refl, subst, sym, ◌∙◌}
+use Rattle.std.proofs.Common.{inr, refl, subst, sym, ◌∙◌}
 use Rattle.std.specs.Prelude.{if◌then◌else◌, ◌==◌}
 use Rattle.std.proofs.lemmas.Bool.{cases_eq}
 use Rattle.std.proofs.lemmas.Bool.Decides.{nat_tests}
@@ -22,7 +21,7 @@ use Rattle.store_files.specs.OpenFiles.{known_version}
 use Rattle.store_files.specs.Openings.{kept_files}
 use Rattle.store_files.specs.Settling.{AreLeftOf}
 use Rattle.store_files.specs.StoreFiles.{IsOneOf, IsStoreFile, NamesStoreFile, WereOneOf}
-use Rattle.store_files.proofs.KeptFiles.{log_is_kept, slot_is_kept, table_is_kept}
+use Rattle.store_files.proofs.KeptNames.{log_is_kept, slot_is_kept, table_is_kept}
 use Rattle.store_files.proofs.StillFiles.{still_keeps}
 use Rattle.store_files.proofs.MeantNames.{were_one_is_named}
 use Rattle.store_files.proofs.NamedFiles.{files_are_named}

@@ -21,7 +21,7 @@ use Rattle.store_model.specs.PlacesLemmas.{contains_cases, contains_head, contai
 use Rattle.store_files.specs.Raising.{obsolete_logs, live_logs, raise_change}
 use Rattle.store_files.proofs.FilesApart.{any_at, given_no_slot, once_apart}
 use Rattle.store_files.proofs.FlushEdits.{same_ids}
-use Rattle.store_files.proofs.KeptFiles.{contains_map}
+use Rattle.store_files.proofs.KeptNames.{contains_map}
 use Rattle.store_files.proofs.LeftLogs.{IsCut, file_in, gone_few, gone_named, raise_cuts, some_left}
 use Rattle.store_files.proofs.Records.{either, not_true}
 

@@ -1,7 +1,7 @@
 -- A rise of the floor: what the files named by the old version and by the new one represent, and
 -- the open files that know the new one.
-use Rattle.std.proofs.Common.{◌≡◌, ◌↔◌, ◌≤◌, ◌<◌, ◌-◌, ◌∙◌, ℕ, suc, List, [], ◌∷◌, length}
-use Rattle.std.proofs.Common.{map, drop, ap, arith, inl, inr, refl, subst, sym}
+use Rattle.std.proofs.Common.{◌≡◌, ◌↔◌, ◌≤◌, ◌<◌, ◌-◌, ◌∙◌, ℕ, suc, List, [], ◌∷◌, length, map}
+use Rattle.std.proofs.Common.{drop, ap, arith, inl, inr, refl, subst, sym}
 use Rattle.std.specs.Prelude.{All, Contains, IsNone}
 use Rattle.std.proofs.lemmas.List.{length-append, length-map}
 use Rattle.std.proofs.lemmas.List.Elements.{All-contains}
@@ -14,34 +14,32 @@ use Rattle.store_model.specs.Claims.{RaisesKeep}
 use Rattle.store_model.specs.{IsRaise, LevelTable, StoreRepresents, StoreState, memory_entries}
 use Rattle.version_edits.specs.declared.line.LogLine.{LogLine}
 use Rattle.version_edits.specs.declared.line.TableLine.{TableLine}
-use Rattle.manifest.specs.{Change, EditsKeepVersions, IsChange, IsFit, IsSlotFile}
-use Rattle.manifest.specs.{IsVersion, ManifestHasFailed, ManifestHolds, ManifestRepresents}
-use Rattle.manifest.specs.{NodeVersion, StoreVersion, counting_file, node_version_after}
+use Rattle.manifest.specs.{Change, EditsKeepVersions, IsChange, IsFit, IsSlotFile, IsVersion}
+use Rattle.manifest.specs.{ManifestHasFailed, ManifestHolds, ManifestRepresents, NodeVersion}
+use Rattle.manifest.specs.{StoreVersion, counting_file, node_version_after}
 use Rattle.store_model.specs.PlacesLemmas.{contains_cases}
 use Rattle.batch_logs.specs.declared.batch_logs.BatchLog.{BatchLog}
 use Rattle.batch_logs.specs.declared.batch_logs.BatchLogs.{BatchLogs}
 use Rattle.store_files.specs.declared.store_files.StoreFiles.{StoreFiles}
 use Rattle.store_tables.specs.declared.levels.LevelTables.{LevelTables}
 use Rattle.store_tables.specs.LevelTables.{AreServed, AreTablesOf, table_lines}
-use Rattle.batch_logs.specs.BatchLogs.{HaveBatches, LogsHold, end_of_log, lines_of}
-use Rattle.batch_logs.specs.BatchLogs.{line_of}
-use Rattle.store_files.specs.OpenFiles.{AreUsableFiles, FilesHold, batch_count}
-use Rattle.store_files.specs.OpenFiles.{known_facts, known_store, known_version, trimmed_count}
+use Rattle.batch_logs.specs.BatchLogs.{HaveBatches, LogsHold, end_of_log, lines_of, line_of}
+use Rattle.store_files.specs.OpenFiles.{AreUsableFiles, FilesHold, batch_count, known_facts}
+use Rattle.store_files.specs.OpenFiles.{known_store, known_version, trimmed_count}
 use Rattle.store_files.specs.Raising.{MayRise, before_oldest, obsolete_files, raise_change}
 use Rattle.store_files.specs.Raising.{facts_with_floor, raised_files}
 use Rattle.batch_logs.specs.Memtables.{IsNumberedTo}
 use Rattle.store_files.specs.StoreFiles.{AreOrderedNumbers, FilesRepresent, before_newest}
 use Rattle.store_files.specs.StoreFiles.{store_of_version}
 use Rattle.store_files.specs.Tending.{IsSameBeside}
-use Rattle.store_files.proofs.KeptFiles.{kept_is_given, named_logs_left, served_in}
-use Rattle.store_files.proofs.KeptFiles.{slot_is_kept}
+use Rattle.store_files.proofs.KeptNames.{kept_is_given, slot_is_kept}
+use Rattle.store_files.proofs.KeptFiles.{named_logs_left, served_in}
 use Rattle.store_files.proofs.LeftLogs.{gone_count, gone_few, left_before_newest, left_dropped}
 use Rattle.store_files.proofs.LeftLogs.{left_low, left_rises, newest_left, some_left}
 use Rattle.store_files.proofs.NamedFiles.{tables_same}
-use Rattle.store_files.proofs.NamedHolds.{NamedHold, facts_of, log_no_slot, named_in}
-use Rattle.store_files.proofs.NamedHolds.{table_no_slot}
-use Rattle.store_files.proofs.RaiseEdits.{gone_given, left_apart, raise_change_is}
-use Rattle.store_files.proofs.RaiseEdits.{raise_fit, raised_is, raised_version, table_apart}
+use Rattle.store_files.proofs.NamedHolds.{NamedHold, facts_of, log_no_slot, named_in, table_no_slot}
+use Rattle.store_files.proofs.RaiseEdits.{gone_given, left_apart, raise_change_is, raise_fit}
+use Rattle.store_files.proofs.RaiseEdits.{raised_is, raised_version, table_apart}
 use Rattle.store_files.proofs.TrimmedLogs.{AreTrimmed, left_have, trimmed_by_lines, trimmed_hold}
 use Rattle.store_files.proofs.TrimmedLogs.{trimmed_lines, trimmed_usable}
 

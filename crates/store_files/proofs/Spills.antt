@@ -1,11 +1,10 @@
 -- The files of a store while entries in memory are written as a table into a free file.
-use Rattle.std.proofs.Common.{◌≡◌, ◌≢◌, ◌≤◌, ◌∙◌, ℕ, List, [], Contains}
-use Rattle.std.proofs.Common.{arith, inl, inr, refl, subst, sym, ap}
+use Rattle.std.proofs.Common.{◌≡◌, ◌≢◌, ◌≤◌, ◌∙◌, ℕ, List, [], Contains, arith, inl, inr, refl}
+use Rattle.std.proofs.Common.{subst, sym, ap}
 use Rattle.std.specs.Prelude.{IsNone}
 use Rattle.kv_types.specs.{BatchContent}
-use Rattle.disk.specs.{Contents, DurableFileIsLeft, IsDurable, IsLeftAt, IsSame}
-use Rattle.disk.specs.{IsCrashOutcome, IsSameBut, LeavesSince, Slot, State, contents, seen}
-use Rattle.disk.specs.{Absent, Fresh, Kept}
+use Rattle.disk.specs.{Contents, DurableFileIsLeft, IsDurable, IsLeftAt, IsSame, IsCrashOutcome}
+use Rattle.disk.specs.{IsSameBut, LeavesSince, Slot, State, contents, seen, Absent, Fresh, Kept}
 use Rattle.disk.specs.MomentsLemmas.{join, weaker}
 use Rattle.std.proofs.lemmas.Bool.{cases_eq}
 use Rattle.table_builder.specs.{IsFresh}
@@ -14,16 +13,15 @@ use Rattle.manifest.specs.{HeldVersionIsLeft, HeldVersionStays, StoreVersion}
 use Rattle.store_tables.specs.declared.levels.OpenTable.{OpenTable}
 use Rattle.store_files.specs.declared.store_files.StoreFiles.{StoreFiles}
 use Rattle.store_tables.specs.LevelTables.{IsServed}
-use Rattle.store_files.specs.OpenFiles.{FilesHold, known_facts, known_version}
+use Rattle.store_files.specs.OpenFiles.{FilesHold, known_facts, known_version, known_store}
 use Rattle.store_tables.specs.TableWriting.{IsWrittenTable}
 use Rattle.store_files.specs.Openings.{kept_files}
 use Rattle.store_files.specs.StoreFiles.{FilesRepresent}
 use Rattle.store_files.specs.Tending.{HasSpilled}
-use Rattle.store_files.proofs.KeptFiles.{kept_is_given, read_is_left}
+use Rattle.store_files.proofs.KeptNames.{kept_is_given}
+use Rattle.store_files.proofs.KeptFiles.{read_is_left, HoldsLater, stay_later}
 use Rattle.store_files.proofs.StillFiles.{still_keeps}
 use Rattle.store_files.proofs.NamedFiles.{table_same}
-use Rattle.store_files.proofs.KeptFiles.{HoldsLater, stay_later}
-use Rattle.store_files.specs.OpenFiles.{known_store}
 
 -- a file without bytes of which nothing was synced
 unused_is_fresh : (slot : Slot) → IsNone (seen slot) → IsFresh slot []

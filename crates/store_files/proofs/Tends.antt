@@ -1,21 +1,21 @@
 -- The files of a store while its manifest is rewritten.
-use Rattle.std.proofs.Common.{◌≤◌, ℕ, List, Contains, ap, arith, inl, inr, refl, subst, sym}
+use Rattle.std.proofs.Common.{◌≤◌, ℕ, List, Contains, ap, arith, inl, inr, refl, subst, sym, ◌≡◌}
+use Rattle.std.proofs.Common.{◌↔◌, Err}
 use Rattle.std.proofs.lemmas.List.Elements.{All-contains}
-use Rattle.std.proofs.Common.{◌≡◌, ◌↔◌, Err}
 use Rattle.std.specs.Prelude.{IsErrOf, IsNone}
 use Rattle.kv_types.specs.{BatchContent}
-use Rattle.disk.specs.{IsEnvironmental}
-use Rattle.disk.specs.{DurableFileIsLeft, IsSameBut, LeavesSince, Slot, State, seen}
+use Rattle.disk.specs.{IsEnvironmental, DurableFileIsLeft, IsSameBut, LeavesSince, Slot, State}
+use Rattle.disk.specs.{seen}
 use Rattle.disk.specs.MomentsLemmas.{none_yet, weaker}
 use Rattle.manifest.specs.declared.LogLine.{LogLine}
 use Rattle.manifest.specs.declared.Manifest.{Manifest}
 use Rattle.manifest.specs.declared.ManifestError.{ManifestError}
 use Rattle.manifest.specs.declared.TableLine.{TableLine}
 use Rattle.manifest.specs.Lawful.{IsAllocated}
-use Rattle.manifest.specs.{HeldVersionIsLeft, IsSlotFile, ManifestHolds}
+use Rattle.manifest.specs.{HeldVersionIsLeft, IsSlotFile, ManifestHolds, IsVersion}
+use Rattle.manifest.specs.{ManifestHasFailed, ManifestRepresents, NodeVersion, SlotsAreLeft}
+use Rattle.manifest.specs.{StoreVersion, version_of}
 use Rattle.manifest.specs.declared.ManifestError.TheVariants as manifest
-use Rattle.manifest.specs.{IsVersion, ManifestHasFailed}
-use Rattle.manifest.specs.{ManifestRepresents, NodeVersion, SlotsAreLeft, StoreVersion, version_of}
 use Rattle.store_files.specs.declared.store_files.StoreFiles.{StoreFiles}
 use Rattle.store_tables.specs.declared.error.EngineError.TheVariants as engine
 use Rattle.store_tables.specs.declared.error.EngineError.{EngineError}
@@ -27,9 +27,8 @@ use Rattle.store_files.specs.OpenFiles.{known_store, known_version, trimmed_coun
 use Rattle.store_files.specs.StoreFiles.{AreOrderedNumbers, FilesRepresent}
 use Rattle.store_files.proofs.Appended.{left_now}
 use Rattle.store_files.proofs.FilesApart.{given_no_slot}
-use Rattle.store_files.proofs.KeptFiles.{HoldsLater, held_later, kept_is_given, lines_are_left}
-use Rattle.store_files.proofs.KeptFiles.{slot_is_kept}
-use Rattle.store_files.proofs.KeptFiles.{with_manifest}
+use Rattle.store_files.proofs.KeptFiles.{HoldsLater, held_later, lines_are_left, with_manifest}
+use Rattle.store_files.proofs.KeptNames.{kept_is_given, slot_is_kept}
 use Rattle.store_files.proofs.NamedHolds.{facts_of}
 
 -- ---- refusals

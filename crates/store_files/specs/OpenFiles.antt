@@ -80,10 +80,16 @@ pub record AreUsableFiles (files : StoreFiles) : Type 0 where
 abbrev pub HasNoFileUnderWay : StoreFiles → Type 0
 HasNoFileUnderWay files = files.free_file ≡ (known_version files).version.next_file
 
--- the open files know the same facts, and the first free file is the same
-abbrev pub HasSameFacts : (old new : StoreFiles) → Type 0
-HasSameFacts old new =
-    (known_facts new ≡ known_facts old) × (new.free_file ≡ old.free_file)
+-- the open files know the same facts and the same version, and the first free file is the same
+pub record HasSameFacts (old new : StoreFiles) : Type 0 where
+  pub facts : known_facts new ≡ known_facts old
+  pub version : known_version new ≡ known_version old
+  pub free : new.free_file ≡ old.free_file
+
+-- a batch of this number may be appended: it is the next
+pub record IsNextNumber (files : StoreFiles) (number : ℕ) : Type 0 where
+  pub usable : AreUsableFiles files
+  pub next : number ≡ batch_count files + 1
 
 -- ---- what the open files hold
 

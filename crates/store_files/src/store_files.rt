@@ -11,8 +11,9 @@ ghost use Rattle.store_files.specs.BesideFiles.{with_free};
 ghost use Rattle.store_tables.specs.declared.error.EngineError.TheVariants.{Disk, Memory};
 ghost use Rattle.store_tables.specs.Errors.{IsEnd};
 ghost use Rattle.store_files.specs.OpenFiles.{AreUsableFiles, FilesHold, batch_count, known_facts};
-ghost use Rattle.store_files.specs.OpenFiles.{HasSameFacts, IfHeld, IfMeant, ListGrows};
-ghost use Rattle.store_files.specs.OpenFiles.{WereMeantToHold, known_version, trimmed_count};
+ghost use Rattle.store_files.specs.OpenFiles.{HasSameFacts, IfHeld, IfMeant, IsNextNumber};
+ghost use Rattle.store_files.specs.OpenFiles.{ListGrows};
+ghost use Rattle.store_files.specs.OpenFiles.{WereMeantToHold, trimmed_count};
 ghost use Rattle.memtable.specs.{HasFailedAdd, TableHolds};
 ghost use Rattle.store_tables.specs.LevelTables.{EntriesHave, found_value};
 ghost use Rattle.batch_logs.specs.Reads.{OnlyReads};
@@ -111,8 +112,7 @@ impl StoreFiles {
         number: Number,
         batch: &Batch,
     ) -> Result<(), EngineError>
-        requires usable { AreUsableFiles self.old }
-        requires next { number ≡ batch_count self.old + 1 }
+        requires { IsNextNumber self.old number }
         ensures kept { KeepsDisk D.Disk disk.old disk.new (IsErrOf result Disk)
             (HasFullLog self.old.logs) (IsSameBut (newest_file self.old.logs)) }
         ensures appended { ListGrows FilesHold FilesRepresent D.Disk batch.now disk.old disk.new
@@ -123,7 +123,6 @@ impl StoreFiles {
             (λ _. AreUsableFiles self.new × (batch_count self.new ≡ batch_count self.old + 1))
             (λ e. (batch_count self.new ≡ batch_count self.old) × IsEnd e) }
         ensures facts { HasSameFacts self.old self.new }
-        ensures version { known_version self.new ≡ known_version self.old }
         ensures plans { KeepsPlans D.Disk (λ list. list ++ batch.now ∷ []) disk.old disk.new
             self.old self.new result }
     {

@@ -1,8 +1,9 @@
 // A tend of a store's files: a rewrite of the manifest, or a flush.
-ghost use Rattle.std.specs.Prelude.{IfOk};
+ghost use Rattle.std.specs.Prelude.{◌≡◌, IfOk};
 ghost use Rattle.store_files.specs.OpenFiles.{AreUsableFiles, IfMeant};
 ghost use Rattle.store_tables.specs.TableWriting.{HasEntry};
 ghost use Rattle.store_files.specs.Plans.{KeepsPlans};
+ghost use Rattle.store_files.specs.declared.tended.Tended.TheVariants.{Idle};
 ghost use Rattle.store_files.specs.TendKeeps.{FilesAreTended};
 ghost use Rattle.store_files.specs.Tending.{IsFlushAnswer, IsRewriteAnswer, IsTend, IsWorkAnswer};
 ghost use Rattle.store_files.specs.Tending.{TendMayFail};
@@ -66,7 +67,7 @@ impl StoreFiles {
 
     /// Does the first that is due: a rewrite of the manifest, where its slot is longer than twice
     /// its first edit and 65,536 bytes; or a flush, where the newest log is longer than this limit
-    /// and entries are in memory.
+    /// and entries are in memory. Where neither is, the disk and the files stay as they are.
     pub fn tend<D: Disk>(
         &mut self,
         alloc: Global,
@@ -80,6 +81,8 @@ impl StoreFiles {
             IfOk result (IsWorkAnswer limit self.old self.new)) }
         ensures plans { KeepsPlans D.Disk (λ list. list) disk.old disk.new self.old self.new
             result }
+        ensures rests { IfOk result (λ done. done ≡ Idle →
+            (disk.new ≡ disk.old) × (self.new ≡ self.old)) }
     {
         // laws: what a crash leaves of the files that are named
         held_versions_are_left();

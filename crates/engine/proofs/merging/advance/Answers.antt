@@ -15,7 +15,7 @@ returns-in-Ok-true-clause-kept g c =
     c.step-step.new.self c.free_file-next.result c.free_file-next.ensures c.step-step.new.next_file
     c.step-step.result (Ok true)
     (c.in-Ok-true.is ∙ ap (λ (m : Bool). Ok m) c.in-Ok-true.field-0-test) c.step-step.ensures
-    c.set_free_file.new.self c.set_free_file.ensures (λ is. absurd cc) (Ok progress.More) refl
+    c.set_free_file.new.self c.set_free_file.ensures (Ok progress.More) refl
 
 pub returns-in-Ok-true-clause-advances : goal.returns-in-Ok-true-clause-advances
 returns-in-Ok-true-clause-advances g c =
@@ -38,7 +38,7 @@ returns-in-Ok-false-clause-kept g c =
     c.step-step.new.self c.free_file-next.result c.free_file-next.ensures c.step-step.new.next_file
     c.step-step.result (Ok false)
     (c.in-Ok-false.is ∙ ap (λ (m : Bool). Ok m) c.in-Ok-false.field-0-test) c.step-step.ensures
-    c.set_free_file.new.self c.set_free_file.ensures (λ is. absurd cc) (Ok progress.Done) refl
+    c.set_free_file.new.self c.set_free_file.ensures (Ok progress.Done) refl
 
 pub returns-in-Ok-false-clause-advances : goal.returns-in-Ok-false-clause-advances
 returns-in-Ok-false-clause-advances g c =
@@ -71,7 +71,7 @@ returns-in-Err-Full-clause-kept g c =
     c.other_files_are_free.ensures c.len-tables.result counted c.step-step.new.files
     c.step-step.new.self c.free_file-next.result c.free_file-next.ensures c.step-step.new.next_file
     c.step-step.result (Err merging.Full) (search rules) c.step-step.ensures
-    c.set_free_file.new.self c.set_free_file.ensures ? (Ok progress.Full) refl
+    c.set_free_file.new.self c.set_free_file.ensures (Ok progress.Full) refl
 
 pub returns-in-Err-Full-clause-advances : goal.returns-in-Err-Full-clause-advances
 returns-in-Err-Full-clause-advances g c =
@@ -95,7 +95,6 @@ returns-in-Err g c =
           c.step-step.new.self c.free_file-next.result c.free_file-next.ensures
           c.step-step.new.next_file c.step-step.result (Err c.in-Err.e) c.in-Err.is
           c.step-step.ensures c.set_free_file.new.self c.set_free_file.ensures
-          (λ is. let full : c.in-Err.e ≡ merging.Full = cc in absurd (room full))
           (Err c.refusal_of.result)
           (ap (λ e. Err e) c.refusal_of.ensures ∙ refusal_is c.in-Err.e room);
       goes_on = search rules;

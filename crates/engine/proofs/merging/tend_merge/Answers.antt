@@ -20,13 +20,13 @@ use Rattle.engine.proofs.merging.tend_merge.Goals as goal
 
 pub returns-then-is_some-clause-kept : goal.returns-then-is_some-clause-kept
 returns-then-is_some-clause-kept g c =
-    part_wider g.D.Disk c.args.files.now c.go_on.new.files c.args.store.now c.go_on.new.store
-    c.go_on.result c.go_on.ensures.kept (λ it one. file.IsOfMerge one) (λ P p. inl p)
+    part_wider g.D.Disk c.args.files.now c.continue_merge.new.files c.args.store.now c.continue_merge.new.store
+    c.continue_merge.result c.continue_merge.ensures.kept (λ it one. file.IsOfMerge one) (λ P p. inl p)
     (λ cause. cause) (λ list h. h) (λ list m. m)
 
 pub returns-then-is_some-clause-as_due : goal.returns-then-is_some-clause-as_due
 returns-then-is_some-clause-as_due g c = λ list honest w.
-    c.go_on.ensures.as_due c.args.limits.now c.args.floor c.args.turn.now list honest w
+    c.continue_merge.ensures.as_due c.args.limits.now c.args.floor c.args.turn.now list honest w
 
 -- ---- none is due
 

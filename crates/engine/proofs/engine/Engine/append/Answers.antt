@@ -5,9 +5,9 @@ use Rattle.engine.proofs.Merges.{goes_with_merge, log_leaves, meant_with_merge}
 use Rattle.disk.specs.MomentsLemmas.{weaker}
 use Rattle.engine.specs.Engines.{engine_disk, facts_of}
 use Rattle.store_files.specs.StoreFiles.{FilesRepresent, IsOneOf}
-use Rattle.engine.proofs.Engines.{answered_keeps, not_true, refused_keeps, refuses, goes_to}
-use Rattle.engine.proofs.Engines.{held_of, none_since, one_left}
-use Rattle.engine.proofs.Engines.{only_exhausted, were_meant}
+use Rattle.engine.proofs.Engines.{answered_keeps, goes_to, held_of, none_since, one_left}
+use Rattle.engine.proofs.Engines.{only_exhausted, refused_keeps, were_meant}
+use Rattle.engine.proofs.Results.{not_true, refuses}
 use Rattle.engine.proofs.engine.Engine.append.Goals as goal
 
 -- nothing was written
@@ -98,7 +98,7 @@ returns-clause-changes g c =
           h.held.known.usable
           (apart.tables (d.state (engine_disk old)) store list h.held.known)
           (c.append.ensures.kept.honest.1 honest) (c.append.ensures.kept.files honest)
-          c.append.ensures.version plans.free held.unused))
+          c.append.ensures.facts.version plans.free held.unused))
           (λ honest w.
           let held = (c.in_ok-append.ensures.meant list honest w.was).list in
           let meant = w.was.hold.known in
@@ -106,7 +106,7 @@ returns-clause-changes g c =
           (λ m plan is it. log_leaves d lasts apart a b store later meant.tables m plan it
           meant.usable (apart.tables w.was.meant store list meant)
           (c.append.ensures.kept.honest.1 honest) (c.append.ensures.kept.files honest)
-          c.append.ensures.version plans.free
+          c.append.ensures.facts.version plans.free
           (apart.unused (d.state (inner_disk b)) later (more list) held)));
       any_moment = λ list h.
           (c.append.ensures.appended list h.reads.honest

@@ -1,7 +1,8 @@
 use Rattle.std.proofs.Common.{refl, rules}
 use Rattle.disk.specs.StillLemmas.{still}
 use Rattle.engine.specs.Engines.{engine_disk}
-use Rattle.engine.proofs.Engines.{goes_on, held_of, were_meant, works_on_ok}
+use Rattle.engine.proofs.Engines.{goes_on, held_of, were_meant}
+use Rattle.engine.proofs.Results.{works_on_ok}
 use Rattle.engine.proofs.engine.Engine.batch.Goals as goal
 
 -- no call of the disk is made

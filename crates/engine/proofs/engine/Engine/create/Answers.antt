@@ -1,5 +1,6 @@
 use Rattle.std.proofs.Common.{[], subst, sym}
-use Rattle.engine.proofs.Engines.{not_true, holds_of, reads_of, told_of}
+use Rattle.engine.proofs.Engines.{holds_of, reads_of, told_of}
+use Rattle.engine.proofs.Results.{not_true}
 use Rattle.engine.proofs.engine.Engine.create.Goals as goal
 
 -- the store has no batch

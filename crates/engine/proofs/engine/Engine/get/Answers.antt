@@ -2,8 +2,8 @@ use Rattle.std.proofs.Common.{◌≤◌, arith, refl, rules}
 use Rattle.disk.specs.StillLemmas.{still}
 use Rattle.store_files.specs.OpenFiles.{batch_count}
 use Rattle.engine.specs.Engines.{engine_disk}
-use Rattle.engine.proofs.Engines.{goes_on, held_of, no_damage}
-use Rattle.engine.proofs.Engines.{were_meant, works_on_ok}
+use Rattle.engine.proofs.Engines.{goes_on, held_of, no_damage, were_meant}
+use Rattle.engine.proofs.Results.{works_on_ok}
 use Rattle.engine.proofs.engine.Engine.get.Goals as goal
 
 -- no call of the disk is made

@@ -4,8 +4,9 @@ use Rattle.disk.specs.{contents, seen}
 use Rattle.store_files.specs.OpenFiles.{OpeningRefusal}
 use Rattle.store_files.specs.StoreFiles.{FilesRepresent, IsOneOf, StillLeavesOneOf, WereMeant}
 use Rattle.store_files.specs.StoreFiles.{WereOneOf}
-use Rattle.engine.proofs.Engines.{not_true, explains, holds_of, leaves_since_same, meant_of}
-use Rattle.engine.proofs.Engines.{reads_of, still_refused}
+use Rattle.engine.proofs.Engines.{explains, holds_of, leaves_since_same, meant_of, reads_of}
+use Rattle.engine.proofs.Engines.{still_refused}
+use Rattle.engine.proofs.Results.{not_true}
 use Rattle.engine.proofs.engine.Engine.open.Goals as goal
 
 -- there was no memory for the cache

@@ -10,9 +10,10 @@ use Rattle.engine.proofs.Merges.{goes_with_merge, meant_with_merge, tend_leaves_
 use Rattle.engine.proofs.Merges.{unused_meant}
 use Rattle.store_tables.specs.Errors.{IsEnd}
 use Rattle.engine.specs.Engines.{engine_disk}
-use Rattle.engine.proofs.Engines.{closed_by, ends_by, goes_to, held_of, match_of, may_fail}
-use Rattle.engine.proofs.Engines.{no_refusal, not_raised, of_answer, of_refusal, on_answer}
-use Rattle.engine.proofs.Engines.{told_alike, were_meant, were_not_raised, works_on_ok}
+use Rattle.engine.proofs.Engines.{goes_to, held_of, may_fail, not_raised, told_alike, were_meant}
+use Rattle.engine.proofs.Engines.{were_not_raised}
+use Rattle.engine.proofs.Results.{closed_by, ends_by, match_of, no_refusal, of_answer, of_refusal}
+use Rattle.engine.proofs.Results.{on_answer, works_on_ok}
 use Rattle.engine.proofs.engine.Engine.tend.Goals as goal
 
 -- A device that works fails where the files are full or are none of the engine. The list stays, at

@@ -1,8 +1,11 @@
-use Rattle.std.proofs.Common.{◌<◌, Ok, arith, drop, refl, suc}
+use Rattle.std.proofs.Common.{◌≡◌, ◌<◌, Ok, arith, drop, refl, subst, suc}
+use Rattle.store_files.specs.declared.store_files.StoreFiles.{StoreFiles}
+use Rattle.store_files.specs.declared.tended.Tended.{Tended}
 use Rattle.store_files.specs.declared.tended.Tended.TheVariants as tended
 use Rattle.batch_logs.specs.BatchLogs.{newest_length}
 use Rattle.store_files.specs.OpenFiles.{known_version, trimmed_count}
-use Rattle.store_files.specs.Tending.{FlushIsDue, RewriteIsDue, IsTend as tend}
+use Rattle.store_files.specs.Tending.{FlushIsDue, RewriteIsDue, IsFlushAnswer, IsRewriteAnswer}
+use Rattle.store_files.specs.Tending.{IsTend as tend}
 use Rattle.store_files.specs.Tending.{IsWorkAnswer as work}
 use Rattle.store_files.proofs.Meant.{logs_are_held}
 use Rattle.store_files.proofs.MeantTends.{manifest_holds}
@@ -117,3 +120,26 @@ returns-then-not-has_entries-clause-plans g c =
       held = λ list plan honest it. it;
       meant = λ list plan honest it. it;
     }
+
+-- ---- where neither is due, nothing is done
+
+-- a rewrite is no rest
+no_rewrite : (old new : StoreFiles) (P : Type 0) (answer : Tended) →
+    IsRewriteAnswer old new answer → answer ≡ tended.Idle → P
+no_rewrite old new P answer did idle =
+    absurd (subst (λ (a : Tended). IsRewriteAnswer old new a) idle did)
+
+-- nor is a flush
+no_flush : (old new : StoreFiles) (P : Type 0) (answer : Tended) →
+    IsFlushAnswer old new answer → answer ≡ tended.Idle → P
+no_flush old new P answer did idle =
+    absurd (subst (λ (a : Tended). IsFlushAnswer old new a) idle did)
+
+pub returns-then-has_long_slot-clause-rests : goal.returns-then-has_long_slot-clause-rests
+returns-then-has_long_slot-clause-rests g c =
+    did_so _ (no_rewrite c.args.self.now c.shorten.new.self _) c.shorten.result
+    c.shorten.ensures.tends.did
+
+pub returns-clause-rests : goal.returns-clause-rests
+returns-clause-rests g c =
+    did_so _ (no_flush c.args.self.now c.flush.new.self _) c.flush.result c.flush.ensures.tends.did

@@ -14,8 +14,8 @@ use Rattle.engine.proofs.PartDue.{ended_as_due, leftover_on}
 use Rattle.engine.proofs.PartFiles.{began_late, may_fail_behind, meant_late, same_manifest}
 use Rattle.engine.proofs.PartFiles.{went_leftover, went_within}
 use Rattle.engine.proofs.Parts.{part_answers, part_refused, part_then}
-use Rattle.engine.proofs.merging.go_on.Goals.{in-Some-2, in-None}
-use Rattle.engine.proofs.merging.go_on.Goals as goal
+use Rattle.engine.proofs.merging.continue_merge.Goals.{in-Some-2, in-None}
+use Rattle.engine.proofs.merging.continue_merge.Goals as goal
 
 -- ---- it is refused
 

@@ -1,0 +1,105 @@
+-- What an answer or a refusal says.
+use Rattle.std.proofs.Common.{◌≡◌, Result, Ok, Err, inl, inr, refl, sym, subst, Bool, false, true}
+use Rattle.std.specs.Prelude.{◌⊎◌, ◌↔◌, IfErr, IfOk, IsErrAnd, IsErrOf, IsTrue, MatchResult, OnOk}
+use Rattle.std.specs.Prelude.{is_err}
+use Rattle.disk.specs.{IsEnvironmental}
+use Rattle.store_tables.specs.declared.error.EngineError.{EngineError}
+use Rattle.store_tables.specs.declared.error.EngineError.TheVariants as engine
+use Rattle.store_tables.specs.Errors.{EndsEngine, IsEnd}
+
+-- a refusal is none
+pub not_true : false ≡ true → ⊥
+not_true e = cc
+
+-- a property of every result holds of an answer
+pub on_ok : {T E P : Type 0} (result : Result T E) → P → OnOk result P
+on_ok (Ok x) p = p
+on_ok (Err e) p = tt
+
+-- what holds of the cause holds of the refusal that tells it
+pub refuses : {T E : Type 0} (result : Result T E) {e : E} (P : T → Type 0) (Q : E → Type 0) →
+    IsErrAnd result (λ s. s ≡ e) → Q e → MatchResult result P Q
+refuses (Ok x) P Q told q = absurd told
+refuses (Err s) P Q told q = subst Q (sym told) q
+
+-- an answer leaves an engine that works
+pub works_on_ok : {T : Type 0} (result : Result T EngineError) (ended : Bool) →
+    ended ≡ is_err result → OnOk result (IsTrue ended → ⊥)
+works_on_ok (Ok x) ended is = λ h. cc
+works_on_ok (Err e) ended is = tt
+
+-- a call of an engine that works ends it where it is refused, and only there
+module _ {T : Type 0} where
+  pub closed_by : (result : Result T EngineError) (was : Bool) → was ≡ false →
+      IfErr result IsEnd → IsErrOf result engine.Failed ↔ IsTrue was
+  closed_by (Ok x) was off causes = (λ failed. absurd cc, λ h. absurd cc)
+  closed_by (Err e) was off causes = (
+    λ failed.
+        let is : e ≡ engine.Failed = cc in
+        absurd (subst IsEnd is causes),
+    λ h. absurd cc,
+  )
+
+  pub ends_by : (result : Result T EngineError) (was ended : Bool) → was ≡ false →
+      ended ≡ is_err result → IfErr result IsEnd → IsTrue ended ↔ (IsTrue was ⊎ EndsEngine result)
+  ends_by (Ok x) was ended off is causes =
+      (λ h. absurd cc, λ either. elim either [ inl h ↦ absurd cc | inr none ↦ absurd none ])
+  ends_by (Err e) was ended off is causes = (λ h. inr causes, λ either. is)
+
+  pub no_refusal : (result : Result T EngineError) → IfErr result IsEnd →
+      IsErrAnd result (λ e. IsEnd e → ⊥) → ⊥
+  no_refusal (Ok x) causes told = told
+  no_refusal (Err e) causes told = told causes
+
+  -- what holds of an answer and what holds of a refusal
+  pub of_answer : (result : Result T EngineError) (P : T → Type 0) (Q : EngineError → Type 0) →
+      MatchResult result P Q → IfOk result P
+  of_answer (Ok x) P Q both = both
+  of_answer (Err e) P Q both = tt
+
+  pub on_answer : (result : Result T EngineError) (P : Type 0) (Q : EngineError → Type 0) →
+      MatchResult result (λ _. P) Q → OnOk result P
+  on_answer (Ok x) P Q both = both
+  on_answer (Err e) P Q both = tt
+
+  pub of_refusal : (result : Result T EngineError) (P : T → Type 0) (Q : EngineError → Type 0) →
+      MatchResult result P Q → IfErr result Q
+  of_refusal (Ok x) P Q both = tt
+  of_refusal (Err e) P Q both = both
+
+-- a value that is not true is false
+pub off_of : (b : Bool) → (IsTrue b → ⊥) → b ≡ false
+off_of true off = absurd (off refl)
+off_of false off = refl
+
+-- a refusal is one
+pub is_refused : {T : Type 0} (result : Result T EngineError) (e : EngineError) →
+    IsErrAnd result (λ s. s ≡ e) → is_err result ≡ true
+is_refused (Ok x) e told = absurd told
+is_refused (Err s) e told = refl
+
+-- an answer and a refusal
+pub match_of : {T : Type 0} (result : Result T EngineError) (P : T → Type 0) →
+    IfOk result P → IfErr result (IsEnvironmental engine.Disk engine.Memory) →
+    MatchResult result P (IsEnvironmental engine.Disk engine.Memory)
+match_of (Ok x) P answer why = answer
+match_of (Err e) P answer why = why
+
+-- an answer has both that it has and that no refusal is told of
+pub answers_with : {T : Type 0} {P Q : Type 0} {E : EngineError → Type 0}
+    (result : Result T EngineError) → OnOk result P → MatchResult result (λ _. Q) E →
+    MatchResult result (λ _. P) E
+answers_with (Ok x) p q = p
+answers_with (Err e) p why = why
+
+-- what holds of each answer holds of this one
+pub answers_so : {T : Type 0} {P : Type 0} (result : Result T EngineError) → OnOk result P →
+    IfOk result (λ _. P)
+answers_so (Ok x) p = p
+answers_so (Err e) p = tt
+
+-- what is so of each answer
+pub if_ok : {T : Type 0} {P Q : T → Type 0} (result : Result T EngineError) →
+    ((x : T) → P x → Q x) → IfOk result P → IfOk result Q
+if_ok (Ok x) so p = so x p
+if_ok (Err e) so p = tt

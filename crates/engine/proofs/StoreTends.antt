@@ -1,0 +1,153 @@
+-- A tend of an engine's store, which leaves a merge under way.
+use Rattle.std.proofs.Common.{◌≡◌, ◌+◌, ◌≤◌, ℕ, List, [], ◌∷◌, Option, Result, Ok, Err, ap, arith}
+use Rattle.std.proofs.Common.{inl, inr, refl, subst, sym}
+use Rattle.std.specs.Prelude.{Contains, IfOk, MatchResult, OnOk}
+use Rattle.kv_types.specs.{BatchContent}
+use Rattle.kv_types.specs.declared.Limits.{Limits}
+use Rattle.disk.specs.declared.Disk.{Ghosts}
+use Rattle.disk.specs.MomentsLemmas.{weaker}
+use Rattle.manifest.specs.{counting_file, spare_file}
+use Rattle.compaction.specs.declared.Merge.{Merge}
+use Rattle.compaction.specs.declared.Turn.{Turn}
+use Rattle.store_model.specs.PlacesLemmas.{contains_cases}
+use Rattle.store_tables.specs.declared.error.EngineError.{EngineError}
+use Rattle.store_tables.specs.Errors.{IsEnd}
+use Rattle.store_tables.specs.KeepingLemmas.{kept_but}
+use Rattle.store_files.specs.declared.store_files.StoreFiles.{StoreFiles}
+use Rattle.store_files.specs.declared.tended.Tended.{Tended}
+use Rattle.store_files.specs.declared.tended.Tended.TheVariants as answer
+use Rattle.store_files.specs.Apart.{OpenFilesAreApart}
+use Rattle.store_files.specs.Files.{Facts}
+use Rattle.store_files.specs.OpenFiles.{known_facts}
+use Rattle.store_files.specs.Plans.{KeepsPlans}
+use Rattle.store_files.specs.Raising.{facts_with_floor}
+use Rattle.store_files.specs.StoreFiles.{FilesRepresent, WereMeant}
+use Rattle.store_files.specs.TendKeeps.{FilesAreTended, OfEitherFacts}
+use Rattle.store_files.specs.Tending.{IsFlushAnswer, IsRewriteAnswer, IsTend, IsWorkAnswer}
+use Rattle.store_files.specs.Tending.{IsWorkAnswer as work, TendMayFail, tended_files}
+use Rattle.table_files.specs.{inner_disk}
+use Rattle.table_files.specs.declared.files.Files.{Files}
+use Rattle.engine.specs.LentFiles.{files_ghosts}
+use Rattle.engine.specs.MergeParts.{IsMergeFile as own, IsTendedFile as tended, IsTendedFile}
+use Rattle.engine.specs.Tends.{KeepsTended, MergesAreNext, StoreIsTended, TendedStore}
+use Rattle.engine.specs.Tends.{tended_store}
+use Rattle.engine.specs.UnderWay.{MergesOfEngineLast, MergesOfEngineStayBeside}
+use Rattle.engine.proofs.Results.{answers_so, answers_with, of_refusal, on_answer}
+use Rattle.engine.proofs.Merges.{goes_with_merge, meant_with_merge, tend_leaves_ok, unused_held}
+use Rattle.engine.proofs.Merges.{unused_meant}
+
+-- a number is the first free one or the one behind it
+free_within : (store : StoreFiles) (file : ℕ) →
+    Contains (store.free_file ∷ (store.free_file + 1) ∷ []) file → store.free_file ≤ file
+free_within store file has = elim (contains_cases store.free_file _ file has) [
+  | inl is ↦ subst (λ (n : ℕ). store.free_file ≤ n) is (omega arith)
+  | inr later ↦ elim (contains_cases (store.free_file + 1) [] file later) [
+    | inl is ↦ subst (λ (n : ℕ). store.free_file ≤ n) is (omega arith)
+    | inr none ↦ let lt = none.1 in absurd (omega (arith, lt))
+  ]
+]
+
+-- a tend of the store touches files of a merge
+tended_within : {D : Type 0} (store : StoreFiles) (merge : Option (Merge D)) (floor file : ℕ) →
+    Contains (tended_files store) file → IsTendedFile store merge floor file
+tended_within store merge floor file has = elim (contains_cases (counting_file store.manifest)
+    _ file has) [
+      | inl is ↦ tended.IsOfMerge (own.IsSlot (inl (sym is)))
+      | inr later ↦ elim (contains_cases (spare_file store.manifest) _ file later) [
+        | inl is ↦ tended.IsOfMerge (own.IsSlot (inr (sym is)))
+        | inr free ↦ tended.IsOfMerge (own.IsFree (free_within store file free))
+      ]
+    ]
+
+module _ {D : Type 0} (g : Ghosts D) (lasts : MergesOfEngineLast g)
+    (edits : MergesOfEngineStayBeside g) (apart : OpenFilesAreApart) where
+  -- what a tend of the store keeps, as a part
+  pub part_of_tend : (floor : ℕ) (merge : Option (Merge D)) (turn : Turn) (a b : Files D g)
+      (old new : StoreFiles) (result : Result Tended EngineError) →
+      FilesAreTended (files_ghosts g) (TendMayFail (files_ghosts g) a old) (IsTend old new) a b old
+      new result → KeepsPlans (files_ghosts g) (λ list. list) a b old new result →
+      KeepsTended g floor (tended_store a old merge turn) (tended_store b new merge turn) result
+  part_of_tend floor merge turn a b old new result tends plans =
+      let before = g.state (inner_disk a) in
+      let after = g.state (inner_disk b) in
+      record {
+        kept = kept_but (files_ghosts g) (λ cause. elim cause [
+          | inl full ↦ inl full
+          | inr none ↦ inr (λ list honest h. none list honest h.held)
+        ]) tends.kept;
+        touches = λ honest file spares. tends.touches honest file
+            (λ has. spares (tended_within old merge floor file has));
+        numbers = (tends.numbers.0, inl tends.numbers.1);
+        usable = tends.usable;
+        refused = of_refusal result _ IsEnd tends.did;
+        held = λ list honest h.
+            let told = (tends.tended list honest h.held).list in
+            let held = on_answer result _ _ told in
+            answers_with result (goes_with_merge g lasts a b old new merge list (λ l. l) result
+            honest plans held h (λ m plan is it. tend_leaves_ok g lasts apart a b old new
+            h.held.known.tables m plan it edits result tends.did
+            (apart.tended before old list h.held.known) (apart.tables before old list h.held.known)
+            (tends.kept.honest.1 honest) (tends.touches honest) tends.numbers.1 plans.free
+            (unused_held after new list result held))) told;
+        any_moment = λ list honest h.
+            weaker (FilesRepresent (known_facts old) list)
+            (λ left. OfEitherFacts (known_facts old) (facts_with_floor old floor)
+            (λ (it : Facts). FilesRepresent it list left)) before (g.past (inner_disk a)) after
+            (g.past (inner_disk b)) (λ left it. inl it)
+            (tends.tended list honest h.held).any_moment;
+        meant = λ list honest w.
+            let held = on_answer result _ _ (tends.meant list honest w.was).list in
+            let known = w.was.hold.known in
+            answers_so result (meant_with_merge g lasts a b old new merge list (λ l. l) result
+            honest plans held w (λ m plan is it. tend_leaves_ok g lasts apart a b old new
+            known.tables m plan it edits result tends.did
+            (apart.tended w.was.meant old list known) (apart.tables w.was.meant old list known)
+            (tends.kept.honest.1 honest) (tends.touches honest) tends.numbers.1 plans.free
+            (unused_meant apart after new list result held)));
+        meant_moment = λ list honest w.
+            weaker (WereMeant (known_facts old) list)
+            (λ left. OfEitherFacts (known_facts old) (facts_with_floor old floor)
+            (λ (it : Facts). WereMeant it list left)) before (g.past (inner_disk a)) after
+            (g.past (inner_disk b)) (λ left it. inl it)
+            (tends.meant list honest w.was).any_moment;
+      }
+
+-- what holds behind a call that did nothing holds of what was before it
+pub behind_rest : {D : Type 0} {g : Ghosts D} (a b : Files D g) (old new : StoreFiles)
+    (P : Files D g → StoreFiles → Type 0) → (b ≡ a) × (new ≡ old) → P b new → P a old
+behind_rest a b old new P rests p =
+    subst (λ f. P f old) rests.0 (subst (λ (s : StoreFiles). P b s) rests.1 p)
+
+-- ---- what was done
+
+module _ {D : Type 0} {g : Ghosts D} where
+  -- what a tend of the store did that did not rest
+  pub tended_by : (IsDone : StoreFiles → StoreFiles → Tended → Type 0) (a b : Files D g)
+      (old new : StoreFiles) (merge : Option (Merge D)) (turn : Turn)
+      (result : Result Tended EngineError) → (result ≡ Ok answer.Idle → ⊥) →
+      IfOk result (IsDone old new) → IfOk result (StoreIsTended IsDone
+      (tended_store a old merge turn) (tended_store b new merge turn))
+  tended_by IsDone a b old new merge turn (Ok told) works did = record {
+    some = λ idle. works (ap (λ (x : Tended). Ok x) idle);
+    did = did;
+    merge = refl;
+    turn = refl;
+  }
+  tended_by IsDone a b old new merge turn (Err e) works did = tt
+
+  -- where it rested, merges are next
+  pub next_at_rest : (limits : Limits) (it : TendedStore D g) (new : StoreFiles)
+      (result : Result Tended EngineError) → result ≡ Ok answer.Idle →
+      IfOk result (IsWorkAnswer limits.log it.store new) → MergesAreNext limits it
+  next_at_rest limits it new result is work =
+      each answer.Idle refl
+      (subst (λ r. IfOk r (IsWorkAnswer limits.log it.store new)) is work)
+    where
+      each : (told : Tended) → told ≡ answer.Idle → IsWorkAnswer limits.log it.store new told →
+          MergesAreNext limits it
+      each told idle (work.Rewrites due did) =
+          absurd (subst (λ (t : Tended). IsRewriteAnswer it.store new t) idle did)
+      each told idle (work.Flushes short due did) =
+          absurd (subst (λ (t : Tended). IsFlushAnswer it.store new t) idle did)
+      each told idle (work.Rests short few same rests) =
+          record { rewritten = short; flushed = few }
