@@ -103,3 +103,9 @@ pub if_ok : {T : Type 0} {P Q : T → Type 0} (result : Result T EngineError) �
     ((x : T) → P x → Q x) → IfOk result P → IfOk result Q
 if_ok (Ok x) so p = so x p
 if_ok (Err e) so p = tt
+
+-- what each answer has, one that answers has
+pub answers_as : {T P : Type 0} (result : Result T EngineError) → IfOk result (λ _. P) →
+    OnOk result P
+answers_as (Ok x) p = p
+answers_as (Err e) p = tt

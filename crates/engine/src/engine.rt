@@ -6,8 +6,8 @@ ghost use Rattle.store_files.specs.OpenFiles.{AreCounted, AreUsableFiles, known_
 ghost use Rattle.store_files.specs.UsableProps.{props};
 ghost use Rattle.engine.specs.Snapshots.{AreReadable};
 
-use crate::merging::tend_store;
 use crate::snapshots::Snapshots;
+use crate::tending::tend_store;
 use compaction::laws::merges_outlive_calls;
 use compaction::{Merge, Turn};
 use configurations::{Config, Epoch, NodeId};

@@ -6,6 +6,7 @@ pub mod laws;
 mod merging;
 mod reading;
 mod snapshots;
+mod tending;
 
 pub use engine::Engine;
 pub use snapshots::MAX_SNAPSHOTS;

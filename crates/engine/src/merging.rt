@@ -1,5 +1,5 @@
 // The merges of a store: one begins, goes on by so many entries in a tend, and ends or is given up.
-ghost use Rattle.std.specs.Prelude.{◌≡◌, ◌<◌, ◌≤◌, ℕ, IfOk, IfSome, IsNone, List, None, OnOk};
+ghost use Rattle.std.specs.Prelude.{◌≡◌, ◌<◌, ◌≤◌, ℕ, IfOk, IfSome, List, None, OnOk};
 ghost use Rattle.std.specs.Prelude.{Contains, IfErr, IsErrOf, IsSome, Option, Some};
 ghost use Rattle.kv_types.specs.{BatchContent};
 ghost use Rattle.manifest.specs.{HasFullSlot};
@@ -18,30 +18,29 @@ ghost use Rattle.store_tables.specs.Errors.{IsEnd};
 ghost use Rattle.engine.specs.BeginParts.{BeginsMerge};
 ghost use Rattle.engine.specs.LentFiles.{files_ghosts, union_ghosts};
 ghost use Rattle.engine.specs.declared.merging.Progress.TheVariants.{Done};
-ghost use Rattle.engine.specs.MergeParts.{AdvancesPlanned, IsAdvanced, HoldEdit, IsNewMerge, IsEditOf};
+ghost use Rattle.engine.specs.MergeParts.{AdvancesPlanned, IsAdvanced, HoldEdit, IsNewMerge};
+ghost use Rattle.engine.specs.MergeParts.{IsEditOf};
 ghost use Rattle.engine.specs.MergeParts.{IsMergeFile, IsMergeIn, IsPicked, KeepsMerge, KeepsPart};
-ghost use Rattle.engine.specs.MergeParts.{HasNoLeftovers, IsEndedBy, IsTendedFile, PartMayFail};
+ghost use Rattle.engine.specs.MergeParts.{HasNoLeftovers, IsEndedBy, PartMayFail};
 ghost use Rattle.engine.specs.MergeParts.{BeganLate, WereMeantEdit, error_of_merge, free_behind};
 ghost use Rattle.engine.specs.MergeParts.{merge_after};
-ghost use Rattle.engine.specs.Tends.{HasMerged, TendsStore, KeepsTended, MergesAsDue};
-ghost use Rattle.engine.specs.Tends.{TendsAsPlanned, TendsInOrder, key_of_plan, tended_store};
+ghost use Rattle.engine.specs.Tends.{HasMerged, MergesAsDue};
+ghost use Rattle.engine.specs.Tends.{tended_store};
 ghost use Rattle.compaction.specs.declared.Turn.{Turn};
 ghost use Rattle.kv_types.specs.declared.Limits.{Limits};
 ghost use Rattle.engine.specs.UnderWay.{HoldsWithMerge, WasMeantWithMerge};
 
-use compaction::laws::{
-    merge_edits_keep, merges_outlive_calls, merges_stay_beside, picks_are_planned,
-};
-use compaction::{Merge, MergeError, Plan, Turn, pick};
+use compaction::laws::{merge_edits_keep, picks_are_planned};
+use compaction::{Merge, MergeError, Plan, Turn};
 use disk::Disk;
-use kv_types::{Key, Limits, Number};
-use std::alloc::{AllocError, Global};
-use store_files::laws::{held_files_are_left, open_files_are_apart, other_files_are_free};
+use kv_types::{Limits, Number};
+use std::alloc::Global;
+use store_files::laws::{open_files_are_apart, other_files_are_free};
 use store_files::{EngineError, StoreFiles, Tended};
 use store_model::plans_fit;
 use store_tables::laws::versions_name_own_files;
 use table_files::Files;
-use version_edits::{TableLine, VersionEdit, is_fit};
+use version_edits::{VersionEdit, is_fit};
 
 // The greatest number of entries that one tend merges.
 const STEP_LENGTH: usize = 256;
@@ -99,8 +98,8 @@ fn begin_raised<D: Disk + Drop>(
     }
 }
 
-// Begins the merge of a plan: the floor rises, and the cursors over the inputs stand on their
-// first entries.
+/// Begins the merge of a plan: the floor rises, and the cursors over the inputs stand on their
+/// first entries.
 pub(crate) fn begin<D: Disk + Drop>(
     alloc: Global,
     files: &mut Files<D>,
@@ -267,8 +266,8 @@ fn end<D: Disk + Drop>(
     }
 }
 
-// Does the next part of the merge that is under way.
-fn continue_merge<D: Disk + Drop>(
+/// Does the next part of the merge that is under way.
+pub(crate) fn continue_merge<D: Disk + Drop>(
     alloc: Global,
     files: &mut Files<D>,
     store: &mut StoreFiles,
@@ -304,98 +303,5 @@ fn continue_merge<D: Disk + Drop>(
             abandon(files, store, it)?;
             Ok(Tended::Full)
         }
-    }
-}
-
-// The greatest key of the one table that the plan takes from its level, if it takes one alone.
-fn key_of(plan: Plan, tables: &[TableLine]) -> Result<Option<Key>, AllocError>
-    ensures { IfOk result (λ key. key ≡ key_of_plan plan tables.now) }
-{
-    let Some(file) = plan.file else {
-        return Ok(None);
-    };
-    let mut rest = tables;
-    while let [line, later @ ..] = rest {
-        if line.level == plan.level && line.file == file {
-            return Ok(Some(line.greatest.clone()?));
-        }
-        rest = later;
-    }
-    Ok(None)
-}
-
-// Does the next part of the merge that is under way, or begins the one that is due: then the floor
-// rises to this number.
-fn tend_merge<D: Disk + Drop>(
-    alloc: Global,
-    files: &mut Files<D>,
-    store: &mut StoreFiles,
-    merge: &mut Option<Merge<D>>,
-    turn: &mut Turn,
-    limits: &Limits,
-    floor: Number,
-) -> Result<Tended, EngineError>
-    requires { MayRise store.old floor }
-    ensures kept { KeepsTended D.Disk floor (tended_store files.old store.old merge.old turn.old)
-        (tended_store files.new store.new merge.new turn.new) result }
-    ensures did { IfOk result (HasMerged limits.now floor
-        (tended_store files.old store.old merge.old turn.old)
-        (tended_store files.new store.new merge.new turn.new)) }
-    ensures as_due { (list : List BatchContent) → D.is_honest (inner_disk files.old) →
-        WasMeantWithMerge D.Disk files.old store.old merge.old list →
-        IfOk result (MergesAsDue D.Disk limits.now floor
-        (tended_store files.old store.old merge.old turn.old)
-        (tended_store files.new store.new merge.new turn.new)) }
-{
-    held_files_are_left(); // law: what the disk of open files reads as, and leaves
-    if merge.is_some() {
-        return continue_merge(alloc, files, store, merge);
-    }
-    let Some(plan) = pick(store.manifest.state(), limits, turn) else {
-        return Ok(Tended::Idle);
-    };
-    let key = key_of(plan, &store.manifest.state().tables)?;
-    *merge = Some(begin(alloc, files, store, plan, floor, limits.table)?);
-    if let Some(key) = key {
-        turn.advance(plan.level, key);
-    }
-    Ok(Tended::Worked)
-}
-
-/// Does the first that is due: a rewrite of the manifest, a flush, or the next part of a merge, for
-/// which the floor may rise to this number.
-pub(crate) fn tend_store<D: Disk + Drop>(
-    alloc: Global,
-    files: &mut Files<D>,
-    store: &mut StoreFiles,
-    merge: &mut Option<Merge<D>>,
-    turn: &mut Turn,
-    limits: &Limits,
-    floor: Number,
-) -> Result<Tended, EngineError>
-    requires { MayRise store.old floor }
-    ensures kept { KeepsTended D.Disk floor (tended_store files.old store.old merge.old turn.old)
-        (tended_store files.new store.new merge.new turn.new) result }
-    ensures did { IfOk result (TendsStore limits.now floor
-        (tended_store files.old store.old merge.old turn.old)
-        (tended_store files.new store.new merge.new turn.new)) }
-    ensures in_order { (list : List BatchContent) → D.is_honest (inner_disk files.old) →
-        WereMeantToHold (D.state (inner_disk files.old)) store.old list →
-        IfOk result (TendsInOrder limits.now floor
-        (tended_store files.old store.old merge.old turn.old)
-        (tended_store files.new store.new merge.new turn.new)) }
-    ensures planned { (list : List BatchContent) → D.is_honest (inner_disk files.old) →
-        WasMeantWithMerge D.Disk files.old store.old merge.old list →
-        IfOk result (TendsAsPlanned D.Disk limits.now floor
-        (tended_store files.old store.old merge.old turn.old)
-        (tended_store files.new store.new merge.new turn.new)) }
-{
-    held_files_are_left(); // law: what the disk of open files reads as, and leaves
-    merges_outlive_calls::<D>(); // law: a merge outlives calls that leave its files
-    open_files_are_apart(); // law: which files a tend of the store changes
-    merges_stay_beside::<D>(); // law: a flush names no output of a merge
-    match store.tend(alloc, files, limits.log) {
-        Ok(Tended::Idle) => tend_merge(alloc, files, store, merge, turn, limits, floor),
-        done => done,
     }
 }

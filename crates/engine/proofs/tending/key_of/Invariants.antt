@@ -1,6 +1,6 @@
 use Rattle.std.proofs.Common.{◌≡◌, ◌==◌, ◌&&◌, length}
 use Rattle.std.specs.List.{find}
-use Rattle.engine.proofs.merging.key_of.Given as goal
+use Rattle.engine.proofs.tending.key_of.Given as goal
 
 -- the tables that are left decide
 abbrev pub invariant-loop-rest : goal.invariant-loop-rest

@@ -14,7 +14,7 @@ use Rattle.engine.specs.Tends.{HasMerged as merged, MergesAsDue as due}
 use Rattle.engine.proofs.PartBegins.{begins, begins_planned, turn_over, turn_stays}
 use Rattle.engine.proofs.PartFiles.{raised_within}
 use Rattle.engine.proofs.Parts.{part_answers, part_none, part_refused, part_wider}
-use Rattle.engine.proofs.merging.tend_merge.Goals as goal
+use Rattle.engine.proofs.tending.tend_merge.Goals as goal
 
 -- ---- a merge goes on
 

@@ -1,0 +1,116 @@
+// A tend of a store's files: a rewrite of the manifest, a flush, or part of a merge.
+ghost use Rattle.std.specs.Prelude.{◌≡◌, ◌<◌, IfOk, List, None};
+ghost use Rattle.std.specs.Prelude.{Option, Some};
+ghost use Rattle.kv_types.specs.{BatchContent};
+ghost use Rattle.table_files.specs.{inner_disk};
+ghost use Rattle.store_files.specs.OpenFiles.{WereMeantToHold};
+ghost use Rattle.store_files.specs.Raising.{MayRise};
+ghost use Rattle.engine.specs.Tends.{HasMerged, TendsStore, KeepsTended, MergesAsDue};
+ghost use Rattle.engine.specs.Tends.{TendsAsPlanned, TendsInOrder, key_of_plan, tended_store};
+ghost use Rattle.compaction.specs.declared.Turn.{Turn};
+ghost use Rattle.kv_types.specs.declared.Limits.{Limits};
+ghost use Rattle.engine.specs.UnderWay.{WasMeantWithMerge};
+
+use crate::merging::{begin, continue_merge};
+use compaction::laws::{merges_outlive_calls, merges_stay_beside};
+use compaction::{Merge, Plan, Turn, pick};
+use disk::Disk;
+use kv_types::{Key, Limits, Number};
+use std::alloc::{AllocError, Global};
+use store_files::laws::{held_files_are_left, open_files_are_apart};
+use store_files::{EngineError, StoreFiles, Tended};
+use table_files::Files;
+use version_edits::TableLine;
+
+// The greatest key of the one table that the plan takes from its level, if it takes one alone.
+fn key_of(plan: Plan, tables: &[TableLine]) -> Result<Option<Key>, AllocError>
+    ensures { IfOk result (λ key. key ≡ key_of_plan plan tables.now) }
+{
+    let Some(file) = plan.file else {
+        return Ok(None);
+    };
+    let mut rest = tables;
+    while let [line, later @ ..] = rest {
+        if line.level == plan.level && line.file == file {
+            return Ok(Some(line.greatest.clone()?));
+        }
+        rest = later;
+    }
+    Ok(None)
+}
+
+// Does the next part of the merge that is under way, or begins the one that is due: then the floor
+// rises to this number.
+fn tend_merge<D: Disk + Drop>(
+    alloc: Global,
+    files: &mut Files<D>,
+    store: &mut StoreFiles,
+    merge: &mut Option<Merge<D>>,
+    turn: &mut Turn,
+    limits: &Limits,
+    floor: Number,
+) -> Result<Tended, EngineError>
+    requires { MayRise store.old floor }
+    ensures kept { KeepsTended D.Disk floor (tended_store files.old store.old merge.old turn.old)
+        (tended_store files.new store.new merge.new turn.new) result }
+    ensures did { IfOk result (HasMerged limits.now floor
+        (tended_store files.old store.old merge.old turn.old)
+        (tended_store files.new store.new merge.new turn.new)) }
+    ensures as_due { (list : List BatchContent) → D.is_honest (inner_disk files.old) →
+        WasMeantWithMerge D.Disk files.old store.old merge.old list →
+        IfOk result (MergesAsDue D.Disk limits.now floor
+        (tended_store files.old store.old merge.old turn.old)
+        (tended_store files.new store.new merge.new turn.new)) }
+{
+    held_files_are_left(); // law: what the disk of open files reads as, and leaves
+    if merge.is_some() {
+        return continue_merge(alloc, files, store, merge);
+    }
+    let Some(plan) = pick(store.manifest.state(), limits, turn) else {
+        return Ok(Tended::Idle);
+    };
+    let key = key_of(plan, &store.manifest.state().tables)?;
+    *merge = Some(begin(alloc, files, store, plan, floor, limits.table)?);
+    if let Some(key) = key {
+        turn.advance(plan.level, key);
+    }
+    Ok(Tended::Worked)
+}
+
+/// Does the first that is due: a rewrite of the manifest, a flush, or the next part of a merge, for
+/// which the floor may rise to this number.
+pub(crate) fn tend_store<D: Disk + Drop>(
+    alloc: Global,
+    files: &mut Files<D>,
+    store: &mut StoreFiles,
+    merge: &mut Option<Merge<D>>,
+    turn: &mut Turn,
+    limits: &Limits,
+    floor: Number,
+) -> Result<Tended, EngineError>
+    requires { MayRise store.old floor }
+    ensures kept { KeepsTended D.Disk floor (tended_store files.old store.old merge.old turn.old)
+        (tended_store files.new store.new merge.new turn.new) result }
+    ensures did { IfOk result (TendsStore limits.now floor
+        (tended_store files.old store.old merge.old turn.old)
+        (tended_store files.new store.new merge.new turn.new)) }
+    ensures in_order { (list : List BatchContent) → D.is_honest (inner_disk files.old) →
+        WereMeantToHold (D.state (inner_disk files.old)) store.old list →
+        IfOk result (TendsInOrder limits.now floor
+        (tended_store files.old store.old merge.old turn.old)
+        (tended_store files.new store.new merge.new turn.new)) }
+    ensures planned { (list : List BatchContent) → D.is_honest (inner_disk files.old) →
+        WasMeantWithMerge D.Disk files.old store.old merge.old list →
+        IfOk result (TendsAsPlanned D.Disk limits.now floor
+        (tended_store files.old store.old merge.old turn.old)
+        (tended_store files.new store.new merge.new turn.new)) }
+{
+    held_files_are_left(); // law: what the disk of open files reads as, and leaves
+    merges_outlive_calls::<D>(); // law: a merge outlives calls that leave its files
+    open_files_are_apart(); // law: which files a tend of the store changes
+    merges_stay_beside::<D>(); // law: a flush names no output of a merge
+    match store.tend(alloc, files, limits.log) {
+        Ok(Tended::Idle) => tend_merge(alloc, files, store, merge, turn, limits, floor),
+        done => done,
+    }
+}
