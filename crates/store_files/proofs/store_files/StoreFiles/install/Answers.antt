@@ -1,36 +1,26 @@
-use Rattle.std.proofs.Common.{◌+◌, ◌-◌, ℕ, ap, arith, drop, inr, refl, subst, suc, sym, ◌∙◌}
+use Rattle.std.proofs.Common.{◌+◌, ◌-◌, ℕ, ap, arith, drop, inr, refl, subst, suc, sym}
 use Rattle.disk.specs.{IsEnvironmental}
-use Rattle.kv_types.specs.{Entry}
-use Rattle.manifest.specs.declared.TableLine.{TableLine}
 use Rattle.manifest.specs.{IsFit, NodeVersion}
-use Rattle.memtable.specs.declared.Memtable.{Memtable}
-use Rattle.memtable.specs.{HasFailedAdd, TableHolds}
-use Rattle.sorted_table.specs.{as_meant_itself, index_lines, table_file}
 use Rattle.store_files.specs.declared.store_files.StoreFiles.{StoreFiles}
 use Rattle.store_tables.specs.declared.error.EngineError.TheVariants as engine
 use Rattle.store_tables.specs.Errors.{IsEnd}
 use Rattle.store_tables.specs.KeepingLemmas.{answered, kept_as, kept_behind, kept_but, neither}
-use Rattle.store_tables.specs.LevelTables.{table_lines, with_flushed, with_flushed_line}
 use Rattle.store_files.specs.OpenFiles.{batch_count, known_version, trimmed_count}
 use Rattle.store_files.specs.StoreFiles.{flush_change}
 use Rattle.store_files.proofs.Appended.{first_same}
 use Rattle.store_tables.specs.RefusalLemmas.{passed_on, refuses}
-use Rattle.store_files.proofs.FlushVersions.{beside_new, count_kept, edit_is, flush_by}
-use Rattle.store_files.proofs.FlushVersions.{facts_kept, installed_usable, known}
-use Rattle.store_files.proofs.Installed.{edit_is_recorded, installed_holds, log_begins}
-use Rattle.store_files.proofs.Installed.{manifest_begun, new_ends, new_served, none_begun}
-use Rattle.store_files.proofs.Installed.{old_served, spilled_named}
-use Rattle.store_files.proofs.Meant.{own_blocks, zip_was}
-use Rattle.store_files.proofs.MeantInstalls.{all_served, edit_was_recorded, installed_as_meant}
-use Rattle.store_files.proofs.MeantInstalls.{log_was_begun, m3, manifest_was_begun, meant_ends}
-use Rattle.store_files.proofs.MeantInstalls.{meant_logs, none_were}
-use Rattle.store_files.proofs.MeantOpenings.{zip_serves}
+use Rattle.store_files.proofs.FlushVersions.{beside_new, count_kept, edit_is, flush_by, facts_kept}
+use Rattle.store_files.proofs.Installed.{edit_is_recorded, log_begins, manifest_begun, new_ends}
+use Rattle.store_files.proofs.Installed.{none_begun, spilled_named}
+use Rattle.store_files.proofs.MeantInstalls.{edit_was_recorded, log_was_begun, manifest_was_begun}
+use Rattle.store_files.proofs.MeantInstalls.{meant_ends, meant_logs, none_were}
 use Rattle.store_files.proofs.NamedHolds.{facts_same, first_begun}
 use Rattle.store_files.proofs.TendKeeps.{refusal_on_ok, refused_before, refused_device}
 use Rattle.store_files.proofs.TendedFiles.{beside_both, counting_alone, log_alone}
 use Rattle.store_files.proofs.Tends.{edit_ends, edit_failed, edit_is_external}
-use Rattle.store_files.proofs.Installed.{ends_behind}
 use Rattle.store_files.proofs.Plans.{refused_plans}
+use Rattle.store_files.proofs.store_files.StoreFiles.install.Plans.{ends_as_before}
+use Rattle.store_files.proofs.store_files.StoreFiles.install.Installs.{installs}
 use Rattle.store_files.proofs.store_files.StoreFiles.install.Goals as goal
 
 -- the new log has a file of its own
@@ -278,129 +268,7 @@ returns-in_err-add-clause-installs g c =
 -- ---- the new version names the log and the table
 
 pub returns-clause-installs : goal.returns-clause-installs
-returns-clause-installs g c =
-    let files = c.args.self.now in
-    let line = c.args.made.line in
-    let so = flush_by files line c.in_ok-edit.edit c.requires.usable c.requires.place
-    c.requires.next.next
-    (edit_is files line c.state.result.now c.last_number-count.result c.in_ok-edit.edit
-    c.state.ensures c.last_number-count.ensures c.in_ok-edit.ensures.edit) in
-    let begun = c.in_ok-begin.ensures.told in
-    let fit = c.in_ok-edit.ensures.fit in
-    let fits = subst (λ (n : NodeVersion). IsFit n.version c.in_ok-edit.edit) c.state.ensures
-    fit.0 in
-    let law = c.durable_file_is_left.ensures in
-    let left = c.held_versions_are_left.ensures.left in
-    let stays = c.held_versions_are_left.ensures.same in
-    let keeps = c.flushes_keep.ensures.list in
-    let edits = c.edits_keep_versions.ensures in
-    let s1 = g.D.Disk.state c.args.disk.now in
-    let s2 = g.D.Disk.state c.begin.new.disk in
-    let s3 = g.D.Disk.state c.record.new.disk in
-    let p1 = g.D.Disk.past c.args.disk.now in
-    let p2 = g.D.Disk.past c.begin.new.disk in
-    let p3 = g.D.Disk.past c.record.new.disk in
-    let logs = c.begin.new.self in
-    let table = c.args.made.table in
-    let empty = subst (λ (m : Memtable). (entry : Entry) → TableHolds m entry → ⊥)
-    (sym c.replace.ensures.after) c.new.ensures.empty in
-    let new : StoreFiles = record {
-      manifest = c.record.new.self;
-      logs = logs;
-      tables = c.add.new.self;
-      memtable = c.replace.new.dest;
-      free_file = files.free_file + 2;
-    } in
-    let usable = installed_usable so new c.in_default.ensures.told.0 begun.2 begun.1
-    edits
-    c.in_default.ensures.told.1 begun.0
-    (c.in_ok-add.ensures.lines ∙ ap (λ (l : TableLine).
-    with_flushed_line (table_lines files.tables) l) c.requires.next.opened)
-    (subst (λ (m : Memtable). HasFailedAdd m → ⊥) (sym c.replace.ensures.after)
-    c.new.ensures.works) empty refl in
-    record {
-      kept = kept_behind g.D.Disk (λ a b d before after. tt) c.begin.ensures.kept
-          (answered c.begin.result c.in_ok-begin.was) (kept_but g.D.Disk
-          (λ room. c.slots_reach_gates.ensures.full files.manifest c.in_ok-edit.edit fits fit.1
-          room) (kept_as g.D.Disk (neither (λ f. absurd cc) (λ f. absurd cc))
-          (λ a b same. same) c.in_default.ensures.changes.kept));
-      touches = λ honest. beside_both files s1 s2 s3
-          (log_alone files s1 s2 (files.free_file + 1) refl (c.begin.ensures.kept.files honest))
-          (counting_alone files s2 s3
-          (c.record.ensures.changes.kept.files (c.begin.ensures.kept.honest.1 honest)));
-      numbers = (
-        count_kept so new c.in_default.ensures.told.0 begun.2 begun.1,
-        facts_kept so new c.in_default.ensures.told.0 begun.2,
-      );
-      usable = usable;
-      did = record {
-        version = known so new c.in_default.ensures.told.0 begun.2;
-        slots = c.record.ensures.slots;
-        free = refl;
-      };
-      tended = λ list honest hs.
-          let spares = c.begin.ensures.kept.files honest in
-          let honest2 = c.begin.ensures.kept.honest.1 honest in
-          let began = c.in_ok-begin.ensures.begun (suc (trimmed_count files))
-          (drop (trimmed_count files) list) honest
-          (new_ends so s1 list table hs) (spilled_named so s1 list table hs).held in
-          let held =
-          manifest_begun so s1 list table hs s2 spares logs begun.2 began keeps stays in
-          let slot = (c.manifest_has_slots.ensures s2 files.manifest (known_version files) held).0
-          in
-          let same = c.record.ensures.changes.kept.files honest2 in
-          record {
-            list = installed_holds so s1 list c.args.made.table hs s2 spares logs
-                begun.2 began keeps s3 _ slot
-                same edits new refl c.in_default.ensures.told.0 begun.1 usable
-                (c.in_default.ensures.changes.changed (known_version files) honest2 held)
-                (zip_serves s3 s3 c.add.new.self.tables.items
-                (with_flushed hs.held.known.tables hs.spilled.written.table)
-                (c.in_ok-add.ensures.added s3 s3 hs.held.known.tables hs.spilled.written.table
-                (zip_was s3 s3 files.tables.tables.items hs.held.known.tables
-                (old_served so s1 list c.args.made.table hs s2 spares logs begun.2 began
-                keeps s3 _ slot same)
-                (own_blocks s3 files.tables.tables.items))
-                (record {
-                  serves = new_served so s1 list c.args.made.table hs s2 spares logs
-                      begun.2 began keeps s3 _
-                      slot same;
-                  blocks = as_meant_itself (s3 (table_file c.args.made.table.table)) (index_lines
-                      c.args.made.table.table);
-                }))) empty;
-            any_moment = edit_is_recorded so s1 list table hs s2 spares logs begun.2 began
-                keeps law left stays edits p1 p2 p3 s3 (c.begin.ensures.any_moment honest)
-                (c.record.ensures.changes.any_moment (known_version files) honest2 held);
-          };
-      meant = λ list honest ms.
-          let spares = c.begin.ensures.kept.files honest in
-          let honest2 = c.begin.ensures.kept.honest.1 honest in
-          let began = c.in_ok-begin.ensures.begun (suc (trimmed_count files))
-          (drop (trimmed_count files) list) honest
-          (meant_ends so s1 list table ms) (meant_logs so s1 list table ms) in
-          let held =
-          manifest_was_begun so s1 list table ms s2 spares logs begun.2 began keeps stays in
-          let slot = (c.manifest_has_slots.ensures s2 files.manifest (known_version files) held).0
-          in
-          let same = c.record.ensures.changes.kept.files honest2 in
-          let served = all_served so s1 list c.args.made.table ms s2 spares logs begun.2
-          began keeps s3 _ slot
-          same in
-          let mended = m3 so s1 list c.args.made.table ms s2 spares logs begun.2 began
-          keeps s3 _ slot same in
-          record {
-            list = (installed_as_meant so s1 list c.args.made.table ms s2 spares logs
-                begun.2 began keeps s3 _
-                slot same c.flushes_keep.ensures.merge edits stays new refl
-                c.in_default.ensures.told.0 begun.1 usable
-                (c.in_default.ensures.changes.changed (known_version files) honest2 held)
-                (c.in_ok-add.ensures.added s3 mended ms.meant.hold.known.tables
-                ms.spilled.written.table served.0 served.1) empty).0;
-            any_moment = edit_was_recorded so s1 list table ms s2 spares logs begun.2 began
-                keeps law left stays edits p1 p2 p3 s3 (c.begin.ensures.any_moment honest)
-                (c.record.ensures.changes.any_moment (known_version files) honest2 held);
-          };
-    }
+returns-clause-installs = installs
 
 -- ---- plans
 
@@ -426,107 +294,5 @@ returns-in_err-add-clause-plans g c =
     refused_plans g.D.Disk c.from_residual-in_err-add.result _
     c.from_residual-in_err-add.ensures.1 (omega arith)
 
--- a merge can end as before
 pub returns-clause-plans : goal.returns-clause-plans
-returns-clause-plans g c =
-    let files = c.args.self.now in
-    let line = c.args.made.line in
-    let so = flush_by files line c.in_ok-edit.edit c.requires.usable c.requires.place
-    c.requires.next.next
-    (edit_is files line c.state.result.now c.last_number-count.result c.in_ok-edit.edit
-    c.state.ensures c.last_number-count.ensures c.in_ok-edit.ensures.edit) in
-    let begun = c.in_ok-begin.ensures.told in
-    let fit = c.in_ok-edit.ensures.fit in
-    let fits = subst (λ (n : NodeVersion). IsFit n.version c.in_ok-edit.edit) c.state.ensures
-    fit.0 in
-    let law = c.durable_file_is_left.ensures in
-    let left = c.held_versions_are_left.ensures.left in
-    let stays = c.held_versions_are_left.ensures.same in
-    let keeps = c.flushes_keep.ensures.list in
-    let edits = c.edits_keep_versions.ensures in
-    let s1 = g.D.Disk.state c.args.disk.now in
-    let s2 = g.D.Disk.state c.begin.new.disk in
-    let s3 = g.D.Disk.state c.record.new.disk in
-    let p1 = g.D.Disk.past c.args.disk.now in
-    let p2 = g.D.Disk.past c.begin.new.disk in
-    let p3 = g.D.Disk.past c.record.new.disk in
-    let logs = c.begin.new.self in
-    let table = c.args.made.table in
-    let empty = subst (λ (m : Memtable). (entry : Entry) → TableHolds m entry → ⊥)
-    (sym c.replace.ensures.after) c.new.ensures.empty in
-    let new : StoreFiles = record {
-      manifest = c.record.new.self;
-      logs = logs;
-      tables = c.add.new.self;
-      memtable = c.replace.new.dest;
-      free_file = files.free_file + 2;
-    } in
-    let usable = installed_usable so new c.in_default.ensures.told.0 begun.2 begun.1
-    edits
-    c.in_default.ensures.told.1 begun.0
-    (c.in_ok-add.ensures.lines ∙ ap (λ (l : TableLine).
-    with_flushed_line (table_lines files.tables) l) c.requires.next.opened)
-    (subst (λ (m : Memtable). HasFailedAdd m → ⊥) (sym c.replace.ensures.after)
-    c.new.ensures.works) empty refl in
-    let leaves = c.flushes_keep.ensures.merge in
-    record {
-      free = omega arith;
-      held = λ list plan honest it.
-          let hs = it.spilled in
-          let spares = c.begin.ensures.kept.files honest in
-          let honest2 = c.begin.ensures.kept.honest.1 honest in
-          let began = c.in_ok-begin.ensures.begun (suc (trimmed_count files))
-          (drop (trimmed_count files) list) honest
-          (new_ends so s1 list table hs) (spilled_named so s1 list table hs).held in
-          let held =
-          manifest_begun so s1 list table hs s2 spares logs begun.2 began keeps stays in
-          let slot = (c.manifest_has_slots.ensures s2 files.manifest (known_version files) held).0
-          in
-          let same = c.record.ensures.changes.kept.files honest2 in
-          record {
-            held = installed_holds so s1 list c.args.made.table hs s2 spares logs
-                begun.2 began keeps s3 _ slot
-                same edits new refl c.in_default.ensures.told.0 begun.1 usable
-                (c.in_default.ensures.changes.changed (known_version files) honest2 held)
-                (zip_serves s3 s3 c.add.new.self.tables.items
-                (with_flushed hs.held.known.tables hs.spilled.written.table)
-                (c.in_ok-add.ensures.added s3 s3 hs.held.known.tables hs.spilled.written.table
-                (zip_was s3 s3 files.tables.tables.items hs.held.known.tables
-                (old_served so s1 list c.args.made.table hs s2 spares logs begun.2 began
-                keeps s3 _ slot same)
-                (own_blocks s3 files.tables.tables.items))
-                (record {
-                  serves = new_served so s1 list c.args.made.table hs s2 spares logs
-                      begun.2 began keeps s3 _
-                      slot same;
-                  blocks = as_meant_itself (s3 (table_file c.args.made.table.table)) (index_lines
-                      c.args.made.table.table);
-                }))) empty;
-            can_end = ends_behind so s1 list c.args.made.table hs s2 spares logs begun.2 began
-                keeps s3 _ slot same leaves new c.in_default.ensures.told.0 plan it.can_end;
-          };
-      meant = λ list plan honest it.
-          let ms = it.spilled in
-          let spares = c.begin.ensures.kept.files honest in
-          let honest2 = c.begin.ensures.kept.honest.1 honest in
-          let began = c.in_ok-begin.ensures.begun (suc (trimmed_count files))
-          (drop (trimmed_count files) list) honest
-          (meant_ends so s1 list table ms) (meant_logs so s1 list table ms) in
-          let held =
-          manifest_was_begun so s1 list table ms s2 spares logs begun.2 began keeps stays in
-          let slot = (c.manifest_has_slots.ensures s2 files.manifest (known_version files) held).0
-          in
-          let same = c.record.ensures.changes.kept.files honest2 in
-          let served = all_served so s1 list c.args.made.table ms s2 spares logs begun.2
-          began keeps s3 _ slot
-          same in
-          let mended = m3 so s1 list c.args.made.table ms s2 spares logs begun.2 began
-          keeps s3 _ slot same in
-          let both = installed_as_meant so s1 list c.args.made.table ms s2 spares logs
-          begun.2 began keeps s3 _
-          slot same leaves edits stays new refl c.in_default.ensures.told.0 begun.1 usable
-          (c.in_default.ensures.changes.changed (known_version files) honest2 held)
-          (c.in_ok-add.ensures.added s3 mended ms.meant.hold.known.tables
-          ms.spilled.written.table served.0 served.1) empty in
-          record { was = both.0; can_end = both.1 plan it.can_end };
-    }
+returns-clause-plans = ends_as_before
