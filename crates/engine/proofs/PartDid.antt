@@ -19,8 +19,8 @@ use Rattle.engine.specs.Tends.{HasMerged, HasMerged as merged}
 
 module _ {D : Type 0} where
   -- the files of a merge that went on and is given up
-  pub abandoned_store : (old mid new : StoreFiles) (was now : Merge D) → IsAdvanced old mid was now →
-      new ≡ with_free mid (free_behind (begun_number now) mid) →
+  pub abandoned_store : (old mid new : StoreFiles) (was now : Merge D) →
+      IsAdvanced old mid was now → new ≡ with_free mid (free_behind (begun_number now) mid) →
       new ≡ with_free old (free_behind (begun_number was) (with_free old mid.free_file))
   abandoned_store old mid new was now on freed =
       freed ∙ ap (λ (s : StoreFiles). with_free s (free_behind (begun_number now) s)) on.store

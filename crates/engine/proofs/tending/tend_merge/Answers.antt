@@ -20,9 +20,9 @@ use Rattle.engine.proofs.tending.tend_merge.Goals as goal
 
 pub returns-then-is_some-clause-kept : goal.returns-then-is_some-clause-kept
 returns-then-is_some-clause-kept g c =
-    part_wider g.D.Disk c.args.files.now c.continue_merge.new.files c.args.store.now c.continue_merge.new.store
-    c.continue_merge.result c.continue_merge.ensures.kept (λ it one. file.IsOfMerge one) (λ P p. inl p)
-    (λ cause. cause) (λ list h. h) (λ list m. m)
+    part_wider g.D.Disk c.args.files.now c.continue_merge.new.files c.args.store.now
+    c.continue_merge.new.store c.continue_merge.result c.continue_merge.ensures.kept
+    (λ it one. file.IsOfMerge one) (λ P p. inl p) (λ cause. cause) (λ list h. h) (λ list m. m)
 
 pub returns-then-is_some-clause-as_due : goal.returns-then-is_some-clause-as_due
 returns-then-is_some-clause-as_due g c = λ list honest w.
