@@ -1,3 +1,4 @@
+pub mod Floors
 pub mod Merges
 pub mod Results
 pub mod Engines

@@ -1,32 +1,15 @@
-use Rattle.std.proofs.Common.{◌≡◌, ℕ, List, [], ◌∷◌, ◌≤◌, arith, inl, inr, subst}
+use Rattle.std.proofs.Common.{ℕ, arith, inl, inr, subst}
 use Rattle.std.proofs.lemmas.List.Elements.{recursion_from_All}
-use Rattle.std.specs.List.{AllByRecursion}
-use Rattle.std.specs.Prelude.{IfOk, min}
-use Rattle.kv_types.specs.{BatchContent}
-use Rattle.chain_model.specs.Machine.{least}
-use Rattle.engine.specs.Calls.{IsTendAnswer, tended_of}
+use Rattle.std.specs.Prelude.{IfOk}
+use Rattle.engine.specs.Calls.{tended_of}
 use Rattle.engine.specs.Engines.{FactsRise, facts_of, least_read, raised_facts}
-use Rattle.engine.specs.Snapshots.{IsReadable}
 use Rattle.engine.specs.Tends.{KeepsTended, TendsAsPlanned, TendsInOrder, TendsStore}
 use Rattle.engine.proofs.Engines.{goes_to, may_fail, meant_as_held, meant_merge_as_held}
 use Rattle.engine.proofs.Engines.{meant_with_merge, merged_of, told_alike, were_meant}
+use Rattle.engine.proofs.Floors.{least_above, least_below}
 use Rattle.engine.proofs.Results.{answers_as, closed_by, ends_by, match_of, no_refusal, of_refusal}
 use Rattle.engine.proofs.Results.{on_answer, works_on_ok}
 use Rattle.engine.proofs.engine.Engine.tend.Goals as goal
-
--- the least number that may be asked for is no less than the floor
-least_above : (most floor number : ℕ) (open_ones : List ℕ) → floor ≤ number →
-    AllByRecursion (IsReadable floor most) open_ones → floor ≤ least number open_ones
-least_above most floor number [] le each = le
-least_above most floor number (t ∷ ts) le each =
-    let first = each.0.0 in
-    least_above most floor (min number t) ts (omega (arith, le, first)) each.1
-
--- and no greater than the committed number
-least_below : (number : ℕ) (open_ones : List ℕ) → least number open_ones ≤ number
-least_below number [] = omega arith
-least_below number (t ∷ ts) =
-    let le = least_below (min number t) ts in omega (arith, le)
 
 -- the floor may rise to it
 pub tend_store-requires : goal.tend_store-requires

@@ -1,3 +1,5 @@
+mod Installs
+mod Plans
 use Rattle.std.proofs.Common.{◌+◌, ◌-◌, ℕ, ap, arith, drop, inr, refl, subst, suc, sym}
 use Rattle.disk.specs.{IsEnvironmental}
 use Rattle.manifest.specs.{IsFit, NodeVersion}
@@ -19,8 +21,8 @@ use Rattle.store_files.proofs.TendKeeps.{refusal_on_ok, refused_before, refused_
 use Rattle.store_files.proofs.TendedFiles.{beside_both, counting_alone, log_alone}
 use Rattle.store_files.proofs.Tends.{edit_ends, edit_failed, edit_is_external}
 use Rattle.store_files.proofs.Plans.{refused_plans}
-use Rattle.store_files.proofs.store_files.StoreFiles.install.Plans.{ends_as_before}
-use Rattle.store_files.proofs.store_files.StoreFiles.install.Installs.{installs}
+use Rattle.store_files.proofs.store_files.StoreFiles.install.Answers.Plans.{ends_as_before}
+use Rattle.store_files.proofs.store_files.StoreFiles.install.Answers.Installs.{installs}
 use Rattle.store_files.proofs.store_files.StoreFiles.install.Goals as goal
 
 -- the new log has a file of its own
