@@ -6,12 +6,12 @@ use Rattle.std.specs.Prelude.{min}
 use Rattle.chain_model.specs.Machine.{least}
 use Rattle.store_files.specs.declared.store_files.StoreFiles.{StoreFiles}
 use Rattle.store_files.specs.Files.{Facts}
-use Rattle.store_files.specs.OpenFiles.{AreCounted, batch_count, known_facts}
+use Rattle.store_files.specs.OpenFiles.{AreCounted, AreUsableFiles, batch_count, known_facts}
 use Rattle.store_files.specs.Raising.{MayRise, RaisedFactsRise, facts_with_floor}
 use Rattle.engine.specs.Snapshots.{AreReadable, IsReadable}
 
 -- the least number that may be asked for is no less than the floor
-pub least_above : (most floor number : ℕ) (open_ones : List ℕ) → floor ≤ number →
+least_above : (most floor number : ℕ) (open_ones : List ℕ) → floor ≤ number →
     AllByRecursion (IsReadable floor most) open_ones → floor ≤ least number open_ones
 least_above most floor number [] le each = le
 least_above most floor number (t ∷ ts) le each =
@@ -55,9 +55,19 @@ readable_after committed floor later open_ones le readable (inr raised) = record
 
 -- the floor may rise to the least number that may be asked for
 pub may_rise : (store : StoreFiles) (committed floor : ℕ) (open_ones : List ℕ) →
-    MayRise store floor → floor ≡ least committed open_ones → floor ≤ committed
-may_rise store committed floor open_ones rises is =
-    let below = least_below committed open_ones in omega (arith, below, is)
+    AreUsableFiles store → AreCounted store committed →
+    AreReadable (known_facts store).floor committed open_ones → floor ≡ least committed open_ones →
+    MayRise store floor
+may_rise store committed floor open_ones usable counted readable is =
+    let above = least_above committed (known_facts store).floor committed open_ones counted.floor
+    (recursion_from_All _ open_ones readable.each) in
+    let below = least_below committed open_ones in
+    let most = counted.committed in
+    record {
+      usable = usable;
+      rises = omega (arith, above, is);
+      counted = omega (arith, below, most, is);
+    }
 
 -- the facts after a tend are those before it, or those of a raised floor
 abbrev pub AreFactsAfter : StoreFiles → ℕ → Facts → Type 0

@@ -15,3 +15,4 @@ pub mod PartDid
 pub mod PartDue
 pub mod PartBegins
 pub mod StoreTends
+pub mod AlikeTends

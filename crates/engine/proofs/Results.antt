@@ -1,5 +1,5 @@
 -- What an answer or a refusal says.
-use Rattle.std.proofs.Common.{◌≡◌, Result, Ok, Err, inl, inr, refl, sym, subst, Bool, false, true}
+use Rattle.std.proofs.Common.{◌≡◌, ◌∙◌, Result, Ok, Err, inl, inr, refl, sym, subst, Bool, false, true}
 use Rattle.std.specs.Prelude.{◌⊎◌, ◌↔◌, IfErr, IfOk, IsErrAnd, IsErrOf, IsTrue, MatchResult, OnOk}
 use Rattle.std.specs.Prelude.{is_err}
 use Rattle.disk.specs.{IsEnvironmental}
@@ -86,17 +86,17 @@ match_of (Ok x) P answer why = answer
 match_of (Err e) P answer why = why
 
 -- an answer has both that it has and that no refusal is told of
-pub answers_with : {T : Type 0} {P Q : Type 0} {E : EngineError → Type 0}
+pub answers_with : {T : Type 0} (P Q : Type 0) (E : EngineError → Type 0)
     (result : Result T EngineError) → OnOk result P → MatchResult result (λ _. Q) E →
     MatchResult result (λ _. P) E
-answers_with (Ok x) p q = p
-answers_with (Err e) p why = why
+answers_with P Q E (Ok x) p q = p
+answers_with P Q E (Err e) p why = why
 
 -- what holds of each answer holds of this one
-pub answers_so : {T : Type 0} {P : Type 0} (result : Result T EngineError) → OnOk result P →
+pub answers_so : {T : Type 0} (P : Type 0) (result : Result T EngineError) → OnOk result P →
     IfOk result (λ _. P)
-answers_so (Ok x) p = p
-answers_so (Err e) p = tt
+answers_so P (Ok x) p = p
+answers_so P (Err e) p = tt
 
 -- what is so of each answer
 pub if_ok : {T : Type 0} {P Q : T → Type 0} (result : Result T EngineError) →
@@ -105,7 +105,13 @@ if_ok (Ok x) so p = so x p
 if_ok (Err e) so p = tt
 
 -- what each answer has, one that answers has
-pub answers_as : {T P : Type 0} (result : Result T EngineError) → IfOk result (λ _. P) →
+pub answers_as : {T : Type 0} (P : Type 0) (result : Result T EngineError) → IfOk result (λ _. P) →
     OnOk result P
-answers_as (Ok x) p = p
-answers_as (Err e) p = tt
+answers_as P (Ok x) p = p
+answers_as P (Err e) p = tt
+
+-- what an answer has, a call has that is not refused
+pub unless_refused : {T : Type 0} (P : Type 0) (result : Result T EngineError) (ended : Bool) →
+    ended ≡ is_err result → OnOk result P → ended ≡ false → P
+unless_refused P (Ok x) ended is p works = p
+unless_refused P (Err e) ended is p works = let both = sym is ∙ works in cc

@@ -36,13 +36,12 @@ use Rattle.engine.proofs.Results.{answers_so, answers_with, of_refusal, on_answe
 use Rattle.engine.proofs.Merges.{goes_with_merge, meant_with_merge, tend_leaves_ok, unused_held}
 use Rattle.engine.proofs.Merges.{unused_meant}
 
--- a number is the first free one or the one behind it
-free_within : (store : StoreFiles) (file : ℕ) →
-    Contains (store.free_file ∷ (store.free_file + 1) ∷ []) file → store.free_file ≤ file
-free_within store file has = elim (contains_cases store.free_file _ file has) [
-  | inl is ↦ subst (λ (n : ℕ). store.free_file ≤ n) is (omega arith)
-  | inr later ↦ elim (contains_cases (store.free_file + 1) [] file later) [
-    | inl is ↦ subst (λ (n : ℕ). store.free_file ≤ n) is (omega arith)
+-- a number or the one behind it
+free_within : (n file : ℕ) → Contains (n ∷ (n + 1) ∷ []) file → n ≤ file
+free_within n file has = elim (contains_cases n ((n + 1) ∷ []) file has) [
+  | inl is ↦ omega (arith, is)
+  | inr later ↦ elim (contains_cases (n + 1) [] file later) [
+    | inl is ↦ omega (arith, is)
     | inr none ↦ let lt = none.1 in absurd (omega (arith, lt))
   ]
 ]
@@ -50,12 +49,14 @@ free_within store file has = elim (contains_cases store.free_file _ file has) [
 -- a tend of the store touches files of a merge
 tended_within : {D : Type 0} (store : StoreFiles) (merge : Option (Merge D)) (floor file : ℕ) →
     Contains (tended_files store) file → IsTendedFile store merge floor file
-tended_within store merge floor file has = elim (contains_cases (counting_file store.manifest)
-    _ file has) [
+tended_within store merge floor file has =
+    let free = store.free_file in
+    let rest = free ∷ (free + 1) ∷ [] in
+    elim (contains_cases (counting_file store.manifest) (spare_file store.manifest ∷ rest) file has) [
       | inl is ↦ tended.IsOfMerge (own.IsSlot (inl (sym is)))
-      | inr later ↦ elim (contains_cases (spare_file store.manifest) _ file later) [
+      | inr later ↦ elim (contains_cases (spare_file store.manifest) rest file later) [
         | inl is ↦ tended.IsOfMerge (own.IsSlot (inr (sym is)))
-        | inr free ↦ tended.IsOfMerge (own.IsFree (free_within store file free))
+        | inr behind ↦ tended.IsOfMerge (own.IsFree (free_within free file behind))
       ]
     ]
 
@@ -83,7 +84,7 @@ module _ {D : Type 0} (g : Ghosts D) (lasts : MergesOfEngineLast g)
         held = λ list honest h.
             let told = (tends.tended list honest h.held).list in
             let held = on_answer result _ _ told in
-            answers_with result (goes_with_merge g lasts a b old new merge list (λ l. l) result
+            answers_with _ _ _ result (goes_with_merge g lasts a b old new merge list (λ l. l) result
             honest plans held h (λ m plan is it. tend_leaves_ok g lasts apart a b old new
             h.held.known.tables m plan it edits result tends.did
             (apart.tended before old list h.held.known) (apart.tables before old list h.held.known)
@@ -98,7 +99,7 @@ module _ {D : Type 0} (g : Ghosts D) (lasts : MergesOfEngineLast g)
         meant = λ list honest w.
             let held = on_answer result _ _ (tends.meant list honest w.was).list in
             let known = w.was.hold.known in
-            answers_so result (meant_with_merge g lasts a b old new merge list (λ l. l) result
+            answers_so _ result (meant_with_merge g lasts a b old new merge list (λ l. l) result
             honest plans held w (λ m plan is it. tend_leaves_ok g lasts apart a b old new
             known.tables m plan it edits result tends.did
             (apart.tended w.was.meant old list known) (apart.tables w.was.meant old list known)
@@ -139,9 +140,9 @@ module _ {D : Type 0} {g : Ghosts D} where
   pub next_at_rest : (limits : Limits) (it : TendedStore D g) (new : StoreFiles)
       (result : Result Tended EngineError) → result ≡ Ok answer.Idle →
       IfOk result (IsWorkAnswer limits.log it.store new) → MergesAreNext limits it
-  next_at_rest limits it new result is work =
+  next_at_rest limits it new result is did =
       each answer.Idle refl
-      (subst (λ r. IfOk r (IsWorkAnswer limits.log it.store new)) is work)
+      (subst (λ r. IfOk r (IsWorkAnswer limits.log it.store new)) is did)
     where
       each : (told : Tended) → told ≡ answer.Idle → IsWorkAnswer limits.log it.store new told →
           MergesAreNext limits it

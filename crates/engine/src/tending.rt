@@ -109,8 +109,9 @@ pub(crate) fn tend_store<D: Disk + Drop>(
     merges_outlive_calls::<D>(); // law: a merge outlives calls that leave its files
     open_files_are_apart(); // law: which files a tend of the store changes
     merges_stay_beside::<D>(); // law: a flush names no output of a merge
-    match store.tend(alloc, files, limits.log) {
-        Ok(Tended::Idle) => tend_merge(alloc, files, store, merge, turn, limits, floor),
-        done => done,
+    let done = store.tend(alloc, files, limits.log)?;
+    if done != Tended::Idle {
+        return Ok(done);
     }
+    tend_merge(alloc, files, store, merge, turn, limits, floor)
 }

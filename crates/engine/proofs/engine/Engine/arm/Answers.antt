@@ -1,4 +1,7 @@
 use Rattle.std.proofs.Common.{refl, rules}
+use Rattle.engine.specs.Calls.{tended_of}
+use Rattle.engine.specs.Engines.{least_read}
+use Rattle.engine.proofs.AlikeTends.{order_of, order_to}
 use Rattle.engine.proofs.Engines.{holds_of, reads_on}
 use Rattle.engine.proofs.engine.Engine.arm.Goals as goal
 
@@ -25,5 +28,13 @@ returns-clause-stays g c = record {
       }) h.reads.works h.reads);
 }
 
+-- a tend is said of the store, the merge and the turn, which stay
 pub returns-clause-tends : goal.returns-clause-tends
-returns-clause-tends g c = λ other answer. (λ tells. tells, λ tells. tells)
+returns-clause-tends g c = λ other answer.
+    let old = c.args.self.now in
+    let new = c.arm.new.self in (
+      order_of old.limits (least_read old) new old.files old.store old.merge old.turn
+          (tended_of other) answer,
+      order_to other.limits (least_read other) old.files new old.store old.merge old.turn
+          (tended_of other) answer,
+    )

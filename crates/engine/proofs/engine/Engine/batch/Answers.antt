@@ -1,7 +1,6 @@
 use Rattle.std.proofs.Common.{refl, rules}
 use Rattle.disk.specs.StillLemmas.{still}
-use Rattle.engine.specs.Engines.{engine_disk}
-use Rattle.engine.proofs.Engines.{goes_on, held_of, were_meant}
+use Rattle.engine.proofs.Engines.{goes_on, meant_as_held, were_meant}
 use Rattle.engine.proofs.Results.{works_on_ok}
 use Rattle.engine.proofs.engine.Engine.batch.Goals as goal
 
@@ -19,9 +18,7 @@ pub returns-clause-found : goal.returns-clause-found
 returns-clause-found g c = record {
   reads = λ list r.
       c.batch-answer.ensures.found list r.honest
-      (c.held_files_are_left.ensures.as_is (g.D.Disk.state (engine_disk c.args.self.now))
-      c.args.self.now.store list
-      (held_of g.D.Disk c.args.self.now list r));
+      (meant_as_held g.D.Disk c.held_files_are_left.ensures c.args.self.now list r);
   meant = λ list m.
       c.batch-answer.ensures.found list m.honest (were_meant g.D.Disk c.args.self.now list m);
 }

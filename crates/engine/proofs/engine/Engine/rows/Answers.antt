@@ -1,8 +1,7 @@
 use Rattle.std.proofs.Common.{◌≤◌, arith, refl, rules}
 use Rattle.disk.specs.StillLemmas.{still}
 use Rattle.store_files.specs.OpenFiles.{batch_count}
-use Rattle.engine.specs.Engines.{engine_disk}
-use Rattle.engine.proofs.Engines.{goes_on, held_of, no_damage, were_meant}
+use Rattle.engine.proofs.Engines.{goes_on, held_of, meant_as_held, no_damage, were_meant}
 use Rattle.engine.proofs.Results.{works_on_ok}
 use Rattle.engine.proofs.engine.Engine.rows.Goals as goal
 
@@ -24,9 +23,8 @@ returns-clause-found g c =
     omega (arith, readable.1, counted) in
     let found = c.rows-answer.ensures.found in
     record {
-      reads = λ list r. found list r.honest (c.held_files_are_left.ensures.as_is
-          (g.D.Disk.state (engine_disk c.args.self.now)) c.args.self.now.store list
-          (held_of g.D.Disk c.args.self.now list r)) readable.0 count;
+      reads = λ list r. found list r.honest (meant_as_held g.D.Disk
+          c.held_files_are_left.ensures c.args.self.now list r) readable.0 count;
       meant = λ list m. found list m.honest (were_meant g.D.Disk c.args.self.now list m)
           readable.0 count;
     }

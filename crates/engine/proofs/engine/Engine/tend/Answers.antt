@@ -1,29 +1,43 @@
-use Rattle.std.proofs.Common.{ℕ, arith, inl, inr, subst}
-use Rattle.std.proofs.lemmas.List.Elements.{recursion_from_All}
+use Rattle.std.proofs.Common.{ℕ, inl, inr, refl, subst}
 use Rattle.std.specs.Prelude.{IfOk}
 use Rattle.engine.specs.Calls.{tended_of}
 use Rattle.engine.specs.Engines.{FactsRise, facts_of, least_read, raised_facts}
 use Rattle.engine.specs.Tends.{KeepsTended, TendsAsPlanned, TendsInOrder, TendsStore}
+use Rattle.engine.specs.Tends.{tended_store}
 use Rattle.engine.proofs.Engines.{goes_to, may_fail, meant_as_held, meant_merge_as_held}
 use Rattle.engine.proofs.Engines.{meant_with_merge, merged_of, told_alike, were_meant}
-use Rattle.engine.proofs.Floors.{least_above, least_below}
+use Rattle.engine.proofs.Floors.{counted_after, floor_after, least_below, may_rise, readable_after}
 use Rattle.engine.proofs.Results.{answers_as, closed_by, ends_by, match_of, no_refusal, of_refusal}
-use Rattle.engine.proofs.Results.{on_answer, works_on_ok}
+use Rattle.engine.proofs.Results.{on_answer, unless_refused, works_on_ok}
 use Rattle.engine.proofs.engine.Engine.tend.Goals as goal
 
--- the floor may rise to it
-pub tend_store-requires : goal.tend_store-requires
-tend_store-requires g c =
+-- the floor may rise
+pub tend_store-answer-requires : goal.tend_store-answer-requires
+tend_store-answer-requires g c =
     let old = c.args.self.now in
-    let floor = least_above old.committed (facts_of old).floor old.committed old.snapshots
-    old.counted.floor (recursion_from_All _ old.snapshots old.readable.each) in
-    let below = least_below old.committed old.snapshots in
-    let counted = old.counted.committed in
-    let is = c.least-floor.ensures in
+    may_rise old.store old.committed c.least-floor.result old.snapshots
+    (old.usable c.if-self.false) old.counted old.readable c.least-floor.ensures
+
+-- floor, committed number and open snapshots stay in order
+pub invariant_of-self : goal.invariant_of-self
+invariant_of-self g c =
+    let old = c.args.self.now in
+    let new = c.tend_store-answer.new.store in
+    let answer = c.tend_store-answer.result in
+    let later = tended_store c.tend_store-answer.new.files new c.tend_store-answer.new.merge
+    c.tend_store-answer.new.turn in
+    let part = subst (λ (n : ℕ). KeepsTended g.D.Disk n (tended_of old) later answer)
+    c.least-floor.ensures c.tend_store-answer.ensures.kept in
+    let may = may_rise old.store old.committed (least_read old) old.snapshots
+    (old.usable c.if-self.false) old.counted old.readable refl in
     record {
-      usable = old.usable c.if-self.false;
-      rises = omega (arith, floor, is);
-      counted = omega (arith, below, counted, is);
+      readable = readable_after old.committed (facts_of old).floor _ old.snapshots
+          old.counted.floor old.readable
+          (floor_after old.store new (least_read old) part.numbers.1);
+      counted = counted_after old.store new old.committed (least_read old)
+          c.raised_facts_rise.ensures may (least_below old.committed old.snapshots) old.counted
+          part.numbers.0 part.numbers.1;
+      usable = unless_refused _ answer c.is_err-self.result c.is_err-self.ensures.value part.usable;
     }
 
 -- A device that works fails where the files are full or are none of the engine. The list stays, at
@@ -33,8 +47,10 @@ returns-clause-changes g c =
     let d = g.D.Disk in
     let old = c.args.self.now in
     let answer = c.tend_store-answer.result in
-    let part = subst (λ (n : ℕ). KeepsTended d n (tended_of old) _ answer) c.least-floor.ensures
-    c.tend_store-answer.ensures.kept in
+    let later = tended_store c.tend_store-answer.new.files c.tend_store-answer.new.store
+    c.tend_store-answer.new.merge c.tend_store-answer.new.turn in
+    let part = subst (λ (n : ℕ). KeepsTended d n (tended_of old) later answer)
+    c.least-floor.ensures c.tend_store-answer.ensures.kept in
     let kept = part.kept in
     record {
       keeps = record {
@@ -57,14 +73,16 @@ returns-clause-changes g c =
           goes_to d c.held_files_are_left.ensures old _ list list answer kept.honest.1
           (works_on_ok answer c.is_err-self.result c.is_err-self.ensures.value)
           (λ honest h. on_answer answer _ _ (part.held list honest h))
-          (λ honest w. answers_as answer (part.meant list honest w));
+          (λ honest w. answers_as _ answer (part.meant list honest w));
       any_moment = λ list h. part.any_moment list h.reads.honest (merged_of d old list h.reads);
       meant = λ list m. part.meant_moment list m.honest (meant_with_merge d old list m);
     }
 
 pub returns-clause-told : goal.returns-clause-told
 returns-clause-told g c =
-    let part = subst (λ (n : ℕ). KeepsTended g.D.Disk n (tended_of c.args.self.now) _
+    let later = tended_store c.tend_store-answer.new.files c.tend_store-answer.new.store
+    c.tend_store-answer.new.merge c.tend_store-answer.new.turn in
+    let part = subst (λ (n : ℕ). KeepsTended g.D.Disk n (tended_of c.args.self.now) later
     c.tend_store-answer.result) c.least-floor.ensures c.tend_store-answer.ensures.kept in
     elim part.numbers.1 [
       | inl same ↦ inl (told_alike same part.numbers.0)
@@ -75,17 +93,11 @@ returns-clause-told g c =
 pub returns-clause-raised : goal.returns-clause-raised
 returns-clause-raised g c =
     let old = c.args.self.now in
-    let floor = least_above old.committed (facts_of old).floor old.committed old.snapshots
-    old.counted.floor (recursion_from_All _ old.snapshots old.readable.each) in
-    let below = least_below old.committed old.snapshots in
-    let counted = old.counted.committed in
-    let rises = c.raised_facts_rise.ensures old.store (least_read old) (record {
-      usable = old.usable c.if-self.false;
-      rises = floor;
-      counted = omega (arith, below, counted);
-    }) in
+    let may = may_rise old.store old.committed (least_read old) old.snapshots
+    (old.usable c.if-self.false) old.counted old.readable refl in
+    let rises = c.raised_facts_rise.ensures old.store (least_read old) may in
     let rise : FactsRise (facts_of old) (raised_facts old) =
-    record { floor = floor; kept = rises.0; readable = rises.1 } in
+    record { floor = may.rises; kept = rises.0; readable = rises.1 } in
     record { reads = λ list r. rise; meant = λ list m. rise }
 
 -- what was due was done
@@ -97,25 +109,29 @@ returns-clause-work g c =
     let laws = c.held_files_are_left.ensures in
     let floor = c.least-floor.ensures in
     let called = c.tend_store-answer.ensures in
+    let later = tended_store c.tend_store-answer.new.files c.tend_store-answer.new.store
+    c.tend_store-answer.new.merge c.tend_store-answer.new.turn in
     record {
       reads = λ list r.
           match_of answer _ (subst (λ (n : ℕ). IfOk answer (TendsInOrder old.limits n
-          (tended_of old) _)) floor
+          (tended_of old) later)) floor
           (called.in_order list r.honest (meant_as_held d laws old list r)))
           (of_refusal answer _ _ (called.kept.held list r.honest (merged_of d old list r)));
-      meant = λ list m. subst (λ (n : ℕ). IfOk answer (TendsInOrder old.limits n (tended_of old) _))
+      meant = λ list m. subst (λ (n : ℕ). IfOk answer (TendsInOrder old.limits n (tended_of old) later))
           floor (called.in_order list m.honest (were_meant d old list m));
       planned = record {
         reads = λ list r. subst (λ (n : ℕ). IfOk answer (TendsAsPlanned d old.limits n
-            (tended_of old) _)) floor
+            (tended_of old) later)) floor
             (called.planned list r.honest (meant_merge_as_held d laws old list r));
         meant = λ list m. subst (λ (n : ℕ). IfOk answer (TendsAsPlanned d old.limits n
-            (tended_of old) _)) floor
+            (tended_of old) later)) floor
             (called.planned list m.honest (meant_with_merge d old list m));
       };
     }
 
 pub returns-clause-did : goal.returns-clause-did
 returns-clause-did g c =
+    let later = tended_store c.tend_store-answer.new.files c.tend_store-answer.new.store
+    c.tend_store-answer.new.merge c.tend_store-answer.new.turn in
     subst (λ (n : ℕ). IfOk c.tend_store-answer.result (TendsStore c.args.self.now.limits n
-    (tended_of c.args.self.now) _)) c.least-floor.ensures c.tend_store-answer.ensures.did
+    (tended_of c.args.self.now) later)) c.least-floor.ensures c.tend_store-answer.ensures.did
