@@ -7,7 +7,6 @@ use Rattle.std.specs.Option.{option_map}
 use Rattle.disk.specs.{IsEnvironmental}
 use Rattle.disk.specs.declared.Disk.{Ghosts}
 use Rattle.disk.specs.{AlwaysLeaves, Contents, IsFileOutcome, KeepsDisk, State, seen}
-use Rattle.kv_types.specs.declared.bounds.TheConstants.{MAX_NUMBER}
 use Rattle.kv_types.specs.{Entry}
 use Rattle.version_edits.specs.declared.TableLine.{TableLine}
 use Rattle.version_edits.specs.declared.line.TheConstants.{MAX_LINES, MAX_NEXT}
@@ -145,7 +144,7 @@ IsAstray g disk next_file writer =
 
 -- one more output is one table too many, beside so many of the version, or has no number
 abbrev pub HasNoPlace : ℕ → ℕ → ℕ → Type 0
-HasNoPlace tables next_file closed = (MAX_LINES ≤ tables + closed) ⊎ (MAX_NUMBER ≤ next_file)
+HasNoPlace tables next_file closed = (MAX_LINES ≤ tables + closed) ⊎ (MAX_NEXT ≤ next_file)
 
 -- with the entry, these have more data than a table may have
 abbrev pub PassesTableLimit : List Entry → Entry → Type 0

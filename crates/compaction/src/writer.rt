@@ -8,13 +8,12 @@ use crate::finishing::finish_output;
 use crate::open_output::OpenOutput;
 use crate::ranges::any_holds;
 use disk::Disk;
-use kv_types::bounds::MAX_NUMBER;
 use kv_types::{KeyBuffer, LentKey};
 use std::alloc::{AllocError, Global};
 use std::mem::replace;
 use table_builder::Builder;
 use table_format::LentEntry;
-use version_edits::{MAX_LINES, TableLine};
+use version_edits::{MAX_LINES, MAX_NEXT, TableLine};
 
 /// The writer of a merge's outputs. The entries of the inputs come to it in order.
 #[derive(Drop)]
@@ -204,7 +203,7 @@ impl OutputWriter {
         if self.current.is_some() {
             return Ok(());
         }
-        if tables + self.closed.len() >= MAX_LINES || *next_file >= MAX_NUMBER {
+        if tables + self.closed.len() >= MAX_LINES || *next_file >= MAX_NEXT {
             return Err(MergeError::Full);
         }
         let file = *next_file;
