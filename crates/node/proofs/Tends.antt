@@ -12,7 +12,7 @@ use Rattle.chain_model.specs.Rules.{tend}
 use Rattle.chain_core.specs.{Core, CoreRefines, HasOrderedNumbers, IsRiseOf, Machine}
 use Rattle.engine.specs.declared.Engine.{Engine}
 use Rattle.engine.specs.{AreOrdered, EngineHolds, Facts, FactsRise, FilesRepresent, HasEnded}
-use Rattle.engine.specs.{IsOneOf, IsReadable, RaisesFactsAtMost, LookUps, facts_of, look_ups}
+use Rattle.engine.specs.{IsOneOf, IsReadable, LookUps, RaisesFactsAtMost, facts_of, look_ups}
 use Rattle.engine.specs.{raised_facts}
 use Rattle.node.specs.declared.node.Node.{Node}
 use Rattle.node.specs.Outputs.{AlwaysRefines}
@@ -81,7 +81,8 @@ with_told core later is floors kepts =
 
 -- ---- what the engine tells
 
-module _ {D : Type 0} {g : Ghosts D} (old new : Engine D g) (told : RaisesFactsAtMost old new) where
+module _ {D : Type 0} {g : Ghosts D} (old new : Engine D g) (told : RaisesFactsAtMost old new)
+  where
   -- all but the facts stays
   count_stays : (look_ups new).count ≡ (look_ups old).count
   count_stays = elim told [
