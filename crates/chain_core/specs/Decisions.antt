@@ -1,6 +1,6 @@
 -- Decisions on inputs, and their execution: the rules of the chain's model by name.
 use Rattle.std.specs.Prelude.{◌≡◌, ◌≤◌, ◌<◌, ℕ, suc, List, ◌∷◌, length, map, Option}
-use Rattle.std.specs.Prelude.{Some, None, Result, IfOk, OnErr, IsTrue}
+use Rattle.std.specs.Prelude.{Some, None, Result, IfOk, OnErr, IsTrue, All}
 use Rattle.std.specs.Global.{Vec}
 use Rattle.kv_types.specs.declared.bounds.TheConstants.{MAX_NUMBER}
 use Rattle.kv_types.specs.{BatchContent}
@@ -84,6 +84,14 @@ pub record HasRoomAt (core : Core) (number : ℕ) : Type 0 where
   pub floor : core.floor ≤ number
   pub committed : number ≤ core.committed
   pub room : length core.snapshots < 64
+
+-- the floor may rise to this number, and so many batches may be trimmed: what may still be asked
+-- for stays readable, and no batch above the floor is trimmed
+pub record IsRiseOf (core : Core) (floor kept : ℕ) : Type 0 where
+  pub rises : core.floor ≤ floor
+  pub committed : floor ≤ core.committed
+  pub snapshots : All (λ s. floor ≤ s) core.snapshots
+  pub readable : kept ≤ floor
 
 -- The store's part of a step can be done by these numbers: a number is left for a batch, a report
 -- can be true, a snapshot can be opened, or one is open at the number that is closed.

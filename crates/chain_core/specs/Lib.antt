@@ -5,8 +5,8 @@ pub mod Decisions
 pub mod Steps
 -- What crates above name.
 pub use Rattle.chain_core.specs.Decisions.{AreFrames, CoreFollows, Decides, DecisionFits}
-pub use Rattle.chain_core.specs.Decisions.{DoneFits, HasRoomAt, IsReadOf, IsReport, answer_to}
-pub use Rattle.chain_core.specs.Decisions.{done_of, frame_as, responses_after, rule_of}
+pub use Rattle.chain_core.specs.Decisions.{DoneFits, HasRoomAt, IsReadOf, IsReport, IsRiseOf}
+pub use Rattle.chain_core.specs.Decisions.{answer_to, done_of, frame_as, responses_after, rule_of}
 pub use Rattle.chain_core.specs.States.{AreSnapshots, Core, CoreRefines, HasOrderedNumbers}
 pub use Rattle.chain_core.specs.States.{Machine, committed_responses, waiting}
 pub use Rattle.chain_core.specs.Steps.{StandsLast, StepLeaves, StepsLeave, epoch_after, floor_after}

@@ -1,15 +1,17 @@
 // The state of a node besides its batches, and the change of it by each step.
-ghost use Rattle.std.specs.Prelude.{◌≡◌, ◌==◌, ◌<◌, ◌≤◌, ◌∷◌, suc, length, max, not};
+ghost use Rattle.std.specs.Prelude.{◌≡◌, ◌==◌, ◌<◌, ◌≤◌, ◌∷◌, suc, length, max, not, true};
 ghost use Rattle.std.specs.Prelude.{if◌then◌else◌, IsTrue, OnErr, OnOk};
 ghost use Rattle.std.specs.List.{position_from};
 ghost use Rattle.kv_types.specs.declared.bounds.TheConstants.{MAX_NUMBER};
 ghost use Rattle.kv_types.specs.{BatchContent};
 ghost use Rattle.chain_model.specs.{has, is_head, is_tail, predecessor, successor, created};
 ghost use Rattle.chain_model.specs.{started, append};
-ghost use Rattle.chain_model.specs.Machine.{is_open, without};
+ghost use Rattle.chain_model.specs.Machine.{is_open, least, without};
+ghost use Rattle.chain_model.specs.Rules.{tend};
 ghost use Rattle.chain_core.specs.States.{Machine, CoreRefines, PersistentRefines};
 ghost use Rattle.chain_core.specs.States.{HasOrderedNumbers};
 ghost use Rattle.chain_core.specs.Decisions.{CoreApplies, DoneFits, HasRoomAt, IsReport};
+ghost use Rattle.chain_core.specs.Decisions.{IsRiseOf};
 
 use crate::queue::{count_due, move_due};
 use crate::{CoreError, Done, PendingSubmit, PersistentState};
@@ -309,6 +311,19 @@ impl CoreState {
         if let Some(place) = place_of(&self.snapshots, number) {
             self.snapshots.remove(place);
         }
+    }
+
+    /// Takes over the floor and the kept number that the store tells after a tend. Where the floor
+    /// is the least number that may still be asked for, that is a tend which raised it.
+    pub fn raise(&mut self, floor: Number, kept: Number)
+        requires { IsRiseOf self.old floor kept }
+        ensures raised { self.new ≡ record self.old { floor = floor; kept = kept } }
+        ensures tends { (n : Machine) → CoreRefines self.old n →
+            floor ≡ least n.committed n.snapshots → n.kept ≤ kept →
+            CoreRefines self.new (tend n true kept).node }
+    {
+        self.floor = floor;
+        self.kept = kept;
     }
 
     /// Applies the store's part of a step to the state. Returns the requests whose batches are now

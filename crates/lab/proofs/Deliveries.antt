@@ -29,11 +29,13 @@ use Rattle.lab.specs.declared.report.Line.TheVariants as line
 use Rattle.lab.specs.Events.{modelled, reply_line, line_cause}
 use Rattle.lab.specs.Deliveries.{IsDeliveryOf, HasNoDelivery, input_of}
 use Rattle.lab.specs.Outcomes.{HasStarted, Starts, Fails, RunsOn, HasStopped, Stops, RestsOn}
-use Rattle.lab.specs.Outcomes.{HasTended, Halts, OutcomeRefines, Tends, TendsNot, input_junk}
+use Rattle.lab.specs.Outcomes.{OutcomeRefines, input_junk}
 use Rattle.lab.specs.Disks.{junk_of}
 use Rattle.lab.specs.SimNodes.{Choice, is_honest, state}
-use Rattle.lab.proofs.Outcomes.{IsOutcome, IsTraced, chosen, as_chosen, given, stop_traced}
-use Rattle.lab.proofs.Outcomes.{drop_traced, told_fits, with_fault}
+use Rattle.lab.proofs.Outcomes.{IsOutcome, IsTraced, as_plain, chosen, drop_traced, given}
+use Rattle.lab.proofs.Outcomes.{stop_traced, told_fits, with_fault}
+use Rattle.lab.proofs.Rises.{no_answer, no_start, no_stop}
+use Rattle.lab.proofs.Tends.{tended}
 
 -- each kind has the lines of replies that the node has
 abbrev RepliesSo : EventKind → Input → Type 0
@@ -144,7 +146,7 @@ module _ {g : Ghosts Slots} (cs : Configurations) (w : SystemState BatchContent)
         IsOutcome cs w i x (Start x) it struck new did
     start (Starts off is traced) =
         let o = answers x (silent (started x (w.nodes x))) in
-        as_chosen cs w i x (Start x) it new did plain (refl, refl) o
+        as_plain cs w i x (Start x) it new did plain (refl, refl) (no_start traced) o
         (started x (w.nodes x)) (cond-false _ _ _ off) refl is
         (subst (λ (d : StepOutcome). IsTraced x (with_fault (Start x) it) plain d o) (sym traced)
         (record {
@@ -156,8 +158,8 @@ module _ {g : Ghosts Slots} (cs : Configurations) (w : SystemState BatchContent)
           told = tt;
         }))
     start (Fails off by is) =
-        as_chosen cs w i x (Start x) it new did (chosen StoppedBefore struck by.cause) (refl, refl)
-        (stops x (w.nodes x)) (stopped (w.nodes x)) (cond-false _ _ _ off) refl is
+        as_plain cs w i x (Start x) it new did (chosen StoppedBefore struck by.cause) (refl, refl)
+        (no_stop by.told) (stops x (w.nodes x)) (stopped (w.nodes x)) (cond-false _ _ _ off) refl is
         (subst (λ (d : StepOutcome). IsTraced x (with_fault (Start x) it)
         (chosen StoppedBefore struck by.cause) d (stops x (w.nodes x))) (sym by.told)
         (stop_traced x (with_fault (Start x) it) (chosen StoppedBefore struck by.cause)
@@ -165,66 +167,25 @@ module _ {g : Ghosts Slots} (cs : Configurations) (w : SystemState BatchContent)
         (told_fits it struck by.cause by.environmental)))
     start (RunsOn up is traced) =
         let o = answers x (dropped_for (w.nodes x) reason.Running) in
-        as_chosen cs w i x (Start x) it new did plain (refl, refl) o (w.nodes x)
+        as_plain cs w i x (Start x) it new did plain (refl, refl) (no_answer traced.1) o (w.nodes x)
         (cond-true _ _ _ up) refl is
         (subst (λ (d : StepOutcome). IsTraced x (with_fault (Start x) it) plain d o) (sym traced.1)
         (drop_traced x (with_fault (Start x) it) plain (w.nodes x) reason.Running traced.0
         traced.2 refl))
 
-    tend : HasTended is_honest state it struck x (w.nodes x) old new did →
-        IsOutcome cs w i x (Tend x) it struck new did
-    tend (Tends up is traced) =
-        let o = answers x (silent (w.nodes x)) in
-        let choice : Choice =
-        record {
-          went = Answered;
-          struck = struck;
-          cause = Disk;
-          tended = traced.0;
-          rises = false;
-          gives_up = 0;
-        }
-        in
-        as_chosen cs w i x (Tend x) it new did choice (refl, refl) o (w.nodes x)
-        (cond-true _ _ _ up) refl is
-        (subst (λ (d : StepOutcome). IsTraced x (with_fault (Tend x) it) choice d o) (sym traced.1)
-        (record {
-          frames = refl;
-          traced = λ n. refl;
-          counted = λ n. refl;
-          fits = λ stops. absurd (false≢true stops);
-          ends = refl;
-          told = refl;
-        }))
-    tend (Halts up by is) =
-        as_chosen cs w i x (Tend x) it new did (chosen StoppedBefore struck by.cause) (refl, refl)
-        (stops x (w.nodes x)) (stopped (w.nodes x)) (cond-true _ _ _ up) refl is
-        (subst (λ (d : StepOutcome). IsTraced x (with_fault (Tend x) it)
-        (chosen StoppedBefore struck by.cause) d (stops x (w.nodes x))) (sym by.told)
-        (stop_traced x (with_fault (Tend x) it) (chosen StoppedBefore struck by.cause)
-        (line_cause it struck by.cause) (w.nodes x) refl by.device
-        (told_fits it struck by.cause by.environmental)))
-    tend (TendsNot off is traced) =
-        let o = answers x (dropped_for (w.nodes x) reason.NotRunning) in
-        as_chosen cs w i x (Tend x) it new did plain (refl, refl) o (w.nodes x)
-        (cond-false _ _ _ off) refl is
-        (subst (λ (d : StepOutcome). IsTraced x (with_fault (Tend x) it) plain d o)
-        (sym traced.1)
-        (drop_traced x (with_fault (Tend x) it) plain (w.nodes x) reason.NotRunning
-        traced.0 traced.2 refl))
-
     stop : (junk : Junk) → HasStopped is_honest state x (w.nodes x) new did →
         IsOutcome cs w i x (Stop x junk) it struck new did
     stop junk (Stops up is traced) =
-        as_chosen cs w i x (Stop x junk) it new did plain (refl, refl) (stops x (w.nodes x))
-        (stopped (w.nodes x)) (cond-true _ _ _ up) refl is
+        as_plain cs w i x (Stop x junk) it new did plain (refl, refl) (no_stop traced)
+        (stops x (w.nodes x)) (stopped (w.nodes x)) (cond-true _ _ _ up) refl is
         (subst (λ (d : StepOutcome). IsTraced x (with_fault (Stop x junk) it) plain d
         (stops x (w.nodes x))) (sym traced)
         (stop_traced x (with_fault (Stop x junk) it) plain None (w.nodes x) refl
         (λ e. refl) tt))
     stop junk (RestsOn off is traced) =
         let o = answers x (dropped_for (w.nodes x) reason.NotRunning) in
-        as_chosen cs w i x (Stop x junk) it new did plain (refl, refl) o (w.nodes x)
+        as_plain cs w i x (Stop x junk) it new did plain (refl, refl) (no_answer traced.1) o
+        (w.nodes x)
         (cond-false _ _ _ off) refl is
         (subst (λ (d : StepOutcome). IsTraced x (with_fault (Stop x junk) it) plain d o)
         (sym traced.1)
@@ -278,7 +239,8 @@ module _ {g : Ghosts Slots} (cs : Configurations) (w : SystemState BatchContent)
         (w.nodes x) k old new did) brings.1 was))
     refined (Tend node) node_input brings was =
         subst (λ (y : ℕ). IsOutcome cs w i x (Tend y) it struck new did) brings.0
-        (tend (subst (λ (k : NodeInput). OutcomeRefines is_honest state it struck x (w.nodes x) k
+        (tended cs w i x it struck old new did
+        (subst (λ (k : NodeInput). OutcomeRefines is_honest state it struck x (w.nodes x) k
         old new did) brings.1 was))
     refined (Start node) node_input brings was =
         subst (λ (y : ℕ). IsOutcome cs w i x (Start y) it struck new did) brings.0

@@ -1,6 +1,6 @@
 -- A node that takes an input, by the state that it had.
 use Rattle.std.proofs.Common.{◌≡◌, ◌↔◌, ◌⊎◌, ◌∷◌, ℕ, Bool, [], None, Option, true, length}
-use Rattle.std.proofs.Common.{inl, refl, subst, sym}
+use Rattle.std.proofs.Common.{inl, refl, subst, sym, ◌∙◌}
 use Rattle.std.specs.Prelude.{IsSome}
 use Rattle.kv_types.specs.declared.Limits.{Limits}
 use Rattle.chain_core.specs.{Machine}
@@ -9,11 +9,12 @@ use Rattle.disk.specs.declared.Junk.{Junk}
 use Rattle.disk.specs.declared.Mark.TheVariants.{Crashed}
 use Rattle.disk.specs.declared.disk.Disk.{Ghosts}
 use Rattle.disk.specs.{HasStruck, IsArmed, IsEnvironmental, IsLastLeft, KeepsDisk, State, fault_of}
+use Rattle.engine.specs.{Facts}
 use Rattle.node.specs.declared.Node.{Node}
 use Rattle.node.specs.declared.Output.{Output}
 use Rattle.node.specs.declared.Stop.{Stop as Cause}
 use Rattle.node.specs.declared.Stop.TheVariants.{Disk, Memory}
-use Rattle.node.specs.{HasLongFile, IsReady}
+use Rattle.node.specs.{HasLongFile, IsReady, NodeRefines, answer_to_tend}
 use Rattle.lab.specs.declared.input.NodeInput.{NodeInput}
 use Rattle.lab.specs.declared.input.NodeInput.TheVariants as to_node
 use Rattle.lab.specs.declared.input.StepOutcome.{StepOutcome}
@@ -24,7 +25,7 @@ use Rattle.lab.specs.Disks.{HasGrown, IsMarkedSo, junk_at_end}
 use Rattle.lab.specs.Events.{line_cause}
 use Rattle.lab.specs.Outcomes.{DiskFits, DropsResting, HasCrashed, HasDispatched, IsAnswerAtRest}
 use Rattle.lab.specs.Outcomes.{IsIgnored, MarksFit, OutcomeRefines, Rests, RestsOn, StateFollows}
-use Rattle.lab.specs.Outcomes.{StopsByItself, TendsNot, has_struck_in, input_junk}
+use Rattle.lab.specs.Outcomes.{StopsByItself, TendsNot, has_struck_in, input_junk, tended_in}
 use Rattle.lab.specs.SimNodes.{IsDown, StateHasLimits, StateIsReady, StateIsSound, StateRefines}
 use Rattle.lab.specs.SimNodes.{disk_in}
 use Rattle.lab.proofs.Faults.{IsSpent, disk_fits, explained, grown_end, idle_in, marked_end, spent}
@@ -113,6 +114,15 @@ pub sound : {D : Type 0} (g : Ghosts D) (it : NodeState D g) (x : ℕ) (n : Mach
     StateRefines g.is_honest g.state it x n → StateIsSound g it
 sound g (Up node) x n r = (x, n, r)
 sound g (Down disk) x n r = r.0
+
+-- a node that tended refines its machine also once it was armed, by the facts that it tells then
+pub tends_armed : {D : Type 0} (g : Ghosts D) (x : ℕ) (n : Machine) (node armed : Node D g) →
+    let m = (tended_in x n (Up node)).node in
+    NodeRefines g.is_honest g.state node x m → NodeRefines g.is_honest g.state armed x m →
+    NodeRefines g.is_honest g.state armed x (tended_in x n (Up armed)).node
+tends_armed g x n node armed is refines =
+    subst (λ (f : Facts). NodeRefines g.is_honest g.state armed x (answer_to_tend x n f).node)
+    (is.facts ∙ sym refines.facts) refines
 
 -- A node that was in this state stopped by itself, once its disk was armed with the fault, and the
 -- calls of its step left this disk, which then crashed.

@@ -5,7 +5,9 @@ mod Disks
 mod Posting
 mod Reading
 mod Places
+mod Rises
 mod Outcomes
+mod Tends
 mod Deliveries
 mod SimNodes
 mod Growing

@@ -1,5 +1,5 @@
 -- A node of a world that took an input, between the others.
-use Rattle.std.proofs.Common.{◌≡◌, ℕ, List, length, get_or, slice_set, Bool}
+use Rattle.std.proofs.Common.{◌≡◌, ℕ, List, length, get_or, slice_set, Bool, inl, inr, true}
 use Rattle.std.proofs.Common.{sym, ap, subst, ◌∙◌}
 use Rattle.std.proofs.lemmas.Bool.{false≢true}
 use Rattle.std.proofs.lemmas.List.{get_or_default, length-set, set-set}
@@ -11,11 +11,12 @@ use Rattle.disk.specs.declared.Fault.{Fault}
 use Rattle.disk.specs.declared.Junk.{Junk}
 use Rattle.disk.specs.{Slots, past_states}
 use Rattle.chain_model.specs.{stopped}
+use Rattle.chain_model.specs.Rules.{tend}
 use Rattle.chain_core.specs.{Machine}
 use Rattle.engine.specs.Tended.{Tended}
-use Rattle.engine.specs.{IsTendAnswer}
+use Rattle.engine.specs.{Facts, facts_of}
 use Rattle.node.specs.declared.Node.{Node}
-use Rattle.node.specs.{disk_of, engine_of}
+use Rattle.node.specs.{disk_of, engine_of, facts_for, has_risen}
 use Rattle.lab.specs.declared.input.NodeInput.{NodeInput}
 use Rattle.lab.specs.declared.input.NodeInput.TheVariants as to_node
 use Rattle.lab.specs.declared.input.StepOutcome.{StepOutcome}
@@ -24,11 +25,12 @@ use Rattle.lab.specs.declared.node_state.NodeState.TheVariants.{Up, Down}
 use Rattle.lab.specs.declared.sim_node.SimNode.{SimNode}
 use Rattle.lab.specs.Disks.{IsCrashOf}
 use Rattle.lab.specs.Outcomes.{HasCrashed, HasDispatched, HasTended, Halts, IsTendedAnswer}
-use Rattle.lab.specs.Outcomes.{StateFollows, Tends, TendsNot, has_struck_in}
+use Rattle.lab.specs.Outcomes.{StateFollows, Tends, TendsNot, has_struck_in, rises_in}
 use Rattle.lab.specs.SimNodes.{Choice, StateHasLimits, StateRefines, disk_in, is_honest, state}
 use Rattle.lab.specs.SimNodes.{failures}
-use Rattle.lab.specs.Worlds.{HasMoved, HaveLimits, IsIndexOf}
+use Rattle.lab.specs.Worlds.{HasMoved, HaveLimits, IsIndexOf, TendsAsChosen}
 use Rattle.lab.proofs.Outcomes.{TellsChosen}
+use Rattle.lab.proofs.Rises.{RaisesAsTold}
 
 -- what holds of an answer follows from two facts on it
 pub if_ok_both : {T E P : Type 0} {Q R : T → Type 0} (r : Result T E) → OnOk r P → IfOk r Q →
@@ -52,24 +54,36 @@ crash_of {g = g} junk own old new runs follows =
     crashed (Up other) has = absurd has
     crashed (Down disk) has = has
 
--- a running node that tended, and runs on, told what was chosen
+-- a running node that tended, and runs on, did and raised what was chosen
 pub tended_so : {g : Ghosts Slots} (it : Fault) (struck : Bool) (x : ℕ) (n : Machine)
     (old new : NodeState Slots g) (did : StepOutcome) (choice : Choice) →
-    HasTended is_honest state it struck x n old new did → TellsChosen choice did →
-    (was now : Node Slots g) → old ≡ Up was → new ≡ Up now →
-    IsTendAnswer (engine_of was) (engine_of now) choice.tended
-tended_so {g = g} it struck x n old new did choice (Tends up is told) chose was now ran runs =
+    StateRefines is_honest state old x n → HasTended is_honest state it struck x n old new did →
+    TellsChosen choice did → RaisesAsTold x n new choice did →
+    (was now : Node Slots g) → old ≡ Up was → new ≡ Up now → TendsAsChosen choice was now
+tended_so {g = g} it struck x n old new did choice before (Tends up is told) chose risen was now ran
+    runs =
     let answer = told.0 in
     let said : choice.tended ≡ answer = subst (λ (d : StepOutcome). TellsChosen choice d) told.1
     chose in
-    subst (λ (d : Tended). IsTendedAnswer (Up was) (Up now) d) (sym said)
-    (subst (λ (m : NodeState Slots g). IsTendedAnswer (Up was) m answer) runs
-    (subst (λ (m : NodeState Slots g). IsTendedAnswer m new answer) ran told.2))
-tended_so {g = g} it struck x n old new did choice (Halts up stop is) chose was now ran runs =
-    absurd (false≢true (subst (λ (m : NodeState Slots g). StateRefines is_honest state m x
-    (stopped n)) runs is).core.running)
-tended_so {g = g} it struck x n old new did choice (TendsNot off is answered) chose was now ran
-    runs =
+    let facts : facts_of (engine_of was) ≡ facts_for x n =
+    (subst (λ (m : NodeState Slots g). StateRefines is_honest state m x n) ran before).facts in
+    record {
+      did = subst (λ (d : Tended). IsTendedAnswer (Up was) (Up now) d) (sym said)
+          (subst (λ (m : NodeState Slots g). IsTendedAnswer (Up was) m answer) runs
+          (subst (λ (m : NodeState Slots g). IsTendedAnswer m new answer) ran told.2));
+      rises = risen answer told.1 ∙ ap (rises_in x n) runs
+          ∙ ap (λ (f : Facts). has_risen f (facts_of (engine_of now))) (sym facts);
+    }
+tended_so {g = g} it struck x n old new did choice before (Halts up stop gives_up is) chose risen
+    was now ran runs =
+    absurd (elim is [
+      | inl stays ↦ false≢true (subst (λ (m : NodeState Slots g). StateRefines is_honest state m x
+          (stopped n)) runs stays).core.running
+      | inr raised ↦ false≢true (subst (λ (m : NodeState Slots g). StateRefines is_honest state m x
+          (stopped (tend n true gives_up).node)) runs raised).core.running
+    ])
+tended_so {g = g} it struck x n old new did choice before (TendsNot off is answered) chose risen was
+    now ran runs =
     absurd (false≢true (sym off ∙ (subst (λ (m : NodeState Slots g). StateRefines is_honest state m
     x n) runs is).core.running))
 

@@ -35,7 +35,7 @@ use Rattle.lab.specs.declared.node_state.NodeState.{NodeState}
 use Rattle.lab.specs.declared.report.Line.{Line}
 use Rattle.lab.specs.declared.report.Line.TheVariants as line
 use Rattle.lab.specs.Events.{modelled, lines_of_event, dropped_lines, turn_trace, frame_line}
-use Rattle.lab.specs.Events.{frame_lines}
+use Rattle.lab.specs.Events.{RiseFits, frame_lines}
 use Rattle.lab.specs.Events.{reply_line, reply_lines, reported_cause, line_cause}
 use Rattle.lab.specs.SimNodes.{StateRefines, Choice, is_honest, state}
 use Rattle.lab.specs.Outcomes.{down_answer, IsAnswer, IsDrop, HasAnswered}
@@ -43,6 +43,7 @@ use Rattle.lab.specs.Outcomes.{HasHandled, Answers, Ends, Rests, StopsByItself}
 use Rattle.lab.specs.Outcomes.{sent_by, sent_as, sent_lines}
 use Rattle.lab.specs.Outcomes.{outcome_lines}
 use Rattle.lab.specs.Worlds.{frames_of_step}
+use Rattle.lab.proofs.Rises.{ChoosesNoRise, IsNoTend, RaisesAsTold, no_answer, no_rise, no_stop}
 
 -- ---- lines
 
@@ -147,7 +148,8 @@ pub record IsOutcome {g : Ghosts Slots} (cs : Configurations) (w : SystemState B
     : Type 0 where
   pub choice : Choice
   pub chose : choice.struck ≡ struck
-  pub tends : (choice.rises ≡ false) × (choice.gives_up ≡ 0)
+  pub tends : RiseFits kind choice (outcome w cs (modelled i kind choice))
+  pub risen : RaisesAsTold x (w.nodes x) new choice did
   pub node : Machine
   pub came : (outcome w cs (modelled i kind choice)).acted_on ≡ Some (x, node)
   pub is : StateRefines is_honest state new x node
@@ -185,19 +187,20 @@ chosen went struck cause =
 module _ {g : Ghosts Slots} (cs : Configurations) (w : SystemState BatchContent) (i x : ℕ)
     (kind : EventKind) (it : Fault) (new : NodeState Slots g) (did : StepOutcome) where
   -- with this choice the outcome is this one
-  pub as_chosen : (choice : Choice) → (choice.rises ≡ false) × (choice.gives_up ≡ 0) →
-      (o : Outcome BatchContent) (n : Machine) →
+  pub as_chosen : (choice : Choice) (o : Outcome BatchContent) (n : Machine) →
+      RiseFits kind choice o → RaisesAsTold x (w.nodes x) new choice did →
       outcome w cs (modelled i kind choice) ≡ o → o.acted_on ≡ Some (x, n) →
       StateRefines is_honest state new x n → IsTraced x (with_fault kind it) choice did o →
       IsOutcome cs w i x kind it choice.struck new did
-  as_chosen choice tends o n is_o came is tells =
+  as_chosen choice o n tends risen is_o came is tells =
       let same = sym is_o in
       let all = subst (λ (p : Outcome BatchContent). IsTraced x (with_fault kind it) choice did p)
       same tells in
       record {
         choice = choice;
         chose = refl;
-        tends = tends;
+        tends = subst (RiseFits kind choice) same tends;
+        risen = risen;
         node = n;
         came = ap (λ (p : Outcome BatchContent). p.acted_on) is_o ∙ came;
         is = is;
@@ -208,6 +211,15 @@ module _ {g : Ghosts Slots} (cs : Configurations) (w : SystemState BatchContent)
         ends = all.ends;
         told = all.told;
       }
+
+  -- so it is where nothing rises
+  pub as_plain : (choice : Choice) → ChoosesNoRise choice → IsNoTend did →
+      (o : Outcome BatchContent) (n : Machine) →
+      outcome w cs (modelled i kind choice) ≡ o → o.acted_on ≡ Some (x, n) →
+      StateRefines is_honest state new x n → IsTraced x (with_fault kind it) choice did o →
+      IsOutcome cs w i x kind it choice.struck new did
+  as_plain choice none other o n =
+      as_chosen choice o n (no_rise kind choice o none) (λ answer is. absurd (other answer is))
 
 -- ---- answers and stops
 
@@ -349,22 +361,25 @@ module _ {g : Ghosts Slots} (cs : Configurations) (w : SystemState BatchContent)
   pub given : HasHandled is_honest state it struck x (w.nodes x) inp new did →
       IsOutcome cs w i x kind it struck new did
   given (Answers up is traced) =
-      as_chosen cs w i x kind it new did (chosen Answered struck Disk) (refl, refl)
-      (answers x (answer_to x (w.nodes x) inp)) (answer_to x (w.nodes x) inp).node
+      as_plain cs w i x kind it new did (chosen Answered struck Disk) (refl, refl)
+      (no_answer traced.1) (answers x (answer_to x (w.nodes x) inp))
+      (answer_to x (w.nodes x) inp).node
       (runs (chosen Answered struck Disk) up) refl is (tells (answer_to x (w.nodes x) inp) traced)
   given (Ends up stop (inl before)) =
-      as_chosen cs w i x kind it new did (chosen StoppedBefore struck stop.cause) (refl, refl)
-      (stops x (w.nodes x)) (stopped (w.nodes x))
+      as_plain cs w i x kind it new did (chosen StoppedBefore struck stop.cause) (refl, refl)
+      (no_stop stop.told) (stops x (w.nodes x)) (stopped (w.nodes x))
       (runs (chosen StoppedBefore struck stop.cause) up) refl before
       (ends StoppedBefore (w.nodes x) stop)
   given (Ends up stop (inr behind)) =
-      as_chosen cs w i x kind it new did (chosen StoppedAfter struck stop.cause) (refl, refl)
-      (stops x (answer_to x (w.nodes x) inp).node) (stopped (answer_to x (w.nodes x) inp).node)
+      as_plain cs w i x kind it new did (chosen StoppedAfter struck stop.cause) (refl, refl)
+      (no_stop stop.told) (stops x (answer_to x (w.nodes x) inp).node)
+      (stopped (answer_to x (w.nodes x) inp).node)
       (runs (chosen StoppedAfter struck stop.cause) up) refl behind
       (ends StoppedAfter (answer_to x (w.nodes x) inp).node stop)
   given (Rests off is traced) =
-      as_chosen cs w i x kind it new did (chosen Answered struck Disk) (refl, refl)
-      (answers x (down_answer (w.nodes x) inp)) (down_answer (w.nodes x) inp).node
+      as_plain cs w i x kind it new did (chosen Answered struck Disk) (refl, refl)
+      (no_answer traced.1) (answers x (down_answer (w.nodes x) inp))
+      (down_answer (w.nodes x) inp).node
       (rests (chosen Answered struck Disk) off) refl
       (subst (λ (n : Machine). StateRefines is_honest state new x n) (sym (rests_same inp)) is)
       (tells (down_answer (w.nodes x) inp) traced)

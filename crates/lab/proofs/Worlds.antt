@@ -49,6 +49,7 @@ use Rattle.lab.proofs.SimNodes.{ids_of, has_at, has_one, refined_at}
 use Rattle.lab.proofs.Growing.{grown, run-push}
 use Rattle.lab.proofs.Addressees.{IsNumbered, addressed, all_numbered, back, kept_all}
 use Rattle.lab.proofs.Moves.{crash_of, struck_by, tended_so}
+use Rattle.lab.proofs.Rises.{no_rise}
 
 -- the delivery that was found is that of the event, by the frames that are posted
 abbrev pub FitsDelivery : List Posted → ℕ → EventKind → Option (ℕ × NodeInput) → Type 0
@@ -247,9 +248,10 @@ module _ (in_order : AlwaysInOrder) (past : WorldRun) (sims : List SimNode) (pos
                   let turn = subst (λ (k : EventKind). IsDeliveryOf w.frames i k x node_input) is
                   brings in
                   tended_so event.fault struck x (w.nodes x) old.state sim.state t.did out.choice
+                  before
                   (subst (λ (k : NodeInput). OutcomeRefines is_honest state event.fault struck x
                   (w.nodes x) k old.state sim.state t.did) turn.1
-                  (t.took.dispatched.refines x (w.nodes x) before)) out.told;
+                  (t.took.dispatched.refines x (w.nodes x) before)) out.told out.risen;
             }));
       }
 
@@ -303,7 +305,8 @@ module _ (in_order : AlwaysInOrder) (past : WorldRun) (sims : List SimNode) (pos
           cause = λ stops. absurd (false≢true
               (ap (λ (o : Outcome BatchContent). o.stopped) (sym none) ∙ stops));
           struck = λ strikes. absurd (false≢true strikes);
-          tends = (refl, refl);
+          tends = no_rise event.kind choice
+              (outcome w cs (modelled i event.kind choice)) (refl, refl);
         };
         counted = ap (λ (o : Outcome BatchContent). length o.frames) (sym none);
         frames = subst (λ (v : SystemState BatchContent). AllZip PostedRefines posted v.frames) same

@@ -149,6 +149,23 @@ lines_if (Some at) sent event choice o = lines_at at.0 sent event choice o
 abbrev pub lines_of_event : ℕ → Event → Choice → model_frame.Outcome BatchContent → List Line
 lines_of_event sent event choice o = lines_if o.acted_on sent event choice o
 
+-- The event is a tend of a node, and its kept number after it is what was given up.
+pub record HasRaised (kind : EventKind) (choice : Choice) (o : model_frame.Outcome BatchContent) :
+    Type 0
+  where
+    pub node : ℕ
+    pub machine : Machine
+    pub tend : kind ≡ Tend node
+    pub after : o.acted_on ≡ Some (node, machine)
+    pub gives_up : choice.gives_up ≡ machine.kept
+
+-- a floor rises in a tend alone, and where none does no batch is given up
+pub record RiseFits (kind : EventKind) (choice : Choice) (o : model_frame.Outcome BatchContent) :
+    Type 0
+  where
+    pub rises : choice.rises ≡ true → HasRaised kind choice o
+    pub rests : choice.rises ≡ false → choice.gives_up ≡ 0
+
 -- what was chosen fits the event and its outcome
 pub record ChoiceFits (event : Event) (choice : Choice) (o : model_frame.Outcome BatchContent) :
     Type 0
@@ -158,5 +175,5 @@ pub record ChoiceFits (event : Event) (choice : Choice) (o : model_frame.Outcome
         IfSome (reported_cause event.kind event.fault choice) (IsEnvironmental Disk Memory)
     -- where the fault of the event struck, a call of the disk failed, and so the node stopped
     pub struck : choice.struck ≡ true → (o.stopped ≡ true) × (choice.cause ≡ Disk)
-    -- a tend of this store raises no floor and gives up no batch
-    pub tends : (choice.rises ≡ false) × (choice.gives_up ≡ 0)
+    -- only a tend raises a floor, and the kept number after it tells what it gave up
+    pub tends : RiseFits event.kind choice o

@@ -8,7 +8,7 @@ use Rattle.disk.specs.declared.disk.Disk.{Ghosts}
 use Rattle.disk.specs.declared.Fault.{Fault}
 use Rattle.disk.specs.declared.Junk.{Junk}
 use Rattle.disk.specs.{RisesByOne, CrashOutcome, IsLastLeft, Marks, State, fault_of, struck_call}
-use Rattle.chain_model.specs.{Answer, dropped_for, refused, started, stopped}
+use Rattle.chain_model.specs.{Answer, dropped_for, refused, silent, started, stopped}
 use Rattle.chain_model.specs.Rules.{tend}
 use Rattle.engine.specs.Tended.{Tended}
 use Rattle.link_messages.specs.declared.Frame.{Frame}
@@ -24,7 +24,8 @@ use Rattle.node.specs.declared.Output.{Output}
 use Rattle.node.specs.declared.Reply.TheVariants as reply
 use Rattle.node.specs.declared.Stop.{Stop as Cause}
 use Rattle.node.specs.declared.Stop.TheVariants.{Disk, Memory}
-use Rattle.engine.specs.{IsTendAnswer}
+use Rattle.engine.specs.{IsTendAnswer, facts_of}
+use Rattle.node.specs.{answer_to_tend, facts_for, has_risen}
 use Rattle.node.specs.{replies_of, disk_of, engine_of, HasLongFile}
 use Rattle.lab.specs.declared.input.NodeInput.{NodeInput}
 use Rattle.lab.specs.declared.input.NodeInput.TheVariants as to_node
@@ -135,17 +136,29 @@ IsTendedAnswer (Up old) (Up new) answer = IsTendAnswer (engine_of old) (engine_o
 IsTendedAnswer (Up old) (Down disk) answer = ⊥
 IsTendedAnswer (Down disk) new answer = ⊥
 
--- a tend, which raises no floor and gives up no batch: the node ran, and tells what it did; or it
--- stopped by itself; or it is down
+-- whether a node that was machine n has raised its floor in a tend, by the facts that it tells now
+abbrev pub rises_in : {D : Type 0} {g : Ghosts D} → ℕ → Machine → NodeState D g → Bool
+rises_in x n (Up node) = has_risen (facts_for x n) (facts_of (engine_of node))
+rises_in x n (Down disk) = false
+
+-- the answer of machine n to a tend, by the facts that its node tells now
+abbrev pub tended_in : {D : Type 0} {g : Ghosts D} → ℕ → Machine → NodeState D g
+    → Answer BatchContent
+tended_in x n (Up node) = answer_to_tend x n (facts_of (engine_of node))
+tended_in x n (Down disk) = silent n
+
+-- a tend: the node ran as its facts say, and tells what it did; or it stopped by itself, as before
+-- the tend or with its floor raised; or it is down
 pub data HasTended {D : Type 0} {g : Ghosts D} (is_honest : D → Type 0) (state : D
     → State) (fault : Fault)
     (struck : Bool) (x : ℕ) (n : Machine) (old new : NodeState D g)
     (did : StepOutcome) : Type 0 where
-  Tends : n.running ≡ true → StateRefines is_honest state new x (tend n false 0).node
+  Tends : n.running ≡ true → StateRefines is_honest state new x (tended_in x n new).node
       → (answer : Tended) × (did ≡ done.Tended answer) × IsTendedAnswer old new answer
       → HasTended is_honest state fault struck x n old new did
-  Halts : n.running ≡ true → StopsByItself fault struck did
+  Halts : n.running ≡ true → StopsByItself fault struck did → (gives_up : ℕ)
       → StateRefines is_honest state new x (stopped n)
+      ⊎ StateRefines is_honest state new x (stopped (tend n true gives_up).node)
       → HasTended is_honest state fault struck x n old new did
   TendsNot : n.running ≡ false → StateRefines is_honest state new x n
       → HasAnswered did (IsDrop reason.NotRunning)

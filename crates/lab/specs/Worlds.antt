@@ -12,8 +12,8 @@ use Rattle.disk.specs.declared.Junk.{Junk}
 use Rattle.disk.specs.declared.disk.Disk.{Ghosts}
 use Rattle.disk.specs.{Slots, past_states}
 use Rattle.node.specs.declared.Node.{Node}
-use Rattle.engine.specs.{IsTendAnswer, table_count}
-use Rattle.node.specs.{disk_of, engine_of}
+use Rattle.engine.specs.{IsTendAnswer, facts_of, table_count}
+use Rattle.node.specs.{disk_of, engine_of, has_risen}
 use Rattle.link_messages.specs.declared.Frame.{Frame}
 use Rattle.link_messages.specs.{IsFrame, HasBounds, frame_bytes}
 use Rattle.chain_core.specs.{frame_as, Machine}
@@ -185,6 +185,12 @@ extended run event choice lines = record {
   steps = run.steps ++ lines ∷ [];
 }
 
+-- a node that tended, and runs on, did and raised what was chosen
+pub record TendsAsChosen {g : Ghosts Slots} (choice : Choice) (was now : Node Slots g) : Type 0
+  where
+    pub did : IsTendAnswer (engine_of was) (engine_of now) choice.tended
+    pub rises : choice.rises ≡ has_risen (facts_of (engine_of was)) (facts_of (engine_of now))
+
 -- An event acted on node x, which is machine n after it, and the disk that the node has follows
 -- from the one that it had. Every other node is as it was.
 pub record HasActedOn (event : Event) (choice : Choice) (o : model_frame.Outcome BatchContent)
@@ -200,10 +206,9 @@ pub record HasActedOn (event : Event) (choice : Choice) (o : model_frame.Outcome
   pub stops : (junk : Junk) → event.kind ≡ Stop x junk → (was : Node Slots _) →
       (get_or old index sim).state ≡ Up was →
       IsCrashOf state failures past_states junk (disk_of was) (disk_in sim.state)
-  -- a tend of a running node that did not stop tells what it did
+  -- a tend of a running node that did not stop tells what it did, and what has risen
   pub tends : event.kind ≡ Tend x → (was now : Node Slots _) →
-      (get_or old index sim).state ≡ Up was → sim.state ≡ Up now →
-      IsTendAnswer (engine_of was) (engine_of now) choice.tended
+      (get_or old index sim).state ≡ Up was → sim.state ≡ Up now → TendsAsChosen choice was now
 
 -- the nodes follow from those before, by the node that the event acted on
 abbrev pub NodesFollow : Option (ℕ × Machine) → Event → Choice → model_frame.Outcome BatchContent

@@ -2,6 +2,7 @@ pub mod Outputs
 pub mod Causes
 pub mod Counts
 pub mod Running
+pub mod Tends
 pub mod Starts
 pub mod Ends
 pub mod ReadSteps

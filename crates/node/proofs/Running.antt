@@ -13,7 +13,7 @@ use Rattle.engine.specs.declared.Engine.{Engine}
 use Rattle.engine.specs.EngineError.{EngineError}
 use Rattle.engine.specs.{EngineHolds, Facts, FilesRepresent, HasEnded, IsOneOf}
 use Rattle.engine.specs.{IsOwned}
-use Rattle.engine.specs.{KeepsEngine, LookUps, engine_disk, facts_of, look_ups, raised_facts}
+use Rattle.engine.specs.{KeepsEngine, LookUps, engine_disk, facts_of, look_ups}
 use Rattle.engine.specs.KeepingLemmas.{kept_as, kept_behind, kept_but, neither, same_files}
 use Rattle.engine.specs.KeepingLemmas.{same_then_same}
 use Rattle.engine.specs.KeepingLemmas.{unchanged}
@@ -78,24 +78,6 @@ module _ {D : Type 0} (g : Ghosts D) where
       one_of left (inl it) =
           inl (subst (λ (f : Facts). FilesRepresent f n.list left) r.facts it)
       one_of left (inr it) = inr (after left it)
-
-  -- a tend leaves it
-  pub tends : (old : Node D g) (new : D) (x : ℕ) (n : Machine) →
-      NodeRefines g.is_honest g.state old x n →
-      AlwaysLeaves g (disk_of old) new
-      (IsOneOf (facts_of old.engine) n.list (raised_facts old.engine) n.list) →
-      AlwaysRefines g (disk_of old) new x n n
-  tends old new x n r run =
-      weaker (IsOneOf (facts_of old.engine) n.list (raised_facts old.engine) n.list)
-      (λ left. DiskRefines left x n ⊎ DiskRefines left x n) (g.state (disk_of old))
-      (g.past (disk_of old)) (g.state new) (g.past new) one_of run
-    where
-      one_of : (left : Contents) → IsOneOf (facts_of old.engine) n.list (raised_facts old.engine)
-          n.list left → DiskRefines left x n ⊎ DiskRefines left x n
-      one_of left (inl it) =
-          inl (subst (λ (f : Facts). FilesRepresent f n.list left) r.facts it)
-      one_of left (inr it) =
-          inr (subst (λ (f : Facts). FilesRepresent f n.list left) r.facts it)
 
   -- a node whose engine holds what it held runs on
   pub still_runs : (old new : Node D g) (x : ℕ) (n : Machine) →

@@ -2,14 +2,14 @@
 ghost use Rattle.std.specs.Prelude.{◌≡◌, ◌⊎◌, ◌↔◌, IsErrOf, ℕ, length, slice_index, false};
 ghost use Rattle.std.specs.Prelude.{◌<◌, OnOk};
 ghost use Rattle.disk.specs.{IsArmed, KeepsDisk};
-ghost use Rattle.chain_model.specs.Rules.{tend};
 ghost use Rattle.chain_core.specs.{Machine, answer_to};
-ghost use Rattle.engine.specs.{IsAdrift, IsNearlyFull, IsOwned, IsTendAnswer, TendsAlike};
+ghost use Rattle.engine.specs.{IsAdrift, IsNearlyFull, IsOwned, TendsAlike};
 ghost use Rattle.engine.specs.{table_count};
 ghost use Rattle.node.specs.declared.stop.Stop.TheVariants.{Disk};
 ghost use Rattle.node.specs.Steps.{DiskAlwaysRefines, IfRefines, IsReady, NodeRefines};
 ghost use Rattle.node.specs.Steps.{NumbersRefine, disk_of, engine_of, node_limits};
-ghost use Rattle.node.specs.Outputs.{CallRefines, KeepsNode, StepEnds};
+ghost use Rattle.node.specs.Outputs.{KeepsNode, StepEnds};
+ghost use Rattle.node.specs.Tends.{TendRefines};
 
 use crate::{Numbers, Output, Stop};
 use chain_core::{CoreState, Input, decide};
@@ -39,20 +39,23 @@ impl<D: Disk + Drop> Node<D> {
         self.perform(alloc, decision)
     }
 
-    /// Does the first that is due in its store: a rewrite of the manifest, or a flush. After a
-    /// `Stop` the node has ended.
+    /// Does the first that is due in its store. Where that begins a merge, the floor rises to the
+    /// least number that may still be asked for. After a `Stop` the node has ended.
     pub fn tend(&mut self, alloc: Global) -> Result<Tended, Stop>
         requires { IsReady self.old }
         ensures kept { KeepsDisk D.Disk (disk_of self.old) (disk_of self.new) (IsErrOf result Disk)
             (IsNearlyFull (engine_of self.old) ⊎ IsAdrift D.Disk (engine_of self.old)) IsOwned }
         ensures works { OnOk result (IsReady self.new) }
         ensures limits { node_limits self.new ≡ node_limits self.old }
-        ensures ends { IfRefines self.old (λ x n. let a = tend n false 0 in
-            CallRefines D.Disk self.old self.new x n a
-            (λ tended. NodeRefines D.is_honest D.state self.new x a.node
-            × IsTendAnswer (engine_of self.old) (engine_of self.new) tended) result) }
+        ensures ends { IfRefines self.old (λ x n.
+            TendRefines D.Disk self.old self.new x n result) }
     {
-        Ok(self.engine.tend(alloc)?)
+        let tended = self.engine.tend(alloc)?;
+        // laws: the numbers of the state are in order, and those of the engine
+        let _ = self.core.committed();
+        let _ = self.engine.count();
+        self.core.raise(self.engine.floor(), self.engine.kept());
+        Ok(tended)
     }
 
     /// Its id.

@@ -1,8 +1,9 @@
 use Rattle.std.specs.Prelude.{IsErrOf}
-use Rattle.std.proofs.Common.{false, ◌⊎◌, Err, Result, inl, inr, refl, sym, ap, subst, rules}
-use Rattle.chain_model.specs.{silent, stopped}
+use Rattle.std.proofs.Common.{◌⊎◌, Err, Result, inl, inr, refl, sym, ap, subst, rules}
+use Rattle.std.proofs.Common.{true, false}
+use Rattle.chain_model.specs.Rules.{tend}
 use Rattle.disk.specs.{KeepsDisk, State}
-use Rattle.engine.specs.{IsAdrift}
+use Rattle.engine.specs.{IsAdrift, raised_facts}
 use Rattle.engine.specs.Tended.{Tended}
 use Rattle.node.specs.declared.Stop.TheVariants as stop
 use Rattle.node.specs.declared.Stop.{Stop as Cause}
@@ -10,9 +11,8 @@ use Rattle.node.specs.{HasLongFile, IsNearlyFull, IsOwned, StopRefines}
 use Rattle.node.specs.{disk_of, engine_of}
 use Rattle.lab.specs.declared.input.NodeInput.TheVariants as to_node
 use Rattle.lab.specs.declared.node_state.NodeState.TheVariants.{Up}
-use Rattle.lab.specs.SimNodes.{StateRefines}
 use Rattle.lab.specs.Outcomes.{Halts, Tends}
-use Rattle.lab.proofs.Dispatching.{halted, halts_so}
+use Rattle.lab.proofs.Dispatching.{halted, halts_so, tends_armed}
 use Rattle.lab.proofs.Faults.{grown_since, marked_so, same_state}
 use Rattle.lab.proofs.node_state.tend.Goals as goal
 
@@ -21,7 +21,8 @@ returns-in-Ok g c = λ limits. record {
   ready = search rules;
   refines = λ x n r.
       let a = (c.in-Ok.ensures.ends x n (c.arm.ensures.refines x n r)).done in
-      Tends r.core.running (c.arm-in-Ok.ensures.refines x n a.0) (
+      Tends r.core.running (tends_armed g.D.Disk x n _ _ a.0
+      (c.arm-in-Ok.ensures.refines x _ a.0)) (
         _,
         refl,
         (c.arm-in-Ok.ensures.tends (engine_of c.args.node) c.in-Ok.did).1 (
@@ -65,12 +66,11 @@ returns-in-Err g c = λ limits.
     c.stop_by_itself.result.1 (disk_of c.arm.new.self) c.into_disk.result c.in-Err.stop
     (IsErrOf ended stop.Disk) may IsOwned c.arm.ensures.armed kept (λ fails. cc)
     (λ is. ap (λ (e : Cause). Err e) is) e.told e.crashes r.honest ends.done)
-    (elim (e.refines x n (silent n) (subst g.D.Disk.is_honest same ends.honest)
-    (subst (λ d. StopRefines (g.D.Disk.state d) x n (silent n)) same ends.any_moment.now)) as
-    (λ _. StateRefines g.D.Disk.is_honest g.D.Disk.state c.stop_by_itself.result.0 x (stopped n)) [
-      | inl before ↦ before
-      | inr behind ↦ behind
-    ]))
+    (raised_facts (engine_of c.arm.new.self)).kept
+    (e.refines x n (tend n true (raised_facts (engine_of c.arm.new.self)).kept)
+    (subst g.D.Disk.is_honest same ends.honest)
+    (subst (λ d. StopRefines (g.D.Disk.state d) x n
+    (tend n true (raised_facts (engine_of c.arm.new.self)).kept)) same ends.any_moment.now)))
     (λ sound why. elim why as (λ _. HasLongFile (g.D.Disk.state (disk_of c.args.node))) [
       | inl full ↦ subst (λ (s : State). HasLongFile s)
           (sym (same_state (c.arm.ensures.armed.same sound.2.honest)))
