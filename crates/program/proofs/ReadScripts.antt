@@ -94,8 +94,8 @@ good_statement cs begun limits event name args spells named =
 
 passes : (cs : Configurations) (begun : Bool) (limits : ScriptLimits) (event : lab.Event)
     (words : List (List ℕ)) (name : List ℕ) (args : List (List ℕ)) → words ≡ name ∷ args →
-    bytes_eq name (codes "config") ≡ false → bytes_eq name (codes "limit") ≡ false → 97 ≤ first_byte (name ∷ args)
-    → SpellsEvent words event →
+    bytes_eq name (codes "config") ≡ false → bytes_eq name (codes "limit") ≡ false →
+    97 ≤ first_byte (name ∷ args) → SpellsEvent words event →
     NamesNode cs event.kind → IsPassed cs begun limits words
 passes cs begun limits event words name args e other third letter spells named = record {
   good = rw (e, other, third) (good_statement cs begun limits event name args
