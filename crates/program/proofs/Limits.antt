@@ -32,7 +32,7 @@ named_by Table = refl
 named_by Level = refl
 
 pub one_name : (a b : LimitName) → Some a ≡ Some b → a ≡ b
-one_name a b same = ap (λ o. option_map_or (λ name. name) a o) same
+one_name a b same = ap (λ o. option_map_or (λ name. name) o a) same
 
 found_passes : (p : LimitName → Bool) (names : List LimitName) (name : LimitName)
     → find p names ≡ Some name → p name ≡ true

@@ -41,7 +41,7 @@ config_fault before args =
 -- a limit has this word, and may be this number
 abbrev pub is_limit : List ℕ → ℕ → Bool
 is_limit word number =
-    option_map_or (λ name. is_allowed name number) false (limit_named word)
+    option_map_or (λ name. is_allowed name number) (limit_named word) false
 
 -- the least fault of the words of a limit, where a fault stands behind them or not: it stands
 -- before the configuration
@@ -100,7 +100,7 @@ abbrev pub limits_after : ScriptLimits → List (List ℕ) → ScriptLimits
 limits_after limits [] = limits
 limits_after limits (name ∷ []) = limits
 limits_after limits (name ∷ word ∷ words) =
-    option_map_or (λ it. limits_with limits it (digits_value 10 word)) limits (limit_named name)
+    option_map_or (λ it. limits_with limits it (digits_value 10 word)) (limit_named name) limits
 
 -- what stands before the line behind these words
 abbrev pub after_words : ParserState → List (List ℕ) → ParserState
