@@ -1,6 +1,6 @@
 -- How a script goes on by one line.
 use Rattle.std.proofs.Common.{◌≡◌, ◌+◌, ◌++◌, ℕ, suc, List, [], ◌∷◌, refl, sym, ap, subst}
-use Rattle.std.proofs.Common.{Option, Some, None, Ok, inl, inr, add-one, append_assoc, true}
+use Rattle.std.proofs.Common.{Option, Some, None, Ok, inl, inr, add-one, append_assoc}
 use Rattle.std.specs.Prelude.{All}
 use Rattle.std.proofs.lemmas.List.Elements.{All-nil, All-cons}
 use Rattle.std.proofs.Common.{arith}

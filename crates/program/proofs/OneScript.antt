@@ -185,7 +185,7 @@ one_statement cs words a b (inr (event, spells, _, is)) (inr (other, spells_othe
 stated_line : (cs : Configurations) (line : List ℕ) (action : Action)
     → IsStatement cs (words_of line) action → is_skipped line ≡ true → ⊥
 stated_line cs line action is skips =
-    let passes = statement_passes cs false 0 (words_of line) action is in
+    let passes = statement_passes cs false default_limits (words_of line) action is in
     no_truth (sym skips ∙ not_skipped line (first_byte (words_of line)) refl passes.letter)
   where
     no_truth : true ≡ false → ⊥

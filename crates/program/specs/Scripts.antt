@@ -66,9 +66,9 @@ AreStatements cs n (line ∷ lines) statements =
     × (statements ≡ statement n action ∷ rest) × AreStatements cs (suc n) lines rest)
 
 -- a script that sets up these configurations, with these limits
-pub record SetsUp (setup : Setup) (limits : ScriptLimits) (cs : Configurations) : Type 0 where
+pub record SetsUp (setup : Setup) (script : ScriptLimits) (cs : Configurations) : Type 0 where
   pub configs : setup.configs ≡ cs
-  pub limits : AreLimits limits setup.limits
+  pub limits : AreLimits script setup.limits
 
 -- lines that are a script, the first with number n, behind lines that set these limits:
 -- skipped ones and limits, then a configuration, then what may stand behind it
