@@ -73,7 +73,7 @@ line_says : (before : ParserState) (line : List ℕ) (item : LineItem) →
     nat_lt 262144 (length line) ≡ false → is_skipped line ≡ false →
     ReadsWords before (words_of line) (Ok item) → ReadsLine before line (Ok item)
 line_says before line Skipped short reads (good, is, later) = absurd is
-line_says before line (Limit size) short reads (good, is, later) =
+line_says before line (Limit name number) short reads (good, is, later) =
     (rw (short, reads) good, is, rw reads later)
 line_says before line (Config cs) short reads (good, is, later) =
     (rw (short, reads) good, is, rw reads later)

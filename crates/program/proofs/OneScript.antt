@@ -8,6 +8,8 @@ use Rattle.lab.specs.declared.Event as lab
 use Rattle.lab.specs.declared.EventKind.{EventKind}
 use Rattle.lab.specs.Configuration.{Configurations}
 use Rattle.lab.specs.Configs.{IsConfig}
+use Rattle.program.specs.declared.script.limits.LimitName.{LimitName}
+use Rattle.program.specs.declared.script.limits.ScriptLimits.{ScriptLimits}
 use Rattle.program.specs.declared.script.setup.Setup.{Setup}
 use Rattle.program.specs.declared.script.statement.Action.{Action}
 use Rattle.program.specs.declared.script.statement.Action.TheVariants.{Settle, Show}
@@ -16,12 +18,13 @@ use Rattle.program.specs.Actions.{action_of}
 use Rattle.program.specs.Events.{SpellsEvent}
 use Rattle.program.specs.Faults.{numbers_of}
 use Rattle.program.specs.Laws.{AreAlike, ScriptsDiffer}
+use Rattle.program.specs.Limits.{SetsLimit, default_limits, limit_named, limit_word, limits_with}
 use Rattle.program.specs.Scripts.{words_of, is_skipped, statement, AreStatements, IsOtherStatement}
-use Rattle.program.specs.Scripts.{IsScriptWith, IsStatement, NamesOneNode, SetsLog, SetsUp}
-use Rattle.program.specs.Scripts.{default_log}
+use Rattle.program.specs.Scripts.{IsScriptWith, IsStatement, NamesOneNode, SetsUp}
 use Rattle.program.proofs.OneEvent.{name_of, of_name, one_number}
 use Rattle.program.proofs.EventWords.{one_whole, opens}
 use Rattle.program.proofs.Ids.{ids_read}
+use Rattle.program.proofs.Limits.{is_small, named_by, one_name}
 use Rattle.program.proofs.ReadScripts.{first_byte, not_skipped, statement_passes}
 
 -- ---- what kind of line words are, by their first one
@@ -182,7 +185,7 @@ one_statement cs words a b (inr (event, spells, _, is)) (inr (other, spells_othe
 stated_line : (cs : Configurations) (line : List ℕ) (action : Action)
     → IsStatement cs (words_of line) action → is_skipped line ≡ true → ⊥
 stated_line cs line action is skips =
-    let passes = statement_passes cs false 0 (words_of line) action is in
+    let passes = statement_passes cs false default_limits (words_of line) action is in
     no_truth (sym skips ∙ not_skipped line (first_byte (words_of line)) refl passes.letter)
   where
     no_truth : true ≡ false → ⊥
@@ -213,9 +216,9 @@ lettered_line line letter skips =
     no_truth e = absurd (cc)
 
 -- a limit is no configuration
-no_config : (words : List (List ℕ)) (size : ℕ) (ids : List ℕ) → SetsLog words size
-    → words ≡ codes "config" ∷ map decimal ids → ⊥
-no_config words size ids sets is =
+no_config : (words : List (List ℕ)) (name : LimitName) (number : ℕ) (ids : List ℕ)
+    → SetsLimit words name number → words ≡ codes "config" ∷ map decimal ids → ⊥
+no_config words name number ids sets is =
     let four : words_number words ≡ 4 = rw sets.0 refl in
     let five : words_number words ≡ 5 = rw is refl in
     absurd (omega (arith, four, five))
@@ -228,52 +231,64 @@ one_ids words a b is other lawful lawful_other =
     ∙ (ap (λ (ws : List (List ℕ)). numbers_of (later_words ws)) (sym is ∙ other)
     ∙ (ids_read b lawful_other.each).back)
 
--- words set one size of logs at most
-one_size : (words : List (List ℕ)) (a b : ℕ) → SetsLog words a → SetsLog words b → a ≡ b
-one_size words a b sets other =
-    one_number a b sets.2 other.2 (ap third_word (sym sets.0 ∙ other.0))
+abbrev words_of_limit : LimitName → ℕ → List (List ℕ)
+words_of_limit name number = codes "limit" ∷ limit_word name ∷ decimal number ∷ []
 
-alike : (one other : Setup) (log : ℕ) (a b : Configurations) → a ≡ b → SetsUp one log a
-    → SetsUp other log b → AreAlike one other
-alike one other log a b same up up_other = record {
+-- words set one limit at most, to one number
+one_limit : (words : List (List ℕ)) (a b : LimitName) (m n : ℕ) → SetsLimit words a m
+    → SetsLimit words b n → (limits : ScriptLimits)
+    → limits_with limits a m ≡ limits_with limits b n
+one_limit words a b m n sets other limits =
+    let same : words_of_limit a m ≡ words_of_limit b n = sym sets.0 ∙ other.0 in
+    let name : a ≡ b = one_name a b (sym (named_by a)
+    ∙ (ap (λ (ws : List (List ℕ)). limit_named (second_word ws)) same ∙ named_by b)) in
+    let number : m ≡ n = one_number m n (is_small a m sets.1) (is_small b n other.1)
+    (ap third_word same) in
+    ap (λ (name : LimitName). limits_with limits name m) name
+    ∙ ap (λ (number : ℕ). limits_with limits b number) number
+
+alike : (one other : Setup) (limits : ScriptLimits) (a b : Configurations) → a ≡ b
+    → SetsUp one limits a → SetsUp other limits b → AreAlike one other
+alike one other limits a b same up up_other = record {
   configs = up.configs ∙ (same ∙ sym up_other.configs);
-  log = log;
+  script = limits;
   limits = up.limits;
   others = up_other.limits;
 }
 
--- the same lines behind the same limit
-one_with : (log n : ℕ) (lines : List (List ℕ)) (one other : Setup) (a b : List Statement)
-    → IsScriptWith log n lines one a → IsScriptWith log n lines other b
+-- the same lines behind the same limits
+one_with : (limits : ScriptLimits) (n : ℕ) (lines : List (List ℕ)) (one other : Setup)
+    (a b : List Statement) → IsScriptWith limits n lines one a → IsScriptWith limits n lines other b
     → AreAlike one other × (a ≡ b)
-one_with log n [] one other a b is is_other = absurd is
-one_with log n (line ∷ lines) one other a b (inl is) (inl is_other) =
-    one_with log (suc n) lines one other a b is.1 is_other.1
-one_with log n (line ∷ lines) one other a b (inl is) (inr (inl (size, sets, _))) =
+one_with limits n [] one other a b is is_other = absurd is
+one_with limits n (line ∷ lines) one other a b (inl is) (inl is_other) =
+    one_with limits (suc n) lines one other a b is.1 is_other.1
+one_with limits n (line ∷ lines) one other a b (inl is) (inr (inl (name, number, sets, _))) =
     absurd (lettered_line line (rw sets.0 (omega arith)) is.0)
-one_with log n (line ∷ lines) one other a b (inl is) (inr (inr (ids, e, _, _, _))) =
+one_with limits n (line ∷ lines) one other a b (inl is) (inr (inr (ids, e, _, _, _))) =
     absurd (lettered_line line (rw e (omega arith)) is.0)
-one_with log n (line ∷ lines) one other a b (inr (inl (size, sets, _))) (inl is_other) =
+one_with limits n (line ∷ lines) one other a b (inr (inl (name, number, sets, _))) (inl is_other) =
     absurd (lettered_line line (rw sets.0 (omega arith)) is_other.0)
-one_with log n (line ∷ lines) one other a b (inr (inr (ids, e, _, _, _))) (inl is_other) =
+one_with limits n (line ∷ lines) one other a b (inr (inr (ids, e, _, _, _))) (inl is_other) =
     absurd (lettered_line line (rw e (omega arith)) is_other.0)
-one_with log n (line ∷ lines) one other a b (inr (inl (size, sets, more)))
-    (inr (inl (size_b, sets_b, more_b))) =
-    let same = one_size (words_of line) size_b size sets_b sets in
-    one_with size (suc n) lines one other a b more
-    (subst (λ (k : ℕ). IsScriptWith k (suc n) lines other b) same more_b)
-one_with log n (line ∷ lines) one other a b (inr (inl (size, sets, _)))
-    (inr (inr (ids, e, _, _, _))) = absurd (no_config (words_of line) size ids sets e)
-one_with log n (line ∷ lines) one other a b (inr (inr (ids, e, _, _, _)))
-    (inr (inl (size, sets, _))) = absurd (no_config (words_of line) size ids sets e)
-one_with log n (line ∷ lines) one other a b (inr (inr (ids, e, is, up, are)))
+one_with limits n (line ∷ lines) one other a b (inr (inl (name, number, sets, more)))
+    (inr (inl (name_b, number_b, sets_b, more_b))) =
+    let same = one_limit (words_of line) name_b name number_b number sets_b sets limits in
+    one_with (limits_with limits name number) (suc n) lines one other a b more
+    (subst (λ (it : ScriptLimits). IsScriptWith it (suc n) lines other b) same more_b)
+one_with limits n (line ∷ lines) one other a b (inr (inl (name, number, sets, _)))
+    (inr (inr (ids, e, _, _, _))) = absurd (no_config (words_of line) name number ids sets e)
+one_with limits n (line ∷ lines) one other a b (inr (inr (ids, e, _, _, _)))
+    (inr (inl (name, number, sets, _))) = absurd (no_config (words_of line) name number ids sets e)
+one_with limits n (line ∷ lines) one other a b (inr (inr (ids, e, is, up, are)))
     (inr (inr (ids_b, e_b, is_b, up_b, are_b))) =
     let same : ids_b ≡ ids = one_ids (words_of line) ids_b ids e_b e is_b is in
     let configs : ids_b ∷ [] ≡ ids ∷ [] = ap (λ (l : List ℕ). l ∷ []) same in (
-      alike one other log (ids ∷ []) (ids_b ∷ []) (sym configs) up up_b,
+      alike one other limits (ids ∷ []) (ids_b ∷ []) (sym configs) up up_b,
       one_list (ids ∷ []) (suc n) lines a b are
           (subst (λ (cs : Configurations). AreStatements cs (suc n) lines b) configs are_b),
     )
 
 pub one_script : ScriptsDiffer
-one_script lines one other a b is is_other = one_with default_log 1 lines one other a b is is_other
+one_script lines one other a b is is_other =
+    one_with default_limits 1 lines one other a b is is_other

@@ -17,18 +17,23 @@ use Rattle.lab.specs.Configs.{IsConfig, TestDecidesConfig}
 use Rattle.program.specs.declared.script.statement.Action.{Action}
 use Rattle.program.specs.declared.script.statement.Action.TheVariants.{Settle, Show}
 use Rattle.program.specs.Reading.{IsOfOneNode}
+use Rattle.program.specs.declared.script.limits.LimitName.{LimitName}
+use Rattle.program.specs.declared.script.limits.LimitName.TheVariants.{Log, L0, Table, Level}
+use Rattle.program.specs.declared.script.limits.ScriptLimits.{ScriptLimits}
 use Rattle.program.specs.declared.script.setup.Setup.{Setup}
 use Rattle.program.specs.declared.script.statement.ParserState.{ParserState}
 use Rattle.program.specs.declared.script.statement.Statement.{Statement}
-use Rattle.program.specs.Words.{before_fault}
+use Rattle.program.specs.Words.{before_fault, begins_fault}
 use Rattle.program.specs.Events.{SpellsEvent}
+use Rattle.program.specs.Limits.{SetsLimit, default_limits, limit_word, limits_with}
 use Rattle.program.specs.Scripts.{words_of, is_skipped, AreStatements, IsStatement, IsScript}
-use Rattle.program.specs.Scripts.{IsScriptWith, SetsLog, default_log}
+use Rattle.program.specs.Scripts.{IsScriptWith}
 use Rattle.program.specs.Faults.{statement_fault, words_fault, line_fault, after_words, after_line}
 use Rattle.program.specs.Faults.{script_fault, start, node_fault}
 use Rattle.program.proofs.FaultWords.{all_before}
 use Rattle.program.proofs.Placing.{is_of_place, number_back, of_one_node}
 use Rattle.program.proofs.Ids.{ids_read, number_begins}
+use Rattle.program.proofs.Limits.{is_small, named_by}
 use Rattle.program.proofs.ReadBack.{number_read}
 use Rattle.program.proofs.OneEvent.{name_of, of_name}
 use Rattle.program.proofs.EventWords.{divides, divided_read, opens}
@@ -57,19 +62,20 @@ not_skipped (b ∷ bs) c e letter = elim (cases_Bool (b == 32)) [
 
 -- ---- a line that is a statement has no fault
 
-abbrev behind_configs : Configurations → Bool → ℕ → ParserState
-behind_configs cs begun log = record { configs = Some cs; begun = begun; log = log }
+abbrev behind_configs : Configurations → Bool → ScriptLimits → ParserState
+behind_configs cs begun limits = record { configs = Some cs; begun = begun; limits = limits }
 
--- before the configuration, where logs have this size
-abbrev before_configs : ℕ → ParserState
-before_configs log = record { configs = None; begun = false; log = log }
+-- before the configuration, behind these limits
+abbrev before_configs : ScriptLimits → ParserState
+before_configs limits = record { configs = None; begun = false; limits = limits }
 
 -- what is to be said of the words of such a line
-pub record IsPassed (cs : Configurations) (begun : Bool) (log : ℕ) (words : List (List ℕ)) : Type 0
+pub record IsPassed (cs : Configurations) (begun : Bool) (limits : ScriptLimits)
+    (words : List (List ℕ)) : Type 0
   where
-    pub good : words_fault (behind_configs cs begun log) words ≡ None
+    pub good : words_fault (behind_configs cs begun limits) words ≡ None
     pub later : Bool
-    pub after : after_words (behind_configs cs begun log) words ≡ behind_configs cs later log
+    pub after : after_words (behind_configs cs begun limits) words ≡ behind_configs cs later limits
     pub letter : 97 ≤ first_byte words
 
 free : (cs : Configurations) (node : Option ℕ) → IfSome node (λ x. has (at_epoch cs 0) x ≡ true) →
@@ -77,23 +83,22 @@ free : (cs : Configurations) (node : Option ℕ) → IfSome node (λ x. has (at_
 free cs None is = refl
 free cs (Some x) is = rw is refl
 
-good_statement : (cs : Configurations) (begun : Bool) (log : ℕ) (event : lab.Event) (name : List ℕ)
-    (args : List (List ℕ)) → SpellsEvent (name ∷ args) event →
-    NamesNode cs event.kind → statement_fault (behind_configs cs begun log) name args ≡ None
-good_statement cs begun log event name args spells named =
+good_statement : (cs : Configurations) (begun : Bool) (limits : ScriptLimits)
+    (event : lab.Event) (name : List ℕ) (args : List (List ℕ)) → SpellsEvent (name ∷ args) event →
+    NamesNode cs event.kind → statement_fault (behind_configs cs begun limits) name args ≡ None
+good_statement cs begun limits event name args spells named =
     let d = divides event name args spells in
-    is_of_place (behind_configs cs begun log) name args event.kind (divided_read event name args d)
-    d.kind_said d.kind
+    is_of_place (behind_configs cs begun limits) name args event.kind
+    (divided_read event name args d) d.kind_said d.kind
     ∙ free cs (node_in event.kind) named
 
-passes : (cs : Configurations) (begun : Bool) (log : ℕ) (event : lab.Event) (words : List (List ℕ))
-    (name : List ℕ)
-    (args : List (List ℕ)) → words ≡ name ∷ args → bytes_eq name (codes "config") ≡ false →
-    bytes_eq name (codes "limit") ≡ false → 97 ≤ first_byte (name ∷ args)
-    → SpellsEvent words event →
-    NamesNode cs event.kind → IsPassed cs begun log words
-passes cs begun log event words name args e other third letter spells named = record {
-  good = rw (e, other, third) (good_statement cs begun log event name args
+passes : (cs : Configurations) (begun : Bool) (limits : ScriptLimits) (event : lab.Event)
+    (words : List (List ℕ)) (name : List ℕ) (args : List (List ℕ)) → words ≡ name ∷ args →
+    bytes_eq name (codes "config") ≡ false → bytes_eq name (codes "limit") ≡ false →
+    97 ≤ first_byte (name ∷ args) → SpellsEvent words event →
+    NamesNode cs event.kind → IsPassed cs begun limits words
+passes cs begun limits event words name args e other third letter spells named = record {
+  good = rw (e, other, third) (good_statement cs begun limits event name args
       (subst (λ (ws : List (List ℕ)). SpellsEvent ws event) e spells) named);
   later = begun || not (bytes_eq name (codes "show"));
   after = rw (e, other, third) refl;
@@ -146,58 +151,59 @@ lettered what args = of_name (λ name. 97 ≤ first_byte (name ∷ args)) (recor
   stop = lit≤ tt;
 }) what
 
-event_passes : (cs : Configurations) (begun : Bool) (log : ℕ) (event : lab.Event)
+event_passes : (cs : Configurations) (begun : Bool) (limits : ScriptLimits) (event : lab.Event)
     (words : List (List ℕ)) →
-    SpellsEvent words event → NamesNode cs event.kind → IsPassed cs begun log words
-event_passes cs begun log event words spells named =
+    SpellsEvent words event → NamesNode cs event.kind → IsPassed cs begun limits words
+event_passes cs begun limits event words spells named =
     let front = opens event.kind spells.first spells.kind in
     let args = front.0 ++ spells.behind in
     let is : words ≡ name_of event.kind ∷ args = rw front.1 at spells.parts in
-    passes cs begun log event words (name_of event.kind) args is (no_config event.kind)
+    passes cs begun limits event words (name_of event.kind) args is (no_config event.kind)
     (no_limit event.kind)
     (lettered event.kind args) spells named
 
 -- a node that is settled or shown
-one_node_stands : (cs : Configurations) (begun : Bool) (log node : ℕ) → node < 2 ^ 63 →
-    has (at_epoch cs 0) node ≡ true → (name : List ℕ) → IsOfOneNode name →
-    statement_fault (behind_configs cs begun log) name (decimal node ∷ []) ≡ None
-one_node_stands cs begun log node small there name of_one =
+one_node_stands : (cs : Configurations) (begun : Bool) (limits : ScriptLimits) (node : ℕ) →
+    node < 2 ^ 63 → has (at_epoch cs 0) node ≡ true → (name : List ℕ) → IsOfOneNode name →
+    statement_fault (behind_configs cs begun limits) name (decimal node ∷ []) ≡ None
+one_node_stands cs begun limits node small there name of_one =
     let read = number_read node small in
     let alone = number_begins (decimal node) read in
-    of_one_node (behind_configs cs begun log) name (decimal node ∷ []) (decimal node) node of_one
+    of_one_node (behind_configs cs begun limits) name (decimal node ∷ []) (decimal node) node of_one
     (rw alone refl) (rw alone refl) read (number_back node small)
     ∙ free cs (Some node) there
 
-pub statement_passes : (cs : Configurations) (begun : Bool) (log : ℕ) (words : List (List ℕ))
-    (action : Action) → IsStatement cs words action → IsPassed cs begun log words
-statement_passes cs begun log words action (inl (inl is)) = record {
+pub statement_passes : (cs : Configurations) (begun : Bool) (limits : ScriptLimits)
+    (words : List (List ℕ)) (action : Action) → IsStatement cs words action →
+    IsPassed cs begun limits words
+statement_passes cs begun limits words action (inl (inl is)) = record {
   good = rw is.1 refl;
   later = begun || true;
   after = rw is.1 refl;
   letter = rw is.1 (omega arith);
 }
-statement_passes cs begun log words action (inl (inr is)) = one_node_passes is.said
+statement_passes cs begun limits words action (inl (inr is)) = one_node_passes is.said
   where
     one_node_passes : ((action ≡ Settle is.node)
         × (words ≡ codes "settle" ∷ decimal is.node ∷ []))
         ⊎ ((action ≡ Show is.node) × (words ≡ codes "show" ∷ decimal is.node ∷ [])) →
-        IsPassed cs begun log words
+        IsPassed cs begun limits words
     one_node_passes (inl said) = record {
-      good = rw said.1 (one_node_stands cs begun log is.node is.small is.there (codes "settle")
+      good = rw said.1 (one_node_stands cs begun limits is.node is.small is.there (codes "settle")
           (inl refl));
       later = begun || true;
       after = rw said.1 refl;
       letter = rw said.1 (omega arith);
     }
     one_node_passes (inr said) = record {
-      good = rw said.1 (one_node_stands cs begun log is.node is.small is.there (codes "show")
+      good = rw said.1 (one_node_stands cs begun limits is.node is.small is.there (codes "show")
           (inr refl));
       later = begun || false;
       after = rw said.1 refl;
       letter = rw said.1 (omega arith);
     }
-statement_passes cs begun log words action (inr (event, spells, named, same)) =
-    event_passes cs begun log event words spells named
+statement_passes cs begun limits words action (inr (event, spells, named, same)) =
+    event_passes cs begun limits event words spells named
 
 -- ---- line by line
 
@@ -231,31 +237,31 @@ stated before after n line lines short few letter good later rest =
 abbrev AreShort : List (List ℕ) → Type 0
 AreShort lines = All (λ line. length line ≤ 262144) lines
 
-statements_read : (cs : Configurations) (begun : Bool) (log : ℕ) (n : ℕ) (lines : List (List ℕ))
-    (statements : List Statement) → AreShort lines → n + length lines ≤ 100001 →
-    AreStatements cs n lines statements →
-    script_fault (behind_configs cs begun log) n lines ≡ None
-statements_read cs begun log n [] statements short few are = refl
-statements_read cs begun log n (line ∷ lines) statements short few (inl more) =
-    skipped (behind_configs cs begun log) n line lines
+statements_read : (cs : Configurations) (begun : Bool) (limits : ScriptLimits) (n : ℕ)
+    (lines : List (List ℕ)) (statements : List Statement) → AreShort lines →
+    n + length lines ≤ 100001 → AreStatements cs n lines statements →
+    script_fault (behind_configs cs begun limits) n lines ≡ None
+statements_read cs begun limits n [] statements short few are = refl
+statements_read cs begun limits n (line ∷ lines) statements short few (inl more) =
+    skipped (behind_configs cs begun limits) n line lines
     (All-head (λ l. length l ≤ 262144) line lines short) (omega (arith, few)) more.0
-    (statements_read cs begun log (suc n) lines statements
+    (statements_read cs begun limits (suc n) lines statements
     (All-tail (λ l. length l ≤ 262144) line lines short) (omega (arith, few)) more.1)
-statements_read cs begun log n (line ∷ lines) statements short few
+statements_read cs begun limits n (line ∷ lines) statements short few
     (inr (action, rest, is, same, more)) =
-    let p = statement_passes cs begun log (words_of line) action is in
-    stated (behind_configs cs begun log) (behind_configs cs p.later log) n line lines
+    let p = statement_passes cs begun limits (words_of line) action is in
+    stated (behind_configs cs begun limits) (behind_configs cs p.later limits) n line lines
     (All-head (λ l. length l ≤ 262144) line lines short) (omega (arith, few)) p.letter p.good
     p.after
-    (statements_read cs p.later log (suc n) lines rest
+    (statements_read cs p.later limits (suc n) lines rest
     (All-tail (λ l. length l ≤ 262144) line lines short) (omega (arith, few)) more)
 
 -- a configuration
-config_good : TestDecidesConfig → (log : ℕ) (ids : List ℕ) (words : List (List ℕ)) → IsConfig ids →
-    words ≡ codes "config" ∷ map decimal ids →
-    (words_fault (before_configs log) words ≡ None)
-    × (after_words (before_configs log) words ≡ behind_configs (ids ∷ []) false log)
-config_good decides log ids words is e =
+config_good : TestDecidesConfig → (limits : ScriptLimits) (ids : List ℕ)
+    (words : List (List ℕ)) → IsConfig ids → words ≡ codes "config" ∷ map decimal ids →
+    (words_fault (before_configs limits) words ≡ None)
+    × (after_words (before_configs limits) words ≡ behind_configs (ids ∷ []) false limits)
+config_good decides limits ids words is e =
     let r = ids_read ids is.each in
     let before : map decimal ids ≡ before_fault (map decimal ids) =
     all_before (map decimal ids) (sym r.none) in (
@@ -263,42 +269,54 @@ config_good decides log ids words is e =
       rw (e, r.back) refl,
     )
 
+-- the word of a limit begins no fault
+begins_none : (name : LimitName) → begins_fault (limit_word name) ≡ false
+begins_none Log = refl
+begins_none L0 = refl
+begins_none Table = refl
+begins_none Level = refl
+
 -- a limit
-limit_good : (log size : ℕ) (words : List (List ℕ)) → SetsLog words size →
-    (words_fault (before_configs log) words ≡ None)
-    × (after_words (before_configs log) words ≡ before_configs size)
-limit_good log size words (e, good, small) =
-    let read = number_read size small in
-    let alone = number_begins (decimal size) read in
-    let back = number_back size small in (
-      rw (e, alone, read, back, good) refl,
-      rw (e, back) refl,
+limit_good : (limits : ScriptLimits) (name : LimitName) (number : ℕ) (words : List (List ℕ))
+    → SetsLimit words name number → (words_fault (before_configs limits) words ≡ None)
+    × (after_words (before_configs limits) words
+    ≡ before_configs (limits_with limits name number))
+limit_good limits name number words (e, allowed) =
+    let small = is_small name number allowed in
+    let read = number_read number small in
+    let alone = number_begins (decimal number) read in
+    let back = number_back number small in (
+      rw (e, begins_none name, alone, read, back, named_by name, allowed) refl,
+      rw (e, back, named_by name) refl,
     )
 
 lines_read : TestDecidesConfig
-    → (log n : ℕ) (lines : List (List ℕ)) (setup : Setup) (statements : List Statement) →
-    AreShort lines → n + length lines ≤ 100001 → IsScriptWith log n lines setup statements →
-    script_fault (before_configs log) n lines ≡ None
-lines_read decides log n [] setup statements short few is = absurd is
-lines_read decides log n (line ∷ lines) setup statements short few (inl more) =
-    skipped (before_configs log) n line lines (All-head (λ l. length l ≤ 262144) line lines short)
-    (omega (arith, few)) more.0
-    (lines_read decides log (suc n) lines setup statements
+    → (limits : ScriptLimits) (n : ℕ) (lines : List (List ℕ)) (setup : Setup)
+    (statements : List Statement) →
+    AreShort lines → n + length lines ≤ 100001 → IsScriptWith limits n lines setup statements →
+    script_fault (before_configs limits) n lines ≡ None
+lines_read decides limits n [] setup statements short few is = absurd is
+lines_read decides limits n (line ∷ lines) setup statements short few (inl more) =
+    skipped (before_configs limits) n line lines
+    (All-head (λ l. length l ≤ 262144) line lines short) (omega (arith, few)) more.0
+    (lines_read decides limits (suc n) lines setup statements
     (All-tail (λ l. length l ≤ 262144) line lines short) (omega (arith, few)) more.1)
-lines_read decides log n (line ∷ lines) setup statements short few (inr (inl (size, sets, more))) =
-    let good = limit_good log size (words_of line) sets in
-    stated (before_configs log) (before_configs size) n line lines
+lines_read decides limits n (line ∷ lines) setup statements short few
+    (inr (inl (name, number, sets, more))) =
+    let good = limit_good limits name number (words_of line) sets in
+    let after = limits_with limits name number in
+    stated (before_configs limits) (before_configs after) n line lines
     (All-head (λ l. length l ≤ 262144) line lines short) (omega (arith, few))
     (rw sets.0 (omega arith)) good.0 good.1
-    (lines_read decides size (suc n) lines setup statements
+    (lines_read decides after (suc n) lines setup statements
     (All-tail (λ l. length l ≤ 262144) line lines short) (omega (arith, few)) more)
-lines_read decides log n (line ∷ lines) setup statements short few
+lines_read decides limits n (line ∷ lines) setup statements short few
     (inr (inr (ids, e, is, up, more))) =
-    let good = config_good decides log ids (words_of line) is e in
-    stated (before_configs log) (behind_configs (ids ∷ []) false log) n line lines
+    let good = config_good decides limits ids (words_of line) is e in
+    stated (before_configs limits) (behind_configs (ids ∷ []) false limits) n line lines
     (All-head (λ l. length l ≤ 262144) line lines short) (omega (arith, few))
     (rw e (omega arith)) good.0 good.1
-    (statements_read (ids ∷ []) false log (suc n) lines statements
+    (statements_read (ids ∷ []) false limits (suc n) lines statements
     (All-tail (λ l. length l ≤ 262144) line lines short) (omega (arith, few)) more)
 
 pub script_read : TestDecidesConfig
@@ -306,4 +324,4 @@ pub script_read : TestDecidesConfig
     AreShort lines → length lines ≤ 100000 → IsScript 1 lines setup statements →
     script_fault start 1 lines ≡ None
 script_read decides lines setup statements short few is =
-    lines_read decides default_log 1 lines setup statements short (omega (arith, few)) is
+    lines_read decides default_limits 1 lines setup statements short (omega (arith, few)) is

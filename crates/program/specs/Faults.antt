@@ -1,5 +1,5 @@
 -- The least fault of the first faulty line of a script.
-use Rattle.std.specs.Prelude.{◌≡◌, ◌≢◌, ◌<◌, ◌≤◌, ℕ, suc, Bool, false, ◌||◌, ◌&&◌, not, nat_lt}
+use Rattle.std.specs.Prelude.{◌≡◌, ◌≢◌, ◌<◌, ◌≤◌, ℕ, suc, Bool, false, ◌||◌, not, nat_lt}
 use Rattle.std.specs.Prelude.{if◌then◌else◌, List, [], ◌∷◌, length, map, codes, is_some, is_none}
 use Rattle.std.specs.Prelude.{Option, Some, None}
 use Rattle.std.specs.List.{list_all}
@@ -17,11 +17,13 @@ use Rattle.program.specs.declared.script.error.ScriptError.TheVariants.{BadFault
 use Rattle.program.specs.declared.script.error.ScriptError.TheVariants.{BadConfiguration}
 use Rattle.program.specs.declared.script.error.ScriptError.TheVariants.{UnknownNode}
 use Rattle.program.specs.declared.script.error.ScriptError.TheVariants.{OutOfMemory, TooManyLines}
+use Rattle.program.specs.declared.script.limits.ScriptLimits.{ScriptLimits}
 use Rattle.program.specs.declared.script.statement.ParserState.{ParserState}
 use Rattle.program.specs.Words.{is_number, has_fault, before_fault, from_fault}
 use Rattle.program.specs.Statements.{fault_of_words}
 use Rattle.program.specs.Events.{fault_word}
-use Rattle.program.specs.Scripts.{default_log, is_log_size, is_skipped, words_of}
+use Rattle.program.specs.Limits.{default_limits, is_allowed, limit_named, limits_with}
+use Rattle.program.specs.Scripts.{is_skipped, words_of}
 
 -- the numbers that words spell
 abbrev pub numbers_of : List (List ℕ) → List ℕ
@@ -36,21 +38,19 @@ config_fault before args =
     if is_some before.configs || not (is_config (numbers_of args)) then Some BadConfiguration
     else None
 
--- the number in the second of some words
-abbrev pub limit_size : List (List ℕ) → ℕ
-limit_size [] = 0
-limit_size (name ∷ []) = 0
-limit_size (name ∷ word ∷ words) = digits_value 10 word
+-- a limit has this word, and may be this number
+abbrev pub is_limit : List ℕ → ℕ → Bool
+is_limit word number =
+    option_map_or (λ name. is_allowed name number) (limit_named word) false
 
 -- the least fault of the words of a limit, where a fault stands behind them or not: it stands
--- before the configuration, and only the size of logs can be set
+-- before the configuration
 abbrev pub limit_words_fault : ParserState → Bool → List (List ℕ) → Option ScriptError
 limit_words_fault before faulty (name ∷ word ∷ []) =
     if not (is_number word) then Some BadNumber else
     if faulty then Some BadFault else
     if is_some before.configs then Some OutOfPlace else
-    if bytes_eq name (codes "log") && is_log_size
-    (digits_value 10 word) then None else Some BadLimit
+    if is_limit name (digits_value 10 word) then None else Some BadLimit
 limit_words_fault before faulty words = Some WrongNumberOfWords
 
 -- the least fault of a limit, by its words and by the fault that it bears
@@ -95,24 +95,22 @@ line_fault before line =
     if nat_lt 262144 (length line) then Some LineTooLong else
     if is_skipped line then None else words_fault before (words_of line)
 
+-- the limits behind a line that sets one
+abbrev pub limits_after : ScriptLimits → List (List ℕ) → ScriptLimits
+limits_after limits [] = limits
+limits_after limits (name ∷ []) = limits
+limits_after limits (name ∷ word ∷ words) =
+    option_map_or (λ it. limits_with limits it (digits_value 10 word)) (limit_named name) limits
+
 -- what stands before the line behind these words
 abbrev pub after_words : ParserState → List (List ℕ) → ParserState
 after_words before [] = before
 after_words before (name ∷ args) =
     if bytes_eq name (codes "config")
-    then record {
-      configs = Some (numbers_of args ∷ []);
-      begun = before.begun;
-      log =
-          before.log;
-    } else
+    then record before { configs = Some (numbers_of args ∷ []) } else
     if bytes_eq name (codes "limit")
-    then record { configs = before.configs; begun = before.begun; log = limit_size args }
-    else record {
-      configs = before.configs;
-      begun = before.begun || not (bytes_eq name (codes "show"));
-      log = before.log;
-    }
+    then record before { limits = limits_after before.limits args }
+    else record before { begun = before.begun || not (bytes_eq name (codes "show")) }
 
 -- what stands before the line after this one
 abbrev pub after_line : ParserState → List ℕ → ParserState
@@ -134,7 +132,7 @@ script_fault before n (line ∷ lines) =
 
 -- nothing stands before the first line
 abbrev pub start : ParserState
-start = record { configs = None; begun = false; log = default_log }
+start = record { configs = None; begun = false; limits = default_limits }
 
 -- a line that was begun: it is one of these, and none before it is faulty
 pub record LineIsBegun (lines : List (List ℕ)) (line : ℕ) : Type 0 where

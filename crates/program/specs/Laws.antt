@@ -2,12 +2,14 @@
 use Rattle.std.specs.Prelude.{◌≡◌, ◌≤◌, ℕ, List, ◌∷◌, All, length, None}
 use Rattle.kv_types.specs.declared.Edit.{Edit}
 use Rattle.lab.specs.declared.Event.{Event}
+use Rattle.program.specs.declared.script.limits.ScriptLimits.{ScriptLimits}
 use Rattle.program.specs.declared.script.setup.Setup.{Setup}
 use Rattle.program.specs.declared.script.statement.Statement.{Statement}
 use Rattle.program.specs.Words.{AreBytes, bytes_text}
 use Rattle.program.specs.Statements.{AreBytesIn, edit_word}
 use Rattle.program.specs.Events.{SpellsEvent}
-use Rattle.program.specs.Scripts.{AreLimits, IsScript}
+use Rattle.program.specs.Limits.{AreLimits}
+use Rattle.program.specs.Scripts.{IsScript}
 use Rattle.program.specs.Faults.{spelling_fault, script_fault, start}
 
 -- no two byte strings have one spelling
@@ -26,9 +28,9 @@ EventsDiffer = (a b : Event) (words : List (List ℕ)) → SpellsEvent words a �
 -- two setups have the same configurations and the same limits
 pub record AreAlike (one other : Setup) : Type 0 where
   pub configs : one.configs ≡ other.configs
-  pub log : ℕ
-  pub limits : AreLimits log one.limits
-  pub others : AreLimits log other.limits
+  pub script : ScriptLimits
+  pub limits : AreLimits script one.limits
+  pub others : AreLimits script other.limits
 
 -- no lines spell two scripts
 abbrev pub ScriptsDiffer : Type 0

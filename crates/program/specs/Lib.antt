@@ -2,6 +2,7 @@ pub mod Words
 pub mod Statements
 pub mod Events
 pub mod Actions
+pub mod Limits
 pub mod Scripts
 pub mod Faults
 pub mod Edits

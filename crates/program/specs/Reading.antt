@@ -25,7 +25,8 @@ use Rattle.program.specs.declared.script.statement.Action.TheVariants.{Settle, S
 use Rattle.program.specs.declared.script.statement.Statement.{Statement}
 use Rattle.program.specs.Statements.{CanBeSaid, IsSpelled, fault_of_words}
 use Rattle.program.specs.Events.{FaultCanBeSaid, IsFault, fault_word, may_bear_fault}
-use Rattle.program.specs.Scripts.{IsStatement, SetsLog, is_skipped, words_of, statement}
+use Rattle.program.specs.Limits.{SetsLimit, limits_with}
+use Rattle.program.specs.Scripts.{IsStatement, is_skipped, words_of, statement}
 use Rattle.program.specs.Faults.{statement_fault, words_fault, after_words, line_fault}
 use Rattle.program.specs.Faults.{after_line, numbered_fault}
 
@@ -62,7 +63,8 @@ ReadsFault name words (Err e) = (e ≢ OutOfMemory) → fault_word name words �
 -- the words say so, behind such lines
 abbrev pub IsItemOfWords : ParserState → List (List ℕ) → LineItem → Type 0
 IsItemOfWords before words Skipped = ⊥
-IsItemOfWords before words (Limit size) = SetsLog words size × (before.configs ≡ None)
+IsItemOfWords before words (Limit name number) =
+    SetsLimit words name number × (before.configs ≡ None)
 IsItemOfWords before words (Config cs) =
     (ids : List ℕ) × (words ≡ codes "config" ∷ map decimal ids) × IsConfig ids
     × (cs ≡ ids ∷ []) × (before.configs ≡ None)
@@ -85,21 +87,15 @@ begins (Show node) = false
 -- what an item leaves for the lines behind it
 abbrev pub after_item : ParserState → LineItem → ParserState
 after_item before Skipped = before
-after_item before (Limit size) =
-    record { configs = before.configs; begun = before.begun; log = size }
-after_item before (Config cs) =
-    record { configs = Some cs; begun = before.begun; log = before.log }
-after_item before (Asks action) =
-    record {
-      configs = before.configs;
-      begun = before.begun || begins action;
-      log = before.log;
-    }
+after_item before (Limit name number) =
+    record before { limits = limits_with before.limits name number }
+after_item before (Config cs) = record before { configs = Some cs }
+after_item before (Asks action) = record before { begun = before.begun || begins action }
 
 -- the statement of an item, if it has one
 abbrev pub statements_of : ℕ → LineItem → List Statement
 statements_of n Skipped = []
-statements_of n (Limit size) = []
+statements_of n (Limit name number) = []
 statements_of n (Config cs) = []
 statements_of n (Asks action) = statement n action ∷ []
 

@@ -1,13 +1,14 @@
 -- A whole script: lines that are skipped, limits, one configuration, and statements for its nodes.
-use Rattle.std.specs.Prelude.{◌≡◌, ◌⊎◌, ◌<◌, ◌^◌, ◌&&◌, ℕ, suc, Bool, true, nat_le, ◌==◌}
+use Rattle.std.specs.Prelude.{◌≡◌, ◌⊎◌, ◌<◌, ◌^◌, ℕ, suc, Bool, true, ◌==◌}
 use Rattle.std.specs.Prelude.{if◌then◌else◌, List, [], ◌∷◌, map, codes}
 use Rattle.std.specs.Fmt.{decimal}
 use Rattle.std.specs.List.{slice_split, onto_first}
 use Rattle.lab.specs.Configuration.{Configurations, at_epoch, has}
-use Rattle.kv_types.specs.declared.Limits.{Limits}
 use Rattle.lab.specs.declared.Event as lab
 use Rattle.lab.specs.Configs.{IsConfig}
 use Rattle.lab.specs.{NamesNode}
+use Rattle.program.specs.declared.script.limits.LimitName.{LimitName}
+use Rattle.program.specs.declared.script.limits.ScriptLimits.{ScriptLimits}
 use Rattle.program.specs.declared.script.setup.Setup.{Setup}
 use Rattle.program.specs.declared.script.statement.Statement.{Statement}
 use Rattle.program.specs.declared.script.statement.Action.{Action}
@@ -15,6 +16,7 @@ use Rattle.program.specs.declared.script.statement.Action.TheVariants.{Event, In
 use Rattle.program.specs.declared.script.statement.Action.TheVariants.{Settle, Show}
 use Rattle.program.specs.Events.{SpellsEvent}
 use Rattle.program.specs.Actions.{action_of}
+use Rattle.program.specs.Limits.{AreLimits, SetsLimit, default_limits, limits_with}
 
 -- the lines of a text, each ended by a line feed, which the last may lack
 abbrev pub script_lines : List ℕ → List (List ℕ)
@@ -63,45 +65,25 @@ AreStatements cs n (line ∷ lines) statements =
     ⊎ ((action : Action) × (rest : List Statement) × IsStatement cs (words_of line) action
     × (statements ≡ statement n action ∷ rest) × AreStatements cs (suc n) lines rest)
 
--- the size of a log, in bytes, above which it is flushed, where a script sets none
-abbrev pub default_log : ℕ
-default_log = 4194304
-
--- the sizes that a script may set
-abbrev pub is_log_size : ℕ → Bool
-is_log_size size = nat_le 16 size && nat_le size (2 ^ 30)
-
--- the limits of a script whose logs have this size
-abbrev pub AreLimits : ℕ → Limits → Type 0
-AreLimits log limits =
-    (limits.log ≡ log) × (limits.l0 ≡ 4) × (limits.table ≡ 2097152)
-    × (limits.level ≡ 10485760) × (limits.cache ≡ 256)
-
--- a script that sets up these configurations, with logs of this size
-pub record SetsUp (setup : Setup) (log : ℕ) (cs : Configurations) : Type 0 where
+-- a script that sets up these configurations, with these limits
+pub record SetsUp (setup : Setup) (script : ScriptLimits) (cs : Configurations) : Type 0 where
   pub configs : setup.configs ≡ cs
-  pub limits : AreLimits log setup.limits
+  pub limits : AreLimits script setup.limits
 
--- the words that set the size of logs
-abbrev pub SetsLog : List (List ℕ) → ℕ → Type 0
-SetsLog words size =
-    (words ≡ codes "limit" ∷ codes "log" ∷ decimal size ∷ []) × (is_log_size size ≡ true)
-    × (size < 2 ^ 63)
-
--- lines that are a script, the first with number n, behind lines that set this size of logs:
+-- lines that are a script, the first with number n, behind lines that set these limits:
 -- skipped ones and limits, then a configuration, then what may stand behind it
-abbrev pub IsScriptWith : ℕ → ℕ → List (List ℕ) → Setup → List Statement → Type 0
-IsScriptWith log n [] setup statements = ⊥
-IsScriptWith log n (line ∷ lines) setup statements =
-    ((is_skipped line ≡ true) × IsScriptWith log (suc n) lines setup statements)
-    ⊎ (((size : ℕ) × SetsLog (words_of line) size
-    × IsScriptWith size (suc n) lines setup statements)
+abbrev pub IsScriptWith : ScriptLimits → ℕ → List (List ℕ) → Setup → List Statement → Type 0
+IsScriptWith limits n [] setup statements = ⊥
+IsScriptWith limits n (line ∷ lines) setup statements =
+    ((is_skipped line ≡ true) × IsScriptWith limits (suc n) lines setup statements)
+    ⊎ (((name : LimitName) × (number : ℕ) × SetsLimit (words_of line) name number
+    × IsScriptWith (limits_with limits name number) (suc n) lines setup statements)
     ⊎ ((ids : List ℕ) × (words_of line ≡ codes "config" ∷ map decimal ids) × IsConfig ids
-    × SetsUp setup log (ids ∷ []) × AreStatements (ids ∷ []) (suc n) lines statements))
+    × SetsUp setup limits (ids ∷ []) × AreStatements (ids ∷ []) (suc n) lines statements))
 
--- lines that are a script, the first with number n, with the size of logs that is set by default
+-- lines that are a script, the first with number n, where no limit has been set
 abbrev pub IsScript : ℕ → List (List ℕ) → Setup → List Statement → Type 0
-IsScript = IsScriptWith default_log
+IsScript = IsScriptWith default_limits
 
 -- a statement names a node of the first configuration, if it names one
 abbrev pub Names : Configurations → Action → Type 0

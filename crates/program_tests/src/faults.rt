@@ -212,18 +212,51 @@ const LIMITS: &[Fault] = &[
     ("limit fly x\nconfig 1\n", "line 1: bad number\n"),
     ("limit log 16 !fail 1\nconfig 1\n", "line 1: bad fault\n"),
     ("config 1\nlimit log 15\n", "line 2: out of place\n"),
-    ("limit log 15\nconfig 1\n", "line 1: bad limit\n"),
-    ("limit log 1073741825\nconfig 1\n", "line 1: bad limit\n"),
-    ("limit l0 4\nconfig 1\n", "line 1: bad limit\n"),
+    ("config 1\nlimit cache 1\n", "line 2: out of place\n"),
+    ("limit l0 -1\nconfig 1\n", "line 1: bad number\n"),
+    (
+        "limit level 9223372036854775808\nconfig 1\n",
+        "line 1: bad number\n",
+    ),
+    ("limit l0 0 !fail 1\nconfig 1\n", "line 1: bad fault\n"),
     (
         "limit log 16\nlimit log 1073741824\n",
         "line 3: bad configuration\n",
     ),
 ];
 
+// Limits of other names, and numbers below the least or above the greatest.
+const BOUNDS: &[Fault] = &[
+    ("limit log 15\nconfig 1\n", "line 1: bad limit\n"),
+    ("limit log 1073741825\nconfig 1\n", "line 1: bad limit\n"),
+    ("limit l0 65\nconfig 1\n", "line 1: bad limit\n"),
+    ("limit table 63\nconfig 1\n", "line 1: bad limit\n"),
+    ("limit table 1073741825\nconfig 1\n", "line 1: bad limit\n"),
+    ("limit level 63\nconfig 1\n", "line 1: bad limit\n"),
+    (
+        "limit level 1099511627777\nconfig 1\n",
+        "line 1: bad limit\n",
+    ),
+    (
+        "limit level 9223372036854775807\nconfig 1\n",
+        "line 1: bad limit\n",
+    ),
+    ("limit cache 256\nconfig 1\n", "line 1: bad limit\n"),
+    ("limit Log 64\nconfig 1\n", "line 1: bad limit\n"),
+    ("limit l 64\nconfig 1\n", "line 1: bad limit\n"),
+    ("limit levels 64\nconfig 1\n", "line 1: bad limit\n"),
+    ("limit  64\nconfig 1\n", "line 1: bad limit\n"),
+    // A repeated limit is looked at like the first.
+    (
+        "limit l0 0\nlimit l0 65\nlimit l0 1\nconfig 1\n",
+        "line 2: bad limit\n",
+    ),
+];
+
 #[test]
 fn limits(rt: HostRuntime) {
     all_told(&rt, first_silent(&rt, LIMITS));
+    all_told(&rt, first_silent(&rt, BOUNDS));
 }
 
 #[test]

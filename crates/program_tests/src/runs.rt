@@ -164,6 +164,26 @@ const RUNS: &[(&str, &str)] = &[
          10: node 1 started epoch 0 count 2 committed 2\n11: node 1 stopped: disk\n\
          12: refused 1 NotRunning\n",
     ),
+    // The least and the greatest number of each limit.
+    (
+        "limit log 16\nlimit l0 0\nlimit table 64\nlimit level 64\nconfig 1\nget 1 a\n",
+        "6: none at 0\n",
+    ),
+    (
+        "limit level 1099511627776\nlimit table 1073741824\nlimit l0 64\nlimit log 1073741824\n\
+         config 1\nget 1 a\n",
+        "6: none at 0\n",
+    ),
+    // The other limits leave that of a log, before and behind it, and where it is not set.
+    (
+        "limit l0 24\nlimit log 16\nlimit l0 64\nlimit table 64\nlimit level 64\n\
+         limit level 1024\nconfig 1\nsubmit 1 a=1\ntend 1\ntend 1\nget 1 a\n",
+        "8: committed 1\n9: tended\n10: idle\n11: value 1 at 1\n",
+    ),
+    (
+        "limit l0 16\nlimit table 64\nlimit level 64\nconfig 1\nsubmit 1 a=1\ntend 1\n",
+        "5: committed 1\n6: idle\n",
+    ),
     // The order of a configuration is that of its line.
     (
         "config 9 4\nsubmit 9 a=1\nflow\nget 4 a\n",

@@ -9,6 +9,7 @@ mod extent;
 mod fault;
 mod junk;
 pub mod laws;
+mod limits;
 mod lines;
 mod range;
 mod reader;

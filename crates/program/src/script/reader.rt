@@ -4,9 +4,9 @@ ghost use Rattle.std.specs.Prelude.{MatchResult, All, List, ℕ};
 ghost use Rattle.std.specs.Str.{bytes_eq};
 ghost use Rattle.program.specs.declared.script.error.ScriptError.TheVariants.{OutOfMemory};
 ghost use Rattle.program.specs.declared.script.error.ScriptError.TheVariants.{BadConfiguration};
-ghost use Rattle.program.specs.Scripts.{script_lines, is_log_size, is_skipped, AreLimits, IsScript};
-ghost use Rattle.program.specs.Scripts.{Names, SetsLog};
-ghost use Rattle.program.specs.Faults.{limit_fault, limit_size, IsReported, script_fault, start};
+ghost use Rattle.program.specs.Limits.{limits_with, SetsLimit};
+ghost use Rattle.program.specs.Scripts.{script_lines, is_skipped, IsScript, Names};
+ghost use Rattle.program.specs.Faults.{limit_fault, limits_after, IsReported, script_fault, start};
 ghost use Rattle.program.specs.Reading.{IsOfOneNode, PlacesNode, ReadsLine, ReadsWords, Places};
 ghost use Rattle.program.specs.Reading.{ReadsNext};
 
@@ -14,12 +14,12 @@ use super::action::action;
 use super::configuration::config;
 use super::error::ScriptError;
 use super::fault::{fault_behind, split_fault};
+use super::limits::{LimitName, ScriptLimits};
 use super::lines::{ScriptLines, words};
 use super::setup::Setup;
 use super::statement::{Action, LineItem, ParserState, Statement};
 use super::statements::command_of;
 use super::word::number;
-use kv_types::Limits;
 use lab::{Config, Configs, Event, EventKind, NodeId};
 use std::alloc::Global;
 
@@ -51,19 +51,20 @@ fn only(alloc: Global, config: Config) -> Result<Configs, ScriptError>
     }
 }
 
-// The size of logs that a line sets.
-fn limit(before: &ParserState, args: &[&[u8]]) -> Result<u64, ScriptError>
+// The limit that a line sets, and the number that it is to be.
+fn limit(before: &ParserState, args: &[&[u8]]) -> Result<(LimitName, u64), ScriptError>
     ensures { MatchResult result
-        (λ size. (limit_fault before.now (map (λ w. w.now) args.now) ≡ None)
-        × SetsLog (codes "limit" ∷ map (λ w. w.now) args.now) size
-        × (limit_size (map (λ w. w.now) args.now) ≡ size) × (before.now.configs ≡ None))
+        (λ it. (limit_fault before.now (map (λ w. w.now) args.now) ≡ None)
+        × SetsLimit (codes "limit" ∷ map (λ w. w.now) args.now) it.0 it.1
+        × (limits_after before.now.limits (map (λ w. w.now) args.now)
+        ≡ limits_with before.now.limits it.0 it.1) × (before.now.configs ≡ None))
         (λ e. limit_fault before.now (map (λ w. w.now) args.now) ≡ Some e) }
 {
     let (words, behind) = split_fault(args);
     let [name, word] = words else {
         return Err(ScriptError::WrongNumberOfWords);
     };
-    let Some(size) = number(word) else {
+    let Some(number) = number(word) else {
         return Err(ScriptError::BadNumber);
     };
     if !behind.is_empty() {
@@ -72,10 +73,10 @@ fn limit(before: &ParserState, args: &[&[u8]]) -> Result<u64, ScriptError>
     if before.configs.is_some() {
         return Err(ScriptError::OutOfPlace);
     }
-    if *name != b"log".as_slice() || size < 16 || size > 1 << 30 {
-        return Err(ScriptError::BadLimit);
+    match LimitName::of(name) {
+        Some(limit) if limit.allows(number) => Ok((limit, number)),
+        _ => Err(ScriptError::BadLimit),
     }
-    Ok(size)
 }
 
 // A frame's delivery, if it may stand here.
@@ -219,7 +220,8 @@ fn item_of_words(
         return Ok(LineItem::Config(only(alloc, config)?));
     }
     if *name == b"limit".as_slice() {
-        return Ok(LineItem::Limit(limit(before, args)?));
+        let (limit, number) = limit(before, args)?;
+        return Ok(LineItem::Limit(limit, number));
     }
     Ok(LineItem::Asks(statement(alloc, before, name, args)?))
 }
@@ -236,18 +238,6 @@ fn item_of(alloc: Global, before: &ParserState, line: &[u8]) -> Result<LineItem,
     }
     let words = words(alloc, line)?;
     item_of_words(alloc, before, &words)
-}
-
-// The limits of a store whose logs have this size.
-fn limits_of(log: u64) -> Limits
-    requires { is_log_size log ≡ true }
-    ensures { AreLimits log result }
-{
-    let others = Limits::default();
-    match Limits::new(log, others.l0, others.table, others.level, others.cache) {
-        Ok(limits) => limits,
-        Err(_) => others,
-    }
 }
 
 /// A script: what it sets up, and its statements in order.
@@ -301,7 +291,7 @@ pub fn read_script(alloc: Global, text: &[u8]) -> Result<Script, ScriptFault>
     let mut before = ParserState {
         configs: None,
         begun: false,
-        log: Limits::default().log,
+        limits: ScriptLimits::default(),
     };
     let mut statements = Vec::new(alloc);
     let mut number = 1u32;
@@ -315,14 +305,16 @@ pub fn read_script(alloc: Global, text: &[u8]) -> Result<Script, ScriptFault>
         }
         number += 1;
     }
-    let log = before.log;
+    let limits = before.limits;
     let Some(configs) = before.into_configs() else {
         return Err(ScriptFault {
             line: number,
             error: ScriptError::BadConfiguration,
         });
     };
-    let limits = limits_of(log);
-    let setup = Setup { configs, limits };
+    let setup = Setup {
+        configs,
+        limits: limits.of_store(),
+    };
     Ok(Script { setup, statements })
 }

@@ -6,6 +6,7 @@ ghost use Rattle.program.specs.Faults.{node_fault};
 ghost use Rattle.program.specs.Reading.{after_item, begins, statements_of};
 
 use super::error::ScriptError;
+use super::limits::{LimitName, ScriptLimits};
 use kv_types::KvError;
 use lab::{Configs, Event, NodeId};
 use std::alloc::AllocError;
@@ -48,20 +49,20 @@ pub struct Statement {
 #[derive(Drop)]
 pub enum LineItem {
     Skipped,
-    /// The size of logs above which they are flushed.
-    Limit(u64),
+    /// A limit, and the number that it is to be.
+    Limit(LimitName, u64),
     /// The configurations up to this line.
     Config(Configs),
     Asks(Action),
 }
 
 /// What stands before a line: the configurations, whether a statement that is more than a look, and
-/// the size of logs.
+/// the limits.
 #[derive(Drop)]
 pub struct ParserState {
     pub configs: Option<Configs>,
     pub begun: bool,
-    pub log: u64,
+    pub limits: ScriptLimits,
 }
 
 // The node of this number, if it is one of these.
@@ -90,15 +91,15 @@ impl ParserState {
     {
         match item {
             LineItem::Skipped => Ok(self),
-            LineItem::Limit(log) => Ok(ParserState {
+            LineItem::Limit(name, number) => Ok(ParserState {
                 configs: self.configs,
                 begun: self.begun,
-                log,
+                limits: self.limits.with(name, number),
             }),
             LineItem::Config(configs) => Ok(ParserState {
                 configs: Some(configs),
                 begun: self.begun,
-                log: self.log,
+                limits: self.limits,
             }),
             LineItem::Asks(action) => {
                 let begun = self.begun || action.begins();
@@ -106,7 +107,7 @@ impl ParserState {
                 Ok(ParserState {
                     configs: self.configs,
                     begun,
-                    log: self.log,
+                    limits: self.limits,
                 })
             }
         }

@@ -18,7 +18,7 @@ pub returns-then-eq-2 : goal.returns-then-eq-2
 returns-then-eq-2 c =
     let e = c.in_ok-limit.ensures in let ws = c.args.words.now in
     is_limit_line c.args.before.now (map (λ w. w.now) ws) (map (λ w. w.now) (take (length ws - 1)
-    (drop 1 ws))) c.in_ok-limit.field-0
+    (drop 1 ws))) c.in_ok-limit.limit c.in_ok-limit.number
     (named_word ws (codes "limit") c.in-len1-up.len_at_least (search rules)) e.0 e.1 e.2 e.3
 
 pub returns-in_default : goal.returns-in_default

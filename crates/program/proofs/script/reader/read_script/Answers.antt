@@ -1,8 +1,9 @@
 use Rattle.std.proofs.Common.{arith, append-nil, refl, sym, ap, ◌∙◌, length, []}
 use Rattle.program.specs.declared.script.setup.Setup.{Setup}
-use Rattle.program.specs.Scripts.{default_log, script_lines, IsScript}
+use Rattle.program.specs.Limits.{default_limits}
+use Rattle.program.specs.Scripts.{script_lines, IsScript}
 use Rattle.program.proofs.Beginnings.{reported_at, reported_end}
-use Rattle.program.proofs.Going.{takes_on, keeps_fault, all_name, sized}
+use Rattle.program.proofs.Going.{takes_on, keeps_fault, all_name, ranged}
 use Rattle.program.proofs.script.reader.read_script.Goals as goal
 
 pub loop-line-preserved : goal.loop-line-preserved
@@ -20,7 +21,7 @@ loop-line-preserved c =
       above = omega arith;
       count = omega (arith, c.loop-line.invariant.count, ap length c.in-Some.ensures.steps);
       few = omega (arith, taken.1);
-      size = sized before c.in-Ok.after n line old _ taken c.loop-line.invariant.size;
+      ranges = ranged before c.in-Ok.after n line old _ taken c.loop-line.invariant.ranges;
     }
 
 pub returns-in-Err-clause-fault : goal.returns-in-Err-clause-fault
@@ -41,23 +42,23 @@ pub returns-clause-found : goal.returns-clause-found
 returns-clause-found c =
     let setup : Setup = record {
       configs = c.in-Some-into_configs.configs;
-      limits = c.limits_of-limits.result;
+      limits = c.of_store.result;
     } in
     rw (← append-nil c.loop-line.statements.items)
     (c.loop-line.invariant.found setup [] (rw (
       c.in-None.ensures.steps.0,
       sym c.into_configs.ensures ∙ c.in-Some-into_configs.is,
-    ) (record { configs = refl; limits = c.limits_of-limits.ensures }, refl)))
+    ) (record { configs = refl; limits = c.of_store.ensures }, refl)))
 
 pub returns-clause-node : goal.returns-clause-node
 returns-clause-node c =
     let setup : Setup = record {
       configs = c.in-Some-into_configs.configs;
-      limits = c.limits_of-limits.result;
+      limits = c.of_store.result;
     } in
-    all_name default_log 1 (script_lines c.args.text.now) setup c.loop-line.statements.items
+    all_name default_limits 1 (script_lines c.args.text.now) setup c.loop-line.statements.items
     (rw (← append-nil c.loop-line.statements.items)
     (c.loop-line.invariant.found setup [] (rw (
       c.in-None.ensures.steps.0,
       sym c.into_configs.ensures ∙ c.in-Some-into_configs.is,
-    ) (record { configs = refl; limits = c.limits_of-limits.ensures }, refl))))
+    ) (record { configs = refl; limits = c.of_store.ensures }, refl))))
