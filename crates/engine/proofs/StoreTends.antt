@@ -87,9 +87,10 @@ module _ {D : Type 0} (g : Ghosts D) (lasts : MergesOfEngineLast g)
             let held = on_answer result _ _ told in
             answers_with _ _ _ result
             (goes_with_merge g lasts a b old new merge list (λ l. l) result honest plans held h
-            (λ m plan is it. tend_leaves_ok g lasts apart a b old new h.held.known.tables m plan it edits result tends.did
-            (apart.tended before old list h.held.known) (apart.tables before old list h.held.known)
-            (tends.kept.honest.1 honest) (tends.touches honest) tends.numbers.1 plans.free
+            (λ m plan is it. tend_leaves_ok g lasts apart a b old new h.held.known.tables m plan it
+            edits result tends.did (apart.tended before old list h.held.known)
+            (apart.tables before old list h.held.known) (tends.kept.honest.1 honest)
+            (tends.touches honest) tends.numbers.1 plans.free
             (unused_held after new list result held))) told;
         any_moment = λ list honest h.
             weaker (FilesRepresent (known_facts old) list)
