@@ -20,8 +20,8 @@ module _ {D : Type 0} {g : Ghosts D} (limits : Limits) (floor : ℕ) (a b : File
   same = tended_store b store merge turn
 
   -- what was done of the one was of the other
-  merged_of : (later : TendedStore D g) (answer : Tended) → HasMerged limits floor one later answer →
-      HasMerged limits floor same later answer
+  merged_of : (later : TendedStore D g) (answer : Tended) →
+      HasMerged limits floor one later answer → HasMerged limits floor same later answer
   merged_of later answer (merged.HasBegun plan it begins is) = merged.HasBegun plan it (record {
     none = begins.none;
     due = begins.due;

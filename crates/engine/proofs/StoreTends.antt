@@ -51,10 +51,11 @@ tended_within : {D : Type 0} (store : StoreFiles) (merge : Option (Merge D)) (fl
     Contains (tended_files store) file → IsTendedFile store merge floor file
 tended_within store merge floor file has =
     let free = store.free_file in
+    let spare = spare_file store.manifest in
     let rest = free ∷ (free + 1) ∷ [] in
-    elim (contains_cases (counting_file store.manifest) (spare_file store.manifest ∷ rest) file has) [
+    elim (contains_cases (counting_file store.manifest) (spare ∷ rest) file has) [
       | inl is ↦ tended.IsOfMerge (own.IsSlot (inl (sym is)))
-      | inr later ↦ elim (contains_cases (spare_file store.manifest) rest file later) [
+      | inr later ↦ elim (contains_cases spare rest file later) [
         | inl is ↦ tended.IsOfMerge (own.IsSlot (inr (sym is)))
         | inr behind ↦ tended.IsOfMerge (own.IsFree (free_within free file behind))
       ]
@@ -84,11 +85,12 @@ module _ {D : Type 0} (g : Ghosts D) (lasts : MergesOfEngineLast g)
         held = λ list honest h.
             let told = (tends.tended list honest h.held).list in
             let held = on_answer result _ _ told in
-            answers_with _ _ _ result (goes_with_merge g lasts a b old new merge list (λ l. l) result
-            honest plans held h (λ m plan is it. tend_leaves_ok g lasts apart a b old new
-            h.held.known.tables m plan it edits result tends.did
-            (apart.tended before old list h.held.known) (apart.tables before old list h.held.known)
-            (tends.kept.honest.1 honest) (tends.touches honest) tends.numbers.1 plans.free
+            answers_with _ _ _ result
+            (goes_with_merge g lasts a b old new merge list (λ l. l) result honest plans held h
+            (λ m plan is it. tend_leaves_ok g lasts apart a b old new h.held.known.tables m plan it
+            edits result tends.did (apart.tended before old list h.held.known)
+            (apart.tables before old list h.held.known) (tends.kept.honest.1 honest)
+            (tends.touches honest) tends.numbers.1 plans.free
             (unused_held after new list result held))) told;
         any_moment = λ list honest h.
             weaker (FilesRepresent (known_facts old) list)

@@ -117,8 +117,8 @@ returns-clause-work g c =
           (tended_of old) later)) floor
           (called.in_order list r.honest (meant_as_held d laws old list r)))
           (of_refusal answer _ _ (called.kept.held list r.honest (merged_of d old list r)));
-      meant = λ list m. subst (λ (n : ℕ). IfOk answer (TendsInOrder old.limits n (tended_of old) later))
-          floor (called.in_order list m.honest (were_meant d old list m));
+      meant = λ list m. subst (λ (n : ℕ). IfOk answer (TendsInOrder old.limits n
+          (tended_of old) later)) floor (called.in_order list m.honest (were_meant d old list m));
       planned = record {
         reads = λ list r. subst (λ (n : ℕ). IfOk answer (TendsAsPlanned d old.limits n
             (tended_of old) later)) floor
