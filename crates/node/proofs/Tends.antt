@@ -83,71 +83,71 @@ with_told core later is floors kepts =
 
 module _ {D : Type 0} {g : Ghosts D} (old new : Engine D g) (told : RaisesFactsAtMost old new)
   where
-  -- all but the facts stays
-  count_stays : (look_ups new).count ≡ (look_ups old).count
-  count_stays = elim told [
-    | inl same ↦ ap (λ (l : LookUps). l.count) same
-    | inr risen ↦ ap (λ (l : LookUps). l.count) risen
-  ]
-
-  committed_stays : (look_ups new).committed ≡ (look_ups old).committed
-  committed_stays = elim told [
-    | inl same ↦ ap (λ (l : LookUps). l.committed) same
-    | inr risen ↦ ap (λ (l : LookUps). l.committed) risen
-  ]
-
-  snapshots_stay : (look_ups new).snapshots ≡ (look_ups old).snapshots
-  snapshots_stay = elim told [
-    | inl same ↦ ap (λ (l : LookUps). l.snapshots) same
-    | inr risen ↦ ap (λ (l : LookUps). l.snapshots) risen
-  ]
-
-  -- the facts are those of before, or raised
-  pub facts_told : (facts_of new ≡ facts_of old) ⊎ (facts_of new ≡ raised_facts old)
-  facts_told = elim told [
-    | inl same ↦ inl (ap (λ (l : LookUps). l.facts) same)
-    | inr risen ↦ inr (ap (λ (l : LookUps). l.facts) risen)
-  ]
-
-  module _ (core : Core) (ready : AreInStep core old) where
-    -- the floor does not fall
-    floor_rises : HasOrderedNumbers core → core.floor ≤ (facts_of new).floor
-    floor_rises ordered = elim facts_told [
-      | inl same ↦ omega (arith, ready.floor, ap (λ (f : Facts). f.floor) same)
-      | inr risen ↦
-          let above = least_above core.committed core.floor core.committed core.snapshots
-          ordered.floor (recursion_from_All _ core.snapshots ordered.snapshots.within) in
-          let same : least core.committed core.snapshots ≡ (facts_of new).floor =
-          ap₂ least ready.committed ready.snapshots ∙ sym (ap (λ (f : Facts). f.floor) risen) in
-          subst (λ (k : ℕ). core.floor ≤ k) same above
+    -- all but the facts stays
+    count_stays : (look_ups new).count ≡ (look_ups old).count
+    count_stays = elim told [
+      | inl same ↦ ap (λ (l : LookUps). l.count) same
+      | inr risen ↦ ap (λ (l : LookUps). l.count) risen
     ]
 
-    -- the state may take over what the engine tells
-    pub rise_of : HasOrderedNumbers core → AreOrdered (look_ups new) → (floor kept : ℕ) →
-        floor ≡ (facts_of new).floor → kept ≡ (facts_of new).kept → IsRiseOf core floor kept
-    rise_of ordered now floor kept floors kepts = rw (floors, kepts) (record {
-      rises = floor_rises ordered;
-      committed = omega (arith, now.floor, committed_stays, ready.committed);
-      snapshots = subst (All (λ s. (facts_of new).floor ≤ s)) (snapshots_stay ∙ sym ready.snapshots)
-          (All-weaker (IsReadable (facts_of new).floor (look_ups new).committed)
-          (λ s. (facts_of new).floor ≤ s) (λ s is. is.0) (look_ups new).snapshots
-          now.snapshots.each);
-      readable = now.kept;
-    })
+    committed_stays : (look_ups new).committed ≡ (look_ups old).committed
+    committed_stays = elim told [
+      | inl same ↦ ap (λ (l : LookUps). l.committed) same
+      | inr risen ↦ ap (λ (l : LookUps). l.committed) risen
+    ]
 
-    -- and is in step with it then
-    pub in_step : (HasEnded new → ⊥) → (later : Core) → later ≡ record core {
-      floor = (facts_of new).floor;
-      kept = (facts_of new).kept;
-    } → AreInStep later new
-    in_step works later is = record {
-      works = works;
-      count = ap (λ (k : Core). k.count) is ∙ ready.count ∙ sym count_stays;
-      floor = ap (λ (k : Core). k.floor) is;
-      kept = ap (λ (k : Core). k.kept) is;
-      committed = ap (λ (k : Core). k.committed) is ∙ ready.committed ∙ sym committed_stays;
-      snapshots = ap (λ (k : Core). k.snapshots) is ∙ ready.snapshots ∙ sym snapshots_stay;
-    }
+    snapshots_stay : (look_ups new).snapshots ≡ (look_ups old).snapshots
+    snapshots_stay = elim told [
+      | inl same ↦ ap (λ (l : LookUps). l.snapshots) same
+      | inr risen ↦ ap (λ (l : LookUps). l.snapshots) risen
+    ]
+
+    -- the facts are those of before, or raised
+    pub facts_told : (facts_of new ≡ facts_of old) ⊎ (facts_of new ≡ raised_facts old)
+    facts_told = elim told [
+      | inl same ↦ inl (ap (λ (l : LookUps). l.facts) same)
+      | inr risen ↦ inr (ap (λ (l : LookUps). l.facts) risen)
+    ]
+
+    module _ (core : Core) (ready : AreInStep core old) where
+      -- the floor does not fall
+      floor_rises : HasOrderedNumbers core → core.floor ≤ (facts_of new).floor
+      floor_rises ordered = elim facts_told [
+        | inl same ↦ omega (arith, ready.floor, ap (λ (f : Facts). f.floor) same)
+        | inr risen ↦
+            let above = least_above core.committed core.floor core.committed core.snapshots
+            ordered.floor (recursion_from_All _ core.snapshots ordered.snapshots.within) in
+            let same : least core.committed core.snapshots ≡ (facts_of new).floor =
+            ap₂ least ready.committed ready.snapshots ∙ sym (ap (λ (f : Facts). f.floor) risen) in
+            subst (λ (k : ℕ). core.floor ≤ k) same above
+      ]
+
+      -- the state may take over what the engine tells
+      pub rise_of : HasOrderedNumbers core → AreOrdered (look_ups new) → (floor kept : ℕ) →
+          floor ≡ (facts_of new).floor → kept ≡ (facts_of new).kept → IsRiseOf core floor kept
+      rise_of ordered now floor kept floors kepts = rw (floors, kepts) (record {
+        rises = floor_rises ordered;
+        committed = omega (arith, now.floor, committed_stays, ready.committed);
+        snapshots = subst (All (λ s. (facts_of new).floor ≤ s)) (snapshots_stay ∙ sym ready.snapshots)
+            (All-weaker (IsReadable (facts_of new).floor (look_ups new).committed)
+            (λ s. (facts_of new).floor ≤ s) (λ s is. is.0) (look_ups new).snapshots
+            now.snapshots.each);
+        readable = now.kept;
+      })
+
+      -- and is in step with it then
+      pub in_step : (HasEnded new → ⊥) → (later : Core) → later ≡ record core {
+        floor = (facts_of new).floor;
+        kept = (facts_of new).kept;
+      } → AreInStep later new
+      in_step works later is = record {
+        works = works;
+        count = ap (λ (k : Core). k.count) is ∙ ready.count ∙ sym count_stays;
+        floor = ap (λ (k : Core). k.floor) is;
+        kept = ap (λ (k : Core). k.kept) is;
+        committed = ap (λ (k : Core). k.committed) is ∙ ready.committed ∙ sym committed_stays;
+        snapshots = ap (λ (k : Core). k.snapshots) is ∙ ready.snapshots ∙ sym snapshots_stay;
+      }
 
 -- ---- the machine
 
