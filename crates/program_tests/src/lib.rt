@@ -10,6 +10,8 @@ mod failing;
 #[cfg(test)]
 mod faults;
 #[cfg(test)]
+mod merges;
+#[cfg(test)]
 mod rewrites;
 #[cfg(test)]
 mod rows;
