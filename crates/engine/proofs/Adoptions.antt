@@ -2,7 +2,7 @@
 use Rattle.std.proofs.Common.{◌≡◌, ℕ, List, [], ◌∷◌, ap, arith, inl, inr, subst, sym}
 use Rattle.std.specs.Prelude.{Contains}
 use Rattle.disk.specs.declared.Disk.{Ghosts}
-use Rattle.disk.specs.{IsSameBut, KeepsDisk, State}
+use Rattle.disk.specs.{IsSameBut, KeepsDisk}
 use Rattle.manifest.specs.{NodeVersion, counting_file}
 use Rattle.compaction.specs.declared.Merge.{Merge}
 use Rattle.compaction.specs.Edits.{OutputsAreBeside}

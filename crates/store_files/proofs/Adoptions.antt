@@ -1,5 +1,5 @@
 -- An adoption: its edit, what a crash leaves while it is recorded, and the open files behind it.
-use Rattle.std.proofs.Common.{◌≡◌, ◌<◌, ◌≤◌, ◌∙◌, ℕ, List, [], ◌∷◌, Bool, ap, arith, inl, inr, length}
+use Rattle.std.proofs.Common.{◌≡◌, ◌<◌, ◌≤◌, ◌∙◌, ℕ, List, [], ◌∷◌, ap, arith, inl, inr, length}
 use Rattle.std.proofs.Common.{refl, subst, sym, true}
 use Rattle.std.specs.Prelude.{Contains, nat_lt}
 use Rattle.std.proofs.lemmas.Bool.{and_parts}

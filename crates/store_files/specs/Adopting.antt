@@ -1,4 +1,4 @@
--- An adoption of a later configuration: a record of the manifest, which changes epoch and ids alone.
+-- An adoption of a later configuration: a record of the manifest changes epoch and ids alone.
 use Rattle.std.specs.Prelude.{◌≡◌, ℕ, ◌<◌, List, [], ◌∷◌, IsTrue, Result}
 use Rattle.chain_model.specs.Configuration.{leaves_out}
 use Rattle.disk.specs.declared.Disk.{Ghosts}

@@ -1,8 +1,7 @@
-use Rattle.std.proofs.Common.{List, Ok, inl, refl, rules}
+use Rattle.std.proofs.Common.{List, Ok, refl, rules}
 use Rattle.kv_types.specs.{BatchContent}
 use Rattle.table_files.specs.{inner_disk}
-use Rattle.store_files.specs.Adopting.{facts_with_config}
-use Rattle.engine.specs.Engines.{engine_disk, facts_of}
+use Rattle.engine.specs.Engines.{engine_disk}
 use Rattle.engine.proofs.Adoptions.{adoption_leaves, slot_changes}
 use Rattle.engine.proofs.Engines.{answered_keeps, goes_to, held_of, refused_keeps, told_alike}
 use Rattle.engine.proofs.Engines.{were_meant}

@@ -1,5 +1,5 @@
 use Rattle.std.proofs.Common.{◌≡◌, ◌≤◌, refl, rules, subst, sym}
-use Rattle.manifest.specs.{Change, NodeVersion}
+use Rattle.manifest.specs.{Change}
 use Rattle.store_files.specs.Adopting.{IsConfigEdit, config_change}
 use Rattle.store_files.specs.OpenFiles.{known_version}
 use Rattle.store_files.proofs.Adoptions.{config_change_is, config_fit}
