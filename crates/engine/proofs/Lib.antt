@@ -16,3 +16,4 @@ pub mod PartDue
 pub mod PartBegins
 pub mod StoreTends
 pub mod AlikeTends
+pub mod Adoptions

@@ -10,7 +10,7 @@ use Rattle.table_files.specs.{inner_disk}
 use Rattle.chain_model.specs.Machine.{least, without}
 use Rattle.engine.specs.declared.engine.Engine.{Engine}
 use Rattle.store_files.specs.Files.{Facts}
-use Rattle.manifest.specs.{HasFullSlot}
+use Rattle.manifest.specs.{HasFullSlot, counting_file}
 use Rattle.batch_logs.specs.BatchLogs.{HasFullLog, newest_file}
 use Rattle.store_tables.specs.LevelTables.{level_count}
 use Rattle.store_files.specs.OpenFiles.{batch_count, known_facts, known_version}
@@ -69,6 +69,10 @@ module _ {D : Type 0} {g : Ghosts D} where
   abbrev pub newest_log_file : Engine D g → ℕ
   newest_log_file engine = newest_file engine.store.logs
 
+  -- the file of the slot of its manifest that counts, which takes the records
+  abbrev pub counting_slot_file : Engine D g → ℕ
+  counting_slot_file engine = counting_file engine.store.manifest
+
   -- the slots, and the files that its version names as logs and tables
   abbrev pub engine_files : Engine D g → List ℕ
   engine_files engine = kept_files (known_version engine.store).version
@@ -81,9 +85,13 @@ module _ {D : Type 0} {g : Ghosts D} where
   abbrev pub HasNearlyFullLog : Engine D g → Type 0
   HasNearlyFullLog engine = HasFullLog engine.store.logs
 
-  -- so is that log, or the counting slot of its manifest
+  -- so is the counting slot of its manifest
+  abbrev pub HasNearlyFullSlot : Engine D g → Type 0
+  HasNearlyFullSlot engine = HasFullSlot engine.store.manifest
+
+  -- so is that log, or that slot
   abbrev pub IsNearlyFull : Engine D g → Type 0
-  IsNearlyFull engine = HasNearlyFullLog engine ⊎ HasFullSlot engine.store.manifest
+  IsNearlyFull engine = HasNearlyFullLog engine ⊎ HasNearlyFullSlot engine
 
   -- so many tables of this level are open
   abbrev pub table_count : Engine D g → ℕ → ℕ

@@ -15,7 +15,8 @@ pub use Rattle.engine.specs.Calls.{IsCloseAnswer, IsOpenAnswer, MayOpen}
 pub use Rattle.engine.specs.Calls.{ChangesList, ChangesSnapshots, OfEachList, ReadsEngine}
 pub use Rattle.engine.specs.Calls.{KeepsOwnedDisk, StaysAsItWas}
 pub use Rattle.engine.specs.Engines.{AreOrdered, HasEnded, HasLongFile, HasOnlyFiles, EngineHolds}
-pub use Rattle.engine.specs.Engines.{HasNearlyFullLog, IsNearlyFull}
+pub use Rattle.engine.specs.Engines.{HasNearlyFullLog, HasNearlyFullSlot, IsNearlyFull}
+pub use Rattle.engine.specs.Engines.{counting_slot_file}
 pub use Rattle.engine.specs.Snapshots.{AreReadable, IsReadable}
 pub use Rattle.engine.specs.Engines.{EngineWasMeant, LookUps, EngineReads, engine_disk}
 pub use Rattle.engine.specs.Engines.{engine_files, facts_of}
@@ -28,6 +29,7 @@ pub use Rattle.store_tables.specs.declared.error.EngineError
 pub use Rattle.store_files.specs.declared.tended.Tended
 pub use Rattle.store_tables.specs.KeepingLemmas
 pub use Rattle.store_tables.specs.Errors.{EndsEngine, IsEnd}
+pub use Rattle.store_files.specs.Adopting.{IsLaterConfig, facts_with_config}
 pub use Rattle.store_files.specs.Files.{Facts, IsOwned, first_facts}
 pub use Rattle.store_files.specs.StoreFiles.{FilesRepresent, IsDamaged, IsOneOf, OpensAs}
 pub use Rattle.store_files.specs.StoreFiles.{StillLeavesOneOf, WereMeant, WereOneOf}

@@ -1,6 +1,7 @@
 //! One node's store: a list of batches on a disk, and reads of the maps of its beginnings.
 #![tactic(auto)]
 
+mod adopting;
 mod engine;
 pub mod laws;
 mod merging;

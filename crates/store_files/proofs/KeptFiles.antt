@@ -15,7 +15,7 @@ use Rattle.manifest.specs.declared.LogLine.{LogLine}
 use Rattle.manifest.specs.declared.Manifest.{Manifest}
 use Rattle.manifest.specs.declared.TableLine.{TableLine}
 use Rattle.manifest.specs.{HeldVersionIsLeft, HeldVersionStays, StoreVersion, ManifestHolds}
-use Rattle.manifest.specs.{ManifestRepresents, NodeVersion}
+use Rattle.manifest.specs.{IsVersion, ManifestRepresents, NodeVersion}
 use Rattle.sorted_table.specs.{TableServes, table_file}
 use Rattle.batch_logs.specs.declared.batch_logs.BatchLog.{BatchLog}
 use Rattle.batch_logs.specs.declared.batch_logs.BatchLogs.{BatchLogs}
@@ -24,11 +24,12 @@ use Rattle.store_files.specs.declared.store_files.StoreFiles.{StoreFiles}
 use Rattle.batch_logs.specs.BatchLogs.{AreParted, HasPart, HaveBatches, HoldsPart, LogsHold}
 use Rattle.batch_logs.specs.BatchLogs.{line_of, lines_of}
 use Rattle.store_tables.specs.LevelTables.{AreTablesOf, IsServed, IsTableOf}
-use Rattle.store_files.specs.OpenFiles.{FilesAreRead, FilesHold, known_facts, known_version}
-use Rattle.store_files.specs.OpenFiles.{trimmed_count, known_store}
+use Rattle.store_files.specs.Adopting.{with_config}
+use Rattle.store_files.specs.OpenFiles.{FilesAreRead, FilesHold, batch_count, known_facts}
+use Rattle.store_files.specs.OpenFiles.{known_store, known_version, trimmed_count}
 use Rattle.store_files.specs.Openings.{kept_files}
 use Rattle.store_files.specs.Settling.{AreAlone, SparesFiles}
-use Rattle.store_files.specs.StoreFiles.{FilesRepresent}
+use Rattle.store_files.specs.StoreFiles.{AreOrderedNumbers, FilesRepresent}
 use Rattle.store_files.proofs.NamedFiles.{tables_same}
 use Rattle.batch_logs.specs.PartsLemmas.{AreKept, part_in, part_left, parted_in, parted_push}
 use Rattle.store_files.proofs.KeptNames.{contains_map, kept_is_given, log_is_kept, slot_is_kept}
@@ -146,6 +147,19 @@ with_manifest files manifest = record {
   free_file = files.free_file;
 }
 
+-- with another configuration the numbers of a version are in the same order
+pub numbers_with_config : (version : StoreVersion) (epoch : ℕ) (ids : List ℕ) (trimmed count : ℕ) →
+    AreOrderedNumbers version trimmed count →
+    AreOrderedNumbers (record version { epoch = epoch; ids = ids }) trimmed count
+numbers_with_config version epoch ids trimmed count numbers = record {
+  kept_floor = numbers.kept_floor;
+  kept_current = numbers.kept_current;
+  current_flushed = numbers.current_flushed;
+  flushed_count = numbers.flushed_count;
+  floor_count = numbers.floor_count;
+  few = numbers.few;
+}
+
 -- the open files hold the list, and a merge can end in their store that could end in this one
 abbrev pub HoldsLater : StoreState → State → StoreFiles → List BatchContent → Type 0
 HoldsLater store new files list = (held : FilesHold new files list) × ((plan : MergePlan) →
@@ -201,33 +215,36 @@ module _ (disk : State) (files : StoreFiles) (list : List BatchContent)
       (λ line has. leaves line.file (log_is_kept version line has))
       (λ line has. leaves line.file (table_is_kept version line has))
 
-  -- where a manifest holds the version, the files of its lines stay, and no file has a number that
-  -- was not given, the open files hold it with that manifest
-  pub held_later : (new : State) (manifest : Manifest) →
-      ManifestHolds new manifest (known_version files) →
+  -- where a manifest holds the version with a configuration, the files of its lines stay, and no
+  -- file has a number that was not given, the open files hold it with that manifest
+  pub held_with_config : (epoch : ℕ) (ids : List ℕ) →
+      IsVersion (with_config (known_version files) epoch ids).version → (new : State)
+      (manifest : Manifest) → ManifestHolds new manifest
+      (with_config (known_version files) epoch ids) →
       ((line : LogLine) → Contains version.logs line → new line.file ≡ disk line.file) →
       ((line : TableLine) → Contains version.tables line → new line.file ≡ disk line.file) →
       ((file : ℕ) → files.free_file ≤ file → IsNone (seen (new file))) →
       HoldsLater (known_store files h.tables) new (with_manifest files manifest) list
-  held_later new manifest holds logs_stay same unused =
+  held_with_config epoch ids lawful new manifest holds logs_stay same unused =
       subst (λ (named : NodeVersion). HoldsLater (known_store files h.tables) new
       (with_manifest files (with_version manifest named)) list) (sym holds.knows) (
         record {
           known = record {
             usable = record {
               works = holds.works;
-              version = h.usable.version;
+              version = lawful;
               logs = h.usable.logs;
               lines = h.usable.lines;
               tables = h.usable.tables;
               memtable = h.usable.memtable;
-              numbers = h.usable.numbers;
+              numbers = numbers_with_config version epoch ids (trimmed_count files)
+                  (batch_count files) h.usable.numbers;
               free = h.usable.free;
               free_few = h.usable.free_few;
             };
             manifest = subst (λ (named : NodeVersion). ManifestHolds new
                 (with_version manifest named)
-                (known_version files)) holds.knows holds;
+                (with_config (known_version files) epoch ids)) holds.knows holds;
             logs = named_logs_in disk new files.logs (suc (trimmed_count files))
                 (drop (trimmed_count files) list) (λ line has. logs_stay line
                 (subst (λ (lines : List LogLine). Contains lines line) h.usable.lines has)) h.logs;
@@ -251,6 +268,15 @@ module _ (disk : State) (files : StoreFiles) (list : List BatchContent)
         },
         λ plan can_end. can_end,
       )
+
+  -- so it is with the own configuration
+  pub held_later : (new : State) (manifest : Manifest) →
+      ManifestHolds new manifest (known_version files) →
+      ((line : LogLine) → Contains version.logs line → new line.file ≡ disk line.file) →
+      ((line : TableLine) → Contains version.tables line → new line.file ≡ disk line.file) →
+      ((file : ℕ) → files.free_file ≤ file → IsNone (seen (new file))) →
+      HoldsLater (known_store files h.tables) new (with_manifest files manifest) list
+  held_later = held_with_config version.epoch version.ids h.usable.version
 
   -- so the open files hold it
   pub held_with : (new : State) (manifest : Manifest) →

@@ -38,6 +38,7 @@ pub mod Merged
 pub mod MergeMoments
 pub mod MeantMerges
 pub mod MergeRefusals
+pub mod Adoptions
 pub mod TendedFiles
 pub mod Tends
 pub mod Meant

@@ -11,9 +11,11 @@ use Rattle.disk.specs.StepsLemmas.{read_is_outcome}
 use Rattle.table_builder.specs.{IsFresh}
 use Rattle.manifest.specs.declared.Manifest.{Manifest}
 use Rattle.manifest.specs.declared.TableLine.{TableLine}
-use Rattle.manifest.specs.{HeldVersionIsLeft, HeldVersionStays, IsSlotFile, ManifestHolds}
-use Rattle.manifest.specs.{ManifestRepresents, NodeVersion, SlotsAreLeft, StoreVersion}
+use Rattle.manifest.specs.{HeldVersionIsLeft, HeldVersionStays, IsSlotFile, IsVersion}
+use Rattle.manifest.specs.{ManifestHolds, ManifestRepresents, NodeVersion, SlotsAreLeft}
+use Rattle.manifest.specs.{StoreVersion}
 use Rattle.store_files.specs.declared.store_files.StoreFiles.{StoreFiles}
+use Rattle.store_files.specs.Adopting.{with_config}
 use Rattle.store_files.specs.OpenFiles.{FilesAreRead, IsAsMeant, WereMeantToHold, known_facts}
 use Rattle.store_files.specs.OpenFiles.{known_store, known_version, trimmed_count}
 use Rattle.store_model.specs.{IsUnderWay, MergePlan, StoreState}
@@ -28,7 +30,7 @@ use Rattle.store_files.proofs.MeantFiles.{unnamed_is_left}
 use Rattle.store_files.proofs.MeantMoments.{meant_now}
 use Rattle.store_files.proofs.MeantOpenings.{mended, mended_at, mended_beside, slot_beside}
 use Rattle.store_files.proofs.Spills.{held_again_later, next_is_fresh}
-use Rattle.store_files.proofs.Tends.{rewritten_later}
+use Rattle.store_files.proofs.Tends.{recorded_later}
 
 -- what open files know is what the files that their version names have
 pub named_of : (disk : State) (files : StoreFiles) (list : List BatchContent)
@@ -101,36 +103,48 @@ module _ (disk : State) (files : StoreFiles) (list : List BatchContent)
       (λ line has. at.others line.file
       (table_no_slot version w.hold.known.usable.version line has))) run
 
-  -- with the manifest that wrote one they were meant to hold what they held, and a merge can end as
-  -- before
-  pub meant_later : HeldVersionStays → (new : State) (manifest : Manifest) (slot : ℕ)
-      → IsSlotFile slot → IsSameBut slot disk new → ManifestHolds new manifest known
+  -- with a manifest that wrote the version with a configuration they were meant to hold what they
+  -- held, and a merge can end as before
+  pub recorded_meant : HeldVersionStays → (epoch : ℕ) (ids : List ℕ)
+      → IsVersion (with_config known epoch ids).version → (new : State) (manifest : Manifest)
+      (slot : ℕ) → IsSlotFile slot → IsSameBut slot disk new
+      → ManifestHolds new manifest (with_config known epoch ids)
       → MeantLater (known_store files w.hold.known.tables) new (with_manifest files manifest) list
-  meant_later stays new manifest slot is spares holds =
+  recorded_meant stays epoch ids lawful new manifest slot is spares holds =
       let later = mended version.tables w.meant new in
       let usable = w.hold.known.usable in
-      let hold = stays new later manifest known holds
+      let hold = stays new later manifest (with_config known epoch ids) holds
       (λ one is_slot. mended_beside version.tables w.meant new one
       (slot_beside version usable.version one is_slot)) in
       let same : (line : TableLine) → Contains version.tables line
       → new line.file ≡ disk line.file = λ line has.
       spares line.file (λ at. table_no_slot version usable.version line has
       (subst IsSlotFile (sym at) is)) in
-      let both = rewritten_later w.meant files list w.hold later manifest slot is
-      (follow_but disk w.meant version.tables as_meant new slot spares) hold in (
+      let both = recorded_later w.meant files list w.hold epoch ids lawful later manifest slot is
+      (follow_but disk w.meant version.tables as_meant new slot spares) hold in
+      let stay = as_meant_stays disk new w.meant later version files.tables w.hold.known.tables
+      w.hold.known.read w.hold.known.served same
+      (λ line has. mended_at version.tables w.meant new line has)
+      (λ file beside. sym (mended_beside version.tables w.meant new file beside)) w.disk_is in (
         record {
           meant = later;
           hold = both.0;
           disk_is = subst (λ (n : NodeVersion). IsAsMeant new later n.version files.tables)
-              (sym holds.knows)
-              (as_meant_stays disk new w.meant later version files.tables w.hold.known.tables
-              w.hold.known.read w.hold.known.served same
-              (λ line has. mended_at version.tables w.meant new line has)
-              (λ file beside. sym (mended_beside version.tables w.meant new file beside))
-              w.disk_is);
+              (sym holds.knows) (record {
+                others = stay.others;
+                tables = stay.tables;
+                blocks = stay.blocks;
+                durable = stay.durable;
+              });
         },
         both.1,
       )
+
+  -- so it is with the own configuration
+  pub meant_later : HeldVersionStays → (new : State) (manifest : Manifest) (slot : ℕ)
+      → IsSlotFile slot → IsSameBut slot disk new → ManifestHolds new manifest known
+      → MeantLater (known_store files w.hold.known.tables) new (with_manifest files manifest) list
+  meant_later stays = recorded_meant stays version.epoch version.ids w.hold.known.usable.version
 
   -- so they were meant to hold it
   pub rewritten_as_meant : HeldVersionStays → (new : State) (manifest : Manifest) (slot : ℕ)

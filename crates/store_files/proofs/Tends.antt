@@ -1,4 +1,4 @@
--- The files of a store while its manifest is rewritten.
+-- The files of a store whose manifest alone is written: anew, or with another configuration.
 use Rattle.std.proofs.Common.{◌≤◌, ℕ, List, Contains, ap, arith, inl, inr, refl, subst, sym, ◌≡◌}
 use Rattle.std.proofs.Common.{◌↔◌, Err}
 use Rattle.std.proofs.lemmas.List.Elements.{All-contains}
@@ -22,12 +22,14 @@ use Rattle.store_tables.specs.declared.error.EngineError.{EngineError}
 use Rattle.batch_logs.specs.BatchLogs.{lines_of}
 use Rattle.store_tables.specs.Errors.{IsEnd, error_of_edit}
 use Rattle.store_tables.specs.LevelTables.{table_lines}
+use Rattle.store_files.specs.Adopting.{facts_with_config, with_config}
 use Rattle.store_files.specs.OpenFiles.{AreUsableFiles, FilesHold, batch_count, known_facts}
 use Rattle.store_files.specs.OpenFiles.{known_store, known_version, trimmed_count}
 use Rattle.store_files.specs.StoreFiles.{AreOrderedNumbers, FilesRepresent}
 use Rattle.store_files.proofs.Appended.{left_now}
 use Rattle.store_files.proofs.FilesApart.{given_no_slot}
-use Rattle.store_files.proofs.KeptFiles.{HoldsLater, held_later, lines_are_left, with_manifest}
+use Rattle.store_files.proofs.KeptFiles.{HoldsLater, held_with_config, lines_are_left}
+use Rattle.store_files.proofs.KeptFiles.{numbers_with_config, with_manifest}
 use Rattle.store_files.proofs.KeptNames.{kept_is_given, slot_is_kept}
 use Rattle.store_files.proofs.NamedHolds.{facts_of}
 
@@ -55,30 +57,48 @@ edit_failed manifest.NotCreated s is = (λ f. absurd cc, λ f. absurd cc)
 edit_failed manifest.Memory s is = (λ f. absurd cc, λ f. absurd cc)
 edit_failed manifest.Failed s is = (λ f. absurd cc, λ f. absurd cc)
 
--- ---- another manifest of the same version
+-- ---- another manifest of the same version, but for the configuration
 
-module _ (files : StoreFiles) (other : Manifest) (same : version_of other ≡ known_version files)
-  where
-    -- the files know the same facts
-    pub facts_with : known_facts (with_manifest files other) ≡ known_facts files
-    facts_with = ap (λ (n : NodeVersion). facts_of n.id n.version (trimmed_count files)) same
+module _ (files : StoreFiles) (other : Manifest) where
+  module _ (epoch : ℕ) (ids : List ℕ)
+      (told : version_of other ≡ with_config (known_version files) epoch ids) where
+    -- the files know the facts with that configuration
+    pub facts_recorded : known_facts (with_manifest files other)
+        ≡ facts_with_config (known_facts files) epoch ids
+    facts_recorded = ap (λ (n : NodeVersion). facts_of n.id n.version (trimmed_count files)) told
 
     -- and they stay usable, where it works
+    pub usable_recorded : IsVersion (with_config (known_version files) epoch ids).version →
+        (ManifestHasFailed other → ⊥) → AreUsableFiles files →
+        AreUsableFiles (with_manifest files other)
+    usable_recorded lawful works u =
+        let back = sym told in
+        record {
+          works = works;
+          version = subst (λ (n : NodeVersion). IsVersion n.version) back lawful;
+          logs = u.logs;
+          lines = subst (λ (n : NodeVersion). lines_of files.logs ≡ n.version.logs) back u.lines;
+          tables = subst (λ (n : NodeVersion). table_lines files.tables ≡ n.version.tables) back
+              u.tables;
+          memtable = u.memtable;
+          numbers = subst (λ (n : NodeVersion). AreOrderedNumbers n.version (trimmed_count files)
+              (batch_count files)) back
+              (numbers_with_config (known_version files).version epoch ids (trimmed_count files)
+              (batch_count files) u.numbers);
+          free = subst (λ (n : NodeVersion). n.version.next_file ≤ files.free_file) back u.free;
+          free_few = u.free_few;
+        }
+
+  -- where it is the own one, the facts are the same
+  module _ (same : version_of other ≡ known_version files) where
+    pub facts_with : known_facts (with_manifest files other) ≡ known_facts files
+    facts_with = facts_recorded (known_version files).version.epoch
+        (known_version files).version.ids same
+
     pub usable_with : (ManifestHasFailed other → ⊥) → AreUsableFiles files →
         AreUsableFiles (with_manifest files other)
-    usable_with works u = record {
-      works = works;
-      version = subst (λ (n : NodeVersion). IsVersion n.version) (sym same) u.version;
-      logs = u.logs;
-      lines = subst (λ (n : NodeVersion). lines_of files.logs ≡ n.version.logs) (sym same) u.lines;
-      tables = subst (λ (n : NodeVersion). table_lines files.tables ≡ n.version.tables) (sym same)
-          u.tables;
-      memtable = u.memtable;
-      numbers = subst (λ (n : NodeVersion). AreOrderedNumbers n.version (trimmed_count files)
-          (batch_count files)) (sym same) u.numbers;
-      free = subst (λ (n : NodeVersion). n.version.next_file ≤ files.free_file) (sym same) u.free;
-      free_few = u.free_few;
-    }
+    usable_with works u = usable_recorded (known_version files).version.epoch
+        (known_version files).version.ids same u.version works u
 
 -- ---- the files
 
@@ -116,12 +136,15 @@ module _ (disk : State) (files : StoreFiles) (list : List BatchContent)
       at.here (λ line has. at.others line.file (log_no_slot line has))
       (λ line has. at.others line.file (table_no_slot line has))) run
 
-  -- with the manifest that wrote one they hold what they held, and a merge can end as before
-  pub rewritten_later : (new : State) (manifest : Manifest) (slot : ℕ) → IsSlotFile slot →
-      IsSameBut slot disk new → ManifestHolds new manifest (known_version files) →
+  -- with a manifest that wrote the version with a configuration they hold what they held, and a
+  -- merge can end as before
+  pub recorded_later : (epoch : ℕ) (ids : List ℕ) →
+      IsVersion (with_config (known_version files) epoch ids).version → (new : State)
+      (manifest : Manifest) (slot : ℕ) → IsSlotFile slot → IsSameBut slot disk new →
+      ManifestHolds new manifest (with_config (known_version files) epoch ids) →
       HoldsLater (known_store files h.known.tables) new (with_manifest files manifest) list
-  rewritten_later new manifest slot is spares holds =
-      held_later disk files list h.known new manifest holds
+  recorded_later epoch ids lawful new manifest slot is spares holds =
+      held_with_config disk files list h.known epoch ids lawful new manifest holds
       (λ line has. spares line.file (λ same. log_no_slot line has (subst IsSlotFile (sym same) is)))
       (λ line has. spares line.file
       (λ same. table_no_slot line has (subst IsSlotFile (sym same) is))) unused
@@ -132,6 +155,12 @@ module _ (disk : State) (files : StoreFiles) (list : List BatchContent)
           (slot_is_kept version slot is) in
           let first = h.known.usable.free in
           omega (arith, same, below, first, above)))) (h.unused file above)
+
+  -- so it is with the own configuration
+  pub rewritten_later : (new : State) (manifest : Manifest) (slot : ℕ) → IsSlotFile slot →
+      IsSameBut slot disk new → ManifestHolds new manifest (known_version files) →
+      HoldsLater (known_store files h.known.tables) new (with_manifest files manifest) list
+  rewritten_later = recorded_later version.epoch version.ids h.known.usable.version
 
   -- so they hold it
   pub held_rewritten : (new : State) (manifest : Manifest) (slot : ℕ) → IsSlotFile slot →

@@ -10,6 +10,7 @@ pub mod Plans
 pub mod Apart
 pub mod BesideFiles
 pub mod Removing
+pub mod Adopting
 pub mod Raising
 pub mod Merging
 pub mod FloorExamples

@@ -1,6 +1,7 @@
 //! The open files of a store: manifest, logs of batches and tables, each call lent the disk.
 #![tactic(auto)]
 
+mod adopting;
 mod flushing;
 pub mod laws;
 mod merging;

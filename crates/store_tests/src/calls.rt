@@ -1,7 +1,8 @@
-// The device calls of a log, of a manifest and of a creation, in their order.
+// The device calls of a log, of a manifest, of a creation and of an adoption, in their order.
 ghost use Rattle.std.specs.Prelude.{None};
 ghost use Rattle.disk.specs.{Absent, IsReliable, past_states};
 
+use crate::adoptions::disk_of_adoption;
 use crate::cases::{holds_at, is_so};
 use crate::items::{config_of, origin};
 use crate::manifests;
@@ -253,6 +254,15 @@ fn a_manifest_makes_its_calls_in_their_order(rt: HostRuntime) {
     }
 }
 
+// The edit of an adoption behind the closed gate of the 74 bytes of a slot with two ids, and then
+// the gate.
+const ADOPTION: &[Called] = &[
+    Called::Write(1, 74, 0),
+    Called::Sync(1),
+    Called::Write(1, 73, 1),
+    Called::Sync(1),
+];
+
 // The disk of a new store of node 1 alone.
 fn disk_of_store(rt: &impl Abort, alloc: Global) -> NotingDisk {
     let (_epoch, id) = origin(rt, 0, 1);
@@ -267,4 +277,11 @@ fn a_creation_makes_its_calls_in_their_order(rt: HostRuntime) {
     let mut disk = disk_of_store(&rt, rt.alloc());
     let calls_so = disk.made(STORE);
     is_so(&rt, calls_so, "the calls of a creation");
+}
+
+#[test]
+fn an_adoption_makes_its_calls_in_their_order(rt: HostRuntime) {
+    let mut disk = disk_of_adoption(&rt, rt.alloc(), NotingDisk::new(rt.alloc()));
+    let calls = disk.recorded().get(STORE.len()..);
+    is_so(&rt, calls == Some(ADOPTION), "the calls of an adoption");
 }

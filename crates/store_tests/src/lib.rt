@@ -2,6 +2,8 @@
 #![tactic(auto)]
 
 #[cfg(test)]
+mod adoptions;
+#[cfg(test)]
 mod batches;
 #[cfg(test)]
 mod bytes;
