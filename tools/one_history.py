@@ -69,7 +69,7 @@ def page_of(batches, low, bound, backward, limit):
 def outcome_of(kind, text):
     """An output without what differs from run to run."""
     if kind == "node":
-        return text.split(" ", 2)[2].split(" epoch")[0]
+        return re.sub("^epoch", "shown epoch", text.split(" ", 2)[2]).split(" epoch")[0]
     if kind == "sent":
         return "sent " + text.split(" ")[2]
     if kind == "rows":
