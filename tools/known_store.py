@@ -26,8 +26,8 @@ class KnownStore:
         self.least, self.most, self.kept = 0, 0, 0
         # The tables as last seen, and at most so many tends that have worked since: None is any.
         self.tables, self.worked = [0] * (DEEPEST + 1), 0
-        # Whether the last tend found nothing due.
-        self.is_idle = False
+        # Whether the last tend found nothing due, and at most so many flushes that were ever done.
+        self.is_idle, self.flushes = False, 0
 
     def read(self, at):
         """A read at a number is answered: the floor is no higher."""
@@ -43,13 +43,17 @@ class KnownStore:
         """A batch is sent again: it is in a log."""
         expect(number > self.kept, "a batch sent again that is in no log")
 
-    def tend(self, is_one, outcome, reach):
-        """One tend or several end so, if they end: a floor that rises is at most this high then."""
-        if is_one and outcome in ("idle", "full"):
-            self.is_idle = outcome == "idle"
-            return
+    def tend(self, is_one, outcome, reach, batches):
+        """One tend or several of a node with at most so many batches end so, if they end. A floor
+        that rises is at most this high then. The first merge is of level 0: before it are more
+        flushes, each of a batch at least, than that level's limit."""
         self.is_idle = outcome == "idle"
-        self.most = max(self.most, reach)
+        if is_one and outcome in ("idle", "full"):
+            return
+        flushes = self.flushes if is_one else self.flushes + 1
+        if min(flushes, batches) > self.limits["l0"]:
+            self.most = max(self.most, reach)
+        self.flushes += 1
         self.worked = self.worked + 1 if is_one and self.worked is not None else None
 
     def start(self, floor):

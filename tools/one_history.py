@@ -336,7 +336,7 @@ class History:
         node = words[1]
         held = [at for at, count in self.snapshots[node].items() if count]
         reach = min([self.committed_at(node), *held])
-        self.stores[node].tend(words[0] == "tend", outcome, reach)
+        self.stores[node].tend(words[0] == "tend", outcome, reach, self.most[node])
 
     def most_of(self, count):
         """So many entries and keys the tables of so many batches have at most."""
