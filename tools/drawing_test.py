@@ -1,4 +1,4 @@
-"""The test of `draw_run`: two known runs are drawn, and the drawings are read back."""
+"""The test of `draw_run`: some known runs are drawn, and the drawings are read back."""
 
 import collections
 import pathlib
@@ -12,14 +12,16 @@ RUNS = {
     "frame_twice": {"head": 5, "lost": 1, "dot": 5, "cross": 1, "diamond": 1},
     "node_stops": {"head": 3, "dot": 3, "cross": 1, "diamond": 1, "stop": 1, "start": 1}
     | {"circle": 1, "square": 1, "tend": 2},
+    "merges": {"diamond": 2, "circle": 3, "square": 2, "tend": 3, "merge": 3, "stop": 1, "start": 1},
 }
 WORDS = {
     "frame_twice": ["#2 forward 0 1", "#3 ack 0 0 1", "dropped OtherNumber"]
     + ["committed 1 (line 2)"],
     "node_stops": ["stopped by !stop 3 new", "epoch 0 count 1 committed 1", "refused 1 NotRunning"]
-    + ["#3 ack 0 1 1", "value 1 at 1", "tended", "idle"],
+    + ["#3 ack 0 1 1", "value 1 at 1", "tended: flush", "idle"],
+    "merges": ["tended: merge ends", "2/2 floor 2 tables 0 1", "opened 1", "stopped by stop"],
 }
-# Outputs that do not fit their script: a form in the output, and what stands in its place.
+# Outputs that do not fit the script of node_stops: a form in the output, and what stands in its place.
 MISFITS = {
     "an answer left out": (r"9: value 1 at 1\n", ""),
     "an answer to another statement": ("9: value", "2: value"),
@@ -100,8 +102,9 @@ def cut_faults(name, script, output, pages_of):
     yield from faults_of(pages, name)
 
 
-def misfit_faults(script, output, pages_of):
+def misfit_faults(pages_of):
     """The outputs that do not fit, and are drawn."""
+    script, output = texts_of("node_stops")
     for what, (form, new) in MISFITS.items():
         changed = re.sub(form, new, output, count=1)
         try:
@@ -113,14 +116,19 @@ def misfit_faults(script, output, pages_of):
         yield f"{what} is drawn"
 
 
+def texts_of(name):
+    """The script of a known run, and what it printed."""
+    texts = [DOCS / f"pictures/{name}.{kind}" for kind in ("script", "output")]
+    return [it.read_text(encoding="utf-8") for it in texts]
+
+
 def self_test(pages_of):
     """Draws the known runs, and prints what is wrong. The status to end with."""
     faults = []
     for name in RUNS:
-        texts = [DOCS / f"pictures/{name}.{kind}" for kind in ("script", "output")]
-        script, output = (it.read_text(encoding="utf-8") for it in texts)
+        script, output = texts_of(name)
         for find in (page_faults, cut_faults):
             faults += [f"{name}: {fault}" for fault in find(name, script, output, pages_of)]
-    faults += misfit_faults(script, output, pages_of)
+    faults += misfit_faults(pages_of)
     print(*faults, f"{len(RUNS)} runs, {len(faults)} faults", sep="\n")
     return 1 if faults else 0

@@ -32,6 +32,34 @@ CAUSES = {
     "node": ("submit", "get", "deliver", "tick", "tend", "show", "start", "stop")
     + ("rows", "back", "open", "close"),
 }
+# The limits of a store for which a script has no other.
+LIMITS = {"log": 4_194_304, "l0": 4, "table": 2_097_152, "level": 10_485_760}
+# What a node that runs shows: its epoch, count and committed number, its floor and kept number, and
+# how many tables each level has.
+SHOWN = re.compile(
+    r"epoch (\d+) count (\d+) committed (\d+) floor (\d+) kept (\d+) tables (\d+(?: \d+){6})"
+)
+
+
+class Broken(Exception):
+    """What an output breaks."""
+
+
+def expect(holds, what):
+    """The output is broken where this does not hold."""
+    if not holds:
+        raise Broken(what)
+
+
+def key_of(edit):
+    """The key of an edit."""
+    return edit[1:] if edit[:1] == "-" else edit.partition("=")[0]
+
+
+def bytes_of(word):
+    """The bytes that a word spells."""
+    plain = re.sub("%(..)", lambda it: chr(int(it[1], 16)), "" if word == "@" else word)
+    return plain.encode("latin-1")
 
 
 def kind_of(text):
@@ -53,6 +81,12 @@ def read_script(text):
         elif line and words[0] != "limit" and line[0] != "#":
             statements.append(Statement(at, line, words[:first], words[first:]))
     return nodes, statements
+
+
+def limits_of(text):
+    """The limits of the stores of a script, by name."""
+    lines = [line.split(" ") for line in text.split("\n") if line.startswith("limit ")]
+    return LIMITS | {name: int(number) for _, name, number in lines}
 
 
 def output_of(program, script):

@@ -6,52 +6,43 @@ acknowledgement and every read speaks; and every node that starts has what was a
 before. A batch has its place in the list from the frame that forwards it in its submit, or from its
 acknowledgement, or, where the head stopped in its submit, from the count at the head's next start.
 It is no second machine: what a node would have done exactly is not asked. Every line must be one
-that its statement can have, and numbers must be such as nodes can know by then.
+that its statement can have, and numbers must be such as nodes can know by then. The floor of a node
+is at most the least of what it can know as committed and its open snapshots, in some tend; never
+falls; and is refused below, and nowhere else.
 
 Prints the lines of the batches' submits in their order, or what is broken, with status 1.
 """
 
 import collections
+import copy
 import re
 import sys
 
 sys.dont_write_bytecode = True
-from lab_texts import ANSWERED, CAUSES, SENT, kind_of, read_script
+from known_store import MOST_FILES, KnownStore
+from lab_texts import ANSWERED, CAUSES, SENT, SHOWN, Broken, expect
+from lab_texts import bytes_of, key_of, kind_of, limits_of, read_script
 
 STARTED = re.compile(r"started epoch (\d+) count (\d+) committed (\d+)")
-SHOWN = re.compile(r"epoch 0 count (\d+) committed (\d+) floor 0 kept 0 tables (\d+)( 0){6}")
 READ = re.compile(r"(?:value (\S+)|none) at (\d+)")
 PAGE = re.compile(r"rows (\d+) at (\d+)( more)?")
 # The most bytes of a page, of which each row has its key, its value and so many more, and the most
 # open snapshots of a node.
 MOST_BYTES, ROW, MOST_OPEN = 98_304, 4, 64
-
-
-class Broken(Exception):
-    """What an output breaks."""
-
-
-def expect(holds, what):
-    """The output is broken where this does not hold."""
-    if not holds:
-        raise Broken(what)
+# So many entries and keys tables have at most.
+Most = collections.namedtuple("Most", "entries keys")
+# A node that was shown: the line, the node, its numbers and tables, its least open snapshot, if one
+# is open, so many entries and keys at most, and what was known of its store before.
+Shown = collections.namedtuple("Shown", "line node numbers tables snapshot most before")
 
 
 def value_at(batches, key):
     """The word of the value that a key has after these batches of edits, or None."""
     value = None
     for edit in (edit for batch in batches for edit in batch):
-        if edit == "-" + key:
-            value = None
-        elif edit[:1] != "-" and edit.partition("=")[0] == key:
-            value = edit.partition("=")[2]
+        if key_of(edit) == key:
+            value = None if edit[:1] == "-" else edit.partition("=")[2]
     return value
-
-
-def bytes_of(word):
-    """The bytes that a word spells."""
-    plain = re.sub("%(..)", lambda it: chr(int(it[1], 16)), "" if word == "@" else word)
-    return plain.encode("latin-1")
 
 
 def page_of(batches, low, bound, backward, limit):
@@ -78,7 +69,7 @@ def page_of(batches, low, bound, backward, limit):
 def outcome_of(kind, text):
     """An output without what differs from run to run."""
     if kind == "node":
-        return text.split(" ", 2)[2].split(" epoch")[0]
+        return re.sub("^epoch", "shown epoch", text.split(" ", 2)[2]).split(" epoch")[0]
     if kind == "sent":
         return "sent " + text.split(" ")[2]
     if kind == "rows":
@@ -103,12 +94,17 @@ class History:
         # Of each node how many batches were reported to it as committed, and its last own number.
         self.reported, self.shown = dict.fromkeys(self.chain, 0), dict.fromkeys(self.chain, 0)
         self.up, self.stopped = set(self.chain), set()
-        # Of each node how many tables were shown last.
-        self.tables = dict.fromkeys(self.chain, 0)
+        # Of each node what is known of its store.
+        limits = limits_of(script)
+        self.stores = {node: KnownStore(limits) for node in self.chain}
         self.answered, self.forwarded, self.waiting = set(), set(), {}
         # The greatest number acknowledged or read, the last acknowledged, the last place and line.
         self.known, self.acked, self.places, self.now = 0, 0, 0, 0
-        self.reads, self.starts = [], []
+        self.reads, self.starts, self.floors, self.shows = [], [], [], []
+        # The lines of answered reads that could not be refused as too old; the refused gets at
+        # numbers that were known to be below the floor; the frames of batches sent again by places,
+        # with the number of those that their senders are known to keep in no log.
+        self.firm, self.too_old, self.again = [], [], []
         # The rows of the page that is not ended yet, with the line of its statement, and of each
         # node the numbers of its open snapshots.
         self.rows_of_page, self.line_of_page = [], None
@@ -163,6 +159,9 @@ class History:
             self.forwarded.add(line)
             self.append(line, number)
             self.waiting[line] = number
+        else:
+            self.again.append((line, self.places, self.stores[sender].kept))
+            self.stores[sender].send(number)
         expect(1 <= number <= self.most[sender], "a batch that its sender can't have")
         self.least[sender] = max(self.least[sender], number)
         self.most[addressee] = max(self.most[addressee], number)
@@ -204,7 +203,7 @@ class History:
         form, node = READ.fullmatch(text), words[1]
         expect(form, "a line of no form")
         value, at = form[1], int(form[2])
-        self.read_at(node, at, words[3:])
+        self.read_at(line, node, at, words[3:])
         expect(value_at(self.batches[:at], words[2]) == value, "not the value at this number")
         self.note_read(node, at, value)
         self.known = max(self.known, at)
@@ -212,10 +211,13 @@ class History:
 
     none = value
 
-    def read_at(self, node, at, asked):
+    def read_at(self, line, node, at, asked):
         """A read of a node is at a number that it knows as committed: the one asked, if one was."""
         expect(node in self.up, "an answer of a node that does not run")
         expect(at <= self.committed_at(node), "a read of what is not committed")
+        if not asked or at >= self.stores[node].most:
+            self.firm.append(line)
+        self.stores[node].read(at)
         if asked:
             expect([str(at)] == asked, "a read at another number than the one asked")
         else:
@@ -238,7 +240,7 @@ class History:
         count, at, found = int(form[1]), int(form[2]), self.rows_of_page
         expect(self.line_of_page in (None, line), "a row of another page")
         self.rows_of_page, self.line_of_page = [], None
-        self.read_at(node, at, words[5:])
+        self.read_at(line, node, at, words[5:])
         low, bound, limit = words[2], words[3], int(words[4])
         expect(1 <= limit <= 1024, "a limit that there can't be")
         page = page_of(self.batches[:at], low, bound, words[0] == "back", limit)
@@ -249,7 +251,7 @@ class History:
     def opened(self, line, words, text):
         """A snapshot is open, at a number at which the node can be read."""
         at, held = int(text.split(" ")[1]), self.snapshots[words[1]]
-        self.read_at(words[1], at, words[2:])
+        self.read_at(line, words[1], at, words[2:])
         expect(sum(held.values()) < MOST_OPEN, "too many snapshots")
         held[at] += 1
         self.known = max(self.known, at)
@@ -284,8 +286,20 @@ class History:
             expect(is_full, "refused without cause")
         else:
             asked = words[{"get": 3, "open": 2}.get(words[0], 5) :]
-            expect(why == "4 NotCommitted" and asked, "refused without cause")
-            expect(words[1] != self.tail or int(asked[0]) > self.known, "refused without cause")
+            expect(asked, "refused without cause")
+            self.refused_at(line, words, int(asked[0]), why)
+
+    def refused_at(self, line, words, at, why):
+        """A read at a number is refused: it is below the floor, or above what is committed."""
+        node, store = words[1], self.stores[words[1]]
+        if why == "3 TooOld":
+            if words[0] == "get" and at < store.least:
+                self.too_old.append((line, words[2], at))
+            store.refuse_old(at)
+            return
+        expect(why == "4 NotCommitted", "refused without cause")
+        expect(at > max(self.shown[node], store.least), "refused without cause")
+        expect(node != self.tail or at > self.known, "refused without cause")
 
     def invalid(self, line, words, text):
         """A submit has no edits, a limit is none, or something is long."""
@@ -309,18 +323,33 @@ class History:
             expect(text.split(" ")[1] in ("NotRunning", "OtherNumber"), "dropped without cause")
 
     def tended(self, line, words, text):
-        """A node tends only while it runs."""
+        """A node tends only while it runs, and is full only with many entries."""
         expect(words[1] in self.up, "a tend of a node that does not run")
+        entries = self.most_of(self.most[words[1]]).entries
+        expect(text != "full" or 2 * entries >= MOST_FILES, "full without cause")
+        self.tend(words, text)
 
     idle = full = tended
+
+    def tend(self, words, outcome):
+        """One tend or several of a node may raise its floor, however they end."""
+        node = words[1]
+        held = [at for at, count in self.snapshots[node].items() if count]
+        reach = min([self.committed_at(node), *held])
+        self.stores[node].tend(words[0] == "tend", outcome, reach, self.most[node])
+
+    def most_of(self, count):
+        """So many entries and keys the tables of so many batches have at most."""
+        keys = [{key_of(edit) for edit in batch} for batch in self.batches[:count]]
+        return Most(sum(map(len, keys)), len(set().union(*keys)))
 
     def nothing(self, line, words, text):
         """No frame has the place."""
         expect(int(words[1]) > self.places, "there is a frame in this place")
 
     def busy(self, line, words, text):
-        """A flow has an end."""
-        expect(self.places > 10_000, "not so many frames")
+        """A flow has an end, and so have the tends of a settle."""
+        expect(words[0] == "flow" and self.places > 10_000, "not so many frames")
 
     def node(self, line, words, text):
         """A node stops as its statement or fault says, or starts."""
@@ -339,6 +368,8 @@ class History:
         expect(what == "stopped" + ": disk" * (fault == "!fail"), "a stop of another cause")
         expect(fault or words[0] == "stop", "a stop without cause")
         expect(node in self.up or words[0] == "start", "a stop of a node that does not run")
+        if words[0] == "tend":
+            self.tend(words, "stopped")
         self.up.discard(node)
         self.stopped.add(node)
         self.snapshots[node].clear()
@@ -352,16 +383,32 @@ class History:
         if what == "stopped":
             return
         form = SHOWN.fullmatch(what)
-        expect(form, "numbers that no node has yet")
-        count, committed, tables = map(int, form.groups()[:3])
+        expect(form, "a line of no form")
+        epoch, *numbers = map(int, form.groups()[:5])
+        tables = [int(it) for it in form[6].split(" ")]
+        expect(epoch == 0, "another epoch")
+        self.show_store(node, numbers, tables)
+        count, committed = numbers[:2]
         expect(committed <= count <= self.most[node], "more than the node can have")
         expect(committed <= self.committed_at(node), "committed without the tail")
         expect(node != self.tail or committed == count, "a tail commits all that it has")
         expect(count >= self.least[node], "a node lost batches")
         expect(self.shown[node] <= committed, "a node shows less than it told")
-        expect(self.tables[node] <= tables <= count, "tables lost, or more than batches")
-        self.shown[node], self.tables[node] = committed, tables
-        self.least[node] = count
+        self.shown[node], self.least[node] = committed, count
+
+    def show_store(self, node, numbers, tables):
+        """A node shows its floor, which no open snapshot is below, what it keeps and its tables."""
+        count, committed, floor, kept = numbers
+        store, most = self.stores[node], self.most_of(count)
+        snapshot = min((at for at, open_ in self.snapshots[node].items() if open_), default=None)
+        before = copy.copy(store)
+        self.shows.append(Shown(self.now, node, numbers, tables, snapshot, most, before))
+        expect(floor <= committed, "a floor above what is committed")
+        expect(snapshot is None or floor <= snapshot, "a floor above an open snapshot")
+        store.show(floor, kept, tables, most)
+        self.seen[f"show: tables down to level {max((i for i in range(7) if tables[i]), default=0)}"] += 1
+        self.seen["show: a floor above 0"] += floor > 0
+        self.seen["show: a floor held by a snapshot"] += floor == snapshot < committed
 
     def start(self, node, epoch, count, committed):
         """A node starts with what it has: all that was known of it, and no more than there is."""
@@ -378,6 +425,10 @@ class History:
         expect(committed <= count <= self.most[node], "more than the node can have")
         expect(committed <= self.committed_at(node), "committed without the tail")
         expect(node != self.tail or committed == count, "a tail commits all that it has")
+        if node != self.tail:
+            self.floors.append((self.now, committed, copy.copy(self.stores[node])))
+            self.stores[node].start(committed)
+        self.shown[node] = committed
         self.starts.append((self.now, max(self.known, self.least[node])))
         expect(count >= self.starts[-1][1], "a node lost batches")
         self.least[node] = count

@@ -1,13 +1,15 @@
 """A script and its output as the steps of a run, for `draw_run`.
 
 A step is what one statement, or one delivery of a flow, printed. Lines of a flow have all one
-number: which delivery one belongs to follows from what each delivery can have caused.
+number: which delivery one belongs to follows from what each delivery can have caused. What a tend
+did is named as far as it follows from the texts (`run_tends.py`).
 """
 
 import collections
 import re
 
-from lab_texts import ANSWERED, CAUSES, SENT, kind_of, read_script
+from lab_texts import ANSWERED, CAUSES, SENT, SHOWN, kind_of, limits_of, read_script
+from run_tends import NodeTends
 
 MOST_IN_FLOW, LONGEST_VALUE = 10_000, 12
 # A frame that was sent, by its place.
@@ -25,7 +27,6 @@ SHAPES = {
     r"rows \d+ at \d+( more)?|(opened|closed) \d+": "circle",
     r"tended|idle|full|busy": "tend",
 }
-SHOWN = re.compile(r"epoch \d+ (count \d+ committed \d+) floor \d+ kept \d+ tables.*|stopped")
 STEPS = ("deliver", "flow", "tick", *ANSWERED)
 
 
@@ -44,9 +45,15 @@ class Run:
         self.lines = collections.deque(map(self.line_of, filter(None, output.split("\n"))))
         self.frames, self.steps = {}, []
         self.delivered, self.up = set(), set(self.nodes)
+        # The batches by number, the edits of the submit in which the head stopped last, and of each
+        # node its tends.
+        self.batches, self.unsure = [], None
+        limit = limits_of(script)["log"]
+        self.tends = {node: NodeTends(limit) for node in self.nodes}
         for it in statements:
             self.check(it)
             self.add_statement(it)
+        self.name_tends()
         if self.lines:
             line, text = self.lines[0]
             raise ValueError(f"the output's line '{line}: {text}' does not fit the script")
@@ -57,6 +64,15 @@ class Run:
         if not colon or not number.isdecimal():
             raise ValueError(f"the output's line '{text}' has no number")
         return int(number), rest
+
+    def name_tends(self):
+        """The notes of tends say what these did, where that is known."""
+        names = {id(note): name for it in self.tends.values() for note, name in it.named()}
+        for step in self.steps:
+            for at, note in enumerate(step.notes):
+                if name := names.get(id(note)):
+                    shape = "merge" if "merge" in name else note.shape
+                    step.notes[at] = note._replace(shape=shape, text=f"{note.text}: {name}")
 
     def check(self, it):
         """A statement is one that is drawn, and names a node of the configuration."""
@@ -85,7 +101,21 @@ class Run:
                 raise ValueError(f"the output has {number} answers to '{it.line}: {it.text}'")
             for text in texts:
                 notes += self.notes_of(text, node, it)
+                self.note_store(text, node, it, notes[-1])
             self.steps.append(Step(it.line, it.text, node, None, notes))
+
+    def note_store(self, text, node, it, note):
+        """What a line says of the batches and the tends of its node."""
+        tends, kind, shown = self.tends[node], kind_of(text), SHOWN.search(text)
+        if it.words[0] == "submit" and kind in ("sent", "committed"):
+            self.batches.append(it.words[2:])
+            tends.count = len(self.batches)
+        elif shown:
+            tends.show([int(number) for number in shown[6].split(" ")], int(shown[4]))
+        elif it.words[0] == "tend" and kind in ("tended", "idle", "full"):
+            tends.tend(kind, self.batches, note)
+        elif it.words[0] == "settle" and kind != "dropped":
+            tends.settle(kind, self.batches)
 
     def add_flow(self, it):
         """A step for each frame that no statement delivered yet, in order of place."""
@@ -131,6 +161,8 @@ class Run:
         notes = []
         for text in filter(None, [self.take(it.line, form) for form in forms]):
             notes += self.notes_of(text, node, it)
+        if frame.kind == "forward" and [note.shape for note in notes[:1]] == ["dot"]:
+            self.tends[node].count = int(frame.numbers.split()[1])
         if frame.kind == "ack" and node == self.nodes[0] and node in self.up:
             notes += self.take_replies(int(frame.numbers.split()[1]))
         return notes
@@ -151,8 +183,8 @@ class Run:
             raise ValueError(f"the output's line '{it.line}: {text}' does not fit '{it.text}'")
         if sent := SENT.fullmatch(text):
             return [self.frame_of(it, sent)]
-        if it.words[0] == "show" and (shown := SHOWN.fullmatch(text.removeprefix(f"node {node} "))):
-            return [Note(node, "circle", shown[1] or "is down", None)]
+        if it.words[0] == "show" and (words := self.shown_of(text, node)):
+            return [Note(node, "circle", words, None)]
         if turn := re.fullmatch(rf"node {node} ((started|stopped).*)", text):
             return self.turn_of(turn[1], node, it)
         for form, shape in SHAPES.items():
@@ -160,6 +192,14 @@ class Run:
                 words = " ".join(shorten(word, LONGEST_VALUE) for word in text.split(" "))
                 return [Note(node, shape, words, None)]
         raise ValueError(f"the output's line '{it.line}: {text}' has no form")
+
+    def shown_of(self, text, node):
+        """A look at a node, in words."""
+        words = text.removeprefix(f"node {node} ")
+        if shown := SHOWN.fullmatch(words):
+            _, count, committed, floor, _, tables = shown.groups()
+            return f"{committed}/{count} floor {floor} tables{re.sub('( 0)*$', '', ' ' + tables) or ' 0'}"
+        return "is down" if words == "stopped" else None
 
     def frame_of(self, it, sent):
         """The note of a frame that was sent, which has the next place."""
@@ -172,11 +212,17 @@ class Run:
 
     def turn_of(self, text, node, it):
         """The notes of a node that stopped, with the statement or fault that did it, or started."""
-        if text.startswith("started"):
+        tends = self.tends[node]
+        if started := re.match(r"started epoch \d+ count (\d+)", text):
+            tends.count = int(started[1])
+            if tends.count > len(self.batches) and self.unsure:
+                self.batches.append(self.unsure)
             self.up.add(node)
             rest = Note(node, "none", text.removeprefix("started "), None)
             return [Note(node, "start", "started", None), rest]
         self.up.discard(node)
+        self.unsure = it.words[2:] if it.words[0] == "submit" else self.unsure
+        tends.stop(self.batches, it.words[0] == "tend")
         by = ["stop", *it.words[2:]] if it.words[0] == "stop" else it.fault
         cause = f" by {' '.join(by)}" if by and text in ("stopped", "stopped: disk") else ""
         return [Note(node, "stop", text + cause, None)]
