@@ -130,7 +130,8 @@ module _ {D : Type 0} {g : Ghosts D} (old new : Engine D g) (told : RaisesFactsA
         committed = omega (arith, now.floor, committed_stays, ready.committed);
         snapshots = subst (All (λ s. (facts_of new).floor ≤ s))
             (snapshots_stay ∙ sym ready.snapshots)
-            (All-weaker (IsReadable (facts_of new).floor (look_ups new).committed) (λ s. (facts_of new).floor ≤ s) (λ s is. is.0) (look_ups new).snapshots
+            (All-weaker (IsReadable (facts_of new).floor (look_ups new).committed)
+            (λ s. (facts_of new).floor ≤ s) (λ s is. is.0) (look_ups new).snapshots
             now.snapshots.each);
         readable = now.kept;
       })
