@@ -34,6 +34,14 @@ mod logs;
 #[cfg(test)]
 mod manifests;
 #[cfg(test)]
+mod merge_courses;
+#[cfg(test)]
+mod merge_faults;
+#[cfg(test)]
+mod merge_rows;
+#[cfg(test)]
+mod merge_rules;
+#[cfg(test)]
 mod plain_store;
 #[cfg(test)]
 mod random_rows;
