@@ -20,7 +20,11 @@ mod edges;
 #[cfg(test)]
 mod faults;
 #[cfg(test)]
+mod full_stores;
+#[cfg(test)]
 mod items;
+#[cfg(test)]
+mod last_numbers;
 #[cfg(test)]
 mod levels;
 #[cfg(test)]
@@ -31,6 +35,8 @@ mod lists;
 mod log_texts;
 #[cfg(test)]
 mod logs;
+#[cfg(test)]
+mod long_tends;
 #[cfg(test)]
 mod manifests;
 #[cfg(test)]

@@ -15,6 +15,7 @@ use std::process::Abort;
 const BOUND: u16 = 700;
 
 /// A step of a course.
+#[derive(Clone, Copy)]
 pub enum Step {
     /// A batch of these changes, and all batches are committed.
     Put(&'static [Change]),
