@@ -1,5 +1,5 @@
-// Keys whose versions lie in memory, in level 0 and in deeper levels. Flushed tables are copied, and
-// an edit puts the copies in their place. Its bytes are those of the format.
+// Keys whose versions lie in memory, in level 0 and in deeper levels. Flushed tables are copied,
+// and an edit puts the copies in their place. Its bytes are those of the format.
 use crate::cases::{holds_at, is_so};
 use crate::items::{filled, is_same, put};
 use crate::plain_store::{
