@@ -68,7 +68,7 @@ impl Case for Numbered {
     }
 }
 
-static NUMBERED: [Numbered; 6] = [
+static NUMBERED: [Numbered; 8] = [
     // No number for the log of a flush, and none for its table.
     Numbered(1, &[(20, Some(1))], &[Tended::Full, Tended::Full], (0, 0)),
     Numbered(0, &[(20, Some(1))], &[Tended::Full, Tended::Full], (0, 0)),
@@ -111,6 +111,19 @@ static NUMBERED: [Numbered; 6] = [
             Tended::Full,
         ],
         (1, 0),
+    ),
+    // An output has the last number.
+    Numbered(
+        3,
+        &[(20, Some(1))],
+        &[Tended::Worked, Tended::Worked, Tended::Worked, Tended::Idle],
+        (0, 1),
+    ),
+    Numbered(
+        4,
+        &[(20, Some(1)), (22, Some(1))],
+        &[Tended::Worked, Tended::Worked, Tended::Worked, Tended::Idle],
+        (0, 2),
     ),
 ];
 
