@@ -1,8 +1,8 @@
 // Stores with the last file numbers and generations, and with as many logs as there may be, which
 // an edit in bytes brings about: `Full`, and the store as it was before.
-use crate::cases::{Case, all_hold};
+use crate::cases::{Case, all_hold, is_so};
 use crate::full_stores::{created, has, limits, next_if_alone, put_one};
-use crate::items::{copy_of, put};
+use crate::items::{config_of, copy_of, origin, put};
 use crate::levels::write;
 use crate::plain_store::{Change, append, batch_at, opened_with, tend};
 use disk::{Disk, MemDisk};
@@ -10,6 +10,7 @@ use engine::{Engine, Tended};
 use record_log::Log;
 use std::alloc::Global;
 use std::process::Abort;
+use store_files::StoreFiles;
 
 // The edit of node 1 alone at floor 0: this next file, so many flushed batches, and these logs with
 // the numbers of their first batches.
@@ -127,8 +128,21 @@ static NUMBERED: [Numbered; 8] = [
     ),
 ];
 
+// Whether the first free file of a new store is the one behind its log, and then the one that it is
+// told.
+fn has_free_files(rt: &impl Abort, alloc: Global) -> bool {
+    let (_epoch, id) = origin(rt, 0, 1);
+    let config = config_of(rt, alloc, &[1]);
+    let created = StoreFiles::create(alloc, &mut MemDisk::new(alloc), id, &config);
+    let mut store = created.expect(rt, "a store");
+    let first = store.free_file();
+    store.set_free_file(9);
+    first == 4 && store.free_file() == 9
+}
+
 #[test]
 fn the_last_file_numbers(rt: HostRuntime) {
+    is_so(&rt, has_free_files(&rt, rt.alloc()), "a free file");
     all_hold(&rt, rt.alloc(), &NUMBERED);
 }
 

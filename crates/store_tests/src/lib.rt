@@ -50,6 +50,8 @@ mod merge_rules;
 #[cfg(test)]
 mod plain_store;
 #[cfg(test)]
+mod random_merges;
+#[cfg(test)]
 mod random_rows;
 #[cfg(test)]
 mod round_trips;

@@ -11,8 +11,8 @@ use manifest::Manifest;
 use std::alloc::Global;
 use std::process::Abort;
 
-// The ways in which a machine goes on: the disk works again, or it crashes.
-static WAYS: [Option<Choice>; 6] = [
+/// The ways in which a machine goes on: the disk works again, or it crashes.
+pub static WAYS: [Option<Choice>; 6] = [
     None,
     Some(Choice::Old),
     Some(Choice::New),
@@ -21,8 +21,8 @@ static WAYS: [Option<Choice>; 6] = [
     Some(Choice::Bytes(&[1, 0])),
 ];
 
-// Whether nothing is due behind so many tends at most.
-fn settles<D: Disk + Drop>(rt: &impl Abort, alloc: Global, run: &mut Run<D>) -> bool {
+/// Whether nothing is due behind so many tends at most.
+pub fn settles<D: Disk + Drop>(rt: &impl Abort, alloc: Global, run: &mut Run<D>) -> bool {
     for _ in 0..50u8 {
         if tend(rt, alloc, &mut run.engine) == Tended::Idle {
             return true;
@@ -31,8 +31,8 @@ fn settles<D: Disk + Drop>(rt: &impl Abort, alloc: Global, run: &mut Run<D>) -> 
     false
 }
 
-// Whether the disk has the files that its manifest names, and no others.
-fn is_alone(rt: &impl Abort, alloc: Global, disk: &mut MemDisk) -> bool {
+/// Whether the disk has the files that its manifest names, and no others.
+pub fn is_alone(rt: &impl Abort, alloc: Global, disk: &mut MemDisk) -> bool {
     let manifest = Manifest::open(alloc, disk).expect(rt, "a manifest");
     let (logs, tables) = (manifest.state().logs.len(), manifest.state().tables.len());
     let files = disk.files().expect(rt, "the files");

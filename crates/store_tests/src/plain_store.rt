@@ -92,10 +92,13 @@ struct Version {
     value: Option<u16>,
 }
 
-/// Of each key the values that batches gave it, in their order.
+/// Of each key the values that batches gave it, in their order. No key before the first place, and
+/// none from the bound on, has one.
 #[derive(Drop)]
 pub struct PlainStore {
     keys: Vec<Vec<Version>>,
+    first: u16,
+    bound: u16,
 }
 
 impl PlainStore {
@@ -104,7 +107,11 @@ impl PlainStore {
         for _ in 0..KEYS {
             put(rt, &mut keys, Vec::new(alloc));
         }
-        PlainStore { keys }
+        PlainStore {
+            keys,
+            first: KEYS,
+            bound: 0,
+        }
     }
 
     /// The batch of this number has these changes.
@@ -113,6 +120,17 @@ impl PlainStore {
             let versions = self.keys.get_mut(*place as usize).expect(rt, "a key");
             let value = *value;
             put(rt, versions, Version { number, value });
+            self.first = self.first.min(*place);
+            self.bound = self.bound.max(place.saturating_add(1));
+        }
+    }
+
+    /// Only the batches up to this number are left.
+    pub fn keep(&mut self, last: u64) {
+        for versions in &mut self.keys {
+            while versions.last().is_some_and(|it| it.number > last) {
+                versions.pop();
+            }
         }
     }
 
@@ -130,8 +148,8 @@ impl PlainStore {
     // The rows of a range after so many batches, in the order of its walk.
     fn walk(&self, rt: &impl Abort, alloc: Global, at: u64, span: Span) -> Vec<(u16, u16)> {
         let mut rows = Vec::new(alloc);
-        let end = span.bound.unwrap_or(KEYS).min(KEYS);
-        for place in span.low..end {
+        let end = span.bound.unwrap_or(KEYS).min(self.bound);
+        for place in span.low.max(self.first)..end {
             if let Some(value) = self.get(place, at) {
                 put(rt, &mut rows, (place, value));
             }

@@ -27,8 +27,8 @@ impl Numbers {
         Numbers { state: 1 }
     }
 
-    // The next number, from 0 to 65,535.
-    fn next(&mut self) -> u16 {
+    /// The next number, from 0 to 65,535.
+    pub fn next(&mut self) -> u16 {
         self.state = self
             .state
             .wrapping_mul(6_364_136_223_846_793_005)
@@ -40,8 +40,8 @@ impl Numbers {
         self.next() % KEYS
     }
 
-    // One in four changes is a deletion.
-    fn change(&mut self) -> Change {
+    /// One in four changes is a deletion.
+    pub fn change(&mut self) -> Change {
         let place = self.place();
         let value = self.next();
         let is_put = self.next() % 4 != 0;
@@ -80,8 +80,8 @@ impl Numbers {
         }
     }
 
-    // A number of batches from the floor up to this one.
-    fn at(&mut self, floor: u64, count: u64) -> u64 {
+    /// A number of batches from the floor up to this one.
+    pub fn at(&mut self, floor: u64, count: u64) -> u64 {
         let span = count.saturating_sub(floor).saturating_add(1).max(1);
         floor.saturating_add(u64::from(self.next()) % span)
     }
