@@ -7,7 +7,7 @@ use sorted_table::Files;
 use std::alloc::Global;
 use std::process::Abort;
 use store_tables::{LevelTables, OpenTable};
-use version_edits::VersionEdit;
+use version_edits::{StoreVersion, VersionEdit, is_fit};
 
 /// The outputs of an edit, each opened by its line.
 fn outputs_of(
@@ -37,6 +37,21 @@ fn found_number(
     found.map(|it| it.number)
 }
 
+/// Whether the version may take the edit, and not with a floor below its own.
+fn is_taken(
+    rt: &impl Abort,
+    alloc: Global,
+    version: &StoreVersion,
+    edit: &mut VersionEdit,
+) -> bool {
+    let is_first = is_fit(alloc, version, edit).expect(rt, "memory");
+    let floor = edit.floor;
+    edit.floor = floor.saturating_sub(1);
+    let is_second = is_fit(alloc, version, edit).expect(rt, "memory");
+    edit.floor = floor;
+    is_first && !is_second
+}
+
 // At the floor 5 three outputs, from `a`, `c` and `e` on, stand in level 1 beside the table there
 // that was no input.
 #[test]
@@ -46,7 +61,11 @@ fn open_tables_behind_a_merge(rt: HostRuntime) {
     let version = lines.version(&rt, alloc, 16, 5);
     let mut tables = open_in(&rt, alloc, &mut files, &version);
     assert!(rt; tables.counts() == [2, 2, 1, 0, 0, 0, 0]);
-    let edit = edit_of(&rt, alloc, &mut files, &version, 252);
+    let mut edit = edit_of(&rt, alloc, &mut files, &version, 252);
+    assert!(rt;
+        is_taken(&rt, alloc, &version, &mut edit),
+        "an edit that is fit"
+    );
     let outputs = outputs_of(&rt, alloc, &mut files, &edit);
     tables
         .replace(&edit.tables_gone, outputs)
