@@ -23,7 +23,7 @@ pub static WAYS: [Option<Choice>; 6] = [
 
 /// Whether nothing is due behind so many tends at most.
 pub fn settles<D: Disk + Drop>(rt: &impl Abort, alloc: Global, run: &mut Run<D>) -> bool {
-    for _ in 0..50u8 {
+    for _ in 0..2_000u16 {
         if tend(rt, alloc, &mut run.engine) == Tended::Idle {
             return true;
         }
@@ -149,14 +149,15 @@ fn survives(
 
 // Strikes each call of a tend of the course. Says whether there is such a tend.
 fn strike(rt: &impl Abort, alloc: Global, course: &Course, which: usize, first: usize) -> bool {
-    let mut call = 1u64;
-    while let Some((run, calls)) = before_tend(rt, alloc, MemDisk::new(alloc), course, which) {
+    for call in 1..1_000u64 {
+        let Some((run, calls)) = before_tend(rt, alloc, MemDisk::new(alloc), course, which) else {
+            return false;
+        };
         let index = first.saturating_add(call as usize);
         holds_at(rt, index, survives(rt, alloc, course, (run, calls), call));
         if call > calls {
             return true;
         }
-        call = call.saturating_add(1);
     }
     false
 }

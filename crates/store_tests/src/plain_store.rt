@@ -128,9 +128,7 @@ impl PlainStore {
     /// Only the batches up to this number are left.
     pub fn keep(&mut self, last: u64) {
         for versions in &mut self.keys {
-            while versions.last().is_some_and(|it| it.number > last) {
-                versions.pop();
-            }
+            versions.retain(|it| it.number <= last);
         }
     }
 

@@ -193,19 +193,19 @@ impl Case for Mixed {
 }
 
 static MIXED: [Mixed; 2] = [
-    // Some 20,000 puts.
-    Mixed {
-        limits: [4_096, 2, 8_192, 16_384],
-        rounds: 28,
-        batches: 94,
-        changes: 10,
-    },
     // Each batch is flushed, and each table merged, of one key or two.
     Mixed {
         limits: [16, 0, 256, 1_024],
         rounds: 6,
         batches: 20,
         changes: 3,
+    },
+    // Some 20,000 puts.
+    Mixed {
+        limits: [4_096, 2, 8_192, 16_384],
+        rounds: 28,
+        batches: 94,
+        changes: 10,
     },
 ];
 
