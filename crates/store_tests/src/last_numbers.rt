@@ -24,7 +24,7 @@ fn edit_of(
     write(rt, &mut edit, &[0; 8]);
     write(rt, &mut edit, &flushed.to_be_bytes());
     write(rt, &mut edit, &[0, 0, 0, 0, 1, 0, 1, 0, 0]);
-    write(rt, &mut edit, &(logs.len() as u16).to_be_bytes());
+    write(rt, &mut edit, &((logs.len() % 65_536) as u16).to_be_bytes());
     for (file, first) in logs {
         write(rt, &mut edit, &file.to_be_bytes());
         write(rt, &mut edit, &first.to_be_bytes());
@@ -152,7 +152,7 @@ fn the_last_file_numbers(rt: HostRuntime) {
 fn put_batch(rt: &impl Abort, alloc: Global, disk: &mut MemDisk, log: Log, at: u64) {
     let mut log = log;
     let mut bytes = copy_of(rt, alloc, &at.to_be_bytes());
-    let batch = batch_at(rt, alloc, &[(20, Some(at as u16))]);
+    let batch = batch_at(rt, alloc, &[(20, Some((at % 65_536) as u16))]);
     write(rt, &mut bytes, &batch.to_bytes(alloc).expect(rt, "memory"));
     log.append(alloc, disk, &bytes).expect(rt, "a batch");
 }
@@ -189,7 +189,7 @@ impl Case for Logged {
             all = tend(rt, alloc, &mut engine) == *want && all;
         }
         let is_count = engine.count().get() == logs.saturating_add(1);
-        let is_found = has(rt, alloc, &mut engine, (20, Some(logs as u16)));
+        let is_found = has(rt, alloc, &mut engine, (20, Some((logs % 65_536) as u16)));
         let mut disk = engine.into_disk();
         all && is_count && is_found && next_if_alone(rt, alloc, &mut disk).is_some()
     }
@@ -212,7 +212,7 @@ fn as_many_logs_as_there_may_be(rt: HostRuntime) {
 
 // How far the generation of the slot is below 2^63, what a tend answers that has to rewrite it, and
 // the next one, behind a batch.
-struct Rewritten(u64, [Tended; 2]);
+struct Rewritten(u64, Tended, Tended);
 
 impl Case for Rewritten {
     fn holds(&self, rt: &impl Abort, alloc: Global) -> bool {
@@ -225,17 +225,17 @@ impl Case for Rewritten {
         disk.sync(1).expect(rt, "a sync");
         let mut engine = opened_with(rt, alloc, disk, &limits(rt, 0));
         put_one(rt, alloc, &mut engine, (20, Some(1)));
-        let is_first = tend(rt, alloc, &mut engine) == self.1[0];
-        let is_second = tend(rt, alloc, &mut engine) == self.1[1];
+        let is_first = tend(rt, alloc, &mut engine) == self.1;
+        let is_second = tend(rt, alloc, &mut engine) == self.2;
         let flushed = engine.tables()[0];
-        let is_flushed = (self.1[1] == Tended::Worked) == (flushed == 1);
+        let is_flushed = (self.2 == Tended::Worked) == (flushed == 1);
         is_first && is_second && is_flushed && has(rt, alloc, &mut engine, (20, Some(1)))
     }
 }
 
 static REWRITTEN: [Rewritten; 2] = [
-    Rewritten(2, [Tended::Worked, Tended::Worked]),
-    Rewritten(1, [Tended::Full, Tended::Full]),
+    Rewritten(2, Tended::Worked, Tended::Worked),
+    Rewritten(1, Tended::Full, Tended::Full),
 ];
 
 #[test]
