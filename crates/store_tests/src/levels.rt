@@ -1,6 +1,5 @@
-// Keys whose versions lie in memory, in level 0 and in deeper levels. Nothing writes deeper tables
-// yet, so flushed ones are copied, and an edit puts the copies in their place. Its bytes are those
-// of the format.
+// Keys whose versions lie in memory, in level 0 and in deeper levels. Flushed tables are copied,
+// and an edit puts the copies in their place. Its bytes are those of the format.
 use crate::cases::{holds_at, is_so};
 use crate::items::{filled, is_same, put};
 use crate::plain_store::{
@@ -80,7 +79,7 @@ fn bytes_of(rt: &impl Abort, alloc: Global, disk: &mut MemDisk, file: u64) -> Ve
     bytes
 }
 
-fn write(rt: &impl Abort, bytes: &mut Vec<u8>, more: &[u8]) {
+pub fn write(rt: &impl Abort, bytes: &mut Vec<u8>, more: &[u8]) {
     bytes.extend_from_slice(more).expect(rt, "memory");
 }
 

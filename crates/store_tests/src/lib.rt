@@ -22,7 +22,11 @@ mod edges;
 #[cfg(test)]
 mod faults;
 #[cfg(test)]
+mod full_stores;
+#[cfg(test)]
 mod items;
+#[cfg(test)]
+mod last_numbers;
 #[cfg(test)]
 mod levels;
 #[cfg(test)]
@@ -34,9 +38,21 @@ mod log_texts;
 #[cfg(test)]
 mod logs;
 #[cfg(test)]
+mod long_tends;
+#[cfg(test)]
 mod manifests;
 #[cfg(test)]
+mod merge_courses;
+#[cfg(test)]
+mod merge_faults;
+#[cfg(test)]
+mod merge_rows;
+#[cfg(test)]
+mod merge_rules;
+#[cfg(test)]
 mod plain_store;
+#[cfg(test)]
+mod random_merges;
 #[cfg(test)]
 mod random_rows;
 #[cfg(test)]

@@ -30,7 +30,7 @@ fn value_len(place: u16) -> usize {
     if place < 16 { 8_000 } else { 90 }
 }
 
-fn value_at(rt: &impl Abort, alloc: Global, place: u16, value: u16) -> Value {
+pub fn value_at(rt: &impl Abort, alloc: Global, place: u16, value: u16) -> Value {
     let [high, low] = value.to_be_bytes();
     let mut bytes = filled(rt, alloc, low, value_len(place));
     *bytes.first_mut().expect(rt, "a byte") = high;
@@ -92,10 +92,13 @@ struct Version {
     value: Option<u16>,
 }
 
-/// Of each key the values that batches gave it, in their order.
+/// Of each key the values that batches gave it, in their order. No key before the first place, and
+/// none from the bound on, has one.
 #[derive(Drop)]
 pub struct PlainStore {
     keys: Vec<Vec<Version>>,
+    first: u16,
+    bound: u16,
 }
 
 impl PlainStore {
@@ -104,7 +107,11 @@ impl PlainStore {
         for _ in 0..KEYS {
             put(rt, &mut keys, Vec::new(alloc));
         }
-        PlainStore { keys }
+        PlainStore {
+            keys,
+            first: KEYS,
+            bound: 0,
+        }
     }
 
     /// The batch of this number has these changes.
@@ -113,6 +120,15 @@ impl PlainStore {
             let versions = self.keys.get_mut(*place as usize).expect(rt, "a key");
             let value = *value;
             put(rt, versions, Version { number, value });
+            self.first = self.first.min(*place);
+            self.bound = self.bound.max(place.saturating_add(1));
+        }
+    }
+
+    /// Only the batches up to this number are left.
+    pub fn keep(&mut self, last: u64) {
+        for versions in &mut self.keys {
+            versions.retain(|it| it.number <= last);
         }
     }
 
@@ -130,8 +146,8 @@ impl PlainStore {
     // The rows of a range after so many batches, in the order of its walk.
     fn walk(&self, rt: &impl Abort, alloc: Global, at: u64, span: Span) -> Vec<(u16, u16)> {
         let mut rows = Vec::new(alloc);
-        let end = span.bound.unwrap_or(KEYS).min(KEYS);
-        for place in span.low..end {
+        let end = span.bound.unwrap_or(KEYS).min(self.bound);
+        for place in span.low.max(self.first)..end {
             if let Some(value) = self.get(place, at) {
                 put(rt, &mut rows, (place, value));
             }
@@ -190,27 +206,48 @@ fn limits(rt: &impl Abort, log: u64) -> Limits {
 
 /// A new store on this disk, whose log is flushed where it is longer than so many bytes.
 pub fn created<D: Disk + Drop>(rt: &impl Abort, alloc: Global, disk: D, log: u64) -> Engine<D> {
+    created_with(rt, alloc, disk, &limits(rt, log))
+}
+
+/// A new store of these limits on this disk.
+pub fn created_with<D: Disk + Drop>(
+    rt: &impl Abort,
+    alloc: Global,
+    disk: D,
+    limits: &Limits,
+) -> Engine<D> {
     let (_epoch, id) = origin(rt, 0, 1);
     let config = config_of(rt, alloc, &[1]);
-    let created = Engine::create(alloc, disk, id, &config, &limits(rt, log));
+    let created = Engine::create(alloc, disk, id, &config, limits);
     created.ok().expect(rt, "an engine")
 }
 
 /// The store of this disk, all of whose batches are committed.
 pub fn opened<D: Disk + Drop>(rt: &impl Abort, alloc: Global, disk: D, log: u64) -> Engine<D> {
-    let opened = Engine::open(alloc, disk, &limits(rt, log));
+    opened_with(rt, alloc, disk, &limits(rt, log))
+}
+
+/// The store of this disk, with these limits, all of whose batches are committed.
+pub fn opened_with<D: Disk + Drop>(
+    rt: &impl Abort,
+    alloc: Global,
+    disk: D,
+    limits: &Limits,
+) -> Engine<D> {
+    let opened = Engine::open(alloc, disk, limits);
     let mut engine = opened.ok().expect(rt, "an engine");
     commit(&mut engine);
     engine
 }
 
-fn commit<D: Disk + Drop>(engine: &mut Engine<D>) {
+/// Tells the store that all its batches are committed.
+pub fn commit<D: Disk + Drop>(engine: &mut Engine<D>) {
     let count = engine.count();
     engine.set_committed(count);
 }
 
-/// Appends the batch of these changes, which is committed.
-pub fn append<D: Disk + Drop>(
+/// Appends this batch, which is not committed.
+pub fn append_late<D: Disk + Drop>(
     rt: &impl Abort,
     alloc: Global,
     engine: &mut Engine<D>,
@@ -218,12 +255,27 @@ pub fn append<D: Disk + Drop>(
 ) {
     let appended = engine.append(alloc, batch);
     is_so(rt, appended.is_ok(), "a batch more");
+}
+
+/// Appends this batch, which is committed.
+pub fn append<D: Disk + Drop>(
+    rt: &impl Abort,
+    alloc: Global,
+    engine: &mut Engine<D>,
+    batch: &Batch,
+) {
+    append_late(rt, alloc, engine, batch);
     commit(engine);
+}
+
+/// What a tend of the store does.
+pub fn tend<D: Disk + Drop>(rt: &impl Abort, alloc: Global, engine: &mut Engine<D>) -> Tended {
+    engine.tend(alloc).expect(rt, "a tend")
 }
 
 /// Whether a tend of the store works.
 pub fn tends<D: Disk + Drop>(rt: &impl Abort, alloc: Global, engine: &mut Engine<D>) -> bool {
-    engine.tend(alloc).expect(rt, "a tend") == Tended::Worked
+    tend(rt, alloc, engine) == Tended::Worked
 }
 
 fn page<D: Disk + Drop>(

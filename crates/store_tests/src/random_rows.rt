@@ -1,4 +1,4 @@
-// Random pages of a store that grows and flushes, beside a plain one.
+// Random pages of a store that grows, flushes and merges, beside a plain one.
 use crate::cases::{holds_at, is_so};
 use crate::items::put;
 use crate::plain_store::{
@@ -18,13 +18,17 @@ const LOG: u64 = 65_536;
 
 // A linear congruential sequence, with Knuth's constants.
 #[derive(Drop)]
-struct Numbers {
+pub struct Numbers {
     state: u64,
 }
 
 impl Numbers {
-    // The next number, from 0 to 65,535.
-    fn next(&mut self) -> u16 {
+    pub fn new() -> Numbers {
+        Numbers { state: 1 }
+    }
+
+    /// The next number, from 0 to 65,535.
+    pub fn next(&mut self) -> u16 {
         self.state = self
             .state
             .wrapping_mul(6_364_136_223_846_793_005)
@@ -36,16 +40,16 @@ impl Numbers {
         self.next() % KEYS
     }
 
-    // One in four changes is a deletion.
-    fn change(&mut self) -> Change {
+    /// One in four changes is a deletion.
+    pub fn change(&mut self) -> Change {
         let place = self.place();
         let value = self.next();
         let is_put = self.next() % 4 != 0;
         (place, if is_put { Some(value) } else { None })
     }
 
-    // One change or two.
-    fn changes(&mut self, rt: &impl Abort, alloc: Global) -> Vec<Change> {
+    /// One change or two.
+    pub fn changes(&mut self, rt: &impl Abort, alloc: Global) -> Vec<Change> {
         let mut changes = Vec::new(alloc);
         for _ in 0..self.next() % 2 + 1 {
             put(rt, &mut changes, self.change());
@@ -76,16 +80,17 @@ impl Numbers {
         }
     }
 
-    // A number of batches up to this one.
-    fn at(&mut self, count: u64) -> u64 {
-        u64::from(self.next()) % (count.saturating_add(1).max(1))
+    /// A number of batches from the floor up to this one.
+    pub fn at(&mut self, floor: u64, count: u64) -> u64 {
+        let span = count.saturating_sub(floor).saturating_add(1).max(1);
+        floor.saturating_add(u64::from(self.next()) % span)
     }
 }
 
 #[test]
 fn random_pages_beside_a_plain_store(rt: HostRuntime) {
     let (rt, alloc) = (&rt, rt.alloc());
-    let mut numbers = Numbers { state: 1 };
+    let mut numbers = Numbers::new();
     let mut engine = created(rt, alloc, MemDisk::new(alloc), LOG);
     let mut plain = PlainStore::new(rt, alloc);
     let (mut flushes, mut pages) = (0u64, 0u64);
@@ -97,7 +102,8 @@ fn random_pages_beside_a_plain_store(rt: HostRuntime) {
             flushes = flushes.saturating_add(1);
         }
         if count % BETWEEN == 0 {
-            let walk = (numbers.at(count), numbers.span());
+            let floor = engine.floor().get();
+            let walk = (numbers.at(floor, count), numbers.span());
             let found = agreeing_pages(rt, alloc, &mut engine, &plain, walk);
             holds_at(rt, count as usize, found.is_some());
             pages = pages.saturating_add(found.unwrap_or(0));

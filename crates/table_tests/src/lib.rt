@@ -16,6 +16,8 @@ mod lettered;
 #[cfg(test)]
 mod memtables;
 #[cfg(test)]
+mod merged_tables;
+#[cfg(test)]
 mod merges;
 #[cfg(test)]
 mod numbered;

@@ -3,25 +3,26 @@
 
 use crate::counts::is_count;
 use crate::lettered::{FIRST, LEN, Lines, entries_of, letters_of};
-use crate::tables::{table_in, with_cache};
+use crate::tables::with_cache;
 use compaction::{Merge, MergeError, Plan, Turn, pick};
 use disk::{Disk, MemDisk};
 use kv_types::Limits;
 use sorted_table::{Files, TableCursor};
 use std::alloc::Global;
 use std::process::Abort;
+use store_tables::LevelTables;
 use version_edits::{MAX_LINES, StoreVersion, VersionEdit};
 
 // ---- the tables
 
 /// The entries of the tables in the files 4 and 5 of level 0, and 6 of level 1.
-type Inputs = [&'static [u8]; 3];
+pub type Inputs = [&'static [u8]; 3];
 
-static INPUTS: Inputs = [b"a5+a4-b5-c4-d6+", b"a8+b7+c9+e8-f7-", b"a1+b2+d1-e3+"];
+pub static INPUTS: Inputs = [b"a5+a4-b5-c4-d6+", b"a8+b7+c9+e8-f7-", b"a1+b2+d1-e3+"];
 
 /// The tables of these entries, beside one of level 1 that is no input, and a deeper one whose
 /// range is from `b` to `e`, if there is to be one.
-fn tables_of(
+pub fn tables_of(
     rt: &impl Abort,
     alloc: Global,
     inputs: &Inputs,
@@ -53,6 +54,16 @@ fn plan_of(rt: &impl Abort, alloc: Global, version: &StoreVersion) -> Plan {
     pick(version, &limits, &turn).expect(rt, "a plan")
 }
 
+/// The open tables of a version.
+pub fn open_in(
+    rt: &impl Abort,
+    alloc: Global,
+    files: &mut Files<MemDisk>,
+    version: &StoreVersion,
+) -> LevelTables {
+    LevelTables::open(alloc, files, &version.tables).expect(rt, "open tables")
+}
+
 /// Cursors over the inputs of a plan.
 fn cursors_of(
     rt: &impl Abort,
@@ -61,16 +72,9 @@ fn cursors_of(
     version: &StoreVersion,
     plan: Plan,
 ) -> Vec<TableCursor<MemDisk>> {
-    let range = plan.range(&version.tables).expect(rt, "a range");
-    let mut cursors = Vec::new(alloc);
-    for line in &version.tables {
-        if plan.has_input(range, line) {
-            let table = table_in(rt, alloc, files, line.file);
-            let cursor = table.cursor(alloc).expect(rt, "memory");
-            cursors.push(cursor).expect(rt, "memory");
-        }
-    }
-    cursors
+    open_in(rt, alloc, files, version)
+        .merge_cursors(alloc, plan, &version.tables)
+        .expect(rt, "memory")
 }
 
 /// Begins the merge that is due.
@@ -105,7 +109,7 @@ fn step_all(
 }
 
 /// The edit of the merge that is due.
-fn edit_of(
+pub fn edit_of(
     rt: &impl Abort,
     alloc: Global,
     files: &mut Files<MemDisk>,
@@ -289,7 +293,7 @@ fn an_abandoned_merge(rt: HostRuntime) {
     let more = merge
         .step(alloc, &mut files, 5, 4, &mut next)
         .expect(&rt, "a step");
-    assert!(rt; more && next == 18, "{next}");
+    assert!(rt; more && next == 18 && merge.begun() == FIRST, "{next}");
     let entries = entries_of(&rt, alloc, b"g9+", LEN);
     lines.add(&rt, alloc, &mut files, (0, 18), &entries);
     next = 19;

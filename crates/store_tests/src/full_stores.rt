@@ -1,0 +1,200 @@
+// Stores with as many tables as there may be: `Full`, and the store as it was before.
+use crate::cases::{Case, all_hold, is_so};
+use crate::items::{is_same, number, put};
+use crate::plain_store::{Change, append, batch_at, created_with, key_at, tend, tends, value_at};
+use disk::{Disk, MemDisk};
+use engine::{Engine, Tended};
+use kv_types::Limits;
+use manifest::Manifest;
+use std::alloc::Global;
+use std::process::Abort;
+
+// A level 0 of so many tables, and outputs of one key each.
+pub fn limits(rt: &impl Abort, l0: u64) -> Limits {
+    let limits = Limits::new(16, l0, 64, 1 << 40, 1_024);
+    limits.ok().expect(rt, "limits")
+}
+
+pub fn created(rt: &impl Abort, alloc: Global) -> Engine<MemDisk> {
+    created_with(rt, alloc, MemDisk::new(alloc), &limits(rt, 0))
+}
+
+pub fn put_one(rt: &impl Abort, alloc: Global, engine: &mut Engine<MemDisk>, change: Change) {
+    append(rt, alloc, engine, &batch_at(rt, alloc, &[change]));
+}
+
+// Whether each of so many tends works.
+fn all_work(rt: &impl Abort, alloc: Global, engine: &mut Engine<MemDisk>, count: usize) -> bool {
+    let mut all = true;
+    for _ in 0..count {
+        all = all && tends(rt, alloc, engine);
+    }
+    all
+}
+
+// Whether the key has this value now.
+pub fn has(rt: &impl Abort, alloc: Global, engine: &mut Engine<MemDisk>, change: Change) -> bool {
+    let (at, key) = (engine.committed(), key_at(rt, alloc, change.0));
+    match (engine.get(alloc, at, &key).expect(rt, "a read"), change.1) {
+        (Some(found), Some(want)) => {
+            let want = value_at(rt, alloc, change.0, want);
+            is_same(found.as_bytes(), want.as_bytes())
+        }
+        (None, None) => true,
+        _ => false,
+    }
+}
+
+// The next file of the manifest, if the disk has the files that it names and no others.
+pub fn next_if_alone(rt: &impl Abort, alloc: Global, disk: &mut MemDisk) -> Option<u64> {
+    let manifest = Manifest::open(alloc, disk).expect(rt, "a manifest");
+    let version = manifest.state();
+    let named = version.logs.len().saturating_add(version.tables.len());
+    let files = disk.files().expect(rt, "the files");
+    if files.len() == named.saturating_add(2) {
+        Some(version.next_file)
+    } else {
+        None
+    }
+}
+
+// The first of the keys of wide stores.
+const LOW: u16 = 100;
+
+// Keys with one table each behind a merge, how often the last is put, how many flushes come before
+// the last tend of the merge, what this answers, the tables, and the next file behind one flush
+// more.
+struct Wide {
+    keys: u16,
+    puts: u16,
+    flushes: u16,
+    want: Tended,
+    tables: (u64, u64),
+    next: u64,
+}
+
+impl Wide {
+    // Puts the keys in batches of 256, and the last one again.
+    fn fill(&self, rt: &impl Abort, alloc: Global, engine: &mut Engine<MemDisk>) {
+        let (mut changes, mut place) = (Vec::new(alloc), LOW);
+        for _ in 0..self.keys {
+            put(rt, &mut changes, (place, Some(1)));
+            place = place.saturating_add(1);
+        }
+        for part in changes.chunks(256) {
+            append(rt, alloc, engine, &batch_at(rt, alloc, part));
+        }
+        for _ in 1..self.puts {
+            put_one(rt, alloc, engine, (place.saturating_sub(1), Some(1)));
+        }
+    }
+
+    // Whether the tends before the last one of the merge work: of a flush, of the beginning and of
+    // all but the last 256 entries; and then so many flushes.
+    fn has_begun(&self, rt: &impl Abort, alloc: Global, engine: &mut Engine<MemDisk>) -> bool {
+        let entries = self.keys.saturating_add(self.puts).saturating_sub(2);
+        let mut all = all_work(
+            rt,
+            alloc,
+            engine,
+            (entries / 256).saturating_add(2) as usize,
+        );
+        for flush in 0..self.flushes {
+            put_one(rt, alloc, engine, (flush, Some(1)));
+            all = all && tends(rt, alloc, engine);
+        }
+        all
+    }
+
+    fn has_tables(&self, engine: &Engine<MemDisk>) -> bool {
+        let (flushed, merged) = self.tables;
+        engine.tables() == [flushed, merged, 0, 0, 0, 0, 0]
+    }
+
+    // Whether the first and the last of the keys are found, and one behind it is not.
+    fn reads(&self, rt: &impl Abort, alloc: Global, engine: &mut Engine<MemDisk>) -> bool {
+        let behind = LOW.saturating_add(self.keys);
+        has(rt, alloc, engine, (LOW, Some(1)))
+            && has(rt, alloc, engine, (behind.saturating_sub(1), Some(1)))
+            && has(rt, alloc, engine, (behind, None))
+    }
+}
+
+impl Case for Wide {
+    fn holds(&self, rt: &impl Abort, alloc: Global) -> bool {
+        let mut engine = created(rt, alloc);
+        let opened = engine.open_snapshot(number(0));
+        is_so(rt, opened.is_ok(), "a snapshot");
+        self.fill(rt, alloc, &mut engine);
+        let has_begun = self.has_begun(rt, alloc, &mut engine);
+        let is_answer = tend(rt, alloc, &mut engine) == self.want;
+        let is_left = self.has_tables(&engine) && self.reads(rt, alloc, &mut engine);
+        // Behind a long edit a rewrite comes first. A table more has place but for the last row.
+        put_one(rt, alloc, &mut engine, (90, Some(1)));
+        let first = tend(rt, alloc, &mut engine);
+        let second = if self.want == Tended::Full {
+            first
+        } else {
+            tend(rt, alloc, &mut engine)
+        };
+        let (flushed, merged) = self.tables;
+        let is_full = flushed.saturating_add(merged) >= 4_096;
+        let is_second = (second == Tended::Full) == is_full && self.reads(rt, alloc, &mut engine);
+        let mut disk = engine.into_disk();
+        let is_next = next_if_alone(rt, alloc, &mut disk) == Some(self.next);
+        has_begun && is_answer && is_left && first == Tended::Worked && is_second && is_next
+    }
+}
+
+static WIDE: [Wide; 5] = [
+    // All tables but one.
+    Wide {
+        keys: 4_095,
+        puts: 1,
+        flushes: 0,
+        want: Tended::Worked,
+        tables: (0, 4_095),
+        next: 4_103,
+    },
+    // The table of the last key has no place beside the input.
+    Wide {
+        keys: 4_096,
+        puts: 1,
+        flushes: 0,
+        want: Tended::Full,
+        tables: (1, 0),
+        next: 8,
+    },
+    // Nor has it where a flush came between.
+    Wide {
+        keys: 4_095,
+        puts: 1,
+        flushes: 1,
+        want: Tended::Full,
+        tables: (2, 0),
+        next: 3_850,
+    },
+    // All outputs are begun, and a flush comes between: all tables.
+    Wide {
+        keys: 4_095,
+        puts: 3,
+        flushes: 1,
+        want: Tended::Worked,
+        tables: (1, 4_095),
+        next: 4_103,
+    },
+    // Two come between: the edit would leave one table more.
+    Wide {
+        keys: 4_095,
+        puts: 3,
+        flushes: 2,
+        want: Tended::Full,
+        tables: (3, 0),
+        next: 4_107,
+    },
+];
+
+#[test]
+fn as_many_tables_as_there_may_be(rt: HostRuntime) {
+    all_hold(&rt, rt.alloc(), &WIDE);
+}

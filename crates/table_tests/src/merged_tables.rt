@@ -1,0 +1,78 @@
+//! The open tables of a store behind a merge: its outputs in the place of its inputs.
+
+use crate::merges::{INPUTS, edit_of, open_in, tables_of};
+use disk::MemDisk;
+use kv_types::{Number, StoredKey};
+use sorted_table::Files;
+use std::alloc::Global;
+use std::process::Abort;
+use store_tables::{LevelTables, OpenTable};
+use version_edits::{StoreVersion, VersionEdit, is_fit};
+
+/// The outputs of an edit, each opened by its line.
+fn outputs_of(
+    rt: &impl Abort,
+    alloc: Global,
+    files: &mut Files<MemDisk>,
+    edit: &VersionEdit,
+) -> Vec<OpenTable> {
+    let mut outputs = Vec::new(alloc);
+    for line in &edit.tables_added {
+        let output = OpenTable::open(alloc, files, line).expect(rt, "an output");
+        outputs.push(output).expect(rt, "memory");
+    }
+    outputs
+}
+
+/// The number of what a lookup finds, or none.
+fn found_number(
+    rt: &impl Abort,
+    alloc: Global,
+    tables: &LevelTables,
+    files: &mut Files<MemDisk>,
+    (key, at): (&StoredKey, u64),
+) -> Option<u64> {
+    let at = Number::new(at).expect(rt, "a number");
+    let found = tables.get(alloc, files, key, at).expect(rt, "a lookup");
+    found.map(|it| it.number)
+}
+
+/// Whether the version may take the edit, and not with a floor below its own.
+fn is_taken(
+    rt: &impl Abort,
+    alloc: Global,
+    version: &StoreVersion,
+    edit: &mut VersionEdit,
+) -> bool {
+    let is_first = is_fit(alloc, version, edit).expect(rt, "memory");
+    let floor = edit.floor;
+    edit.floor = floor.saturating_sub(1);
+    let is_second = is_fit(alloc, version, edit).expect(rt, "memory");
+    edit.floor = floor;
+    is_first && !is_second
+}
+
+// At the floor 5 three outputs, from `a`, `c` and `e` on, stand in level 1 beside the table there
+// that was no input.
+#[test]
+fn open_tables_behind_a_merge(rt: HostRuntime) {
+    let alloc = rt.alloc();
+    let (mut files, lines) = tables_of(&rt, alloc, &INPUTS, true);
+    let version = lines.version(&rt, alloc, 16, 5);
+    let mut tables = open_in(&rt, alloc, &mut files, &version);
+    assert!(rt; tables.counts() == [2, 2, 1, 0, 0, 0, 0]);
+    let mut edit = edit_of(&rt, alloc, &mut files, &version, 252);
+    assert!(rt;
+        is_taken(&rt, alloc, &version, &mut edit),
+        "an edit that is fit"
+    );
+    let outputs = outputs_of(&rt, alloc, &mut files, &edit);
+    tables
+        .replace(&edit.tables_gone, outputs)
+        .expect(&rt, "memory");
+    assert!(rt; tables.counts() == [0, 4, 1, 0, 0, 0, 0]);
+    for (line, want) in edit.tables_added.iter().zip([8, 9, 8]) {
+        let newest = found_number(&rt, alloc, &tables, &mut files, (&line.least, 9));
+        assert!(rt; newest == Some(want), "{want}");
+    }
+}
