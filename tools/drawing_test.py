@@ -22,7 +22,8 @@ WORDS = {
     + ["#3 ack 0 1 1", "value 1 at 1", "tended: flush", "idle"],
     "merges": ["tended: merge ends", "2/2 floor 2 tables 0 1", "opened 1", "stopped by stop"],
 }
-# Outputs that do not fit the script of node_stops: a form in the output, and what stands in its place.
+# Outputs that do not fit the script of node_stops: a form in the output, and what stands in its
+# place.
 MISFITS = {
     "an answer left out": (r"9: value 1 at 1\n", ""),
     "an answer to another statement": ("9: value", "2: value"),
