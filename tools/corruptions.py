@@ -200,7 +200,8 @@ def show_other(changes):
 
 def fallen_floor(it):
     """A floor lower than it was, and no lower than what is kept."""
-    return it.before.kept < it.before.least and {"floor": it.before.least - 1, "kept": it.before.kept}
+    kept, least = it.before.kept, it.before.least
+    return kept < least and {"floor": least - 1, "kept": kept}
 
 
 def high_floor(it):

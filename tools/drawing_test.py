@@ -12,7 +12,8 @@ RUNS = {
     "frame_twice": {"head": 5, "lost": 1, "dot": 5, "cross": 1, "diamond": 1},
     "node_stops": {"head": 3, "dot": 3, "cross": 1, "diamond": 1, "stop": 1, "start": 1}
     | {"circle": 1, "square": 1, "tend": 2},
-    "merges": {"diamond": 2, "circle": 3, "square": 2, "tend": 3, "merge": 3, "stop": 1, "start": 1},
+    "merges": {"diamond": 2, "circle": 3, "square": 2, "tend": 3, "merge": 3, "stop": 1}
+    | {"start": 1},
 }
 WORDS = {
     "frame_twice": ["#2 forward 0 1", "#3 ack 0 0 1", "dropped OtherNumber"]
@@ -21,7 +22,8 @@ WORDS = {
     + ["#3 ack 0 1 1", "value 1 at 1", "tended: flush", "idle"],
     "merges": ["tended: merge ends", "2/2 floor 2 tables 0 1", "opened 1", "stopped by stop"],
 }
-# Outputs that do not fit the script of node_stops: a form in the output, and what stands in its place.
+# Outputs that do not fit the script of node_stops: a form in the output, and what stands in its
+# place.
 MISFITS = {
     "an answer left out": (r"9: value 1 at 1\n", ""),
     "an answer to another statement": ("9: value", "2: value"),

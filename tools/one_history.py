@@ -406,7 +406,8 @@ class History:
         expect(floor <= committed, "a floor above what is committed")
         expect(snapshot is None or floor <= snapshot, "a floor above an open snapshot")
         store.show(floor, kept, tables, most)
-        self.seen[f"show: tables down to level {max((i for i in range(7) if tables[i]), default=0)}"] += 1
+        deepest = max((level for level, count in enumerate(tables) if count), default=0)
+        self.seen[f"show: tables down to level {deepest}"] += 1
         self.seen["show: a floor above 0"] += floor > 0
         self.seen["show: a floor held by a snapshot"] += floor == snapshot < committed
 

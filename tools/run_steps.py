@@ -198,7 +198,8 @@ class Run:
         words = text.removeprefix(f"node {node} ")
         if shown := SHOWN.fullmatch(words):
             _, count, committed, floor, _, tables = shown.groups()
-            return f"{committed}/{count} floor {floor} tables{re.sub('( 0)*$', '', ' ' + tables) or ' 0'}"
+            tables = re.sub("( 0)+$", "", tables)
+            return f"{committed}/{count} floor {floor} tables {tables}"
         return "is down" if words == "stopped" else None
 
     def frame_of(self, it, sent):
