@@ -157,7 +157,6 @@ impl Mixed {
         way: Option<Choice>,
     ) -> (Run<MemDisk>, bool) {
         let mut run = run;
-        run.open = Vec::new(alloc);
         for _ in 0..2u8 {
             let at = numbers.at(run.engine.floor().get(), run.engine.count().get());
             run.open(rt, alloc, at);
@@ -171,6 +170,7 @@ impl Mixed {
         let least = run.engine.count().get();
         let mut run = self.recovered(rt, alloc, run, (least, most), way);
         let has_all = run.has_all(rt, alloc);
+        run.open = Vec::new(alloc);
         (run, had_all && has_all)
     }
 }
