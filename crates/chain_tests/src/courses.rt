@@ -110,9 +110,10 @@ pub fn names_another(rt: &impl Abort, alloc: Global, ids: &[u16], steps: &[Step]
     !names_nodes(&configs(rt, alloc, ids), &events)
 }
 
-/// The least limits: a log of more than 16 bytes is flushed.
+/// The least limits, but for that of level 0: a log of more than 16 bytes is flushed, and no merge is
+/// due.
 pub fn limits(rt: &impl Abort) -> Limits {
-    Limits::new(16, 0, 64, 64, 1).ok().expect(rt, "limits")
+    Limits::new(16, 64, 64, 64, 1).ok().expect(rt, "limits")
 }
 
 /// The report of these events in a chain of these nodes, whom they name.

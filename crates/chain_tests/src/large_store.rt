@@ -139,7 +139,7 @@ fn a_large_store_has_what_a_plain_map_has(rt: HostRuntime) {
     let mut engine = created(rt, alloc);
     let mut map = PlainMap::new(rt, alloc);
     let mut shots = Vec::new(alloc);
-    let mut flushes = 0u64;
+    let mut works = 0u64;
     for batch in 1..BATCHES + 1 {
         let put = engine.append(alloc, &batch_at(rt, alloc, batch));
         is_so(
@@ -149,7 +149,7 @@ fn a_large_store_has_what_a_plain_map_has(rt: HostRuntime) {
         );
         map.apply(batch);
         if engine.tend(alloc).expect(rt, "a tend") == Tended::Worked {
-            flushes = flushes.saturating_add(1);
+            works = works.saturating_add(1);
         }
         if batch % 50 == 0 {
             engine = restarted(rt, alloc, engine, batch);
@@ -166,6 +166,6 @@ fn a_large_store_has_what_a_plain_map_has(rt: HostRuntime) {
         is_so(rt, agrees(rt, alloc, &mut engine, *batch, map), "the map");
     }
     is_so(rt, shots.len() == 50, "fifty numbers");
-    is_so(rt, flushes > 30, "flushes");
-    is_so(rt, engine.tables()[0] == flushes, "a table for each flush");
+    is_so(rt, works > 30, "flushes and merges");
+    is_so(rt, engine.tables()[0] <= works, "its tables");
 }
