@@ -110,8 +110,7 @@ pub fn names_another(rt: &impl Abort, alloc: Global, ids: &[u16], steps: &[Step]
     !names_nodes(&configs(rt, alloc, ids), &events)
 }
 
-/// The least limits, but for that of level 0: a log of more than 16 bytes is flushed, and no merge is
-/// due.
+/// The least limits but for level 0: a log of more than 16 bytes is flushed, and no merge is due.
 pub fn limits(rt: &impl Abort) -> Limits {
     Limits::new(16, 64, 64, 64, 1).ok().expect(rt, "limits")
 }
