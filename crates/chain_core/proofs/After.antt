@@ -4,7 +4,8 @@ use Rattle.std.proofs.Common.{false, refl, sym, ap, subst, ◌∙◌, length-app
 use Rattle.std.specs.Prelude.{if◌then◌else◌, Option, Some, SomeIff}
 use Rattle.kv_types.specs.{BatchContent}
 use Rattle.chain_model.specs.{is_tail, due, not_due, accept, append, on_ack, longer_for}
-use Rattle.chain_model.specs.{acknowledge, forward}
+use Rattle.chain_model.specs.{ack, acknowledge, forward, has}
+use Rattle.chain_model.specs.Rules.{adopt, moved}
 use Rattle.chain_core.specs.declared.pending_submit.PendingSubmit.{PendingSubmit}
 use Rattle.chain_core.specs.States.{Machine, Core, CoreRefines, IsInOrder, waiting}
 use Rattle.chain_core.specs.States.{committed_responses}
@@ -18,6 +19,18 @@ pub committed_by : (b : Bool) (n : Machine) →
     ≡ record n { committed = if b then length n.list else n.committed }
 committed_by true n = refl
 committed_by false n = refl
+
+-- the machine of node x after it adopted a configuration, of which it is the tail or not
+abbrev pub adopted_at : ℕ → Machine → ℕ → List ℕ → Bool → Machine
+adopted_at x n epoch ids tail =
+    let committed = if tail then length n.list else n.committed in
+    record (moved x n epoch ids) { committed = committed; successor_has = committed }
+
+-- the requests that stay pending where the node stays
+waiting_where : (b : Bool) (ps : List PendingSubmit) →
+    (if b then waiting ps else []) ≡ waiting (if b then ps else [])
+waiting_where true ps = refl
+waiting_where false ps = refl
 
 longer : (n : Machine) (batch : BatchContent) (count number : ℕ) → length n.list ≡ count →
     number ≡ suc count → length (n.list ++ batch ∷ []) ≡ number
@@ -129,3 +142,51 @@ module _ (core : Core) (n : Machine) (is : CoreRefines core n) where
             ∙ (ap (due {A = BatchContent} c) is.pending
             ∙ (due_front 0 core.count c core.pending ordered ∙ ap committed_responses (sym out)));
       }
+
+  -- the state after a later configuration was adopted
+  pub follows_adopt : (epoch : ℕ) (ids : List ℕ) (c : ℕ) (waits pending due : List PendingSubmit) →
+      c ≡ (if is_tail ids core.id then core.count else core.committed) →
+      waits ≡ (if has ids core.id then core.pending else []) → IsInOrder 0 core.count waits →
+      pending ≡ behind c waits → due ≡ front c waits →
+      CoreFollows (record core {
+        epoch = epoch;
+        ids = ids;
+        committed = c;
+        successor_has = c;
+        pending = pending;
+      }) (adopt core.id n epoch ids) (committed_responses due)
+  follows_adopt epoch ids c waits pending answered commits stays ordered left out =
+      let x = core.id in
+      let new : Core = record core {
+        epoch = epoch;
+        ids = ids;
+        committed = c;
+        successor_has = c;
+        pending = pending;
+      } in
+      let m : Machine = adopted_at x n epoch ids (is_tail ids x) in
+      let same : m.committed ≡ c = rw (is.count, is.committed) (sym commits) in
+      let same_pending : m.pending ≡ waiting waits =
+      rw (is.pending, stays) (waiting_where (has ids x) core.pending) in
+      let base : CoreFollows new (acknowledge m (ack x m)) (committed_responses answered) = record {
+        is = record {
+          epoch = refl;
+          ids = refl;
+          count = is.count;
+          committed = same;
+          floor = is.floor;
+          kept = is.kept;
+          successor_has = same;
+          snapshots = is.snapshots;
+          pending = ap (λ (k : ℕ). not_due k m.pending) same ∙ (ap (not_due c) same_pending
+              ∙ (not_due_behind 0 core.count c waits ordered ∙ ap waiting (sym left)));
+          running = is.running;
+        };
+        replied = ap (λ (k : ℕ). due {A = BatchContent} k m.pending) same
+            ∙ (ap (due {A = BatchContent} c) same_pending
+            ∙ (due_front 0 core.count c waits ordered ∙ ap committed_responses (sym out)));
+      } in
+      subst (λ (m : Machine). CoreFollows new
+      (let k : Machine = record m { successor_has = m.committed } in acknowledge k (ack x k))
+      (committed_responses answered))
+      (sym (committed_by (is_tail ids x) (moved x n epoch ids))) base

@@ -55,3 +55,47 @@ module _ (core : Core) (o : HasOrderedNumbers core) where
     snapshots = snapshots_stay core.floor core.committed core.snapshots o.snapshots c
         (omega (arith, greater));
   }
+
+  adopted_where : (b : Bool) (epoch c : ℕ) (ids : List ℕ) (pending : List PendingSubmit) →
+      c ≡ (if b then core.count else core.committed) → IsInOrder 0 core.count pending →
+      HasOrderedNumbers (record core {
+        epoch = epoch;
+        ids = ids;
+        committed = c;
+        successor_has = c;
+        pending = pending;
+      })
+  adopted_where true epoch c ids pending commits rises = record {
+    kept = o.kept;
+    floor = omega (arith, o.floor, o.committed, commits);
+    committed = omega (arith, commits);
+    successor_has = λ no_tail. omega arith;
+    sent = omega (arith, commits);
+    pending = rises;
+    snapshots = snapshots_stay core.floor core.committed core.snapshots o.snapshots c
+        (omega (arith, o.committed, commits));
+  }
+  adopted_where false epoch c ids pending commits rises = record {
+    kept = o.kept;
+    floor = omega (arith, o.floor, commits);
+    committed = omega (arith, o.committed, commits);
+    successor_has = λ no_tail. omega arith;
+    sent = omega (arith, o.committed, commits);
+    pending = rises;
+    snapshots = snapshots_stay core.floor core.committed core.snapshots o.snapshots c
+        (omega (arith, commits));
+  }
+
+  -- the order after a later configuration was adopted
+  pub ordered_adopted : (epoch c : ℕ) (ids : List ℕ) (pending : List PendingSubmit) →
+      c ≡ (if is_tail ids core.id then core.count else core.committed) →
+      IsInOrder 0 core.count pending →
+      HasOrderedNumbers (record core {
+        epoch = epoch;
+        ids = ids;
+        committed = c;
+        successor_has = c;
+        pending = pending;
+      })
+  ordered_adopted epoch c ids pending =
+      adopted_where (is_tail ids core.id) epoch c ids pending

@@ -1,7 +1,7 @@
 -- Requests that wait in order: those that are due are at the front.
 use Rattle.std.proofs.Common.{◌≡◌, ℕ, suc, ◌+◌, ◌≤◌, ◌<◌, List, [], ◌∷◌, ◌++◌, length, Bool, true}
-use Rattle.std.proofs.Common.{false, refl, ap, arith}
-use Rattle.std.specs.Prelude.{nat_le}
+use Rattle.std.proofs.Common.{false, not, refl, ap, arith}
+use Rattle.std.specs.Prelude.{nat_le, if◌then◌else◌}
 use Rattle.std.proofs.lemmas.Bool.{leb-false, lt-leb}
 use Rattle.kv_types.specs.{BatchContent}
 use Rattle.chain_model.specs.{due, not_due}
@@ -107,3 +107,21 @@ front_push k (p ∷ ps) w = go (nat_le p.number k) refl (front_push k ps w)
         length (front k (p ∷ ps ++ w ∷ [])) ≤ length (front k (p ∷ ps)) + 1
     go true e rest = rw e (omega (arith, rest))
     go false e rest = rw e (omega arith)
+
+-- forgotten where gone is to stay where not
+pub kept_where : (b : Bool) (ps : List PendingSubmit) →
+    (if not b then [] else ps) ≡ (if b then ps else [])
+kept_where true ps = refl
+kept_where false ps = refl
+
+-- requests that are forgotten, or stay, are in order
+pub where_in_order : (b : Bool) (m : ℕ) (ps : List PendingSubmit) → IsInOrder 0 m ps →
+    IsInOrder 0 m (if b then ps else [])
+where_in_order true m ps o = o
+where_in_order false m ps o = tt
+
+-- no more are due of requests that are forgotten, or stay
+pub front_where : (b : Bool) (k : ℕ) (ps : List PendingSubmit) →
+    length (front k (if b then ps else [])) ≤ length (front k ps)
+front_where true k ps = omega arith
+front_where false k ps = omega arith

@@ -9,7 +9,8 @@ use Rattle.chain_model.specs.{ack_to, acknowledge, forward, forward_to, forwards
 use Rattle.chain_core.specs.declared.done.Done.TheVariants as done
 use Rattle.chain_core.specs.States.{Machine}
 use Rattle.chain_core.specs.Steps.{StepLeaves, StepsLeave, StandsLast, OneByOne}
-use Rattle.chain_core.proofs.After.{committed_by}
+use Rattle.chain_model.specs.Rules.{moved}
+use Rattle.chain_core.proofs.After.{adopted_at, committed_by}
 
 -- frames do not depend on the pending requests
 same_forward : (s : Option ℕ) (x k : ℕ) (b : Option BatchContent) (n : Machine)
@@ -47,6 +48,21 @@ module _ (x : ℕ) (n : Machine) (batch : BatchContent) where
         snapshots = refl;
         frames = same_forward (successor n.ids x) x next (place long next) m
             (not_due m.committed m.pending);
+        dropped = refl;
+      }
+
+  adopted_one : (epoch : ℕ) (ids : List ℕ) → StepLeaves x n batch (done.Adopted epoch ids)
+      (acknowledge (adopted_at x n epoch ids (is_tail ids x))
+      (ack x (adopted_at x n epoch ids (is_tail ids x))))
+  adopted_one epoch ids =
+      let m : Machine = adopted_at x n epoch ids (is_tail ids x) in record {
+        list = refl;
+        epoch = refl;
+        ids = refl;
+        floor = refl;
+        kept = refl;
+        snapshots = refl;
+        frames = same_ack (predecessor ids x) x m (not_due m.committed m.pending);
         dropped = refl;
       }
 
@@ -90,6 +106,10 @@ steps_leave x n batch (done.Acked committed have) =
           (same_ack (predecessor n.ids x) x m (not_due m.committed m.pending));
       dropped = refl;
     }
+steps_leave x n batch (done.Adopted epoch ids) =
+    subst (λ (m : Machine). StepLeaves x n batch (done.Adopted epoch ids)
+    (let k : Machine = record m { successor_has = m.committed } in acknowledge k (ack x k)))
+    (sym (committed_by (is_tail ids x) (moved x n epoch ids))) (adopted_one x n batch epoch ids)
 steps_leave x n batch (done.Opened i s) = record {
   list = refl;
   epoch = refl;

@@ -9,7 +9,9 @@ use Rattle.chain_model.specs.{Answer, dropped_for, refused, ask, receive, tick, 
 use Rattle.chain_model.specs.{ack_duplicate, on_ack, resend, reply_read, Message, Request}
 use Rattle.chain_model.specs.{Response, Opened, Closed}
 use Rattle.chain_model.specs.Machine.{is_open}
+use Rattle.chain_model.specs.Configuration.{leaves_out}
 use Rattle.chain_model.specs.Rules.{add_snapshot, remove_snapshot, if_readable, number_read}
+use Rattle.chain_model.specs.Rules.{notice, adopt}
 use Rattle.chain_model.specs.declared.Refusal.{Refusal}
 use Rattle.link_messages.specs.declared.Frame.{Frame}
 use Rattle.link_messages.specs.declared.Frame.TheVariants as frame
@@ -35,6 +37,7 @@ answer_to x n (input.Forward epoch from number batch) =
     receive x n (Message.Forward x epoch from number batch)
 answer_to x n (input.Ack epoch from committed have) =
     receive x n (Message.Ack x epoch from committed have)
+answer_to x n (input.Notice epoch ids) = notice x n epoch ids
 answer_to x n input.Tick = tick x n
 
 -- the rule that a decision names
@@ -43,6 +46,7 @@ rule_of x n (decision.Accept request batch) = accept x n request batch
 rule_of x n (decision.Append batch) = append x n (suc (length n.list)) batch
 rule_of x n decision.AckDuplicate = ack_duplicate x n
 rule_of x n (decision.OnAck committed have) = on_ack x n committed have
+rule_of x n (decision.Adopt epoch ids) = adopt x n epoch ids
 rule_of x n (decision.Read request key at) = reply_read n request at
 rule_of x n (decision.ReadRows request range at) = reply_read n request at
 rule_of x n (decision.Open request number) = add_snapshot n request number
@@ -71,6 +75,7 @@ abbrev pub done_of : ℕ → Machine → BatchContent → Done → Answer BatchC
 done_of x n batch (done.Accepted request) = accept x n request batch
 done_of x n batch done.Appended = append x n (suc (length n.list)) batch
 done_of x n batch (done.Acked committed have) = on_ack x n committed have
+done_of x n batch (done.Adopted epoch ids) = adopt x n epoch ids
 done_of x n batch (done.Opened request number) = add_snapshot n request number
 done_of x n batch (done.Closed request number) = remove_snapshot n request number
 
@@ -78,6 +83,12 @@ done_of x n batch (done.Closed request number) = remove_snapshot n request numbe
 pub record IsReport (core : Core) (committed have : ℕ) : Type 0 where
   pub has : committed ≤ have
   pub there : have ≤ core.count
+
+-- the node may adopt the configuration: its epoch is greater than the node's, and its ids are the
+-- node's with at least one left out, order kept
+pub record IsAdoptable (core : Core) (epoch : ℕ) (ids : List ℕ) : Type 0 where
+  pub later : core.epoch < epoch
+  pub fewer : IsTrue (leaves_out ids core.ids)
 
 -- the number can be read, and one more snapshot may be open
 pub record HasRoomAt (core : Core) (number : ℕ) : Type 0 where
@@ -94,11 +105,13 @@ pub record IsRiseOf (core : Core) (floor kept : ℕ) : Type 0 where
   pub readable : kept ≤ floor
 
 -- The store's part of a step can be done by these numbers: a number is left for a batch, a report
--- can be true, a snapshot can be opened, or one is open at the number that is closed.
+-- can be true, a configuration may be adopted, a snapshot can be opened, or one is open at the
+-- number that is closed.
 abbrev pub DoneFits : Core → Done → Type 0
 DoneFits core (done.Accepted request) = core.count < MAX_NUMBER
 DoneFits core done.Appended = core.count < MAX_NUMBER
 DoneFits core (done.Acked committed have) = IsReport core committed have
+DoneFits core (done.Adopted epoch ids) = IsAdoptable core epoch ids
 DoneFits core (done.Opened request number) = HasRoomAt core number
 DoneFits core (done.Closed request number) = IsTrue (is_open number core.snapshots)
 
@@ -107,6 +120,7 @@ abbrev pub DecisionFits : Core → Decision → Type 0
 DecisionFits core (decision.Accept request batch) = core.count < MAX_NUMBER
 DecisionFits core (decision.Append batch) = core.count < MAX_NUMBER
 DecisionFits core (decision.OnAck committed have) = IsReport core committed have
+DecisionFits core (decision.Adopt epoch ids) = IsAdoptable core epoch ids
 DecisionFits core (decision.Open request number) = HasRoomAt core number
 DecisionFits core (decision.Close request number) = IsTrue (is_open number core.snapshots)
 DecisionFits core _ = Unit {0}

@@ -6,6 +6,7 @@ pub mod Steps
 -- What crates above name.
 pub use Rattle.chain_core.specs.Decisions.{AreFrames, CoreFollows, Decides, DecisionFits}
 pub use Rattle.chain_core.specs.Decisions.{DoneFits, HasRoomAt, IsReadOf, IsReport, IsRiseOf}
+pub use Rattle.chain_core.specs.Decisions.{IsAdoptable}
 pub use Rattle.chain_core.specs.Decisions.{answer_to, done_of, frame_as, responses_after, rule_of}
 pub use Rattle.chain_core.specs.States.{AreSnapshots, Core, CoreRefines, HasOrderedNumbers}
 pub use Rattle.chain_core.specs.States.{Machine, committed_responses, waiting}

@@ -14,6 +14,7 @@ abbrev pub list_after : Machine → BatchContent → Done → List BatchContent
 list_after n batch (done.Accepted request) = n.list ++ batch ∷ []
 list_after n batch done.Appended = n.list ++ batch ∷ []
 list_after n batch (done.Acked committed have) = n.list
+list_after n batch (done.Adopted epoch ids) = n.list
 list_after n batch (done.Opened request number) = n.list
 list_after n batch (done.Closed request number) = n.list
 
@@ -22,6 +23,7 @@ abbrev pub epoch_after : Machine → Done → ℕ
 epoch_after n (done.Accepted request) = n.epoch
 epoch_after n done.Appended = n.epoch
 epoch_after n (done.Acked committed have) = n.epoch
+epoch_after n (done.Adopted epoch ids) = epoch
 epoch_after n (done.Opened request number) = n.epoch
 epoch_after n (done.Closed request number) = n.epoch
 
@@ -30,6 +32,7 @@ abbrev pub ids_after : Machine → Done → List ℕ
 ids_after n (done.Accepted request) = n.ids
 ids_after n done.Appended = n.ids
 ids_after n (done.Acked committed have) = n.ids
+ids_after n (done.Adopted epoch ids) = ids
 ids_after n (done.Opened request number) = n.ids
 ids_after n (done.Closed request number) = n.ids
 
@@ -38,6 +41,7 @@ abbrev pub floor_after : Machine → Done → ℕ
 floor_after n (done.Accepted request) = n.floor
 floor_after n done.Appended = n.floor
 floor_after n (done.Acked committed have) = n.floor
+floor_after n (done.Adopted epoch ids) = n.floor
 floor_after n (done.Opened request number) = n.floor
 floor_after n (done.Closed request number) = n.floor
 
@@ -46,6 +50,7 @@ abbrev pub kept_after : Machine → Done → ℕ
 kept_after n (done.Accepted request) = n.kept
 kept_after n done.Appended = n.kept
 kept_after n (done.Acked committed have) = n.kept
+kept_after n (done.Adopted epoch ids) = n.kept
 kept_after n (done.Opened request number) = n.kept
 kept_after n (done.Closed request number) = n.kept
 
@@ -54,6 +59,7 @@ abbrev pub snapshots_after : Machine → Done → List ℕ
 snapshots_after n (done.Accepted request) = n.snapshots
 snapshots_after n done.Appended = n.snapshots
 snapshots_after n (done.Acked committed have) = n.snapshots
+snapshots_after n (done.Adopted epoch ids) = n.snapshots
 snapshots_after n (done.Opened request number) = number ∷ n.snapshots
 snapshots_after n (done.Closed request number) = without number n.snapshots
 
@@ -64,6 +70,7 @@ frames_after x old done.Appended new =
     forward x new (suc (length old.list)) ++ (if is_tail new.ids x then ack x new else [])
 frames_after x old (done.Acked committed have) new =
     if nat_lt old.committed committed then ack x new else []
+frames_after x old (done.Adopted epoch ids) new = ack x new
 frames_after x old (done.Opened request number) new = []
 frames_after x old (done.Closed request number) new = []
 

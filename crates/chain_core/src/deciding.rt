@@ -1,9 +1,9 @@
 // The rule for each input, by the numbers of the node that receives it.
-ghost use Rattle.std.specs.Prelude.{MatchResult};
+ghost use Rattle.std.specs.Prelude.{◌≡◌, MatchResult};
 ghost use Rattle.chain_core.specs.Decisions.{IsDecisionOn, IsReadAt, IsRefused};
 
 use crate::{CoreState, Decision, DropReason, Input};
-use configurations::{Epoch, NodeId};
+use configurations::{Config, Epoch, NodeId};
 use kv_types::bounds::MAX_NUMBER;
 use kv_types::{Batch, Key, Number, Range};
 use link_messages::Refusal;
@@ -136,6 +136,18 @@ fn of_ack(
     Decision::OnAck { committed, have }
 }
 
+fn of_notice(state: &CoreState, epoch: Epoch, config: Config) -> Decision
+    ensures { IsDecisionOn state.now (Input.Notice epoch config) result }
+{
+    if epoch <= state.epoch() {
+        return Decision::Drop(DropReason::OldNotice);
+    }
+    if !config.leaves_out(state.config()) {
+        return Decision::Drop(DropReason::BadNotice);
+    }
+    Decision::Adopt { epoch, config }
+}
+
 fn of_tick(state: &CoreState) -> Decision
     ensures { IsDecisionOn state.now Input.Tick result }
 {
@@ -167,6 +179,7 @@ pub fn decide(state: &CoreState, input: Input) -> Decision
             committed,
             have,
         } => of_ack(state, epoch, from, committed, have),
+        Input::Notice { epoch, config } => of_notice(state, epoch, config),
         Input::Tick => of_tick(state),
     }
 }

@@ -1,5 +1,6 @@
 // The decision on an input: the rule, with its arguments.
 use crate::DropReason;
+use configurations::{Config, Epoch};
 use kv_types::{Batch, Key, Number, Range};
 use link_messages::Refusal;
 
@@ -22,6 +23,11 @@ pub enum Decision {
     OnAck {
         committed: Number,
         have: Number,
+    },
+    /// The node adopts a later configuration, and acknowledges to its predecessor there.
+    Adopt {
+        epoch: Epoch,
+        config: Config,
     },
     /// The node answers the client with the value of the key at this number.
     Read {

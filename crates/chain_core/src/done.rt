@@ -1,9 +1,10 @@
 // The store's part of a step, once it is done.
+use configurations::{Config, Epoch};
 use kv_types::Number;
 
 /// The store's part of a decision that changes the state of a node. The store already has the
-/// batch or the snapshot, if there is one.
-#[derive(Clone, Copy)]
+/// batch, the configuration or the snapshot, if there is one.
+#[derive(Drop)]
 pub enum Done {
     /// A batch of this request was appended.
     Accepted { request: Number },
@@ -11,6 +12,8 @@ pub enum Done {
     Appended,
     /// The successor reported these numbers.
     Acked { committed: Number, have: Number },
+    /// The configuration of this epoch was adopted.
+    Adopted { epoch: Epoch, config: Config },
     /// A snapshot was opened at this number.
     Opened { request: Number, number: Number },
     /// A snapshot at this number was closed.

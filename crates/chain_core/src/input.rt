@@ -1,5 +1,5 @@
-// The inputs of a node: requests of clients, frames of neighbours, ticks.
-use configurations::{Epoch, NodeId};
+// The inputs of a node: requests of clients, frames of neighbours, notices, ticks.
+use configurations::{Config, Epoch, NodeId};
 use kv_types::{Batch, Key, Number, Range};
 
 /// An input of a running node.
@@ -44,6 +44,11 @@ pub enum Input {
         from: NodeId,
         committed: Number,
         have: Number,
+    },
+    /// The configuration service reports the configuration of an epoch.
+    Notice {
+        epoch: Epoch,
+        config: Config,
     },
     /// A turn to send again.
     Tick,

@@ -1,5 +1,5 @@
 // The queue of requests whose batches are not yet committed, in order of number.
-ghost use Rattle.std.specs.Prelude.{◌≡◌, ◌≤◌, ◌+◌, ◌++◌, length};
+ghost use Rattle.std.specs.Prelude.{◌≡◌, ◌≤◌, ◌+◌, ◌++◌, [], length, if◌then◌else◌};
 ghost use Rattle.std.specs.Vec.{vec_len, vec_capacity};
 ghost use Rattle.chain_core.specs.Queues.{front, behind};
 
@@ -19,6 +19,15 @@ pub(crate) fn count_due(pending: &VecDeque<PendingSubmit>, upto: Number) -> usiz
         count += 1;
     }
     count
+}
+
+// Forgets all requests, if `gone`.
+pub(crate) fn forget_where(pending: &mut VecDeque<PendingSubmit>, gone: bool)
+    ensures { pending.new.items ≡ (if gone then [] else pending.old.items) }
+{
+    if gone {
+        pending.clear();
+    }
 }
 
 // Moves the requests at the front with numbers up to this one to the end of `due`.

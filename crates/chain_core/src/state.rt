@@ -13,7 +13,7 @@ ghost use Rattle.chain_core.specs.States.{HasOrderedNumbers};
 ghost use Rattle.chain_core.specs.Decisions.{CoreApplies, DoneFits, HasRoomAt, IsReport};
 ghost use Rattle.chain_core.specs.Decisions.{IsRiseOf};
 
-use crate::queue::{count_due, move_due};
+use crate::queue::{count_due, forget_where, move_due};
 use crate::{CoreError, Done, PendingSubmit, PersistentState};
 use configurations::{Config, Epoch, NodeId};
 use kv_types::Number;
@@ -293,6 +293,40 @@ impl CoreState {
         Ok(due)
     }
 
+    // The committed number under a configuration: at its tail, that of all batches.
+    fn committed_under(&self, config: &Config) -> Number
+        ensures { result ≡ (if is_tail config.now self.now.id then self.now.count
+            else self.now.committed) }
+    {
+        if is_tail(config, self.id) {
+            self.count
+        } else {
+            self.committed
+        }
+    }
+
+    // Adopts the configuration of an epoch. A tail commits all its batches, and a removed node
+    // forgets its pending requests. The successor is known to have what is committed.
+    fn adopt(
+        &mut self,
+        alloc: Global,
+        epoch: Epoch,
+        config: Config,
+    ) -> Result<Vec<PendingSubmit>, CoreError>
+        ensures { CoreApplies self.old self.new (Done.Adopted epoch config) result }
+    {
+        let committed = self.committed_under(&config);
+        let mut due = Vec::new(alloc);
+        due.reserve(count_due(&self.pending, committed))?;
+        forget_where(&mut self.pending, !config.has(self.id));
+        self.epoch = epoch;
+        self.config = config;
+        self.committed = committed;
+        self.successor_has = committed;
+        move_due(&mut self.pending, &mut due, committed);
+        Ok(due)
+    }
+
     // Opens one more snapshot.
     fn open_snapshot(&mut self, number: Number) -> Result<(), CoreError>
         requires { HasRoomAt self.old number }
@@ -339,6 +373,7 @@ impl CoreState {
                 Ok(Vec::new(alloc))
             }
             Done::Acked { committed, have } => self.apply_ack(alloc, committed, have),
+            Done::Adopted { epoch, config } => self.adopt(alloc, epoch, config),
             Done::Opened { number, .. } => {
                 self.open_snapshot(number)?;
                 Ok(Vec::new(alloc))

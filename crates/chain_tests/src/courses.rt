@@ -1,7 +1,7 @@
 // Runs as scripts of events, and the trace of each event.
 use crate::answers::{is_text, put_reply};
 use crate::items::{Change, Walk, batch_of, config_of, id_of, key_of, number, range_of};
-use configurations::{Configs, NodeId};
+use configurations::{Configs, Epoch, NodeId};
 use disk::{Fault, Junk, JunkBytes};
 use kv_types::Limits;
 use lab::{Event, EventKind, Line, NodeReport, Report, Tended, World, names_nodes, run};
@@ -18,6 +18,8 @@ pub enum Step {
     Open(u16, Option<u64>),
     Close(u16, u64),
     Deliver(u64),
+    /// The node is told of this epoch.
+    Notice(u16, u32),
     Tick(u16),
     Tend(u16),
     Start(u16),
@@ -52,6 +54,13 @@ fn close_at(node: NodeId, at: u64) -> EventKind {
     }
 }
 
+fn notice_of(rt: &impl Abort, node: u16, epoch: u32) -> EventKind {
+    EventKind::Notice {
+        node: id_of(rt, node),
+        epoch: Epoch::new(epoch).expect(rt, "an epoch"),
+    }
+}
+
 fn kind_of(rt: &impl Abort, alloc: Global, step: &Step) -> EventKind {
     match *step {
         Step::Deliver(place) => EventKind::Deliver { place },
@@ -67,6 +76,7 @@ fn kind_of(rt: &impl Abort, alloc: Global, step: &Step) -> EventKind {
         Step::Rows(node, walk, at) => rows_at(rt, alloc, id_of(rt, node), walk, at),
         Step::Open(node, at) => open_at(id_of(rt, node), at),
         Step::Close(node, at) => close_at(id_of(rt, node), at),
+        Step::Notice(node, epoch) => notice_of(rt, node, epoch),
         Step::Stop(node, junk) => EventKind::Stop {
             node: id_of(rt, node),
             junk: junk_of(rt, alloc, junk),
@@ -98,10 +108,19 @@ fn events_of(rt: &impl Abort, alloc: Global, steps: &[Step]) -> Vec<Event> {
     events
 }
 
+/// The list of these configurations, each of its nodes.
+pub fn configs_of(rt: &impl Abort, alloc: Global, lists: &[&[u16]]) -> Configs {
+    let mut configs = Vec::new(alloc);
+    for ids in lists {
+        let config = config_of(rt, alloc, *ids);
+        configs.push(config).expect(rt, "memory");
+    }
+    Configs::new(configs).expect(rt, "configurations")
+}
+
 /// The list of one configuration, of these nodes.
 pub fn configs(rt: &impl Abort, alloc: Global, ids: &[u16]) -> Configs {
-    let list = vec![in alloc; config_of(rt, alloc, ids)].expect(rt, "memory");
-    Configs::new(list).expect(rt, "configurations")
+    configs_of(rt, alloc, &[ids])
 }
 
 /// Whether the steps name a node that is not in the chain of these nodes.
@@ -115,11 +134,21 @@ pub fn limits(rt: &impl Abort) -> Limits {
     Limits::new(16, 64, 64, 64, 1).ok().expect(rt, "limits")
 }
 
-/// The report of these events in a chain of these nodes, whom they name.
-pub fn report_of_events(rt: &impl Abort, alloc: Global, ids: &[u16], events: &[Event]) -> Report {
-    let configs = configs(rt, alloc, ids);
+/// The report of these events in chains of these configurations, whose nodes they name.
+pub fn report_of_list(
+    rt: &impl Abort,
+    alloc: Global,
+    lists: &[&[u16]],
+    events: &[Event],
+) -> Report {
+    let configs = configs_of(rt, alloc, lists);
     assert!(rt; names_nodes(&configs, events), "no node");
     run(alloc, &configs, events, &limits(rt)).expect(rt, "a run")
+}
+
+/// The report of these events in a chain of these nodes, whom they name.
+pub fn report_of_events(rt: &impl Abort, alloc: Global, ids: &[u16], events: &[Event]) -> Report {
+    report_of_list(rt, alloc, &[ids], events)
 }
 
 /// The report of events of these steps, without a fault.
@@ -150,6 +179,9 @@ fn put_line(text: &mut String, line: &Line) -> Result<(), AllocError> {
         Line::Replied(reply) => put_reply(text, reply),
         Line::Stopped { node, cause } => put_stop(text, *node, *cause),
         Line::Tended(did) => text.push_str(tended_text(*did)),
+        Line::Adopted { node, epoch } => {
+            write!(text, "node {} adopted {}", node.get(), epoch.get())
+        }
         Line::Started {
             node,
             epoch,
@@ -283,9 +315,14 @@ fn put_way(rt: &impl Abort, alloc: Global, text: &mut String, world: &mut World,
     }
 }
 
+/// A new world of these configurations.
+pub fn world_of_list(rt: &impl Abort, alloc: Global, lists: &[&[u16]]) -> World {
+    World::new(alloc, &configs_of(rt, alloc, lists), &limits(rt)).expect(rt, "a world")
+}
+
 /// A new world of these nodes.
 pub fn world_of(rt: &impl Abort, alloc: Global, ids: &[u16]) -> World {
-    World::new(alloc, &configs(rt, alloc, ids), &limits(rt)).expect(rt, "a world")
+    world_of_list(rt, alloc, &[ids])
 }
 
 /// The state of a world of these nodes after each event, and the number of events in its report.

@@ -8,14 +8,14 @@ use std::alloc::Global;
 use std::process::Abort;
 
 // An event, and the call of the node's disk that fails in it, with the way in which it does.
-type FaultyStep = (Step, Option<(Way, u64)>);
+pub type FaultyStep = (Step, Option<(Way, u64)>);
 
 // The nodes of a chain, events, and their report.
 type FaultyRun = (&'static [u16], &'static [FaultyStep], &'static str);
 
-const JUNK_0: Way = Way::Bytes(b"\x00");
+pub const JUNK_0: Way = Way::Bytes(b"\x00");
 
-const JUNK_1: Way = Way::Bytes(b"\x01");
+pub const JUNK_1: Way = Way::Bytes(b"\x01");
 
 static RUNS: [FaultyRun; 9] = [
     // A call of a submit fails: the node stops for its disk, and the batch is gone.
@@ -190,7 +190,8 @@ fn faulty_event(rt: &impl Abort, alloc: Global, (step, strike): &FaultyStep) -> 
     event(rt, alloc, step, fault)
 }
 
-fn faulty_events(rt: &impl Abort, alloc: Global, steps: &[FaultyStep]) -> Vec<Event> {
+/// The events of these steps, each with its fault.
+pub fn faulty_events(rt: &impl Abort, alloc: Global, steps: &[FaultyStep]) -> Vec<Event> {
     let mut events = Vec::new(alloc);
     for step in steps {
         let event = faulty_event(rt, alloc, step);

@@ -45,21 +45,36 @@ fn common_len(list: &[Vec<u8>], other: &[Vec<u8>]) -> usize {
     list.len().min(other.len())
 }
 
-// What the disks of all nodes have in common.
-fn common_records(rt: &impl Abort, alloc: Global, nodes: &mut [NodeReport]) -> Vec<Vec<u8>> {
-    let (first, others) = nodes.split_first_mut().expect(rt, "a node");
-    let mut list = records_on(rt, alloc, &mut first.disk);
-    for node in others {
+// What the disks of these nodes have in common.
+fn common_records(
+    rt: &impl Abort,
+    alloc: Global,
+    ids: &[u16],
+    nodes: &mut [NodeReport],
+) -> Vec<Vec<u8>> {
+    let mut common: Option<Vec<Vec<u8>>> = None;
+    for node in nodes {
+        if !ids.contains(&node.id.get()) {
+            continue;
+        }
         let records = records_on(rt, alloc, &mut node.disk);
-        list.truncate(common_len(&list, &records));
+        match &mut common {
+            Some(list) => list.truncate(common_len(list, &records)),
+            None => common = Some(records),
+        }
     }
-    list
+    common.expect(rt, "a node")
 }
 
-/// The one list of batches, as the disks of all nodes have it.
-pub fn one_list(rt: &impl Abort, alloc: Global, nodes: &mut [NodeReport]) -> Vec<Batch> {
+/// The one list of batches, as the disks of the nodes of the last configuration have it.
+pub fn one_list(
+    rt: &impl Abort,
+    alloc: Global,
+    last: &[u16],
+    nodes: &mut [NodeReport],
+) -> Vec<Batch> {
     let mut list = Vec::new(alloc);
-    for record in &common_records(rt, alloc, nodes) {
+    for record in &common_records(rt, alloc, last, nodes) {
         let spelled = record.get(8..).unwrap_or(&[]);
         let batch = Batch::from_bytes(alloc, spelled).expect(rt, "a batch");
         list.push(batch).expect(rt, "memory");

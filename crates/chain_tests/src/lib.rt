@@ -3,6 +3,8 @@
 #![tactic(auto)]
 
 #[cfg(test)]
+mod adoptions;
+#[cfg(test)]
 mod answers;
 #[cfg(test)]
 mod courses;

@@ -1,7 +1,7 @@
 // A fault at every call of the disk in every event of a run: what is told and what is on the disks
 // afterwards agrees with one list of batches.
 use crate::answers::is_so;
-use crate::courses::{Step, junk_of, take, world_of};
+use crate::courses::{Step, junk_of, take, world_of_list};
 use crate::histories::{History, is_taken, one_list};
 use crate::items::{ONE, THREE, TWO, key_of};
 use disk::{Fault, Junk};
@@ -10,13 +10,15 @@ use node::Stop;
 use std::alloc::Global;
 use std::process::Abort;
 
-// The nodes of a chain, and events.
-static RUNS: [(&[u16], &[Step]); 7] = [
+// Configurations, and events.
+type Swept = (&'static [&'static [u16]], &'static [Step]);
+
+static RUNS: [Swept; 9] = [
     // One node.
-    (&[1], &[Step::Submit(1, ONE), Step::Get(1, None)]),
+    (&[&[1]], &[Step::Submit(1, ONE), Step::Get(1, None)]),
     // A batch goes down the chain and back, and a frame comes twice.
     (
-        &[1, 2, 3],
+        &[&[1, 2, 3]],
         &[
             Step::Submit(1, ONE),
             Step::Deliver(1),
@@ -28,7 +30,7 @@ static RUNS: [(&[u16], &[Step]); 7] = [
     ),
     // A frame overtakes another, and a tick sends again.
     (
-        &[1, 2],
+        &[&[1, 2]],
         &[
             Step::Submit(1, ONE),
             Step::Submit(1, TWO),
@@ -43,7 +45,7 @@ static RUNS: [(&[u16], &[Step]); 7] = [
     ),
     // Reads at nodes that know less.
     (
-        &[1, 2, 3],
+        &[&[1, 2, 3]],
         &[
             Step::Submit(1, ONE),
             Step::Deliver(1),
@@ -59,7 +61,7 @@ static RUNS: [(&[u16], &[Step]); 7] = [
     ),
     // A node stops between receiving and acknowledging.
     (
-        &[1, 2, 3],
+        &[&[1, 2, 3]],
         &[
             Step::Submit(1, ONE),
             Step::Deliver(1),
@@ -77,7 +79,7 @@ static RUNS: [(&[u16], &[Step]); 7] = [
     ),
     // Batches go to tables, and the node starts over two logs.
     (
-        &[1],
+        &[&[1]],
         &[
             Step::Submit(1, ONE),
             Step::Tend(1),
@@ -94,7 +96,7 @@ static RUNS: [(&[u16], &[Step]); 7] = [
     ),
     // A node sends again what it has in a table and in its newest log.
     (
-        &[1, 2],
+        &[&[1, 2]],
         &[
             Step::Submit(1, ONE),
             Step::Tend(1),
@@ -107,6 +109,43 @@ static RUNS: [(&[u16], &[Step]); 7] = [
             Step::Tend(2),
             Step::Deliver(6),
             Step::Get(2, Some(1)),
+            Step::Get(1, None),
+        ],
+    ),
+    // The head leaves, and then the tail.
+    (
+        &[&[1, 2, 3], &[2, 3], &[2]],
+        &[
+            Step::Submit(1, ONE),
+            Step::Deliver(1),
+            Step::Deliver(2),
+            Step::Notice(2, 1),
+            Step::Submit(2, TWO),
+            Step::Notice(3, 1),
+            Step::Tick(2),
+            Step::Deliver(6),
+            Step::Deliver(7),
+            Step::Submit(1, TWO),
+            Step::Notice(2, 2),
+            Step::Submit(2, THREE),
+            Step::Get(2, None),
+        ],
+    ),
+    // The node in the middle leaves with a batch that the tail lacks.
+    (
+        &[&[1, 2, 3], &[1, 3]],
+        &[
+            Step::Submit(1, ONE),
+            Step::Deliver(1),
+            Step::Submit(1, TWO),
+            Step::Notice(1, 1),
+            Step::Notice(3, 1),
+            Step::Tick(1),
+            Step::Deliver(5),
+            Step::Deliver(6),
+            Step::Tick(3),
+            Step::Deliver(8),
+            Step::Get(3, None),
             Step::Get(1, None),
         ],
     ),
@@ -202,10 +241,11 @@ impl Course {
 }
 
 // Fails the test unless what a run told and left agrees with one list.
-fn check(rt: &impl Abort, alloc: Global, course: Course) {
+fn check(rt: &impl Abort, alloc: Global, lists: &[&[u16]], course: Course) {
+    let last = lists.last().expect(rt, "a configuration");
     let Course { world, taken } = course;
     let mut report = world.finish(alloc).expect(rt, "a report");
-    let list = one_list(rt, alloc, &mut report.nodes);
+    let list = one_list(rt, alloc, *last, &mut report.nodes);
     let key = key_of(rt, alloc, "a");
     let (list, taken) = (list.as_slice(), taken.as_slice());
     is_so(rt, is_taken(list, taken), "each batch was submitted");
@@ -221,21 +261,21 @@ fn check(rt: &impl Abort, alloc: Global, course: Course) {
 fn strikes(
     rt: &impl Abort,
     alloc: Global,
-    (nodes, steps): (&[u16], &[Step]),
+    (lists, steps): (&[&[u16]], &[Step]),
     index: usize,
     fault: (Way, u64),
 ) -> bool {
-    let world = world_of(rt, alloc, nodes);
+    let world = world_of_list(rt, alloc, lists);
     let taken = Vec::new(alloc);
     let mut course = Course { world, taken };
     let struck = course.run(rt, alloc, steps, index, fault);
-    check(rt, alloc, course);
+    check(rt, alloc, lists, course);
     struck
 }
 
 // Faults at the first call of the disk in this event, at the second, and so on, as long as they
 // strike. Answers how many runs that were.
-fn sweep(rt: &impl Abort, alloc: Global, run: (&[u16], &[Step]), index: usize, way: Way) -> u64 {
+fn sweep(rt: &impl Abort, alloc: Global, run: (&[&[u16]], &[Step]), index: usize, way: Way) -> u64 {
     for call in 1..100 {
         if !strikes(rt, alloc, run, index, (way, call)) {
             return call;
@@ -246,7 +286,7 @@ fn sweep(rt: &impl Abort, alloc: Global, run: (&[u16], &[Step]), index: usize, w
 }
 
 // Sweeps each event of a run but the stops, in all ways. Answers how many runs that were.
-fn sweep_events(rt: &impl Abort, alloc: Global, run: (&[u16], &[Step])) -> u64 {
+fn sweep_events(rt: &impl Abort, alloc: Global, run: (&[&[u16]], &[Step])) -> u64 {
     let mut runs: u64 = 0;
     for (index, step) in run.1.iter().enumerate() {
         if let Step::Stop(_, _) = step {
@@ -265,5 +305,5 @@ fn every_run_with_a_fault_has_one_list(rt: HostRuntime) {
     for run in &RUNS {
         runs = runs.saturating_add(sweep_events(&rt, rt.alloc(), *run));
     }
-    assert!(rt; runs == 1542, "{runs} runs");
+    assert!(rt; runs == 2124, "{runs} runs");
 }

@@ -2,6 +2,8 @@
 ghost use Rattle.std.specs.Prelude.{◌≡◌, ◌⊎◌, ◌↔◌, ◌++◌, ℕ, List, true};
 ghost use Rattle.std.specs.Prelude.{IfOk, IfErr, OnOk, IfSome, IsSomeAnd, IsFalse};
 ghost use Rattle.chain_model.specs.{AllDifferent, has, is_head, is_tail, predecessor, successor};
+ghost use Rattle.chain_model.specs.{is_part};
+ghost use Rattle.chain_model.specs.Configuration.{leaves_out};
 ghost use Rattle.configurations.specs.Configs.{IsConfig};
 ghost use Rattle.configurations.specs.Refusals.{IdsHave, IsLeast};
 ghost use Rattle.configurations.specs.Spelling.{config_text};
@@ -59,6 +61,19 @@ fn after_in(ids: &[NodeId], id: NodeId) -> Option<NodeId>
         [_, later @ ..] => after_in(later, id),
         [] => None,
     }
+}
+
+// Whether the ids are the others with some left out, or none.
+fn is_part(ids: &[NodeId], others: &[NodeId]) -> bool
+    ensures { result ≡ is_part ids.now others.now }
+{
+    let [first, later @ ..] = ids else {
+        return true;
+    };
+    let [other, rest @ ..] = others else {
+        return false;
+    };
+    is_part(if first == other { later } else { ids }, rest)
 }
 
 impl Config {
@@ -130,6 +145,20 @@ impl Config {
         ensures { result ≡ has self.now id }
     {
         self.ids.contains(&id)
+    }
+
+    /// Whether this is the other configuration, or that one with nodes left out.
+    pub fn is_part_of(&self, whole: &Config) -> bool
+        ensures { result ≡ is_part self.now whole.now }
+    {
+        is_part(&self.ids, &whole.ids)
+    }
+
+    /// Whether this is the other configuration with at least one node left out.
+    pub fn leaves_out(&self, whole: &Config) -> bool
+        ensures { result ≡ leaves_out self.now whole.now }
+    {
+        self.is_part_of(whole) && self.ids.len() < whole.ids.len()
     }
 
     /// Spells the configuration behind what `out` holds.

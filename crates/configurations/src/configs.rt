@@ -1,7 +1,7 @@
 // The configuration service's list: each configuration has fewer nodes than the one before.
 ghost use Rattle.std.specs.Prelude.{◌≡◌, ◌<◌, ◌≤◌, length, nat_lt};
 ghost use Rattle.std.specs.Prelude.{IfOk, IfErr, IsTrue, MatchOption};
-ghost use Rattle.chain_model.specs.{Lawful, at_epoch, is_part};
+ghost use Rattle.chain_model.specs.{Lawful, at_epoch};
 ghost use Rattle.configurations.specs.Checks.{each_later, is_smaller, is_in_order};
 ghost use Rattle.configurations.specs.Refusals.{ListHas, IsLeast};
 
@@ -42,25 +42,12 @@ fn all_smaller(configs: &[Config]) -> bool
     }
 }
 
-// Whether the ids are a sublist of the others.
-fn is_part(ids: &[NodeId], others: &[NodeId]) -> bool
-    ensures { result ≡ is_part ids.now others.now }
-{
-    let [first, later @ ..] = ids else {
-        return true;
-    };
-    let [other, rest @ ..] = others else {
-        return false;
-    };
-    is_part(if first == other { later } else { ids }, rest)
-}
-
 // Whether each later configuration is the one before it with nodes left out.
 fn all_in_order(configs: &[Config]) -> bool
     ensures { result ≡ each_later is_in_order configs.now }
 {
     match configs {
-        [first, next, ..] if !is_part(next.ids(), first.ids()) => false,
+        [first, next, ..] if !next.is_part_of(first) => false,
         [_, later @ ..] => all_in_order(later),
         [] => true,
     }

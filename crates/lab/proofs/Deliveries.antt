@@ -1,12 +1,14 @@
 -- The outcome of what an event delivers, by the kind of event.
-use Rattle.std.proofs.Common.{◌≡◌, ℕ, Bool, false, List, map, Option, Some, None, refl, sym}
+use Rattle.std.proofs.Common.{◌≡◌, ℕ, Bool, List, length, map, Option, Some, None, refl, sym}
 use Rattle.std.proofs.Common.{ap, subst, ◌∙◌}
-use Rattle.std.proofs.lemmas.Bool.{cond-true, cond-false, false≢true}
+use Rattle.std.proofs.lemmas.Bool.{cond-true, cond-false, false≢true, le-ltb, lt-ltb}
+use Rattle.std.specs.Prelude.{nat_lt}
 use Rattle.kv_types.specs.{BatchContent, Span}
 use Rattle.disk.specs.declared.Fault.{Fault}
 use Rattle.disk.specs.declared.Junk.{Junk}
 use Rattle.disk.specs.{Slots}
-use Rattle.chain_model.specs.{Configurations, place, Message as ModelFrame, dropped_for, silent}
+use Rattle.chain_model.specs.{Configurations, at_epoch, place, Message as ModelFrame}
+use Rattle.chain_model.specs.{dropped_for, silent}
 use Rattle.chain_model.specs.{started, stopped, SystemState, Answered, StoppedBefore, outcome}
 use Rattle.chain_model.specs.{answers, stops, delivered, nothing, Response}
 use Rattle.chain_model.specs.declared.DropReason.TheVariants as reason
@@ -23,7 +25,8 @@ use Rattle.lab.specs.declared.input.NodeInput.{NodeInput}
 use Rattle.lab.specs.declared.input.StepOutcome.{StepOutcome}
 use Rattle.lab.specs.declared.event.EventKind.{EventKind}
 use Rattle.lab.specs.declared.event.EventKind.TheVariants.{Submit, Get, Rows, Open, Close}
-use Rattle.lab.specs.declared.event.EventKind.TheVariants.{Deliver, Tick, Tend, Start, Stop}
+use Rattle.lab.specs.declared.event.EventKind.TheVariants.{Deliver, Notice, Tick, Tend, Start}
+use Rattle.lab.specs.declared.event.EventKind.TheVariants.{Stop}
 use Rattle.lab.specs.declared.node_state.NodeState.{NodeState}
 use Rattle.lab.specs.declared.report.Line.TheVariants as line
 use Rattle.lab.specs.Events.{modelled, reply_line, line_cause}
@@ -32,6 +35,7 @@ use Rattle.lab.specs.Outcomes.{HasStarted, Starts, Fails, RunsOn, HasStopped, St
 use Rattle.lab.specs.Outcomes.{OutcomeRefines, input_junk}
 use Rattle.lab.specs.Disks.{junk_of}
 use Rattle.lab.specs.SimNodes.{Choice, is_honest, state}
+use Rattle.lab.proofs.AnswerLines.{notice_turns}
 use Rattle.lab.proofs.Outcomes.{IsOutcome, IsTraced, as_plain, chosen, drop_traced, given}
 use Rattle.lab.proofs.Outcomes.{stop_traced, told_fits, with_fault}
 use Rattle.lab.proofs.Rises.{no_answer, no_start, no_stop}
@@ -96,6 +100,14 @@ ack_replies p epoch from committed have (Response.Opened j s) = refl
 ack_replies p epoch from committed have (Response.Closed j s) = refl
 ack_replies p epoch from committed have (Response.Refused j why) = refl
 
+notice_replies : (x epoch : ℕ) (ids : List ℕ) →
+    RepliesSo (Notice x epoch) (input.Notice epoch ids)
+notice_replies x epoch ids (Response.Committed j k) = refl
+notice_replies x epoch ids (Response.Shows j s l) = refl
+notice_replies x epoch ids (Response.Opened j s) = refl
+notice_replies x epoch ids (Response.Closed j s) = refl
+notice_replies x epoch ids (Response.Refused j why) = refl
+
 tick_replies : (x : ℕ) → RepliesSo (Tick x) input.Tick
 tick_replies x (Response.Committed j k) = refl
 tick_replies x (Response.Shows j s l) = refl
@@ -124,11 +136,11 @@ module _ {g : Ghosts Slots} (cs : Configurations) (w : SystemState BatchContent)
     deliver p (frame.Forward epoch from number batch) f there same was =
         given cs w i x (Deliver p) it struck (input.Forward epoch from number batch) new did
         (λ choice. to_addressee p (frame.Forward epoch from number batch) f choice there same)
-        (λ choice. refl) (λ choice o. refl) (forward_replies p epoch from number batch) was
+        (λ choice. refl) (λ choice. (refl, refl)) (forward_replies p epoch from number batch) was
     deliver p (frame.Ack epoch from committed have) f there same was =
         given cs w i x (Deliver p) it struck (input.Ack epoch from committed have) new did
         (λ choice. to_addressee p (frame.Ack epoch from committed have) f choice there same)
-        (λ choice. refl) (λ choice o. refl) (ack_replies p epoch from committed have) was
+        (λ choice. refl) (λ choice. (refl, refl)) (ack_replies p epoch from committed have) was
     deliver p (frame.Notice epoch config) f there same was = absurd (cc)
     deliver p (frame.Submit request batch) f there same was = absurd (cc)
     deliver p (frame.Get request at key) f there same was = absurd (cc)
@@ -193,48 +205,58 @@ module _ {g : Ghosts Slots} (cs : Configurations) (w : SystemState BatchContent)
         traced.0 traced.2 refl))
 
     -- the outcome of the input that an event delivers is the event's
-    pub refined : (kind : EventKind) (node_input : NodeInput) → IsDeliveryOf w.frames i kind x
+    pub refined : (kind : EventKind) (node_input : NodeInput) → IsDeliveryOf cs w.frames i kind x
         node_input →
         OutcomeRefines is_honest state it struck x (w.nodes x) node_input old new did →
         IsOutcome cs w i x kind it struck new did
     refined (Submit node batch) node_input brings was =
         subst (λ (y : ℕ). IsOutcome cs w i x (Submit y batch) it struck new did) brings.0
         (given cs w i x (Submit x batch) it struck (input.Submit i batch) new did (λ choice. refl)
-        (λ choice. refl) (λ choice o. refl) (submit_replies x i batch)
+        (λ choice. refl) (λ choice. (refl, refl)) (submit_replies x i batch)
         (subst (λ (k : NodeInput). OutcomeRefines is_honest state it struck x
         (w.nodes x) k old new did) brings.1 was))
     refined (Get node key at) node_input brings was =
         subst (λ (y : ℕ). IsOutcome cs w i x (Get y key at) it struck new did) brings.0
         (given cs w i x (Get x key at) it struck (input.Get i key at) new did (λ choice. refl)
-        (λ choice. refl) (λ choice o. refl) (get_replies x i key at)
+        (λ choice. refl) (λ choice. (refl, refl)) (get_replies x i key at)
         (subst (λ (k : NodeInput). OutcomeRefines is_honest state it struck x
         (w.nodes x) k old new did) brings.1 was))
     refined (Rows node range at) node_input brings was =
         subst (λ (y : ℕ). IsOutcome cs w i x (Rows y range at) it struck new did) brings.0
         (given cs w i x (Rows x range at) it struck (input.Rows i range at) new did
-        (λ choice. refl) (λ choice. refl) (λ choice o. refl) (rows_replies x i range at)
+        (λ choice. refl) (λ choice. refl) (λ choice. (refl, refl)) (rows_replies x i range at)
         (subst (λ (k : NodeInput). OutcomeRefines is_honest state it struck x
         (w.nodes x) k old new did) brings.1 was))
     refined (Open node at) node_input brings was =
         subst (λ (y : ℕ). IsOutcome cs w i x (Open y at) it struck new did) brings.0
         (given cs w i x (Open x at) it struck (input.Open i at) new did (λ choice. refl)
-        (λ choice. refl) (λ choice o. refl) (open_replies x i at)
+        (λ choice. refl) (λ choice. (refl, refl)) (open_replies x i at)
         (subst (λ (k : NodeInput). OutcomeRefines is_honest state it struck x
         (w.nodes x) k old new did) brings.1 was))
     refined (Close node number) node_input brings was =
         subst (λ (y : ℕ). IsOutcome cs w i x (Close y number) it struck new did) brings.0
         (given cs w i x (Close x number) it struck (input.Close i number) new did (λ choice. refl)
-        (λ choice. refl) (λ choice o. refl) (close_replies x i number)
+        (λ choice. refl) (λ choice. (refl, refl)) (close_replies x i number)
         (subst (λ (k : NodeInput). OutcomeRefines is_honest state it struck x
         (w.nodes x) k old new did) brings.1 was))
     refined (Deliver p) node_input brings was =
         deliver p brings.it brings.frame brings.there brings.same
         (subst (λ (k : NodeInput). OutcomeRefines is_honest state it struck x
         (w.nodes x) k old new did) brings.is was)
+    refined (Notice node epoch) node_input brings was =
+        let ids = at_epoch cs epoch in
+        subst (λ (y : ℕ). IsOutcome cs w i x (Notice y epoch) it struck new did) brings.same
+        (given cs w i x (Notice x epoch) it struck (input.Notice epoch ids) new did
+        (λ choice. cond-true (nat_lt epoch (length cs)) _ _
+        (lt-ltb epoch (length cs) brings.within)) (λ choice. refl)
+        (λ choice. (notice_turns x (w.nodes x) epoch ids choice, refl))
+        (notice_replies x epoch ids)
+        (subst (λ (k : NodeInput). OutcomeRefines is_honest state it struck x
+        (w.nodes x) k old new did) brings.is was))
     refined (Tick node) node_input brings was =
         subst (λ (y : ℕ). IsOutcome cs w i x (Tick y) it struck new did) brings.0
         (given cs w i x (Tick x) it struck input.Tick new did (λ choice. refl)
-        (λ choice. refl) (λ choice o. refl) (tick_replies x)
+        (λ choice. refl) (λ choice. (refl, refl)) (tick_replies x)
         (subst (λ (k : NodeInput). OutcomeRefines is_honest state it struck x
         (w.nodes x) k old new did) brings.1 was))
     refined (Tend node) node_input brings was =
@@ -252,30 +274,34 @@ module _ {g : Ghosts Slots} (cs : Configurations) (w : SystemState BatchContent)
         (w.nodes x) k old new did)
         brings.1 was))
 
--- an event without a frame does nothing
+-- an event without a frame or a configuration does nothing
 pub nothing_done : (cs : Configurations) (w : SystemState BatchContent) (i : ℕ) (kind : EventKind)
-    (choice : Choice) → HasNoDelivery w.frames kind →
+    (choice : Choice) → HasNoDelivery cs w.frames kind →
     outcome w cs (modelled i kind choice) ≡ nothing
-nothing_done cs w i kind choice brings =
-    ap (λ (e : EventKind). outcome w cs (modelled i e choice)) brings.1
-    ∙ ap (λ (o : Option (ModelFrame BatchContent)). delivered w o choice.went) brings.2
+nothing_done cs w i (Deliver p) choice brings =
+    ap (λ (o : Option (ModelFrame BatchContent)). delivered w o choice.went) brings
+nothing_done cs w i (Notice node epoch) choice brings =
+    cond-false (nat_lt epoch (length cs)) _ _ (le-ltb epoch (length cs) brings)
+nothing_done cs w i kind choice brings = absurd brings
 
 -- the junk of a stop is that of its input
-pub junk_same : (frames : List (ModelFrame BatchContent)) (i x : ℕ) (kind : EventKind)
-    (node_input : NodeInput) →
-    IsDeliveryOf frames i kind x node_input → input_junk node_input ≡ junk_of kind
-junk_same frames i x (Submit node batch) node_input brings = ap input_junk brings.1
-junk_same frames i x (Get node key at) node_input brings = ap input_junk brings.1
-junk_same frames i x (Rows node range at) node_input brings = ap input_junk brings.1
-junk_same frames i x (Open node at) node_input brings = ap input_junk brings.1
-junk_same frames i x (Close node number) node_input brings = ap input_junk brings.1
-junk_same frames i x (Deliver p) node_input brings = ap input_junk brings.is ∙ none_with brings.it
+pub junk_same : (cs : Configurations) (frames : List (ModelFrame BatchContent)) (i x : ℕ)
+    (kind : EventKind) (node_input : NodeInput) →
+    IsDeliveryOf cs frames i kind x node_input → input_junk node_input ≡ junk_of kind
+junk_same cs frames i x (Submit node batch) node_input brings = ap input_junk brings.1
+junk_same cs frames i x (Get node key at) node_input brings = ap input_junk brings.1
+junk_same cs frames i x (Rows node range at) node_input brings = ap input_junk brings.1
+junk_same cs frames i x (Open node at) node_input brings = ap input_junk brings.1
+junk_same cs frames i x (Close node number) node_input brings = ap input_junk brings.1
+junk_same cs frames i x (Deliver p) node_input brings =
+    ap input_junk brings.is ∙ none_with brings.it
   where
     none_with : (it : Frame) → input_junk (input_of it) ≡ None
     none_with (frame.Forward epoch from number batch) = refl
     none_with (frame.Ack epoch from committed have) = refl
     none_with _ = refl
-junk_same frames i x (Tick node) node_input brings = ap input_junk brings.1
-junk_same frames i x (Tend node) node_input brings = ap input_junk brings.1
-junk_same frames i x (Start node) node_input brings = ap input_junk brings.1
-junk_same frames i x (Stop node junk) node_input brings = ap input_junk brings.1
+junk_same cs frames i x (Notice node epoch) node_input brings = ap input_junk brings.is
+junk_same cs frames i x (Tick node) node_input brings = ap input_junk brings.1
+junk_same cs frames i x (Tend node) node_input brings = ap input_junk brings.1
+junk_same cs frames i x (Start node) node_input brings = ap input_junk brings.1
+junk_same cs frames i x (Stop node junk) node_input brings = ap input_junk brings.1

@@ -65,6 +65,7 @@ quiet B kind = record {
   nothing = tt;
   dropped = λ why. tt;
   started = λ x e n k. tt;
+  adopted = λ x e. tt;
   forwarded = λ p from to e n. tt;
   acknowledged = λ p from to e k n. tt;
   stopped = λ x cause. tt;

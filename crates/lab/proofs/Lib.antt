@@ -6,6 +6,7 @@ mod Posting
 mod Reading
 mod Places
 mod Rises
+mod AnswerLines
 mod Outcomes
 mod Tends
 mod Deliveries

@@ -1,7 +1,6 @@
 -- The outcome of a step refines an event of the model's world, and has its lines.
-use Rattle.std.proofs.Common.{◌≡◌, ℕ, suc, ◌+◌, List, [], ◌∷◌, ◌++◌, length, map, Option, Some}
-use Rattle.std.proofs.Common.{None, true, false, cond, inl, inr, refl, sym, ap, ap₂, subst, ◌∙◌}
-use Rattle.std.proofs.Common.{arith}
+use Rattle.std.proofs.Common.{◌≡◌, ℕ, List, [], ◌∷◌, ◌++◌, length, map, Option, Some}
+use Rattle.std.proofs.Common.{true, false, cond, inl, inr, refl, sym, ap, ap₂, subst, ◌∙◌}
 use Rattle.std.proofs.lemmas.List.{map-append}
 use Rattle.std.specs.Prelude.{Bool, IfSome}
 use Rattle.std.proofs.lemmas.Bool.{cond-true, cond-false, false≢true}
@@ -9,13 +8,11 @@ use Rattle.kv_types.specs.{BatchContent}
 use Rattle.disk.specs.declared.Fault.{Fault}
 use Rattle.disk.specs.declared.Fault.TheVariants as fault
 use Rattle.disk.specs.{IsEnvironmental, Slots}
-use Rattle.chain_model.specs.{Configurations, Message as ModelFrame, addressee, Answer, dropped_for}
-use Rattle.chain_model.specs.{stopped, SystemState, Outcome, StepResult, Answered, StoppedBefore}
-use Rattle.chain_model.specs.{StoppedAfter, outcome, answers, stops, as_completed, Message}
+use Rattle.chain_model.specs.{Configurations, Answer, dropped_for, stopped, SystemState, Outcome}
+use Rattle.chain_model.specs.{StepResult, Answered, StoppedBefore, StoppedAfter, outcome, answers}
+use Rattle.chain_model.specs.{stops, as_completed}
 use Rattle.chain_model.specs.declared.DropReason.{DropReason}
 use Rattle.chain_model.specs as request
-use Rattle.link_messages.specs.declared.Frame.{Frame}
-use Rattle.link_messages.specs.declared.Frame.TheVariants as frame
 use Rattle.chain_core.specs.declared.Input.{Input}
 use Rattle.chain_core.specs.declared.Input.TheVariants as input
 use Rattle.chain_core.specs.declared.Sent.{Sent}
@@ -34,80 +31,17 @@ use Rattle.lab.specs.declared.event.EventKind.{EventKind}
 use Rattle.lab.specs.declared.node_state.NodeState.{NodeState}
 use Rattle.lab.specs.declared.report.Line.{Line}
 use Rattle.lab.specs.declared.report.Line.TheVariants as line
-use Rattle.lab.specs.Events.{modelled, lines_of_event, dropped_lines, turn_trace, frame_line}
-use Rattle.lab.specs.Events.{RiseFits, frame_lines}
+use Rattle.lab.specs.Events.{RiseFits, dropped_lines, epoch_in, frame_lines, lines_of_event}
+use Rattle.lab.specs.Events.{modelled, turn_trace}
 use Rattle.lab.specs.Events.{reply_line, reply_lines, reported_cause, line_cause}
 use Rattle.lab.specs.SimNodes.{StateRefines, Choice, is_honest, state}
 use Rattle.lab.specs.Outcomes.{down_answer, IsAnswer, IsDrop, HasAnswered}
 use Rattle.lab.specs.Outcomes.{HasHandled, Answers, Ends, Rests, StopsByItself}
-use Rattle.lab.specs.Outcomes.{sent_by, sent_as, sent_lines}
-use Rattle.lab.specs.Outcomes.{outcome_lines}
+use Rattle.lab.specs.Outcomes.{adopted_lines, outcome_lines, sent_by}
 use Rattle.lab.specs.Worlds.{frames_of_step}
+use Rattle.lab.proofs.AnswerLines.{TurnsSo, answered_lines, counts_answer, lines_same}
+use Rattle.lab.proofs.AnswerLines.{no_adoption}
 use Rattle.lab.proofs.Rises.{ChoosesNoRise, IsNoTend, RaisesAsTold, no_answer, no_rise, no_stop}
-
--- ---- lines
-
--- a frame that is sent has the line of the model's
-line_same : (p to : ℕ) (it : Frame) (f : ModelFrame BatchContent) → frame_as to it ≡ Some f →
-    sent_as p to it ≡ frame_line p f
-line_same p to (frame.Forward epoch from number batch) f is =
-    subst (λ (o : Option (ModelFrame BatchContent)). HasLine o) is refl
-  where
-    HasLine : Option (ModelFrame BatchContent) → Type 0
-    HasLine None = Unit {0}
-    HasLine (Some g) = line.Forwarded p from to epoch number ≡ frame_line p g
-line_same p to (frame.Ack epoch from committed have) f is =
-    subst (λ (o : Option (ModelFrame BatchContent)). HasLine o) is refl
-  where
-    HasLine : Option (ModelFrame BatchContent) → Type 0
-    HasLine None = Unit {0}
-    HasLine (Some g) = line.Acknowledged p from to epoch committed have ≡ frame_line p g
-line_same p to (frame.Notice epoch config) f is = absurd (cc)
-line_same p to (frame.Submit request batch) f is = absurd (cc)
-line_same p to (frame.Get request at key) f is = absurd (cc)
-line_same p to (frame.Rows request at range) f is = absurd (cc)
-line_same p to (frame.Open request at) f is = absurd (cc)
-line_same p to (frame.Close request number) f is = absurd (cc)
-line_same p to (frame.Committed request number) f is = absurd (cc)
-line_same p to (frame.Value request number value) f is = absurd (cc)
-line_same p to (frame.RowsAre request number page) f is = absurd (cc)
-line_same p to (frame.Opened request number) f is = absurd (cc)
-line_same p to (frame.Refused request why) f is = absurd (cc)
-line_same p to (frame.Closed request number) f is = absurd (cc)
-
--- .. and so are all of them
-lines_same : (n : ℕ) (sent : List Sent) (frames : List (ModelFrame BatchContent)) →
-    AreFrames sent frames → sent_lines n sent ≡ frame_lines n frames
-lines_same n [] [] are = refl
-lines_same n [] (f ∷ frames) are = absurd (cc)
-lines_same n (s ∷ sent) [] are = absurd (cc)
-lines_same n (s ∷ sent) (f ∷ frames) are =
-    let first : frame_as s.to s.frame ≡ Some f = cc in
-    let more : map (λ (it : Sent). frame_as it.to it.frame) sent ≡ map Some frames = cc in
-    ap₂ (λ (l : Line) (ls : List Line). l ∷ ls) (line_same (suc n) s.to s.frame f first)
-    (lines_same (suc n) sent frames more)
-
--- how many frames lines show
-counts_both : (a b : List Line) → frames_of_step (a ++ b) ≡ frames_of_step a + frames_of_step b
-counts_both [] b = omega arith
-counts_both (x ∷ a) b = omega (arith, counts_both a b)
-
-counts_drop : (why : Option DropReason) → frames_of_step (dropped_lines why) ≡ 0
-counts_drop None = refl
-counts_drop (Some why) = refl
-
-counts_frames : (n : ℕ) (frames : List (ModelFrame BatchContent)) →
-    frames_of_step (frame_lines n frames) ≡ length frames
-counts_frames n [] = refl
-counts_frames n (Message.Forward to epoch from number batch ∷ frames) =
-    omega (arith, counts_frames (suc n) frames)
-counts_frames n (Message.Ack to epoch from committed have ∷ frames) =
-    omega (arith, counts_frames (suc n) frames)
-
-counts_replies : (replies : List Reply) →
-    frames_of_step (map (λ reply. line.Replied reply) replies) ≡ 0
-counts_replies [] = refl
-counts_replies (reply ∷ replies) = omega (arith, counts_replies replies)
 
 -- ---- outcomes
 
@@ -154,9 +88,9 @@ pub record IsOutcome {g : Ghosts Slots} (cs : Configurations) (w : SystemState B
   pub came : (outcome w cs (modelled i kind choice)).acted_on ≡ Some (x, node)
   pub is : StateRefines is_honest state new x node
   pub frames : AreFrames (sent_by did) (outcome w cs (modelled i kind choice)).frames
-  pub traced : (n : ℕ) → outcome_lines x n did
+  pub traced : (n : ℕ) → outcome_lines x (epoch_in kind) n did
       ≡ lines_of_event n (with_fault kind it) choice (outcome w cs (modelled i kind choice))
-  pub counted : (n : ℕ) → frames_of_step (outcome_lines x n did)
+  pub counted : (n : ℕ) → frames_of_step (outcome_lines x (epoch_in kind) n did)
       ≡ length (outcome w cs (modelled i kind choice)).frames
   pub fits : CauseFits (with_fault kind it) choice (outcome w cs (modelled i kind choice))
   pub ends : StopsSo (with_fault kind it) choice did (outcome w cs (modelled i kind choice))
@@ -167,8 +101,10 @@ pub record IsTraced (x : ℕ) (event : Event) (choice : Choice) (did : StepOutco
     (o : Outcome BatchContent)
     : Type 0 where
   pub frames : AreFrames (sent_by did) o.frames
-  pub traced : (n : ℕ) → outcome_lines x n did ≡ lines_of_event n event choice o
-  pub counted : (n : ℕ) → frames_of_step (outcome_lines x n did) ≡ length o.frames
+  pub traced : (n : ℕ) → outcome_lines x (epoch_in event.kind) n did
+      ≡ lines_of_event n event choice o
+  pub counted : (n : ℕ) → frames_of_step (outcome_lines x (epoch_in event.kind) n did)
+      ≡ length o.frames
   pub fits : CauseFits event choice o
   pub ends : StopsSo event choice did o
   pub told : TellsChosen choice did
@@ -223,37 +159,19 @@ module _ {g : Ghosts Slots} (cs : Configurations) (w : SystemState BatchContent)
 
 -- ---- answers and stops
 
--- the lines of an answer, part by part
-abbrev answered_lines : ℕ → Answer BatchContent → List Reply → List Line
-answered_lines n a replies =
-    dropped_lines a.dropped
-    ++ (frame_lines n a.frames ++ map (λ reply. line.Replied reply) replies)
-
-counts_answer : (n : ℕ) (a : Answer BatchContent) (replies : List Reply) →
-    frames_of_step (answered_lines n a replies) ≡ length a.frames
-counts_answer n a replies =
-    let traced = map (λ reply. line.Replied reply) replies in
-    omega (
-      arith,
-      counts_both (dropped_lines a.dropped) (frame_lines n a.frames ++ traced),
-      counts_both (frame_lines n a.frames) traced,
-      counts_drop a.dropped,
-      counts_frames n a.frames,
-      counts_replies replies,
-    )
-
 -- an input's answer has the lines of the model's
 module _ (x : ℕ) (event : Event) (inp : Input) (choice : Choice) (a : Answer BatchContent)
     (output : Output) (is : IsAnswer inp a output) where
-  answer_lines : (n : ℕ) → outcome_lines x n (done.Answered output)
-      ≡ answered_lines n a (replies_of inp a.replies)
+  answer_lines : (n : ℕ) → outcome_lines x (epoch_in event.kind) n (done.Answered output)
+      ≡ answered_lines x (epoch_in event.kind) n a (replies_of inp a.replies)
   answer_lines n =
-      ap₂ (λ (d f : List Line). d ++ (f ++ map (λ reply. line.Replied reply) output.replies.items))
-      (ap dropped_lines is.dropped)
-      (lines_same n output.frames.items a.frames is.frames)
-      ∙ ap (λ (rs : List Reply). answered_lines n a rs) is.replied
+      ap₂ (λ (d : Option DropReason) (f : List Line). dropped_lines d
+      ++ (adopted_lines x (epoch_in event.kind) d
+      ++ (f ++ map (λ reply. line.Replied reply) output.replies.items)))
+      is.dropped (lines_same n output.frames.items a.frames is.frames)
+      ∙ ap (λ (rs : List Reply). answered_lines x (epoch_in event.kind) n a rs) is.replied
 
-  answer_traced : (turn_trace event.kind choice (answers x a) ≡ []) →
+  answer_traced : TurnsSo x event.kind choice a →
       (reply_lines event.kind a.replies
       ≡ map (λ reply. line.Replied reply) (replies_of inp a.replies)) →
       IsTraced x event choice (done.Answered output) (answers x a)
@@ -263,7 +181,7 @@ module _ (x : ℕ) (event : Event) (inp : Input) (choice : Choice) (a : Answer B
         ∙ ap₂ (λ (s r : List Line). dropped_lines a.dropped ++ (s ++ (frame_lines n a.frames ++ r)))
         (sym starts) (sym replies);
     counted = λ n. ap frames_of_step (answer_lines n)
-        ∙ counts_answer n a (replies_of inp a.replies);
+        ∙ counts_answer x (epoch_in event.kind) n a (replies_of inp a.replies);
     fits = λ stops. absurd (false≢true stops);
     ends = (refl, is.dropped);
     told = tt;
@@ -302,7 +220,7 @@ drop_traced x event choice n why output is starts =
       dropped = is.dropped;
       frames = ap (map (λ (it : Sent). frame_as it.to it.frame)) is.frames;
       replied = is.replied;
-    }) starts refl
+    }) (starts ∙ sym (no_adoption x (epoch_in event.kind) why)) refl
 
 -- ---- inputs
 
@@ -327,7 +245,8 @@ module _ {g : Ghosts Slots} (cs : Configurations) (w : SystemState BatchContent)
     (answers x (down_answer (w.nodes x) inp)))
     (causes : (choice : Choice) →
     reported_cause kind it choice ≡ line_cause it choice.struck choice.cause)
-    (starts : (choice : Choice) (o : Outcome BatchContent) → turn_trace kind choice o ≡ [])
+    (turns : (choice : Choice) → TurnsSo x kind choice (answer_to x (w.nodes x) inp)
+    × TurnsSo x kind choice (down_answer (w.nodes x) inp))
     (replies : (r : request.Response BatchContent) → reply_line kind r
     ≡ map (λ reply. line.Replied reply) (replies_to_response inp r)) where
   runs : (choice : Choice) → (w.nodes x).running ≡ true → outcome w cs (modelled i kind choice)
@@ -340,13 +259,13 @@ module _ {g : Ghosts Slots} (cs : Configurations) (w : SystemState BatchContent)
 
   -- the node answers so
   tells : (a : Answer BatchContent) → (traced : HasAnswered did (IsAnswer inp a)) →
+      TurnsSo x kind (chosen Answered struck Disk) a →
       IsTraced x (with_fault kind it) (chosen Answered struck Disk) did (answers x a)
-  tells a traced = subst (λ (d : StepOutcome). IsTraced x (with_fault kind it)
+  tells a traced turn = subst (λ (d : StepOutcome). IsTraced x (with_fault kind it)
       (chosen Answered struck Disk) d (answers x a))
       (sym traced.1)
       (answer_traced x (with_fault kind it) inp (chosen Answered struck Disk) a traced.0 traced.2
-      (starts (chosen Answered struck Disk) (answers x a))
-      (shows_so inp kind a.replies replies))
+      turn (shows_so inp kind a.replies replies))
 
   -- .. or stops so
   ends : (went : StepResult) (n : Machine) (stop : StopsByItself it struck did) →
@@ -364,7 +283,8 @@ module _ {g : Ghosts Slots} (cs : Configurations) (w : SystemState BatchContent)
       as_plain cs w i x kind it new did (chosen Answered struck Disk) (refl, refl)
       (no_answer traced.1) (answers x (answer_to x (w.nodes x) inp))
       (answer_to x (w.nodes x) inp).node
-      (runs (chosen Answered struck Disk) up) refl is (tells (answer_to x (w.nodes x) inp) traced)
+      (runs (chosen Answered struck Disk) up) refl is
+      (tells (answer_to x (w.nodes x) inp) traced (turns (chosen Answered struck Disk)).0)
   given (Ends up stop (inl before)) =
       as_plain cs w i x kind it new did (chosen StoppedBefore struck stop.cause) (refl, refl)
       (no_stop stop.told) (stops x (w.nodes x)) (stopped (w.nodes x))
@@ -382,7 +302,7 @@ module _ {g : Ghosts Slots} (cs : Configurations) (w : SystemState BatchContent)
       (down_answer (w.nodes x) inp).node
       (rests (chosen Answered struck Disk) off) refl
       (subst (λ (n : Machine). StateRefines is_honest state new x n) (sym (rests_same inp)) is)
-      (tells (down_answer (w.nodes x) inp) traced)
+      (tells (down_answer (w.nodes x) inp) traced (turns (chosen Answered struck Disk)).1)
     where
       rests_same : (inp : Input) → (down_answer (w.nodes x) inp).node ≡ w.nodes x
       rests_same (input.Submit request batch) = refl
@@ -392,4 +312,5 @@ module _ {g : Ghosts Slots} (cs : Configurations) (w : SystemState BatchContent)
       rests_same (input.Close request number) = refl
       rests_same (input.Forward epoch from number batch) = refl
       rests_same (input.Ack epoch from committed have) = refl
+      rests_same (input.Notice epoch ids) = refl
       rests_same input.Tick = refl

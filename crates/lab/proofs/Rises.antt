@@ -1,5 +1,5 @@
 -- What was chosen to rise in an event, and that nothing rises in one that is no tend.
-use Rattle.std.proofs.Common.{◌≡◌, ℕ, true, false, sym, ◌∙◌}
+use Rattle.std.proofs.Common.{◌≡◌, ℕ, false, sym, ◌∙◌}
 use Rattle.std.proofs.lemmas.Bool.{false≢true}
 use Rattle.std.specs.Prelude.{Option}
 use Rattle.kv_types.specs.{BatchContent}

@@ -1,7 +1,6 @@
 -- A tend of a simulated node, as an event of the model: what rose in it, and what was given up.
-use Rattle.std.proofs.Common.{◌≡◌, ◌⊎◌, ℕ, Bool, true, false, inl, inr, refl, sym, ap, subst, ◌∙◌}
+use Rattle.std.proofs.Common.{◌≡◌, ℕ, Bool, true, false, inl, inr, refl, sym, ap, subst, ◌∙◌}
 use Rattle.std.proofs.Common.{arith, Some}
-use Rattle.std.specs.Prelude.{min}
 use Rattle.std.proofs.lemmas.Bool.{cond-true, cond-false, false≢true}
 use Rattle.kv_types.specs.{BatchContent}
 use Rattle.disk.specs.declared.Disk.{Ghosts}
@@ -15,7 +14,7 @@ use Rattle.chain_model.specs.Rules.{tend}
 use Rattle.chain_core.specs.{Machine}
 use Rattle.engine.specs.Tended.{Tended}
 use Rattle.engine.specs.Tended.TheVariants as idle
-use Rattle.engine.specs.{Facts, IsTendAnswer, facts_of}
+use Rattle.engine.specs.{Facts, facts_of}
 use Rattle.node.specs.declared.Node.{Node}
 use Rattle.node.specs.declared.Stop.{Stop as Cause}
 use Rattle.node.specs.declared.Stop.TheVariants.{Disk}

@@ -10,10 +10,11 @@ use Rattle.engine.specs.Tended.{Tended}
 use Rattle.node.specs.declared.Stop.{Stop as Cause}
 use Rattle.lab.specs.declared.event.Event.{Event}
 use Rattle.lab.specs.declared.event.EventKind.{EventKind}
-use Rattle.lab.specs.declared.event.EventKind.TheVariants.{Tend, Start}
+use Rattle.lab.specs.declared.event.EventKind.TheVariants.{Notice, Tend, Start}
 use Rattle.lab.specs.declared.report.Line.{Line}
 use Rattle.lab.specs.declared.report.Line.TheVariants as line
-use Rattle.lab.specs.Events.{lines_at, lines_if, dropped_lines, if_started, if_tended}
+use Rattle.lab.specs.Events.{lines_at, lines_if, dropped_lines, if_adopted, if_started}
+use Rattle.lab.specs.Events.{if_tended}
 use Rattle.lab.specs.Events.{turn_trace, frame_lines, reply_lines, reported_cause}
 use Rattle.lab.specs.SimNodes.{Choice}
 
@@ -22,6 +23,7 @@ pub record IsQuiet (Of : Line → Type 0) : Type 0 where
   pub nothing : Of line.Nothing
   pub dropped : (why : DropReason) → Of (line.Dropped why)
   pub started : (x e n k : ℕ) → Of (line.Started x e n k)
+  pub adopted : (x e : ℕ) → Of (line.Adopted x e)
   pub forwarded : (p from to e n : ℕ) → Of (line.Forwarded p from to e n)
   pub acknowledged : (p from to e k n : ℕ) → Of (line.Acknowledged p from to e k n)
   pub stopped : (x : ℕ) (cause : Option Cause) → Of (line.Stopped x cause)
@@ -58,6 +60,11 @@ module _ (Of : Line → Type 0) (quiet : IsQuiet Of) where
       (quiet.started at.0 at.1.epoch (length at.1.list) at.1.committed, tt)
   if_start (Some why) at = tt
 
+  if_adopts : (why : Option DropReason) (at : Option (ℕ × Machine)) → Each (if_adopted why at)
+  if_adopts None None = tt
+  if_adopts None (Some at) = (quiet.adopted at.0 at.1.epoch, tt)
+  if_adopts (Some why) at = tt
+
   if_tend : (why : Option DropReason) (did : Tended) → Each (if_tended why did)
   if_tend None did = (quiet.tended did, tt)
   if_tend (Some why) did = tt
@@ -71,6 +78,7 @@ module _ (Of : Line → Type 0) (quiet : IsQuiet Of) where
 
   turns : (kind : EventKind) (choice : Choice) (o : Outcome BatchContent) →
       Each (turn_trace kind choice o)
+  turns (Notice x epoch) choice o = if_adopts o.dropped o.acted_on
   turns (Tend x) choice o = if_tend o.dropped choice.tended
   turns (Start x) choice o = if_start o.dropped o.acted_on
   turns kind choice o = tt

@@ -7,7 +7,7 @@ use Rattle.std.proofs.lemmas.List.Elements.{All-weaker}
 use Rattle.kv_types.specs.declared.bounds.TheConstants.{MAX_NUMBER}
 use Rattle.kv_types.specs.declared.Limits.{Limits}
 use Rattle.kv_types.specs.{BatchContent}
-use Rattle.chain_model.specs.{SystemState, first_state, node_of}
+use Rattle.chain_model.specs.{Configurations, SystemState, first_state, node_of}
 use Rattle.lab.specs.declared.delivery.Posted.{Posted}
 use Rattle.lab.specs.declared.event.Event.{Event}
 use Rattle.lab.specs.declared.input.NodeInput.{NodeInput}
@@ -15,6 +15,7 @@ use Rattle.lab.specs.declared.report.Line.{Line}
 use Rattle.lab.specs.declared.report.Line.TheVariants.{Nothing}
 use Rattle.lab.specs.declared.sim_node.SimNode.{SimNode}
 use Rattle.lab.specs.declared.world.World.{World}
+use Rattle.lab.specs.Events.{NamesNode}
 use Rattle.lab.specs.SimNodes.{Choice, StateRefines, is_honest, state}
 use Rattle.lab.specs.Traces.{modelled_from}
 use Rattle.lab.specs.Worlds.{FollowRun, HasApplied, HasFollowed, HasKept, HasNoNode, HasRun}
@@ -22,8 +23,8 @@ use Rattle.lab.specs.Worlds.{HasStepped, HaveLimits, NodesRefine, RunRefines, Si
 use Rattle.lab.specs.Worlds.{WorldHasEnded, WorldKeepsLimits, WorldRun, extended}
 use Rattle.lab.proofs.Growing.{follow_limited, length-steps, nodes-push, run-push}
 use Rattle.lab.proofs.Moves.{limited}
-use Rattle.lab.proofs.Worlds.{AlwaysInOrder, FitsDelivery, IsNext, named_after, node_after}
-use Rattle.lab.proofs.Worlds.{nothing_after, nothing_named, refined_after}
+use Rattle.lab.proofs.Worlds.{AlwaysInOrder, FitsDelivery, IsNext, node_after, nothing_after}
+use Rattle.lab.proofs.Worlds.{refined_after}
 
 -- an event's place is one more than there are steps
 place_of : (world : World) (past : WorldRun) → HasRun world past → (n i : ℕ) →
@@ -120,11 +121,11 @@ ends_so (Ok v) mid new event lines ended keeps fails =
     λ ends. false≢true (sym (ap (λ (w : World). w.ended) keeps.others) ∙ ends)
 ends_so (Err e) mid new event lines ended keeps fails = fails ∙ ended
 
--- The next event of a world, by what it was found to bring.
+-- The next event of a world, which names a node of it or none, by what it was found to bring.
 module _ (in_order : AlwaysInOrder) (old : World) (n i : ℕ) (long : n ≡ old.steps.len)
     (few : n + 1 ≤ MAX_NUMBER) (at : i ≡ n + 1) (event : Event) (found : Option (ℕ × NodeInput))
-    (fits : FitsDelivery old.frames.items i event.kind found) (past : WorldRun)
-    (run : HasRun old past) where
+    (here : FitsDelivery old.configs old.frames.items i event.kind found)
+    (is_named : NamesNode old.configs event.kind) (past : WorldRun) (run : HasRun old past) where
   next : IsNext past.events i
   next = place_of old past run n i long few at
 
@@ -134,49 +135,42 @@ module _ (in_order : AlwaysInOrder) (old : World) (n i : ℕ) (long : n ≡ old.
   abbrev posted : List Posted
   posted = old.frames.items
 
+  -- what it was found to bring fits the configurations of the run, and so does the node that it
+  -- names
+  fits : FitsDelivery past.configs posted i event.kind found
+  fits = subst (λ (cs : Configurations). FitsDelivery cs posted i event.kind found) run.configs here
+
+  names : NamesNode past.configs event.kind
+  names = subst (λ (cs : Configurations). NamesNode cs event.kind) run.configs is_named
+
   -- one that brings nothing is applied where it is kept
   pub passed_after : found ≡ None → (new : World) →
       HasKept (record old { ended = true }) new event (Nothing ∷ []) → HasApplied old new past event
   passed_after none new keeps =
       let grows = nothing_after in_order past sims posted run.made i next event found fits none in
       record {
-        follows = λ names. followed_so old (record old { ended = true }) new event (Nothing ∷ [])
+        follows = λ _. followed_so old (record old { ended = true }) new event (Nothing ∷ [])
             refl keeps (λ has. has) past run grows.choice grows.ran grows.nodes;
-        nothing = λ other. absurd (other
-            (nothing_named in_order past sims posted run.made i next event found fits none));
+        nothing = λ other. absurd (other names);
       }
 
   module _ (it : ℕ × NodeInput) (is : found ≡ Some it) where
     -- one that is for a node is applied by the node's step
     pub delivered_after : (mid new : World) (lines : List Line) →
         mid ≡ record old { nodes = mid.nodes; frames = mid.frames; ended = true } →
-        HasStepped sims posted it.0 it.1 event.fault old.limits lines mid.nodes.items
-        mid.frames.items → HasKept mid new event lines → HasApplied old new past event
+        HasStepped sims posted it.0 it.1 event old.limits lines mid.nodes.items mid.frames.items →
+        HasKept mid new event lines → HasApplied old new past event
     delivered_after mid new lines delivers stepped keeps =
         let grows = refined_after in_order past sims posted run.made i next event found fits it is
         old.limits lines mid.nodes.items mid.frames.items stepped in
         record {
-          follows = λ names. followed_so old mid new event lines delivers keeps
+          follows = λ _. followed_so old mid new event lines delivers keeps
               (limited sims it.0 it.1 event.fault old.limits stepped.did mid.nodes.items
               stepped.took) past run grows.choice grows.ran grows.nodes;
-          nothing = λ other. absurd (other (named_after in_order past sims posted run.made i next
-              event found fits it is old.limits lines mid.nodes.items mid.frames.items stepped));
+          nothing = λ other. absurd (other names);
         }
 
-    -- one that is for a node which the world does not have is not applied
-    pub ignored_after : HasNoNode sims it.0 → HasApplied old (record old { ended = false }) past
-        event
-    ignored_after none = record {
-      follows = λ names. absurd (node_after in_order past sims posted run.made i next event found
-          fits it is names none);
-      nothing = λ other. record {
-        run = record {
-          configs = run.configs;
-          kept = run.kept;
-          taken = run.taken;
-          made = run.made;
-          came = run.came;
-        };
-        nodes = refl;
-      };
-    }
+    -- the world has the node that one is for
+    pub ignored_after : HasNoNode sims it.0 → (new : World) → HasApplied old new past event
+    ignored_after none new = absurd (node_after in_order past sims posted run.made i next event
+        found fits it is names none)

@@ -23,8 +23,7 @@ use Rattle.chain_core.specs.{Machine}
 use Rattle.lab.specs.declared.input.NodeInput.{NodeInput}
 use Rattle.lab.specs.declared.event.Event.{Event}
 use Rattle.lab.specs.declared.event.EventKind.{EventKind}
-use Rattle.lab.specs.declared.event.EventKind.TheVariants.{Submit, Get, Rows, Open, Close}
-use Rattle.lab.specs.declared.event.EventKind.TheVariants.{Deliver, Tick, Tend, Start, Stop}
+use Rattle.lab.specs.declared.event.EventKind.TheVariants.{Deliver, Notice}
 use Rattle.engine.specs.Tended.TheVariants as tended
 use Rattle.lab.specs.declared.delivery.Posted.{Posted}
 use Rattle.lab.specs.declared.report.Line.{Line}
@@ -45,17 +44,19 @@ use Rattle.lab.proofs.Deliveries.{refined, nothing_done, junk_same}
 use Rattle.lab.proofs.Disks.{MayRise, with_disk, all_follow, none_follow, follows, few_more}
 use Rattle.lab.proofs.Disks.{at_most_one, none_armed, stops_so}
 use Rattle.lab.proofs.Dispatching.{sound}
-use Rattle.lab.proofs.SimNodes.{ids_of, has_at, has_one, refined_at}
+use Rattle.lab.proofs.SimNodes.{ids_of, has_one, refined_at}
 use Rattle.lab.proofs.Growing.{grown, run-push}
 use Rattle.lab.proofs.Addressees.{IsNumbered, addressed, all_numbered, back, kept_all}
 use Rattle.lab.proofs.Moves.{crash_of, struck_by, tended_so}
 use Rattle.lab.proofs.Rises.{no_rise}
 
--- the delivery that was found is that of the event, by the frames that are posted
-abbrev pub FitsDelivery : List Posted → ℕ → EventKind → Option (ℕ × NodeInput) → Type 0
-FitsDelivery posted i kind found = (frames : List (ModelFrame BatchContent)) →
-    AllZip PostedRefines posted frames → MatchOption found (HasNoDelivery frames kind)
-    (λ it. IsDeliveryOf frames i kind it.0 it.1)
+-- the delivery that was found is that of the event, by the configurations and the frames that are
+-- posted
+abbrev pub FitsDelivery : Configurations → List Posted → ℕ → EventKind → Option (ℕ × NodeInput)
+    → Type 0
+FitsDelivery cs posted i kind found = (frames : List (ModelFrame BatchContent)) →
+    AllZip PostedRefines posted frames → MatchOption found (HasNoDelivery cs frames kind)
+    (λ it. IsDeliveryOf cs frames i kind it.0 it.1)
 
 -- the number is the place of the event behind these
 pub record IsNext (events : List Event) (i : ℕ) : Type 0 where
@@ -95,17 +96,19 @@ module _ (in_order : AlwaysInOrder) (past : WorldRun) (sims : List SimNode) (pos
 
   -- the world has the node that an event is for
   has_its_node : (x : ℕ) (node_input : NodeInput) → NamesNode cs event.kind →
-      IsDeliveryOf w.frames i event.kind x node_input → HasNoNode sims x → ⊥
+      IsDeliveryOf cs w.frames i event.kind x node_input → HasNoNode sims x → ⊥
   has_its_node x node_input names brings none = has_one sims x
       (subst (λ (c : List ℕ). has c x ≡ true) (sym made.nodes) (has_it event.kind names brings))
       none
     where
-      has_it : (kind : EventKind) → NamesNode cs kind → IsDeliveryOf w.frames i kind x node_input →
-          has (at_epoch cs 0) x ≡ true
+      has_it : (kind : EventKind) → NamesNode cs kind →
+          IsDeliveryOf cs w.frames i kind x node_input → has (at_epoch cs 0) x ≡ true
       has_it (Deliver p) names brings =
           let es = modelled_from 1 events choices in
           addressed cs es (in_order cs es made.lawful) p x brings.it brings.frame
           brings.there brings.same
+      has_it (Notice node epoch) names brings =
+          subst (λ (y : ℕ). has (at_epoch cs 0) y ≡ true) (sym brings.same) names
       has_it kind names brings =
           subst (λ (y : ℕ). has (at_epoch cs 0) y ≡ true) (sym brings.0) names
 
@@ -127,9 +130,9 @@ module _ (in_order : AlwaysInOrder) (past : WorldRun) (sims : List SimNode) (pos
 
   -- a step of the node refines one event more
   refined_next : (x : ℕ) (node_input : NodeInput) (limits : Limits) (lines : List Line)
-      (now : List SimNode) (more : List Posted) → IsDeliveryOf w.frames i event.kind x node_input →
-      HasStepped sims posted x node_input event.fault limits lines now more →
-      Grows now more lines
+      (now : List SimNode) (more : List Posted) →
+      IsDeliveryOf cs w.frames i event.kind x node_input →
+      HasStepped sims posted x node_input event limits lines now more → Grows now more lines
   refined_next x node_input limits lines now more brings t =
       let sim = t.took.sim in
       let all = recursion_from_All (SimNodeRefines w.nodes made.disks) sims made.each in
@@ -159,7 +162,7 @@ module _ (in_order : AlwaysInOrder) (past : WorldRun) (sims : List SimNode) (pos
       t.did d sim.state) slots
       (subst (λ (j : Option Junk). DiskFits state failures past_states j event.fault struck t.did
       (disk_in old.state) sim.state)
-      (junk_same w.frames i x event.kind node_input brings) (t.took.dispatched.disk tt))) in
+      (junk_same cs w.frames i x event.kind node_input brings) (t.took.dispatched.disk tt))) in
       let marked : MarksFit state past_states marks
       (junk_of event.kind) event.fault out.choice.struck
       t.did (made.disks x) sim.state =
@@ -170,7 +173,7 @@ module _ (in_order : AlwaysInOrder) (past : WorldRun) (sims : List SimNode) (pos
       t.did d sim.state) slots
       (subst (λ (j : Option Junk). MarksFit state past_states marks j event.fault struck t.did
       (disk_in old.state) sim.state)
-      (junk_same w.frames i x event.kind node_input brings) (t.took.dispatched.marked tt))) in
+      (junk_same cs w.frames i x event.kind node_input brings) (t.took.dispatched.marked tt))) in
       let few = made.few x in
       let may : MayRise (made.disks x) = omega (arith, few, next.at, next.fits) in
       let reliable = subst IsReliable (sym slots) may in
@@ -239,14 +242,14 @@ module _ (in_order : AlwaysInOrder) (past : WorldRun) (sims : List SimNode) (pos
                   out.choice o
                   out.node d own) (sym slots) follow;
               stops = λ junk is own runs.
-                  let stop = subst (λ (k : EventKind). IsDeliveryOf w.frames i k x node_input) is
-                  brings in
+                  let stop = subst (λ (k : EventKind). IsDeliveryOf cs w.frames i k x node_input)
+                  is brings in
                   crash_of junk own old.state sim.state runs
                   (subst (λ (k : NodeInput). StateFollows is_honest state failures past_states
                   old.state k sim.state) stop.1 t.took.dispatched.follows);
               tends = λ is.
-                  let turn = subst (λ (k : EventKind). IsDeliveryOf w.frames i k x node_input) is
-                  brings in
+                  let turn = subst (λ (k : EventKind). IsDeliveryOf cs w.frames i k x node_input)
+                  is brings in
                   tended_so event.fault struck x (w.nodes x) old.state sim.state t.did out.choice
                   before
                   (subst (λ (k : NodeInput). OutcomeRefines is_honest state event.fault struck x
@@ -255,35 +258,8 @@ module _ (in_order : AlwaysInOrder) (past : WorldRun) (sims : List SimNode) (pos
             }));
       }
 
-  -- the event of a step names a node of configuration 0, if it names one
-  named_next : (x : ℕ) (node_input : NodeInput) (limits : Limits) (lines : List Line)
-      (now : List SimNode) (more : List Posted) → IsDeliveryOf w.frames i event.kind x node_input →
-      HasStepped sims posted x node_input event.fault limits lines now more →
-      NamesNode cs event.kind
-  named_next x node_input limits lines now more brings t = named event.kind brings
-    where
-      has_it : (node : ℕ) → x ≡ node → has (at_epoch cs 0) node ≡ true
-      has_it node same =
-          let sim = t.took.sim in
-          let id = (get_or sims t.took.index sim).id in
-          subst (λ (y : ℕ). has (at_epoch cs 0) y ≡ true) (t.took.at.id sim ∙ same)
-          (subst (λ (c : List ℕ). has c id ≡ true) made.nodes
-          (has_at sims t.took.index sim t.took.at.within))
-
-      named : (kind : EventKind) → IsDeliveryOf w.frames i kind x node_input → NamesNode cs kind
-      named (Submit node batch) brings = has_it node brings.0
-      named (Get node key at) brings = has_it node brings.0
-      named (Rows node range at) brings = has_it node brings.0
-      named (Open node at) brings = has_it node brings.0
-      named (Close node number) brings = has_it node brings.0
-      named (Deliver p) brings = tt
-      named (Tick node) brings = has_it node brings.0
-      named (Tend node) brings = has_it node brings.0
-      named (Start node) brings = has_it node brings.0
-      named (Stop node junk) brings = has_it node brings.0
-
-  -- no frame has the place
-  nothing_next : HasNoDelivery w.frames event.kind → Grows sims posted (Nothing ∷ [])
+  -- no frame has the place, or no configuration the epoch
+  nothing_next : HasNoDelivery cs w.frames event.kind → Grows sims posted (Nothing ∷ [])
   nothing_next brings =
       let choice : Choice =
       record {
@@ -331,39 +307,24 @@ module _ (in_order : AlwaysInOrder) (past : WorldRun) (sims : List SimNode) (pos
       }
 
   -- the same, by what an event was found to bring
-  module _ (found : Option (ℕ × NodeInput)) (fits : FitsDelivery posted i event.kind found)
+  module _ (found : Option (ℕ × NodeInput)) (fits : FitsDelivery cs posted i event.kind found)
     where
       pub nothing_after : found ≡ None → Grows sims posted (Nothing ∷ [])
-      nothing_after is = nothing_next (MatchOption-at_none (HasNoDelivery w.frames event.kind)
-          (λ it. IsDeliveryOf w.frames i event.kind it.0 it.1) is (fits w.frames made.frames))
-
-      -- .. and such an event names no node
-      pub nothing_named : found ≡ None → NamesNode cs event.kind
-      nothing_named is =
-          let brings = MatchOption-at_none (HasNoDelivery w.frames event.kind)
-          (λ it. IsDeliveryOf w.frames i event.kind it.0 it.1) is
-          (fits w.frames made.frames) in
-          subst (λ (kind : EventKind). NamesNode cs kind) (sym brings.1) tt
+      nothing_after is = nothing_next (MatchOption-at_none (HasNoDelivery cs w.frames event.kind)
+          (λ it. IsDeliveryOf cs w.frames i event.kind it.0 it.1) is (fits w.frames made.frames))
 
       module _ (it : ℕ × NodeInput) (is : found ≡ Some it) where
-        brings : IsDeliveryOf w.frames i event.kind it.0 it.1
-        brings = MatchOption-at_some (HasNoDelivery w.frames event.kind)
-            (λ it. IsDeliveryOf w.frames i event.kind it.0 it.1) it is
+        brings : IsDeliveryOf cs w.frames i event.kind it.0 it.1
+        brings = MatchOption-at_some (HasNoDelivery cs w.frames event.kind)
+            (λ it. IsDeliveryOf cs w.frames i event.kind it.0 it.1) it is
             (fits w.frames made.frames)
 
         pub node_after : NamesNode cs event.kind → HasNoNode sims it.0 → ⊥
         node_after names none = has_its_node it.0 it.1 names brings none
 
-        pub named_after : (limits : Limits) (lines : List Line) (now : List SimNode)
-            (more : List Posted) →
-            HasStepped sims posted it.0 it.1 event.fault limits lines now more →
-            NamesNode cs event.kind
-        named_after limits lines now more t =
-            named_next it.0 it.1 limits lines now more brings t
-
         pub refined_after : (limits : Limits) (lines : List Line) (now : List SimNode)
             (more : List Posted) →
-            HasStepped sims posted it.0 it.1 event.fault limits lines now more →
+            HasStepped sims posted it.0 it.1 event limits lines now more →
             Grows now more lines
         refined_after limits lines now more t =
             refined_next it.0 it.1 limits lines now more brings t

@@ -1,7 +1,7 @@
 -- What an event delivers to a simulated node: the node's id and its input.
-use Rattle.std.specs.Prelude.{◌≡◌, ℕ, List, Some, None}
+use Rattle.std.specs.Prelude.{◌≡◌, ℕ, ◌<◌, ◌≤◌, List, length, Some, None}
 use Rattle.kv_types.specs.{BatchContent}
-use Rattle.chain_model.specs.{place}
+use Rattle.chain_model.specs.{Configurations, at_epoch, place}
 use Rattle.chain_model.specs as model_frame
 use Rattle.link_messages.specs.declared.Frame.{Frame}
 use Rattle.link_messages.specs.declared.Frame.TheVariants as frame
@@ -12,7 +12,8 @@ use Rattle.lab.specs.declared.input.NodeInput.{NodeInput}
 use Rattle.lab.specs.declared.input.NodeInput.TheVariants as to_node
 use Rattle.lab.specs.declared.event.EventKind.{EventKind}
 use Rattle.lab.specs.declared.event.EventKind.TheVariants.{Submit, Get, Rows, Open, Close}
-use Rattle.lab.specs.declared.event.EventKind.TheVariants.{Deliver, Tick, Tend, Start, Stop}
+use Rattle.lab.specs.declared.event.EventKind.TheVariants.{Deliver, Notice, Tick, Tend, Start}
+use Rattle.lab.specs.declared.event.EventKind.TheVariants.{Stop}
 use Rattle.lab.specs.declared.delivery.Posted.{Posted}
 
 -- the input that a frame is to its addressee
@@ -40,25 +41,36 @@ pub record IsDelivered (frames : List (model_frame.Message BatchContent)) (p x :
   pub same : frame_as x it ≡ Some frame
   pub is : node_input ≡ input_of it
 
--- the event in place i delivers this input to node x, after these frames
-abbrev pub IsDeliveryOf : List (model_frame.Message BatchContent) → ℕ → EventKind → ℕ → NodeInput
-    → Type 0
-IsDeliveryOf frames i (Submit node batch) x node_input =
-    (x ≡ node) × (node_input ≡ to_node.Step (input.Submit i batch))
-IsDeliveryOf frames i (Get node key at) x node_input =
-    (x ≡ node) × (node_input ≡ to_node.Step (input.Get i key at))
-IsDeliveryOf frames i (Rows node range at) x node_input =
-    (x ≡ node) × (node_input ≡ to_node.Step (input.Rows i range at))
-IsDeliveryOf frames i (Open node at) x node_input =
-    (x ≡ node) × (node_input ≡ to_node.Step (input.Open i at))
-IsDeliveryOf frames i (Close node number) x node_input =
-    (x ≡ node) × (node_input ≡ to_node.Step (input.Close i number))
-IsDeliveryOf frames i (Deliver p) x node_input = IsDelivered frames p x node_input
-IsDeliveryOf frames i (Tick node) x node_input = (x ≡ node) × (node_input ≡ to_node.Step input.Tick)
-IsDeliveryOf frames i (Tend node) x node_input = (x ≡ node) × (node_input ≡ to_node.Tend)
-IsDeliveryOf frames i (Start node) x node_input = (x ≡ node) × (node_input ≡ to_node.Start)
-IsDeliveryOf frames i (Stop node junk) x node_input = (x ≡ node) × (node_input ≡ to_node.Stop junk)
+-- the input tells node x of the configuration of an epoch, which the list has
+pub record IsNotice (cs : Configurations) (node epoch x : ℕ) (node_input : NodeInput) : Type 0 where
+  pub same : x ≡ node
+  pub within : epoch < length cs
+  pub is : node_input ≡ to_node.Step (input.Notice epoch (at_epoch cs epoch))
 
--- the event delivers a frame, and no frame has its place
-abbrev pub HasNoDelivery : List (model_frame.Message BatchContent) → EventKind → Type 0
-HasNoDelivery frames kind = (p : ℕ) × (kind ≡ Deliver p) × HasNoFrame frames p
+-- what events deliver after these frames, where this is the list of configurations
+module _ (cs : Configurations) (frames : List (model_frame.Message BatchContent)) where
+  -- the event in place i delivers this input to node x
+  abbrev pub IsDeliveryOf : ℕ → EventKind → ℕ → NodeInput → Type 0
+  IsDeliveryOf i (Submit node batch) x node_input =
+      (x ≡ node) × (node_input ≡ to_node.Step (input.Submit i batch))
+  IsDeliveryOf i (Get node key at) x node_input =
+      (x ≡ node) × (node_input ≡ to_node.Step (input.Get i key at))
+  IsDeliveryOf i (Rows node range at) x node_input =
+      (x ≡ node) × (node_input ≡ to_node.Step (input.Rows i range at))
+  IsDeliveryOf i (Open node at) x node_input =
+      (x ≡ node) × (node_input ≡ to_node.Step (input.Open i at))
+  IsDeliveryOf i (Close node number) x node_input =
+      (x ≡ node) × (node_input ≡ to_node.Step (input.Close i number))
+  IsDeliveryOf i (Deliver p) x node_input = IsDelivered frames p x node_input
+  IsDeliveryOf i (Notice node epoch) x node_input = IsNotice cs node epoch x node_input
+  IsDeliveryOf i (Tick node) x node_input = (x ≡ node) × (node_input ≡ to_node.Step input.Tick)
+  IsDeliveryOf i (Tend node) x node_input = (x ≡ node) × (node_input ≡ to_node.Tend)
+  IsDeliveryOf i (Start node) x node_input = (x ≡ node) × (node_input ≡ to_node.Start)
+  IsDeliveryOf i (Stop node junk) x node_input = (x ≡ node) × (node_input ≡ to_node.Stop junk)
+
+  -- the event delivers a frame, and no frame has its place, or it tells of an epoch that the list
+  -- does not have
+  abbrev pub HasNoDelivery : EventKind → Type 0
+  HasNoDelivery (Deliver p) = HasNoFrame frames p
+  HasNoDelivery (Notice node epoch) = length cs ≤ epoch
+  HasNoDelivery kind = ⊥

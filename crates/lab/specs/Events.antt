@@ -19,7 +19,8 @@ use Rattle.node.specs.declared.Reply.TheVariants as reply
 use Rattle.lab.specs.declared.event.Event.{Event}
 use Rattle.lab.specs.declared.event.EventKind.{EventKind}
 use Rattle.lab.specs.declared.event.EventKind.TheVariants.{Submit, Get, Rows, Open, Close}
-use Rattle.lab.specs.declared.event.EventKind.TheVariants.{Deliver, Tick, Tend, Start, Stop}
+use Rattle.lab.specs.declared.event.EventKind.TheVariants.{Deliver, Notice, Tick, Tend, Start}
+use Rattle.lab.specs.declared.event.EventKind.TheVariants.{Stop}
 use Rattle.lab.specs.declared.report.Line.{Line}
 use Rattle.lab.specs.declared.report.Line.TheVariants as line
 use Rattle.lab.specs.SimNodes.{Choice}
@@ -32,6 +33,7 @@ node_in (Rows node range at) = Some node
 node_in (Open node at) = Some node
 node_in (Close node number) = Some node
 node_in (Deliver place) = None
+node_in (Notice node epoch) = Some node
 node_in (Tick node) = Some node
 node_in (Tend node) = Some node
 node_in (Start node) = Some node
@@ -45,6 +47,11 @@ NamesNode cs kind = IfSome (node_in kind) (λ x. has (at_epoch cs 0) x ≡ true)
 abbrev pub NamesNodes : Configurations → List Event → Type 0
 NamesNodes cs events = All (λ event. NamesNode cs event.kind) events
 
+-- the epoch of a notice
+abbrev pub epoch_in : EventKind → Option ℕ
+epoch_in (Notice node epoch) = Some epoch
+epoch_in kind = None
+
 -- the event in place i, as the model has it, by what was chosen in it
 abbrev pub modelled : ℕ → EventKind → Choice → model_frame.SystemEvent BatchContent
 modelled i (Submit node batch) choice =
@@ -54,6 +61,7 @@ modelled i (Rows node range at) choice = SystemEvent.Ask node i (Request.Read at
 modelled i (Open node at) choice = SystemEvent.Ask node i (Request.Open at) choice.went
 modelled i (Close node number) choice = SystemEvent.Ask node i (Request.Close number) choice.went
 modelled i (Deliver place) choice = SystemEvent.Deliver place choice.went
+modelled i (Notice node epoch) choice = SystemEvent.Notice node epoch choice.went
 modelled i (Tick node) choice = SystemEvent.Tick node choice.went
 modelled i (Tend node) choice = SystemEvent.Tend node choice.rises choice.gives_up choice.went
 modelled i (Start node) choice = SystemEvent.Start node choice.went
@@ -74,6 +82,12 @@ if_started None None = []
 if_started None (Some at) = start_line at.0 at.1 ∷ []
 if_started (Some why) at = []
 
+-- the line of a notice that was not dropped: the epoch that the node is at now
+abbrev pub if_adopted : Option DropReason → Option (ℕ × Machine) → List Line
+if_adopted None None = []
+if_adopted None (Some at) = line.Adopted at.0 at.1.epoch ∷ []
+if_adopted (Some why) at = []
+
 -- a node that tended has a line of what it did
 abbrev pub if_tended : Option DropReason → Tended → List Line
 if_tended None did = line.Tended did ∷ []
@@ -82,6 +96,7 @@ if_tended (Some why) did = []
 -- the line of an event that is no frame or reply
 abbrev pub turn_trace : EventKind → Choice → model_frame.Outcome BatchContent → List Line
 turn_trace (Start node) choice o = if_started o.dropped o.acted_on
+turn_trace (Notice node epoch) choice o = if_adopted o.dropped o.acted_on
 turn_trace (Tend node) choice o = if_tended o.dropped choice.tended
 turn_trace kind choice o = []
 
@@ -131,8 +146,8 @@ abbrev pub reported_cause : EventKind → Fault → Choice → Option Cause
 reported_cause (Stop node junk) fault choice = None
 reported_cause kind fault choice = line_cause fault choice.struck choice.cause
 
--- the lines of an event at node x: why it was dropped, then a start or a tend, then frames, then
--- replies
+-- the lines of an event at node x: why it was dropped, then a start, an adoption or a tend, then
+-- frames, then replies
 abbrev pub lines_at : ℕ → ℕ → Event → Choice → model_frame.Outcome BatchContent → List Line
 lines_at x sent event choice o =
     if o.stopped then line.Stopped x (reported_cause event.kind event.fault choice) ∷ []

@@ -51,6 +51,7 @@ down_answer n (input.Open i at) = refused n i refusal.NotRunning
 down_answer n (input.Close i number) = refused n i refusal.NotRunning
 down_answer n (input.Forward epoch from number batch) = dropped_for n reason.NotRunning
 down_answer n (input.Ack epoch from committed have) = dropped_for n reason.NotRunning
+down_answer n (input.Notice epoch ids) = dropped_for n reason.NotRunning
 down_answer n input.Tick = dropped_for n reason.NotRunning
 
 -- the output has the drop, the frames and the replies of this answer of the machine
@@ -372,13 +373,19 @@ abbrev pub sent_lines : ℕ → List Sent → List Line
 sent_lines before [] = []
 sent_lines before (sent ∷ more) = sent_line (suc before) sent ∷ sent_lines (suc before) more
 
--- the lines of an outcome of node x, after so many frames
-abbrev pub outcome_lines : ℕ → ℕ → StepOutcome → List Line
-outcome_lines x before (done.Answered output) =
-    dropped_lines output.dropped
+-- a node that was told of an epoch, and did not drop that, has a line of it
+abbrev pub adopted_lines : ℕ → Option ℕ → Option DropReason → List Line
+adopted_lines x None why = []
+adopted_lines x (Some epoch) None = line.Adopted x epoch ∷ []
+adopted_lines x (Some epoch) (Some why) = []
+
+-- the lines of an outcome of node x, which was told of an epoch or not, after so many frames
+abbrev pub outcome_lines : ℕ → Option ℕ → ℕ → StepOutcome → List Line
+outcome_lines x told before (done.Answered output) =
+    dropped_lines output.dropped ++ (adopted_lines x told output.dropped
     ++ (sent_lines before output.frames.items
-    ++ map (λ reply. line.Replied reply) output.replies.items)
-outcome_lines x before (done.Started epoch count committed) =
+    ++ map (λ reply. line.Replied reply) output.replies.items))
+outcome_lines x told before (done.Started epoch count committed) =
     line.Started x epoch count committed ∷ []
-outcome_lines x before (done.Stopped cause) = line.Stopped x cause ∷ []
-outcome_lines x before (done.Tended answer) = line.Tended answer ∷ []
+outcome_lines x told before (done.Stopped cause) = line.Stopped x cause ∷ []
+outcome_lines x told before (done.Tended answer) = line.Tended answer ∷ []

@@ -33,7 +33,7 @@ use Rattle.lab.specs.declared.sim_node.SimNode.{SimNode}
 use Rattle.lab.specs.declared.world.World.{World}
 use Rattle.lab.specs.SimNodes.{Choice, StateRefines, disk_in, is_honest, state, failures, marks}
 use Rattle.lab.specs.SimNodes.{StateHasLimits, IsDown, IsUnarmed}
-use Rattle.lab.specs.Events.{NamesNode, modelled}
+use Rattle.lab.specs.Events.{NamesNode, epoch_in, modelled}
 use Rattle.lab.specs.Outcomes.{HasDispatched, outcome_lines, sent_by}
 use Rattle.lab.specs.Disks.{AreDisksAfter, DiskFollows, HaveDisks, IsNewDisk, IsDiskOf}
 use Rattle.lab.specs.Disks.{IsCrashOf}
@@ -47,6 +47,7 @@ abbrev pub frames_in : Line → ℕ
 frames_in (line.Forwarded place from to epoch number) = 1
 frames_in (line.Acknowledged place from to epoch committed have) = 1
 frames_in line.Nothing = 0
+frames_in (line.Adopted node epoch) = 0
 frames_in (line.Dropped reason) = 0
 frames_in (line.Started node epoch count committed) = 0
 frames_in (line.Replied reply) = 0
@@ -156,14 +157,14 @@ pub record HasMoved (sims : List SimNode) (x : ℕ) (node_input : NodeInput) (fa
   pub dispatched : HasDispatched _ given fault node_input (get_or sims index sim).state sim.state
       did
 
--- .. the frames that it sent are posted, and these are its lines
+-- .. for this event: the frames that it sent are posted, and these are its lines
 pub record HasStepped (sims : List SimNode) (posted : List Posted) (x : ℕ) (node_input : NodeInput)
-    (fault : Fault) (given : Limits) (lines : List Line) (now : List SimNode) (more : List Posted)
+    (event : Event) (given : Limits) (lines : List Line) (now : List SimNode) (more : List Posted)
     : Type 0 where
   pub did : StepOutcome
-  pub took : HasMoved sims x node_input fault given did now
+  pub took : HasMoved sims x node_input event.fault given did now
   pub sent : HasPosted posted (sent_by did) more
-  pub traced : lines ≡ outcome_lines x (length posted) did
+  pub traced : lines ≡ outcome_lines x (epoch_in event.kind) (length posted) did
 
 -- a run of a world: its configurations, its events, what was chosen in each, and the lines of each
 pub record WorldRun : Type 0 where

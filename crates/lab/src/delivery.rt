@@ -1,16 +1,17 @@
 // Posted frames, and what an event delivers to which node.
-ghost use Rattle.std.specs.Prelude.{◌≡◌, List, Some, IfOk, IsErr, MatchOption};
+ghost use Rattle.std.specs.Prelude.{◌≡◌, ◌≤◌, List, Some, IfOk, IsErr, MatchOption};
+ghost use Rattle.std.specs.Prelude.{length};
 ghost use Rattle.std.specs.List.{AllZip};
 ghost use Rattle.kv_types.specs.{BatchContent};
 ghost use Rattle.chain_model.specs.{Message as ModelFrame};
 ghost use Rattle.link_messages.specs.{IsFrame, frame_bytes};
-ghost use Rattle.lab.specs.Deliveries.{IsDelivered, IsPostedAt, HasNoFrame, input_of};
+ghost use Rattle.lab.specs.Deliveries.{IsDelivered, IsNotice, IsPostedAt, HasNoFrame, input_of};
 ghost use Rattle.lab.specs.Deliveries.{IsDeliveryOf, HasNoDelivery};
 ghost use Rattle.lab.specs.Worlds.{PostedRefines};
 
 use crate::input::NodeInput;
 use crate::{EventKind, LabError};
-use configurations::NodeId;
+use configurations::{Configs, Epoch, NodeId};
 use kv_types::Number;
 use link_messages::laws::one_answer;
 use link_messages::{Frame, FrameError};
@@ -117,17 +118,34 @@ fn delivered(
     Ok(Some((posted.to, input_read(found))))
 }
 
+// The node that is told of an epoch, and its configuration as an input, where the list has it.
+fn noticed(
+    configs: &Configs,
+    node: NodeId,
+    epoch: Epoch,
+) -> Result<Option<(NodeId, NodeInput)>, LabError>
+    ensures { IfOk result (λ found. MatchOption found (length configs.now ≤ epoch)
+        (λ it. IsNotice configs.now node epoch it.0 it.1)) }
+{
+    let Some(config) = configs.at(epoch) else {
+        return Ok(None);
+    };
+    let config = config.clone()?;
+    Ok(Some((node, NodeInput::Step(Input::Notice { epoch, config }))))
+}
+
 /// The node that an event is for, and its input, where a request has this number. None where no
-/// frame has the place that is to be delivered.
+/// frame has the place that is to be delivered, or no configuration the epoch that is told.
 pub fn delivery_of(
     alloc: Global,
+    configs: &Configs,
     posted: &[Posted],
     request: Number,
     kind: &EventKind,
 ) -> Result<Option<(NodeId, NodeInput)>, LabError>
     ensures { (frames : List (ModelFrame BatchContent)) → AllZip PostedRefines posted.now frames →
-        IfOk result (λ found. MatchOption found (HasNoDelivery frames kind.now)
-        (λ it. IsDeliveryOf frames request kind.now it.0 it.1)) }
+        IfOk result (λ found. MatchOption found (HasNoDelivery configs.now frames kind.now)
+        (λ it. IsDeliveryOf configs.now frames request kind.now it.0 it.1)) }
 {
     let (to, input) = match kind {
         EventKind::Submit { node, batch } => {
@@ -151,6 +169,7 @@ pub fn delivery_of(
             (*node, NodeInput::Step(Input::Close { request, number }))
         }
         EventKind::Deliver { place } => return delivered(alloc, posted, *place),
+        EventKind::Notice { node, epoch } => return noticed(configs, *node, *epoch),
         EventKind::Tick { node } => (*node, NodeInput::Step(Input::Tick)),
         EventKind::Tend { node } => (*node, NodeInput::Tend),
         EventKind::Start { node } => (*node, NodeInput::Start),

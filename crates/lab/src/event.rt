@@ -1,8 +1,8 @@
 // The events of a run.
 ghost use Rattle.std.specs.Prelude.{◌≡◌, ◌↔◌, IfOk, IsTrue};
-ghost use Rattle.lab.specs.Events.{node_in, NamesNode, NamesNodes};
+ghost use Rattle.lab.specs.Events.{epoch_in, node_in, NamesNode, NamesNodes};
 
-use configurations::{Configs, NodeId};
+use configurations::{Configs, Epoch, NodeId};
 use disk::{Fault, Junk};
 use kv_types::{Batch, Key, Number, Range};
 use std::alloc::AllocError;
@@ -29,8 +29,8 @@ impl Event {
     }
 }
 
-/// What happens, apart from a fault of the disk: a client's request, a frame that arrives, a turn
-/// of a node, or a start or stop of its machine.
+/// What happens, apart from a fault of the disk: a client's request, a frame or a notice that
+/// arrives, a turn of a node, or a start or stop of its machine.
 #[derive(Drop)]
 pub enum EventKind {
     /// A client's batch.
@@ -65,6 +65,12 @@ pub enum EventKind {
     Deliver {
         place: u64,
     },
+    /// The configuration service tells the node of the configuration of this epoch. One that the
+    /// list does not have does nothing.
+    Notice {
+        node: NodeId,
+        epoch: Epoch,
+    },
     /// A turn to send again what the successor is not known to have.
     Tick {
         node: NodeId,
@@ -95,11 +101,22 @@ impl EventKind {
             | EventKind::Rows { node, .. }
             | EventKind::Open { node, .. }
             | EventKind::Close { node, .. }
+            | EventKind::Notice { node, .. }
             | EventKind::Tick { node }
             | EventKind::Tend { node }
             | EventKind::Start { node }
             | EventKind::Stop { node, .. } => Some(*node),
             EventKind::Deliver { .. } => None,
+        }
+    }
+
+    /// The epoch of a notice.
+    pub fn epoch(&self) -> Option<Epoch>
+        ensures { result ≡ epoch_in self.now }
+    {
+        match self {
+            EventKind::Notice { epoch, .. } => Some(*epoch),
+            _ => None,
         }
     }
 
@@ -130,6 +147,10 @@ impl EventKind {
                 EventKind::Close { node, number }
             }
             EventKind::Deliver { place } => EventKind::Deliver { place: *place },
+            EventKind::Notice { node, epoch } => {
+                let (node, epoch) = (*node, *epoch);
+                EventKind::Notice { node, epoch }
+            }
             EventKind::Tick { node } => EventKind::Tick { node: *node },
             EventKind::Tend { node } => EventKind::Tend { node: *node },
             EventKind::Start { node } => EventKind::Start { node: *node },

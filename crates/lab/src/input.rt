@@ -74,7 +74,7 @@ fn output_down(alloc: Global, input: &Input) -> Result<Output, AllocError>
         | Input::Rows { request, .. }
         | Input::Open { request, .. }
         | Input::Close { request, .. } => refused(alloc, *request),
-        Input::Forward { .. } | Input::Ack { .. } | Input::Tick => {
+        Input::Forward { .. } | Input::Ack { .. } | Input::Notice { .. } | Input::Tick => {
             Ok(dropped(alloc, DropReason::NotRunning))
         }
     }

@@ -11,7 +11,7 @@ use std::marker::Model;
 /// One line of the trace of an event.
 #[derive(Drop)]
 pub enum Line {
-    /// No frame has the place.
+    /// No frame has the place, or no configuration the epoch.
     Nothing,
     Dropped(DropReason),
     Started {
@@ -19,6 +19,11 @@ pub enum Line {
         epoch: Epoch,
         count: Number,
         committed: Number,
+    },
+    /// The node adopted the configuration of this epoch.
+    Adopted {
+        node: NodeId,
+        epoch: Epoch,
     },
     /// A batch was forwarded. The frame has this place, from 1, among all that were ever sent.
     Forwarded {

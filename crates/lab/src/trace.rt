@@ -1,14 +1,14 @@
 // The trace of a step: its lines, and the frames that it posts.
 ghost use Rattle.std.specs.Prelude.{◌≡◌, ◌+◌, [], ◌∷◌, ◌++◌, length, map, IfOk, OnOk};
 ghost use Rattle.lab.specs.declared.report.Line.{Line};
-ghost use Rattle.lab.specs.Outcomes.{sent_line, sent_lines, outcome_lines, sent_by};
+ghost use Rattle.lab.specs.Outcomes.{adopted_lines, sent_line, sent_lines, outcome_lines, sent_by};
 ghost use Rattle.lab.specs.Events.{dropped_lines};
 ghost use Rattle.lab.specs.Worlds.{HasPosted};
 
 use crate::delivery::Posted;
 use crate::input::StepOutcome;
 use crate::report::{Line, Lines};
-use configurations::NodeId;
+use configurations::{Epoch, NodeId};
 use link_messages::{Frame, write};
 use node::{DropReason, Output, Reply, Sent};
 use std::alloc::{AllocError, Global};
@@ -101,6 +101,22 @@ fn trace_drop(lines: &mut Vec<Line>, dropped: Option<DropReason>) -> Result<(), 
     }
 }
 
+// A node that was told of an epoch, and did not drop that, has a line of it.
+fn trace_adoption(
+    lines: &mut Vec<Line>,
+    node: NodeId,
+    told: Option<Epoch>,
+    dropped: Option<DropReason>,
+) -> Result<(), AllocError>
+    ensures { OnOk result (lines.new.items
+        ≡ lines.old.items ++ adopted_lines node told dropped) }
+{
+    match (told, dropped) {
+        (Some(epoch), None) => Ok(lines.push(Line::Adopted { node, epoch })?),
+        _ => Ok(()),
+    }
+}
+
 // The lines of the replies to clients.
 fn trace_replies(lines: &mut Vec<Line>, replies: Vec<Reply>) -> Result<(), AllocError>
     ensures { OnOk result (lines.new.items
@@ -112,39 +128,48 @@ fn trace_replies(lines: &mut Vec<Line>, replies: Vec<Reply>) -> Result<(), Alloc
     Ok(())
 }
 
-// The lines of an output: the reason of a drop, then the frames that were sent, then replies.
+// The lines of an output of a node that was told of an epoch or not: the reason of a drop, then an
+// adoption, then the frames that were sent, then replies.
 fn trace_output(
     alloc: Global,
     frames: &mut Vec<Posted>,
+    id: NodeId,
+    told: Option<Epoch>,
     output: Output,
 ) -> Result<Vec<Line>, AllocError>
     ensures posted { OnOk result (HasPosted frames.old.items output.frames.items frames.new.items) }
     ensures lines { IfOk result (λ lines. lines.items ≡ dropped_lines output.dropped
+        ++ (adopted_lines id told output.dropped
         ++ (sent_lines (length frames.old.items) output.frames.items
-        ++ map (λ reply. Line.Replied reply) output.replies.items)) }
+        ++ map (λ reply. Line.Replied reply) output.replies.items))) }
 {
     // Most steps have one line.
     let count = output.frames.len().saturating_add(output.replies.len());
     let mut lines = Vec::with_capacity(alloc, count.max(1))?;
     trace_drop(&mut lines, output.dropped)?;
+    trace_adoption(&mut lines, id, told, output.dropped)?;
     post_all(alloc, frames, &mut lines, &output.frames)?;
     trace_replies(&mut lines, output.replies)?;
     Ok(lines)
 }
 
-/// Posts the frames that a node sent, and makes the lines of its outcome.
+/// Posts the frames that a node sent, and makes the lines of its outcome, where it was told of an
+/// epoch or not.
 pub fn trace_of(
     alloc: Global,
     frames: &mut Vec<Posted>,
     id: NodeId,
+    told: Option<Epoch>,
     outcome: StepOutcome,
 ) -> Result<Lines, AllocError>
     ensures posted { OnOk result (HasPosted frames.old.items (sent_by outcome) frames.new.items) }
     ensures lines { IfOk result (λ lines.
-        lines ≡ outcome_lines id (length frames.old.items) outcome) }
+        lines ≡ outcome_lines id told (length frames.old.items) outcome) }
 {
     match outcome {
-        StepOutcome::Answered(output) => Ok(Lines::new(trace_output(alloc, frames, output)?)),
+        StepOutcome::Answered(output) => {
+            Ok(Lines::new(trace_output(alloc, frames, id, told, output)?))
+        }
         StepOutcome::Tended(did) => one_line(alloc, Line::Tended(did)),
         StepOutcome::Started {
             epoch,

@@ -15,6 +15,7 @@ ghost use Rattle.lab.specs.Worlds.{WorldHasLimits, WorldKeepsLimits, WorldRun, e
 ghost use Rattle.lab.specs.Worlds.{frames_in_steps};
 
 use crate::delivery::{Posted, delivery_of};
+use crate::event::names_node;
 use crate::input::NodeInput;
 use crate::node_state::NodeState;
 use crate::report::{Line, Lines, NodeReport, Report};
@@ -140,7 +141,7 @@ fn deliver(
 ) -> Result<Lines, AllocError>
     requires { IsIndexOf nodes.old index delivery.0 }
     ensures { IfOk result (λ lines. HasStepped nodes.old frames.old.items delivery.0 delivery.1
-        event.now.fault limits.now lines nodes.new frames.new.items) }
+        event.now limits.now lines nodes.new frames.new.items) }
 {
     let (id, input) = delivery;
     let fault = match event.fault.clone() {
@@ -154,7 +155,7 @@ fn deliver(
     let node = mem::replace(&mut nodes[index], SimNode { id, state });
     let (state, outcome) = node.state.dispatch(alloc, input, fault, limits)?;
     drop(mem::replace(&mut nodes[index], SimNode { id, state }));
-    trace_of(alloc, frames, id, outcome)
+    trace_of(alloc, frames, id, event.kind.epoch(), outcome)
 }
 
 impl World {
@@ -200,6 +201,9 @@ impl World {
         if self.ended {
             return Err(LabError::Memory);
         }
+        if !names_node(&self.configs, &event.kind) {
+            return Ok(());
+        }
         self.ended = true;
         // No run that memory holds has more events than there are numbers.
         let Some(request) = Number::new(self.steps.len() as u64 + 1) else {
@@ -207,7 +211,8 @@ impl World {
         };
         // law: in every run of the model frames are in order
         in_order::<Batch>();
-        let Some(delivery) = delivery_of(alloc, &self.frames, request, &event.kind)? else {
+        let found = delivery_of(alloc, &self.configs, &self.frames, request, &event.kind)?;
+        let Some(delivery) = found else {
             return self.keep(event, one_line(alloc, Line::Nothing)?);
         };
         let Some(index) = index_of(&self.nodes, delivery.0) else {

@@ -13,7 +13,7 @@ use Rattle.chain_core.specs.declared.Done.TheVariants as done
 use Rattle.chain_core.specs.declared.PendingSubmit.{PendingSubmit}
 use Rattle.chain_core.specs.{Machine, Core, CoreRefines, waiting, done_of, StepLeaves}
 use Rattle.chain_core.specs.{StepsLeave, StandsLast, list_after, snapshots_after}
-use Rattle.chain_core.specs.{floor_after, frames_after, ids_after, kept_after}
+use Rattle.chain_core.specs.{epoch_after, floor_after, frames_after, ids_after, kept_after}
 use Rattle.chain_core.specs.{committed_responses, responses_after}
 use Rattle.chain_core.specs as core
 use Rattle.node.specs.Steps.{facts_for}
@@ -95,6 +95,7 @@ same_kept : (n : Machine) (d : Done) → kept_after n d ≡ n.kept
 same_kept n (done.Accepted request) = refl
 same_kept n done.Appended = refl
 same_kept n (done.Acked committed have) = refl
+same_kept n (done.Adopted epoch ids) = refl
 same_kept n (done.Opened request number) = refl
 same_kept n (done.Closed request number) = refl
 
@@ -102,6 +103,7 @@ same_floor : (n : Machine) (d : Done) → floor_after n d ≡ n.floor
 same_floor n (done.Accepted request) = refl
 same_floor n done.Appended = refl
 same_floor n (done.Acked committed have) = refl
+same_floor n (done.Adopted epoch ids) = refl
 same_floor n (done.Opened request number) = refl
 same_floor n (done.Closed request number) = refl
 
@@ -112,13 +114,16 @@ appended_snapshots n (done.Accepted request) has = refl
 appended_snapshots n done.Appended has = refl
 appended_snapshots n _ has = absurd has
 
--- a step leaves the configuration
-pub same_ids : (n : Machine) (d : Done) → ids_after n d ≡ n.ids
-same_ids n (done.Accepted request) = refl
-same_ids n done.Appended = refl
-same_ids n (done.Acked committed have) = refl
-same_ids n (done.Opened request number) = refl
-same_ids n (done.Closed request number) = refl
+-- the store's part leaves epoch and ids
+pub record KeepsConfig (d : Done) : Type 0 where
+  pub epoch : (n : Machine) → epoch_after n d ≡ n.epoch
+  pub ids : (n : Machine) → ids_after n d ≡ n.ids
+
+-- an append leaves them
+pub appended_config : (d : Done) → HasAppended d → KeepsConfig d
+appended_config (done.Accepted request) has = record { epoch = λ n. refl; ids = λ n. refl }
+appended_config done.Appended has = record { epoch = λ n. refl; ids = λ n. refl }
+appended_config _ has = absurd has
 
 -- no batch was given up
 pub keeps_kept : StepsLeave → (old new : Core) (d : Done) (replies : List (Response BatchContent)) →
@@ -142,6 +147,20 @@ keeps_floor law old new d replies after =
     let n = machine_with old in
     sym (after n [] (has_numbers old)).is.floor ∙ (law old.id n [] d).floor ∙ same_floor n d
 
+-- the epoch after the store's part
+pub epoch_left : StepsLeave → (old new : Core) (d : Done) (replies : List (Response BatchContent)) →
+    FollowsDone old new d replies → new.epoch ≡ epoch_after (machine_with old) d
+epoch_left law old new d replies after =
+    let n = machine_with old in
+    sym (after n [] (has_numbers old)).is.epoch ∙ (law old.id n [] d).epoch
+
+-- the ids after the store's part
+pub ids_left : StepsLeave → (old new : Core) (d : Done) (replies : List (Response BatchContent)) →
+    FollowsDone old new d replies → new.ids ≡ ids_after (machine_with old) d
+ids_left law old new d replies after =
+    let n = machine_with old in
+    sym (after n [] (has_numbers old)).is.ids ∙ (law old.id n [] d).ids
+
 -- the snapshots after the store's part
 pub snapshots_left : StepsLeave → (old new : Core) (d : Done)
     (replies : List (Response BatchContent)) → FollowsDone old new d replies →
@@ -159,24 +178,26 @@ facts_as : (x d e f h k l : ℕ) (ids js : List ℕ) → d ≡ e → ids ≡ js 
 facts_as x d e f h k l ids js of_epoch of_ids of_floor of_kept =
     rw (of_epoch, of_ids, of_floor, of_kept) refl
 
--- a step leaves the facts
+-- the facts of a machine after the store's part
+abbrev pub facts_after : ℕ → Machine → Done → Facts
+facts_after x n d = facts_with x (epoch_after n d) (ids_after n d) n.floor n.kept
+
+-- they are those of the answer
+pub facts_left : (x : ℕ) (n : Machine) (batch : BatchContent) (d : Done)
+    (a : Answer BatchContent) → StepLeaves x n batch d a → facts_for x a.node ≡ facts_after x n d
+facts_left x n batch d a leaves =
+    facts_as x a.node.epoch (epoch_after n d) a.node.floor n.floor a.node.kept n.kept a.node.ids
+    (ids_after n d) leaves.epoch leaves.ids (leaves.floor ∙ same_floor n d)
+    (leaves.kept ∙ same_kept n d)
+
+-- a step that leaves the configuration leaves the facts
 pub same_facts : (x : ℕ) (n : Machine) (batch : BatchContent) (d : Done)
-    (a : Answer BatchContent) → StepLeaves x n batch d a → facts_for x a.node ≡ facts_for x n
-same_facts x n batch (done.Accepted request) a leaves =
-    facts_as x a.node.epoch n.epoch a.node.floor n.floor a.node.kept n.kept a.node.ids n.ids
-    leaves.epoch leaves.ids leaves.floor leaves.kept
-same_facts x n batch done.Appended a leaves =
-    facts_as x a.node.epoch n.epoch a.node.floor n.floor a.node.kept n.kept a.node.ids n.ids
-    leaves.epoch leaves.ids leaves.floor leaves.kept
-same_facts x n batch (done.Acked committed have) a leaves =
-    facts_as x a.node.epoch n.epoch a.node.floor n.floor a.node.kept n.kept a.node.ids n.ids
-    leaves.epoch leaves.ids leaves.floor leaves.kept
-same_facts x n batch (done.Opened request number) a leaves =
-    facts_as x a.node.epoch n.epoch a.node.floor n.floor a.node.kept n.kept a.node.ids n.ids
-    leaves.epoch leaves.ids leaves.floor leaves.kept
-same_facts x n batch (done.Closed request number) a leaves =
-    facts_as x a.node.epoch n.epoch a.node.floor n.floor a.node.kept n.kept a.node.ids n.ids
-    leaves.epoch leaves.ids leaves.floor leaves.kept
+    (a : Answer BatchContent) → KeepsConfig d → StepLeaves x n batch d a →
+    facts_for x a.node ≡ facts_for x n
+same_facts x n batch d a keeps leaves =
+    facts_left x n batch d a leaves
+    ∙ facts_as x (epoch_after n d) n.epoch n.floor n.floor n.kept n.kept (ids_after n d) n.ids
+    (keeps.epoch n) (keeps.ids n) refl refl
 
 -- and one batch more, where one was appended
 pub list_is : (x : ℕ) (n : Machine) (batch : BatchContent) (d : Done) (a : Answer BatchContent) →

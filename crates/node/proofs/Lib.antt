@@ -1,3 +1,4 @@
+pub mod Adoptions
 pub mod Outputs
 pub mod Causes
 pub mod Counts

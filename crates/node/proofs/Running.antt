@@ -28,7 +28,7 @@ use Rattle.node.specs.Steps.{IsReady, facts_for}
 use Rattle.node.specs.declared.stop.Stop.{Stop}
 use Rattle.node.specs.Outputs.{AlwaysRefines, HasAppended, IsOnlyRead, KeepsNode}
 use Rattle.node.proofs.Causes.{done_told}
-use Rattle.node.proofs.Counts.{appended_list, list_is, same_facts}
+use Rattle.node.proofs.Counts.{appended_config, appended_list, list_is, same_facts}
 
 module _ {D : Type 0} (g : Ghosts D) where
   -- every crash outcome of its disk represents the node
@@ -54,30 +54,35 @@ module _ {D : Type 0} (g : Ghosts D) where
       still_refines old (disk_of old) x n m r
       (still (g.state (disk_of old)) (g.past (disk_of old)))
 
+  -- a call that leaves these facts and this list, or the old ones, leaves it before or after
+  pub changes : (old : Node D g) (new : D) (x : ℕ) (n m : Machine) (facts : Facts)
+      (list : List BatchContent) → facts ≡ facts_for x m → list ≡ m.list →
+      NodeRefines g.is_honest g.state old x n →
+      AlwaysLeaves g (disk_of old) new (IsOneOf (facts_of old.engine) n.list facts list) →
+      AlwaysRefines g (disk_of old) new x n m
+  changes old new x n m facts list facts_are list_is r run =
+      weaker (IsOneOf (facts_of old.engine) n.list facts list)
+      (λ left. DiskRefines left x n ⊎ DiskRefines left x m) (g.state (disk_of old))
+      (g.past (disk_of old)) (g.state new) (g.past new) one_of run
+    where
+      one_of : (left : Contents) → IsOneOf (facts_of old.engine) n.list facts list left →
+          DiskRefines left x n ⊎ DiskRefines left x m
+      one_of left (inl it) =
+          inl (subst (λ (f : Facts). FilesRepresent f n.list left) r.facts it)
+      one_of left (inr it) =
+          inr (subst (λ (l : List BatchContent). FilesRepresent (facts_for x m) l left) list_is
+          (subst (λ (f : Facts). FilesRepresent f list left) facts_are it))
+
   -- an append leaves it before or after
   pub appends : (old : Node D g) (new : D) (x : ℕ) (n : Machine) (batch : BatchContent) (d : Done)
       (a : Answer BatchContent) → StepLeaves x n batch d a → HasAppended d →
       NodeRefines g.is_honest g.state old x n →
       AlwaysLeaves g (disk_of old) new (IsOneOf (facts_of old.engine) n.list (facts_of old.engine)
       (n.list ++ batch ∷ [])) → AlwaysRefines g (disk_of old) new x n a.node
-  appends old new x n batch d a leaves has r run =
-      weaker (IsOneOf (facts_of old.engine) n.list (facts_of old.engine) (n.list ++ batch ∷ []))
-      (λ left. DiskRefines left x n ⊎ DiskRefines left x a.node) (g.state (disk_of old))
-      (g.past (disk_of old)) (g.state new) (g.past new) one_of run
-    where
-      after : (left : Contents) → FilesRepresent (facts_of old.engine) (n.list ++ batch ∷ []) left →
-          DiskRefines left x a.node
-      after left it =
-          subst (λ (l : List BatchContent). FilesRepresent (facts_for x a.node) l left)
-          (sym (list_is x n batch d a leaves has))
-          (subst (λ (f : Facts). FilesRepresent f (n.list ++ batch ∷ []) left)
-          (r.facts ∙ sym (same_facts x n batch d a leaves)) it)
-
-      one_of : (left : Contents) → IsOneOf (facts_of old.engine) n.list (facts_of old.engine)
-          (n.list ++ batch ∷ []) left → DiskRefines left x n ⊎ DiskRefines left x a.node
-      one_of left (inl it) =
-          inl (subst (λ (f : Facts). FilesRepresent f n.list left) r.facts it)
-      one_of left (inr it) = inr (after left it)
+  appends old new x n batch d a leaves has r =
+      changes old new x n a.node (facts_of old.engine) (n.list ++ batch ∷ [])
+      (r.facts ∙ sym (same_facts x n batch d a (appended_config d has) leaves))
+      (sym (list_is x n batch d a leaves has)) r
 
   -- a node whose engine holds what it held runs on
   pub still_runs : (old new : Node D g) (x : ℕ) (n : Machine) →
@@ -96,12 +101,12 @@ module _ {D : Type 0} (g : Ghosts D) where
   pub goes_on : (old new : Node D g) (x : ℕ) (n : Machine) (batch : BatchContent) (d : Done)
       (a : Answer BatchContent) → StepLeaves x n batch d a →
       NodeRefines g.is_honest g.state old x n → EngineHolds g new.engine (list_after n batch d) →
-      facts_of new.engine ≡ facts_of old.engine → CoreRefines new.core a.node →
+      facts_of new.engine ≡ facts_for x a.node → CoreRefines new.core a.node →
       new.core.id ≡ x → NodeRefines g.is_honest g.state new x a.node
   goes_on old new x n batch d a leaves r holds facts is id = record {
     honest = holds.reads.honest;
     store = subst (λ (l : List BatchContent). EngineHolds g new.engine l) (sym leaves.list) holds;
-    facts = facts ∙ r.facts ∙ sym (same_facts x n batch d a leaves);
+    facts = facts;
     core = is;
     id = id;
   }
@@ -147,6 +152,10 @@ module _ {D : Type 0} (g : Ghosts D) where
       OnOk result (HasEnded new.engine → ⊥) → OnOk result (IsReady new)
   ready_after old new (Ok x) ready told same works = record {
     works = works;
+    epoch = ap (λ (k : Core). k.epoch) same ∙ ready.epoch
+        ∙ sym (ap (λ (l : LookUps). l.facts.epoch) told);
+    ids = ap (λ (k : Core). k.ids) same ∙ ready.ids
+        ∙ sym (ap (λ (l : LookUps). l.facts.ids) told);
     count = ap (λ (k : Core). k.count) same ∙ ready.count
         ∙ sym (ap (λ (l : LookUps). l.count) told);
     floor = ap (λ (k : Core). k.floor) same ∙ ready.floor

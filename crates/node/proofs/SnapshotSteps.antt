@@ -19,15 +19,18 @@ use Rattle.node.specs.Outputs.{AlwaysRefines, FollowsRule, OutputRefines}
 use Rattle.node.specs.Steps.{IsReady, disk_of, node_limits}
 use Rattle.node.proofs.Causes.{StopsForMemory, memory_told, on_ok, only_memory}
 use Rattle.node.proofs.Counts.{FollowsDone, counts_same, keeps_floor, keeps_kept}
-use Rattle.node.proofs.Counts.{keeps_committed, machine_with, snapshots_left}
+use Rattle.node.proofs.Counts.{KeepsConfig, epoch_left, ids_left, keeps_committed, machine_with}
+use Rattle.node.proofs.Counts.{same_facts, snapshots_left}
 use Rattle.node.proofs.Ends.{ends, ends_stopped}
 use Rattle.node.proofs.Running.{at_rest, goes_on, keeps_same}
 
--- the store's part of a step changes the snapshots, and neither the batches nor what is committed
+-- the store's part of a step changes the snapshots, and neither the batches, what is committed, nor
+-- the configuration
 pub record ChangesSnapshots (d : Done) (change : List ℕ → List ℕ) : Type 0 where
   pub list : (n : Machine) → list_after n [] d ≡ n.list
   pub snapshots : (n : Machine) → snapshots_after n d ≡ change n.snapshots
   pub committed : (x : ℕ) (n : Machine) → (done_of x n [] d).node.committed ≡ n.committed
+  pub config : KeepsConfig d
 
 module _ {D : Type 0} (g : Ghosts D) (old new : Node D g) (same : disk_of new ≡ disk_of old)
     (IsFor : Machine → Input → Type 0) (result : Result Output Stop) where
@@ -67,6 +70,12 @@ module _ {D : Type 0} (g : Ghosts D) (old new : Node D g) (same : disk_of new �
       disk = keeps_same g (disk_of old) (disk_of new) result same (only_memory made result so);
       works = on_ok result (record {
         works = works;
+        epoch = epoch_left law old.core new.core d replies after
+            ∙ goes.config.epoch (machine_with old.core) ∙ ready.epoch
+            ∙ sym (ap (λ (l : LookUps). l.facts.epoch) told);
+        ids = ids_left law old.core new.core d replies after
+            ∙ goes.config.ids (machine_with old.core) ∙ ready.ids
+            ∙ sym (ap (λ (l : LookUps). l.facts.ids) told);
         count = counts_same law old.core new.core d replies goes.list after ∙ ready.count
             ∙ sym (ap (λ (l : LookUps). l.count) told);
         floor = keeps_floor law old.core new.core d replies after ∙ ready.floor
@@ -89,7 +98,8 @@ module _ {D : Type 0} (g : Ghosts D) (old new : Node D g) (same : disk_of new �
         let holds = subst (λ (l : List BatchContent). EngineHolds g new.engine l)
         (sym (goes.list n)) (kept n.list r.store) in
         let runs = goes_on g old new x n [] d a leaves r holds
-        (ap (λ (l : LookUps). l.facts) told) follows.is (id ∙ r.id) in
+        (ap (λ (l : LookUps). l.facts) told ∙ r.facts
+        ∙ sym (same_facts x n [] d a goes.config leaves)) follows.is (id ∙ r.id) in
         let moments = subst (λ (disk : D). AlwaysRefines g (disk_of old) disk x n a.node)
         (sym same) (at_rest g old x n a.node r) in
         ends g old new x n input a made result moments runs (says x n input) so;

@@ -102,6 +102,18 @@ module _ {D : Type 0} {g : Ghosts D} (old new : Engine D g) (told : RaisesFactsA
       | inr risen ↦ ap (λ (l : LookUps). l.snapshots) risen
     ]
 
+    epoch_stays : (look_ups new).facts.epoch ≡ (look_ups old).facts.epoch
+    epoch_stays = elim told [
+      | inl same ↦ ap (λ (l : LookUps). l.facts.epoch) same
+      | inr risen ↦ ap (λ (l : LookUps). l.facts.epoch) risen
+    ]
+
+    ids_stay : (look_ups new).facts.ids ≡ (look_ups old).facts.ids
+    ids_stay = elim told [
+      | inl same ↦ ap (λ (l : LookUps). l.facts.ids) same
+      | inr risen ↦ ap (λ (l : LookUps). l.facts.ids) risen
+    ]
+
     -- the facts are those of before, or raised
     pub facts_told : (facts_of new ≡ facts_of old) ⊎ (facts_of new ≡ raised_facts old)
     facts_told = elim told [
@@ -143,6 +155,8 @@ module _ {D : Type 0} {g : Ghosts D} (old new : Engine D g) (told : RaisesFactsA
       } → AreInStep later new
       in_step works later is = record {
         works = works;
+        epoch = ap (λ (k : Core). k.epoch) is ∙ ready.epoch ∙ sym epoch_stays;
+        ids = ap (λ (k : Core). k.ids) is ∙ ready.ids ∙ sym ids_stay;
         count = ap (λ (k : Core). k.count) is ∙ ready.count ∙ sym count_stays;
         floor = ap (λ (k : Core). k.floor) is;
         kept = ap (λ (k : Core). k.kept) is;

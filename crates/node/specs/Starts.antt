@@ -25,12 +25,14 @@ StartRefusal stop.Damaged left = IsDamaged left
 StartRefusal stop.Memory left = Unit {0}
 StartRefusal stop.NotCreated left = IsNotCreated left
 
--- The state that a node starts with has the numbers of its store and no snapshots. It refines, as
--- started, each machine that has these numbers and this configuration.
-pub record CoreStartsFrom (told : LookUps) (ids : List ℕ) (core : Core) : Type 0 where
+-- The state that a node starts with has the numbers of its store, this configuration and no
+-- snapshots. It refines, as started, each machine that has these numbers and this configuration.
+pub record CoreStartsFrom (told : LookUps) (config : List ℕ) (core : Core) : Type 0 where
   pub id : core.id ≡ told.facts.id
-  pub is : (n : Machine) → HasNumbersOf told n → n.ids ≡ ids →
+  pub is : (n : Machine) → HasNumbersOf told n → n.ids ≡ config →
       CoreRefines core (started told.facts.id n)
+  pub epoch : core.epoch ≡ told.facts.epoch
+  pub ids : core.ids ≡ config
   pub count : core.count ≡ told.count
   pub floor : core.floor ≡ told.facts.floor
   pub kept : core.kept ≡ told.facts.kept

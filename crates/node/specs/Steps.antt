@@ -90,16 +90,18 @@ pub record NumbersRefine (n : Machine) (numbers : Numbers) : Type 0 where
   pub floor : numbers.floor ≡ n.floor
   pub kept : numbers.kept ≡ n.kept
 
--- the engine works and has the numbers and the open snapshots of the state
+-- the engine works and has the configuration, the numbers and the open snapshots of the state
 pub record AreInStep {D : Type 0} {g : Ghosts D} (core : Core) (engine : Engine D g) : Type 0 where
   pub works : HasEnded engine → ⊥
+  pub epoch : core.epoch ≡ (look_ups engine).facts.epoch
+  pub ids : core.ids ≡ (look_ups engine).facts.ids
   pub count : core.count ≡ (look_ups engine).count
   pub floor : core.floor ≡ (look_ups engine).facts.floor
   pub kept : core.kept ≡ (look_ups engine).facts.kept
   pub committed : core.committed ≡ (look_ups engine).committed
   pub snapshots : core.snapshots ≡ (look_ups engine).snapshots
 
--- its engine works and has the numbers of the node's state, so another step can follow
+-- its engine works and is in step with the node's state, so another step can follow
 abbrev pub IsReady : {D : Type 0} {g : Ghosts D} → Node D g → Type 0
 IsReady node = AreInStep node.core node.engine
 
@@ -115,6 +117,7 @@ shown_for (input.Open request at) i s batches = []
 shown_for (input.Close request number) i s batches = []
 shown_for (input.Forward epoch from number batch) i s batches = []
 shown_for (input.Ack epoch from committed have) i s batches = []
+shown_for (input.Notice epoch ids) i s batches = []
 shown_for input.Tick i s batches = []
 
 -- the reply to a client for a reply of the machine

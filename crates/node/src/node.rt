@@ -27,7 +27,8 @@ pub struct Node<D: Disk + Drop> {
 }
 
 impl<D: Disk + Drop> Node<D> {
-    /// Handles an input completely. A batch is durable before it is forwarded or acknowledged.
+    /// Handles an input completely. A batch is durable before it is forwarded or acknowledged, and
+    /// a configuration before the node acts in it.
     /// After a `Stop` the node has ended, and only its disk remains of use.
     pub fn step(&mut self, alloc: Global, input: Input) -> Result<Output, Stop>
         requires { IsReady self.old }

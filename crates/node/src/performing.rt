@@ -4,8 +4,8 @@ ghost use Rattle.disk.specs.{IsEnvironmental};
 ghost use Rattle.kv_types.specs.declared.bounds.TheConstants.{MAX_NUMBER};
 ghost use Rattle.chain_model.specs.{forwards};
 ghost use Rattle.chain_model.specs.Machine.{is_open};
-ghost use Rattle.chain_core.specs.{AreFrames, CoreRefines, DecisionFits, HasRoomAt, IsReport};
-ghost use Rattle.chain_core.specs.{Machine, done_of};
+ghost use Rattle.chain_core.specs.{AreFrames, CoreRefines, DecisionFits, HasRoomAt, IsAdoptable};
+ghost use Rattle.chain_core.specs.{IsReport, Machine, done_of};
 ghost use Rattle.engine.specs.{EngineHolds};
 ghost use Rattle.node.specs.declared.stop.Stop.TheVariants.{Disk, Memory};
 ghost use Rattle.node.specs.Outputs.{ExecutesDecision, FollowsRule, HasAppended, IsOnlyRead};
@@ -18,6 +18,7 @@ use crate::replying::{
 use crate::{Node, Output, Reply, Stop};
 use chain_core::laws::{one_by_one, stands_last, steps_leave};
 use chain_core::{CoreState, Decision, Done, Sent};
+use configurations::{Config, Epoch};
 use disk::Disk;
 use engine::Engine;
 use kv_types::{Batch, Key, Number, Range};
@@ -81,6 +82,20 @@ impl<D: Disk + Drop> Node<D> {
         let due = self.core.after(alloc, Done::Acked { committed, have })?;
         self.engine.set_committed(self.core.committed());
         output_of(alloc, &self.core, Vec::new(alloc), grows, &due).map_err(Stop::from)
+    }
+
+    // Adopts a configuration, and acknowledges to the predecessor in it. The store has recorded it
+    // before the node acts in it.
+    fn adopt(&mut self, alloc: Global, epoch: Epoch, config: Config) -> Result<Output, Stop>
+        requires may { IsReady self.old }
+        requires adoptable { IsAdoptable self.old.core epoch config }
+        ensures { ExecutesDecision D.Disk self.old self.new (Decision.Adopt epoch config) result }
+    {
+        steps_leave(); // law: what a step leaves of the machine
+        self.engine.adopt(alloc, epoch, &config)?;
+        let due = self.core.after(alloc, Done::Adopted { epoch, config })?;
+        self.engine.set_committed(self.core.committed());
+        output_of(alloc, &self.core, Vec::new(alloc), true, &due).map_err(Stop::from)
     }
 
     // Sends again the batches that the successor may lack, and acknowledges again.
@@ -155,6 +170,7 @@ impl<D: Disk + Drop> Node<D> {
             Decision::Append { batch } => self.append(alloc, batch, Done::Appended),
             Decision::AckDuplicate => ack_duplicate(alloc, &self.core).map_err(Stop::from),
             Decision::OnAck { committed, have } => self.on_ack(alloc, committed, have),
+            Decision::Adopt { epoch, config } => self.adopt(alloc, epoch, config),
             Decision::Read { request, key, at } => self.read(alloc, request, key, at),
             Decision::ReadRows { request, range, at } => self.read_rows(alloc, request, range, at),
             Decision::Open { request, number } => self.open(alloc, request, number),

@@ -1,39 +1,16 @@
 // Adoptions of later configurations: what an engine answers, what is opened again, and a fault at
 // each of the four calls.
-ghost use Rattle.std.specs.Prelude.{◌≡◌};
-ghost use Rattle.chain_model.specs.Configuration.{is_part, leaves_out};
 
 use crate::cases::{has_memory, holds_at, is_so};
 use crate::crashes::Choice;
 use crate::faults::mend;
 use crate::items::{batch_of, config_of, is_same, origin};
-use configurations::{Config, NodeId};
+use configurations::Config;
 use disk::{Disk, Fault, MemDisk};
 use engine::{Engine, EngineError};
 use kv_types::Limits;
 use std::alloc::Global;
 use std::process::Abort;
-
-// Whether the ids are a sublist of the others.
-fn is_part(ids: &[NodeId], others: &[NodeId]) -> bool
-    ensures { result ≡ is_part ids.now others.now }
-{
-    let [first, later @ ..] = ids else {
-        return true;
-    };
-    let [other, rest @ ..] = others else {
-        return false;
-    };
-    is_part(if first == other { later } else { ids }, rest)
-}
-
-// Whether the configuration is the other one with at least one node left out.
-fn leaves_out(config: &Config, other: &Config) -> bool
-    ensures { result ≡ leaves_out config.now other.now }
-{
-    let (ids, others) = (config.ids(), other.ids());
-    is_part(ids, others) && ids.len() < others.len()
-}
 
 /// The refusal of an adoption of a later configuration, if it is refused.
 pub fn refusal<D: Disk + Drop>(
@@ -45,7 +22,7 @@ pub fn refusal<D: Disk + Drop>(
 ) -> Option<EngineError> {
     let (epoch, _id) = origin(rt, epoch, 1);
     let config = config_of(rt, alloc, ids);
-    if epoch.get() <= engine.epoch().get() || !leaves_out(&config, engine.config()) {
+    if epoch.get() <= engine.epoch().get() || !config.leaves_out(engine.config()) {
         is_so(rt, false, "a later configuration");
         return None;
     }

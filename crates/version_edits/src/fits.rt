@@ -2,13 +2,11 @@
 ghost use Rattle.std.specs.Prelude.{◌≡◌, ◌&&◌, ◌==◌, ◌<◌, ◌≤◌, ◌↔◌, List, length, map, IsTrue};
 ghost use Rattle.std.specs.Prelude.{IfOk};
 ghost use Rattle.std.specs.List.{list_all, list_any};
-ghost use Rattle.chain_model.specs.{is_part};
 ghost use Rattle.version_edits.specs.Versions.{are_once, names_log};
 ghost use Rattle.version_edits.specs.Versions.{names_table, names_file, files_of};
 ghost use Rattle.version_edits.specs.Versions.{are_apart, all_apart};
 
 use crate::{LogLine, TableLine, TableName};
-use configurations::NodeId;
 use std::alloc::{AllocError, Global};
 
 // Whether no number stands twice.
@@ -117,17 +115,4 @@ pub fn all_apart(tables: &[TableLine]) -> bool
         rest = later;
     }
     true
-}
-
-/// Whether the ids are the others with some left out.
-pub fn is_part(ids: &[NodeId], others: &[NodeId]) -> bool
-    ensures { result ≡ is_part ids.now others.now }
-{
-    let [first, later @ ..] = ids else {
-        return true;
-    };
-    let [other, rest @ ..] = others else {
-        return false;
-    };
-    is_part(if first == other { later } else { ids }, rest)
 }

@@ -12,7 +12,7 @@ ghost use Rattle.version_edits.specs.Lawful.{AreLines};
 
 use crate::changed::lines_after;
 use crate::fits::{
-    all_apart, are_once, files_of, is_part, names_file, names_log, names_table, removed_files,
+    all_apart, are_once, files_of, names_file, names_log, names_table, removed_files,
 };
 use crate::{EditError, LogLine, MAX_LINES, StoreVersion, TableLine, TableName, VersionEdit};
 use configurations::{Config, NodeId};
@@ -54,7 +54,7 @@ fn keeps_ids(old: Option<&StoreVersion>, config: &Config) -> bool
     ensures { result ≡ keeps_ids (version_in (option_copied old.entry)).ids config.now }
 {
     match old {
-        Some(version) => is_part(config.ids(), version.config.ids()),
+        Some(version) => config.is_part_of(&version.config),
         None => true,
     }
 }

@@ -1,7 +1,7 @@
-use Rattle.std.proofs.Common.{refl, slice_set, subst, sym}
+use Rattle.std.proofs.Common.{◌∙◌, ℕ, Option, ap, length, refl, slice_set, subst, sym}
 use Rattle.disk.specs.declared.Fault.{Fault}
 use Rattle.lab.specs.declared.sim_node.SimNode.{SimNode}
-use Rattle.lab.specs.Outcomes.{HasDispatched}
+use Rattle.lab.specs.Outcomes.{HasDispatched, outcome_lines}
 use Rattle.lab.specs.Worlds.{HasMoved}
 use Rattle.lab.proofs.Moves.{if_ok_both, moved}
 use Rattle.lab.proofs.world.deliver.Goals as goal
@@ -25,4 +25,11 @@ returns c =
     (subst (λ (f : Fault). HasDispatched _ limits f it.1 c.replace-node.result.state state did)
     c.in-Ok.ensures c.in_ok-state.ensures)) in
     if_ok_both c.trace_of.result c.trace_of.ensures.posted c.trace_of.ensures.lines
-    (λ posted lines traced. record { did = did; took = took; sent = posted; traced = traced })
+    (λ posted lines traced. record {
+      did = did;
+      took = took;
+      sent = posted;
+      traced = traced
+          ∙ ap (λ (e : Option ℕ). outcome_lines it.0 e (length c.args.frames.now.items) did)
+          c.epoch.ensures;
+    })

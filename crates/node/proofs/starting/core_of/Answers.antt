@@ -37,6 +37,8 @@ returns g c =
     record {
       id = search rules;
       is = search rules;
+      epoch = sym is.epoch ∙ c.epoch.ensures;
+      ids = sym is.ids;
       count = sym is.count ∙ size ∙ c.count.ensures.count;
       floor = sym is.floor ∙ c.floor.ensures;
       kept = sym is.kept ∙ c.kept.ensures;

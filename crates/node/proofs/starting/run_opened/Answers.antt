@@ -26,6 +26,9 @@ returns-clause-opened g c =
       limits = ap (λ (l : LookUps). l.limits) told;
       works = record {
         works = λ ended. c.requires.works (c.set_committed.ensures.stays.ended.0 ended);
+        epoch = c.core_of-core.ensures.epoch ∙ sym (ap (λ (l : LookUps). l.facts.epoch) told);
+        ids = c.core_of-core.ensures.ids ∙ c.in-Ok.ensures ∙ c.config.ensures
+            ∙ sym (ap (λ (l : LookUps). l.facts.ids) told);
         count = c.core_of-core.ensures.count ∙ sym (ap (λ (l : LookUps). l.count) told);
         floor = c.core_of-core.ensures.floor ∙ sym (ap (λ (l : LookUps). l.facts.floor) told);
         kept = c.core_of-core.ensures.kept ∙ sym (ap (λ (l : LookUps). l.facts.kept) told);

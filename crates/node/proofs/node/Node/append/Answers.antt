@@ -13,9 +13,10 @@ use Rattle.node.specs.Outputs.{AlwaysRefines, acks_after}
 use Rattle.node.specs.Steps.{disk_of}
 use Rattle.node.proofs.Causes.{append_env, env_of, memory_told, on_ok}
 use Rattle.node.proofs.Causes.{only_memory, still_works, stop_passed}
-use Rattle.node.proofs.Counts.{counts_appended, frames_of, keeps_kept, number_taken, same_ids}
-use Rattle.node.proofs.Counts.{appended_snapshots, keeps_floor, machine_with, responses_due}
-use Rattle.node.proofs.Counts.{snapshots_left, taken_stands}
+use Rattle.node.proofs.Counts.{appended_config, appended_snapshots, counts_appended, epoch_left}
+use Rattle.node.proofs.Counts.{frames_of, ids_left, keeps_floor, keeps_kept, machine_with}
+use Rattle.node.proofs.Counts.{number_taken, responses_due, same_facts, snapshots_left}
+use Rattle.node.proofs.Counts.{taken_stands}
 use Rattle.node.proofs.Ends.{ends_rule, ends_stopped}
 use Rattle.node.proofs.Running.{appends, goes_on, kept_on, list_after_is}
 use Rattle.node.proofs.node.Node.append.Goals as goal
@@ -106,6 +107,7 @@ returns g c =
     let law = c.steps_leave.ensures in
     let new = c.after.new.self in
     let after = c.in_ok-due.ensures.after in
+    let config = appended_config d c.requires.done in
     record {
       kept = record {
         disk = kept_on g.D.Disk (sym c.set_committed.ensures.disk)
@@ -116,6 +118,14 @@ returns g c =
         works = on_ok result (record {
           works = λ ended. still_works c.in_ok-append.ensures.changes.keeps.ends may.works
               (c.set_committed.ensures.stays.ended.0 ended);
+          epoch = epoch_left law old.core new d replies after
+              ∙ config.epoch (machine_with old.core) ∙ may.epoch
+              ∙ sym (ap (λ (l : LookUps). l.facts.epoch) told)
+              ∙ sym (ap (λ (l : LookUps). l.facts.epoch) known);
+          ids = ids_left law old.core new d replies after
+              ∙ config.ids (machine_with old.core) ∙ may.ids
+              ∙ sym (ap (λ (l : LookUps). l.facts.ids) told)
+              ∙ sym (ap (λ (l : LookUps). l.facts.ids) known);
           count = counts_appended law old.core new d replies c.requires.done after
               ∙ ap (λ (k : ℕ). k + 1) may.count ∙ sym (ap (λ (l : LookUps). l.count) told)
               ∙ sym (ap (λ (l : LookUps). l.count) known);
@@ -144,7 +154,8 @@ returns g c =
           let facts = ap (λ (l : LookUps). l.facts) known ∙ ap (λ (l : LookUps). l.facts) told in
           let runs = goes_on g.D.Disk old _ x n batch d a leaves r
           (list_after_is g.D.Disk c.set_committed.new.self n batch d has
-          (c.set_committed.ensures.stays.holds (n.list ++ batch ∷ []) holds)) facts follows.is
+          (c.set_committed.ensures.stays.holds (n.list ++ batch ∷ []) holds))
+          (facts ∙ r.facts ∙ sym (same_facts x n batch d a config leaves)) follows.is
           (c.in_ok-due.ensures.same ∙ r.id) in
           let moments = subst (λ disk. AlwaysRefines g.D.Disk (disk_of old) disk x n a.node)
           (sym c.set_committed.ensures.disk)
@@ -155,7 +166,7 @@ returns g c =
           let there = taken_stands c.stands_last.ensures x n batch d a new.count leaves has number
           in
           let acks = c.acks_after-acks.result in
-          let ids = sym r.core.ids ∙ sym (leaves.ids ∙ same_ids n d) in
+          let ids = sym r.core.ids ∙ sym (leaves.ids ∙ config.ids n) in
           let tail : acks ≡ acks_after d (is_tail a.node.ids x) = c.acks_after-acks.ensures
           ∙ ap (λ l. acks_after d (is_tail l old.core.id)) ids
           ∙ ap (λ y. acks_after d (is_tail a.node.ids y)) r.id in

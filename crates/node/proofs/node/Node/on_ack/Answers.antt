@@ -11,7 +11,8 @@ use Rattle.node.specs.Outputs.{AlwaysRefines}
 use Rattle.node.specs.Steps.{disk_of}
 use Rattle.node.proofs.Outputs.{greater}
 use Rattle.node.proofs.Causes.{memory_told, on_ok, only_memory}
-use Rattle.node.proofs.Counts.{counts_same, keeps_floor, keeps_kept, snapshots_left}
+use Rattle.node.proofs.Counts.{counts_same, epoch_left, ids_left, keeps_floor, keeps_kept}
+use Rattle.node.proofs.Counts.{same_facts, snapshots_left}
 use Rattle.node.proofs.Ends.{ends_rule, ends_stopped}
 use Rattle.node.proofs.Running.{at_rest, goes_on, keeps_same}
 use Rattle.node.proofs.node.Node.on_ack.Goals as goal
@@ -69,6 +70,10 @@ returns-clause-followed g c = record {
         let told = c.set_committed.ensures.told in
         on_ok c.map_err.result (record {
           works = λ ended. may.works (c.set_committed.ensures.stays.ended.0 ended);
+          epoch = epoch_left law old new d replies after ∙ may.epoch
+              ∙ sym (ap (λ (l : LookUps). l.facts.epoch) told);
+          ids = ids_left law old new d replies after ∙ may.ids
+              ∙ sym (ap (λ (l : LookUps). l.facts.ids) told);
           count = count ∙ may.count ∙ sym (ap (λ (l : LookUps). l.count) told);
           floor = floor ∙ may.floor ∙ sym (ap (λ (l : LookUps). l.facts.floor) told);
           kept = kept ∙ may.kept ∙ sym (ap (λ (l : LookUps). l.facts.kept) told);
@@ -88,7 +93,9 @@ returns-clause-followed g c = record {
       (c.in_ok-due.ensures.after n [] r.core) in
       let runs = goes_on g.D.Disk old _ x n [] d a leaves r
       (c.set_committed.ensures.stays.holds n.list r.store)
-      (ap (λ (l : LookUps). l.facts) c.set_committed.ensures.told) follows.is
+      (ap (λ (l : LookUps). l.facts) c.set_committed.ensures.told ∙ r.facts
+      ∙ sym (same_facts x n [] d a (record { epoch = λ m. refl; ids = λ m. refl }) leaves))
+      follows.is
       (c.in_ok-due.ensures.same ∙ r.id) in
       let told : Bool → List (Message BatchContent) = λ acks. if acks then ack x a.node else [] in
       let sent : ℕ → List (Message BatchContent) =

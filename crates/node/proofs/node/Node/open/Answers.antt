@@ -52,7 +52,12 @@ returns g c =
     c.map_err.result
     c.steps_leave.ensures (done.Opened i s) (λ (l : List ℕ). s ∷ l)
     (Opened i s ∷ committed_responses c.in_ok-after.field-0.items) may
-    (record { list = λ n. refl; snapshots = λ n. refl; committed = λ x n. refl })
+    (record {
+      list = λ n. refl;
+      snapshots = λ n. refl;
+      committed = λ x n. refl;
+      config = record { epoch = λ n. refl; ids = λ n. refl };
+    })
     c.in_ok-after.ensures.after c.in_ok-after.ensures.same
     (λ ended. still_works known.changes.keeps.ends may.works ended) known.changes.told
     (λ list. (known.changes.kept list).holds) c.replying.result (λ x n input. c.replying.ensures)

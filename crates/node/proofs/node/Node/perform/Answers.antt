@@ -24,6 +24,12 @@ returns-in-OnAck g c =
     (decision.OnAck c.in-OnAck.committed c.in-OnAck.have) c.on_ack.result c.in-OnAck.is
     c.on_ack.ensures.followed
 
+pub returns-in-Adopt : goal.returns-in-Adopt
+returns-in-Adopt g c =
+    let it = c.in-Adopt in
+    executes_as g.D.Disk c.args.self.now c.adopt.new.self c.args.decision
+    (decision.Adopt it.epoch it.config) c.adopt.result it.is c.adopt.ensures
+
 pub returns-in-Read : goal.returns-in-Read
 returns-in-Read g c =
     let it = c.in-Read in

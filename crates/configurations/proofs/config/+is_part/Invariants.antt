@@ -1,5 +1,5 @@
 use Rattle.std.proofs.Common.{length}
-use Rattle.configurations.proofs.configs.+is_part.Given as goal
+use Rattle.configurations.proofs.config.+is_part.Given as goal
 
 -- the other ids get fewer
 abbrev pub decreases-is_part : goal.decreases-is_part

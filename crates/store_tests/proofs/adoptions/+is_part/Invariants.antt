@@ -1,6 +1,0 @@
-use Rattle.std.proofs.Common.{length}
-use Rattle.store_tests.proofs.adoptions.+is_part.Given as goal
-
--- the other ids get fewer
-abbrev pub decreases-is_part : goal.decreases-is_part
-decreases-is_part l = length l.others.now
