@@ -25,17 +25,13 @@ use Rattle.store_files.specs.OpenFiles.{AreUsableFiles, known_facts, known_versi
 use Rattle.table_files.specs.{inner_disk}
 use Rattle.table_files.specs.declared.files.Files.{Files}
 use Rattle.engine.specs.LentFiles.{files_ghosts}
-use Rattle.engine.specs.MergeParts.{BeganLate, KeepsPart, error_of_merge, free_behind}
+use Rattle.engine.specs.MergeParts.{BeganLate, KeepsPart, answer_of_merge, error_of_merge}
+use Rattle.engine.specs.MergeParts.{free_behind}
 use Rattle.engine.specs.UnderWay.{HoldsWithMerge, WasMeantWithMerge}
 use Rattle.engine.proofs.Beside.{beside_from, beside_named, meant_beside, represent_beside}
 use Rattle.engine.proofs.Beside.{usable_with}
 
 -- ---- refusals
-
--- the answer of a call as that of the merge that it made
-abbrev pub passed : {T : Type 0} → Result T MergeError → Result T EngineError
-passed (Ok x) = Ok x
-passed (Err e) = Err (error_of_merge e)
 
 -- what the environment refuses it refuses by either name
 pub environment : (e : MergeError) → IsEnvironmental merging.Disk merging.Memory e →
@@ -142,7 +138,7 @@ module _ {D : Type 0} (g : Ghosts D) (free : OtherFilesAreFree) (apart : OpenFil
 
   pub abandons : (answer : Result (Unit {0}) MergeError) →
       RemovesLeftovers (files_ghosts g) first old.free_file version a b answer →
-      Keeps (passed answer)
+      Keeps (answer_of_merge answer)
   abandons answer did = record {
     kept = kept answer did;
     touches = did.writes.kept.files;
@@ -159,23 +155,23 @@ module _ {D : Type 0} (g : Ghosts D) (free : OtherFilesAreFree) (apart : OpenFil
     where
       kept : (answer : Result (Unit {0}) MergeError) →
           RemovesLeftovers (files_ghosts g) first old.free_file version a b answer →
-          KeepsDisk (files_ghosts g) a b (IsErrOf (passed answer) engine.Disk) ⊥ IsOwned
+          KeepsDisk (files_ghosts g) a b (IsErrOf (answer_of_merge answer) engine.Disk) ⊥ IsOwned
       kept (Ok x) did = kept_as (files_ghosts g) (λ f. cc, λ f. cc) (λ s t is. tt) did.writes.kept
       kept (Err e) did = kept_as (files_ghosts g) (fails_alike e) (λ s t is. tt) did.writes.kept
 
       usable : (answer : Result (Unit {0}) MergeError) →
-          OnOk (passed answer) (AreUsableFiles (with_free old behind))
+          OnOk (answer_of_merge answer) (AreUsableFiles (with_free old behind))
       usable (Ok x) = usable_with old u behind above few
       usable (Err e) = tt
 
-      refused : (answer : Result (Unit {0}) MergeError) → IfErr (passed answer) IsEnd
+      refused : (answer : Result (Unit {0}) MergeError) → IfErr (answer_of_merge answer) IsEnd
       refused (Ok x) = tt
       refused (Err e) = ends e
 
       held : (answer : Result (Unit {0}) MergeError) →
           RemovesLeftovers (files_ghosts g) first old.free_file version a b answer →
           (list : List BatchContent) → g.is_honest (inner_disk a) →
-          BeganLate merge (HoldsWithMerge g a old None) list → MatchResult (passed answer)
+          BeganLate merge (HoldsWithMerge g a old None) list → MatchResult (answer_of_merge answer)
           (λ _. HoldsWithMerge g b (with_free old behind) None list)
           (IsEnvironmental engine.Disk engine.Memory)
       held (Ok x) did list honest h = record {
@@ -188,7 +184,7 @@ module _ {D : Type 0} (g : Ghosts D) (free : OtherFilesAreFree) (apart : OpenFil
       meant : (answer : Result (Unit {0}) MergeError) →
           RemovesLeftovers (files_ghosts g) first old.free_file version a b answer →
           (list : List BatchContent) → g.is_honest (inner_disk a) →
-          BeganLate merge (WasMeantWithMerge g a old None) list → IfOk (passed answer)
+          BeganLate merge (WasMeantWithMerge g a old None) list → IfOk (answer_of_merge answer)
           (λ _. WasMeantWithMerge g b (with_free old behind) None list)
       meant (Ok x) did list honest w = record {
         was = (free.meant (g.state (inner_disk a)) (g.state (inner_disk b)) old behind list w.1.was
@@ -199,22 +195,20 @@ module _ {D : Type 0} (g : Ghosts D) (free : OtherFilesAreFree) (apart : OpenFil
 
   -- so it is where the call was told so
   pub abandoned : (next : ℕ) → next ≡ old.free_file → (named : StoreVersion) → named ≡ version →
-      (answer outcome : Result (Unit {0}) MergeError) → answer ≡ outcome →
+      (answer : Result (Unit {0}) MergeError) →
       RemovesLeftovers (files_ghosts g) first next named a b answer → (now : StoreFiles) →
       now ≡ with_free old behind → (result : Result (Unit {0}) EngineError) →
-      result ≡ passed outcome →
+      result ≡ answer_of_merge answer →
       KeepsPart g own (λ IsSaid. IsSaid (known_facts old)) ⊥
       (BeganLate merge (HoldsWithMerge g a old None))
       (BeganLate merge (WasMeantWithMerge g a old None))
       (λ _. HoldsWithMerge g b now None) (λ _. WasMeantWithMerge g b now None)
       a b old now result
-  abandoned next next_is named named_is answer outcome outcome_is did now now_is result result_is =
+  abandoned next next_is named named_is answer did now now_is result result_is =
       let of_version = subst (λ (n : ℕ). RemovesLeftovers (files_ghosts g) first n named a b answer)
       next_is did in
-      let of_answer = subst (λ (v : StoreVersion).
-      RemovesLeftovers (files_ghosts g) first old.free_file v a b answer) named_is of_version in
-      let kept = abandons outcome (subst (λ (r : Result (Unit {0}) MergeError).
-      RemovesLeftovers (files_ghosts g) first old.free_file version a b r) outcome_is of_answer) in
+      let kept = abandons answer (subst (λ (v : StoreVersion).
+      RemovesLeftovers (files_ghosts g) first old.free_file v a b answer) named_is of_version) in
       let told = subst Keeps (sym result_is) kept in
       subst (λ (s : StoreFiles). KeepsPart g own (λ IsSaid. IsSaid (known_facts old)) ⊥
       (BeganLate merge (HoldsWithMerge g a old None))

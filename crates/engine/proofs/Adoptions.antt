@@ -1,5 +1,5 @@
 -- An adoption by an engine: what changes of its disk, and a merge that stays under way.
-use Rattle.std.proofs.Common.{◌≡◌, ℕ, List, [], ◌∷◌, ap, arith, inl, inr, subst, sym}
+use Rattle.std.proofs.Common.{ℕ, List, [], ap, arith, inl, inr, subst, sym}
 use Rattle.std.specs.Prelude.{Contains}
 use Rattle.disk.specs.declared.Disk.{Ghosts}
 use Rattle.disk.specs.{IsSameBut, KeepsDisk}

@@ -28,25 +28,15 @@ use Rattle.engine.specs.declared.merging.Progress.TheVariants as progress
 use Rattle.engine.specs.LentFiles.{files_ghosts, union_ghosts}
 use Rattle.engine.specs.MergeParts.{AdvancesPlanned, IsMergeFile, KeepsMerge}
 use Rattle.engine.specs.MergeParts.{IsMergeFile as file_of, error_of_merge, merge_after}
-use Rattle.engine.specs.MergeParts.{step_length}
+use Rattle.engine.specs.MergeParts.{progress_after, step_length}
 use Rattle.engine.specs.UnderWay.{HoldsWithMerge, IsMergeOf, WasMeantWithMerge}
 use Rattle.engine.proofs.Abandons.{environment}
 use Rattle.engine.proofs.Beside.{beside_named, free_named, meant_beside, represent_beside}
 use Rattle.engine.proofs.Beside.{usable_with}
 
--- how a merge went on that answered so
-abbrev pub progress_of : Result Bool MergeError → Result Progress EngineError
-progress_of (Ok true) = Ok progress.More
-progress_of (Ok false) = Ok progress.Done
-progress_of (Err merging.Disk) = Err engine.Disk
-progress_of (Err merging.Damaged) = Err engine.Damaged
-progress_of (Err merging.Memory) = Err engine.Memory
-progress_of (Err merging.Failed) = Err engine.Damaged
-progress_of (Err merging.Full) = Ok progress.Full
-
 -- the device failed where the merge says so
 alike : (answer : Result Bool MergeError) →
-    IsErrOf answer merging.Disk ↔ IsErrOf (progress_of answer) engine.Disk
+    IsErrOf answer merging.Disk ↔ IsErrOf (progress_after answer) engine.Disk
 alike (Ok true) = (λ f. cc, λ f. cc)
 alike (Ok false) = (λ f. cc, λ f. cc)
 alike (Err merging.Disk) = (λ _. refl, λ _. refl)
@@ -57,7 +47,7 @@ alike (Err merging.Full) = (λ f. cc, λ f. cc)
 
 -- a refusal but for want of room is one of the store
 pub refusal_is : (e : MergeError) → (e ≡ merging.Full → ⊥) →
-    Err (error_of_merge e) ≡ progress_of (Err e)
+    Err (error_of_merge e) ≡ progress_after (Err e)
 refusal_is merging.Disk room = refl
 refusal_is merging.Damaged room = refl
 refusal_is merging.Memory room = refl
@@ -65,7 +55,7 @@ refusal_is merging.Failed room = refl
 refusal_is merging.Full room = absurd (room refl)
 
 -- each refusal ends an engine
-refused : (answer : Result Bool MergeError) → IfErr (progress_of answer) IsEnd
+refused : (answer : Result Bool MergeError) → IfErr (progress_after answer) IsEnd
 refused (Ok true) = tt
 refused (Ok false) = tt
 refused (Err merging.Disk) = tt
@@ -190,7 +180,7 @@ module _ {D : Type 0} (g : Ghosts D) (old : StoreFiles) (u : AreUsableFiles old)
 
     held : (answer : Result Bool MergeError) → Did answer →
         (list : List BatchContent) → HoldsWithMerge g a old (Some was) list →
-        MatchResult (progress_of answer)
+        MatchResult (progress_after answer)
         (λ told. HoldsWithMerge g b later (merge_after now told) list)
         (IsEnvironmental engine.Disk engine.Memory)
     held (Ok true) did list h = holds true did list h
@@ -209,7 +199,7 @@ module _ {D : Type 0} (g : Ghosts D) (old : StoreFiles) (u : AreUsableFiles old)
 
     meant : (answer : Result Bool MergeError) → Did answer →
         (list : List BatchContent) → WasMeantWithMerge g a old (Some was) list →
-        IfOk (progress_of answer)
+        IfOk (progress_after answer)
         (λ told. WasMeantWithMerge g b later (merge_after now told) list)
     meant (Ok true) did list w = was_meant true did list w
     meant (Ok false) did list w = was_meant false did list w
@@ -226,8 +216,8 @@ module _ {D : Type 0} (g : Ghosts D) (old : StoreFiles) (u : AreUsableFiles old)
         }
 
     usable : (answer : Result Bool MergeError) → Did answer →
-        OnOk (progress_of answer) (AreUsableFiles later)
-    usable answer did = each (progress_of answer)
+        OnOk (progress_after answer) (AreUsableFiles later)
+    usable answer did = each (progress_after answer)
       where
         each : (result : Result Progress EngineError) → OnOk result (AreUsableFiles later)
         each (Ok told) =
@@ -238,7 +228,7 @@ module _ {D : Type 0} (g : Ghosts D) (old : StoreFiles) (u : AreUsableFiles old)
 
     -- what going on keeps
     pub advances : (answer : Result Bool MergeError) → Did answer →
-        KeepsMerge g (merge_after now) (Some was) a b old later (progress_of answer)
+        KeepsMerge g (merge_after now) (Some was) a b old later (progress_after answer)
     advances answer did = record {
       kept = kept_but (files_ghosts g)
           (λ no. inr (λ list honest h. let m = h.merges.under_way in
@@ -260,7 +250,7 @@ module _ {D : Type 0} (g : Ghosts D) (old : StoreFiles) (u : AreUsableFiles old)
     }
 
     -- none is left where all are merged
-    none_left : (answer : Result Bool MergeError) → Did answer → IfOk (progress_of answer)
+    none_left : (answer : Result Bool MergeError) → Did answer → IfOk (progress_after answer)
         (λ told. told ≡ progress.Done →
         HasEntriesLeft (union_ghosts g) (files_ghosts g) now → ⊥)
     none_left (Ok true) did = λ is. absurd cc
@@ -288,12 +278,16 @@ module _ {D : Type 0} (g : Ghosts D) (old : StoreFiles) (u : AreUsableFiles old)
 
     pub planned : (answer : Result Bool MergeError) → Did answer →
         count ≡ length version.tables →
-        AdvancesPlanned g a b old later was now (progress_of answer)
+        AdvancesPlanned g a b old later was now (progress_after answer)
     unfolding after_of
     planned (Ok true) did counted tables plan m =
         let step = did.steps m.meant plan (known_facts old).floor m.merging in
         let left = did.status.2.0 refl in
-        (after_of (Ok true) did tables plan m step.0, so_many step.1 left, left)
+        record {
+          after = after_of (Ok true) did tables plan m step.0;
+          met = so_many step.1 left;
+          left = left;
+        }
     planned (Ok false) did counted tables plan m =
         let step = did.steps m.meant plan (known_facts old).floor m.merging in (
           after_of (Ok false) did tables plan m step.0,
@@ -310,37 +304,34 @@ module _ {D : Type 0} (g : Ghosts D) (old : StoreFiles) (u : AreUsableFiles old)
 
   -- ---- as the call was told
 
-  module _ (free : OtherFilesAreFree) (count : ℕ) (counted : count ≡ length version.tables)
-      (b : Files D g) (now : Merge D) (start : ℕ) (start_is : start ≡ old.free_file) (next : ℕ)
-      (answer outcome : Result Bool MergeError) (outcome_is : answer ≡ outcome)
+  module _ (free : OtherFilesAreFree) (count : ℕ) (b : Files D g) (now : Merge D) (start : ℕ)
+      (start_is : start ≡ old.free_file) (next : ℕ) (answer : Result Bool MergeError)
       (did : StepsMerge (union_ghosts g) (files_ghosts g) count step_length a start was b next now
-      answer) (after : StoreFiles) (after_is : after ≡ with_free old next) where
-    did_so : Did free count b now next outcome
-    did_so = subst (Did free count b now next) outcome_is (subst (λ (n : ℕ).
+      answer) (after : StoreFiles) (after_is : after ≡ with_free old next)
+      (result : Result Progress EngineError) (result_is : result ≡ progress_after answer) where
+    did_so : Did free count b now next answer
+    did_so = subst (λ (n : ℕ).
         StepsMerge (union_ghosts g) (files_ghosts g) count step_length a n was b next now answer)
-        start_is did)
+        start_is did
 
-    pub keeps_told : (result : Result Progress EngineError) → result ≡ progress_of outcome →
-        KeepsMerge g (merge_after now) (Some was) a b old after result
-    keeps_told result result_is =
+    pub keeps_told : KeepsMerge g (merge_after now) (Some was) a b old after result
+    keeps_told =
         let told = subst (λ (r : Result Progress EngineError).
         KeepsMerge g (merge_after now) (Some was) a b old (with_free old next) r) (sym result_is)
-        (advances free count b now next outcome did_so) in
+        (advances free count b now next answer did_so) in
         subst (λ (s : StoreFiles). KeepsMerge g (merge_after now) (Some was) a b old s result)
         (sym after_is) told
 
-    pub planned_told : (result : Result Progress EngineError) → result ≡ progress_of outcome →
+    pub planned_told : count ≡ length version.tables →
         AdvancesPlanned g a b old after was now result
-    planned_told result result_is =
+    planned_told counted =
         let told = subst (λ (r : Result Progress EngineError).
         AdvancesPlanned g a b old (with_free old next) was now r) (sym result_is)
-        (planned free count b now next outcome did_so counted) in
+        (planned free count b now next answer did_so counted) in
         subst (λ (s : StoreFiles). AdvancesPlanned g a b old s was now result) (sym after_is) told
 
-    pub none_told : (result : Result Progress EngineError) → result ≡ progress_of outcome →
-        IfOk result (λ told. told ≡ progress.Done →
+    pub none_told : IfOk result (λ told. told ≡ progress.Done →
         HasEntriesLeft (union_ghosts g) (files_ghosts g) now → ⊥)
-    none_told result result_is = subst (λ (r : Result Progress EngineError).
-        IfOk r (λ told. told ≡ progress.Done →
+    none_told = subst (λ (r : Result Progress EngineError). IfOk r (λ told. told ≡ progress.Done →
         HasEntriesLeft (union_ghosts g) (files_ghosts g) now → ⊥)) (sym result_is)
-        (none_left free count b now next outcome did_so)
+        (none_left free count b now next answer did_so)

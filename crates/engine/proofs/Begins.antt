@@ -24,7 +24,6 @@ use Rattle.compaction.specs.Picks.{due_level, plan_of_level, table_in_turn}
 use Rattle.store_model.specs.{IsPlanned, KeyRange, LevelTable}
 use Rattle.store_model.specs.Claims.{PlansFit}
 use Rattle.sorted_table.specs.declared.TableCursor.{TableCursor}
-use Rattle.store_tables.specs.declared.error.EngineError.{EngineError}
 use Rattle.store_tables.specs.declared.error.EngineError.TheVariants as engine
 use Rattle.store_tables.specs.declared.levels.OpenTable.{OpenTable}
 use Rattle.store_tables.specs.LevelTables.{AreServed, AreTablesOf, HasMeantBlocks, IsServed}
@@ -37,7 +36,7 @@ use Rattle.store_files.specs.Raising.{IsRaisedBy}
 use Rattle.table_files.specs.{inner_disk}
 use Rattle.table_files.specs.declared.files.Files.{Files}
 use Rattle.engine.specs.BeginParts.{BeginsMerge, BeginsOver}
-use Rattle.engine.specs.MergeParts.{error_of_merge}
+use Rattle.engine.specs.MergeParts.{answer_of_merge, error_of_merge}
 use Rattle.engine.specs.LentFiles.{files_ghosts, table_ghosts, union_ghosts}
 use Rattle.engine.specs.MergeParts.{IsPicked}
 
@@ -130,11 +129,6 @@ are_served disk (it ∷ items) (t ∷ tables) zip = (
 
 -- ---- the merge
 
--- the refusal of a merge is passed on as that of a store
-abbrev pub passed : {D : Type 0} → Result (Merge D) MergeError → Result (Merge D) EngineError
-passed (Ok it) = Ok it
-passed (Err e) = Err (error_of_merge e)
-
 module _ {D : Type 0} (g : Ghosts D) (store : StoreFiles) (plan : Plan) where
   abbrev version : StoreVersion
   version = (known_version store).version
@@ -221,7 +215,7 @@ module _ {D : Type 0} (g : Ghosts D) (store : StoreFiles) (plan : Plan) where
           (λ e. IsEnvironmental merge.Disk merge.Memory e ⊎ ((e ≡ merge.Damaged)
           × (AreIntactCursors (table_ghosts g) (files_ghosts g) a cursors
           (model_plan plan range read.tables).inputs → ⊥))) →
-          MatchResult (passed r) (BeginsOver g plan a b store read.tables)
+          MatchResult (answer_of_merge r) (BeginsOver g plan a b store read.tables)
           (λ e. IsEnvironmental engine.Disk engine.Memory e ⊎ ((e ≡ engine.Damaged)
           × (AreServed (g.state (inner_disk a)) store.tables read.tables → ⊥)))
       begins_over (Ok it) none both = record {
@@ -248,7 +242,7 @@ module _ {D : Type 0} (g : Ghosts D) (store : StoreFiles) (plan : Plan) where
       (lines : List TableLine) → named ≡ known_version store → next ≡ store.free_file →
       lines ≡ version.tables → AreOver lines cursors → AreIntact lines cursors →
       (r : Result (Merge D) MergeError) → IsBegunAt a b cursors named next r →
-      HasNoOutput next r → BeginsMerge g plan a b store (passed r)
+      HasNoOutput next r → BeginsMerge g plan a b store (answer_of_merge r)
   begins_merge picks fit own p a b cursors named next lines is_named is_next is_lines over intact r
       begun none list meant read honest served unused =
       let plans = planned list meant read picks p in

@@ -11,6 +11,7 @@ use Rattle.manifest.specs.{HasFullSlot}
 use Rattle.compaction.specs.declared.Merge.{Merge}
 use Rattle.compaction.specs.declared.Plan.{Plan}
 use Rattle.compaction.specs.{model_plan}
+use Rattle.compaction.specs.Merges.{begun_number}
 use Rattle.compaction.specs.Outputs.{IsLeftBeyond, WritesOnly}
 use Rattle.store_model.specs.{LevelTable}
 use Rattle.store_tables.specs.declared.error.EngineError.{EngineError}
@@ -30,7 +31,7 @@ use Rattle.table_files.specs.{inner_disk}
 use Rattle.table_files.specs.declared.files.Files.{Files}
 use Rattle.engine.specs.BeginParts.{BeginsMerge, BeginsOver}
 use Rattle.engine.specs.LentFiles.{files_ghosts}
-use Rattle.engine.specs.MergeParts.{IsNewMerge, KeepsPart}
+use Rattle.engine.specs.MergeParts.{IsBegunBy, IsNewMerge, KeepsPart}
 use Rattle.engine.specs.UnderWay.{HoldsWithMerge, IsIntactMergeOf, IsSomeMergeOf}
 use Rattle.engine.specs.UnderWay.{WasMeantWithMerge}
 use Rattle.engine.proofs.Begins.{are_served, lines_of_tables, were_served}
@@ -195,8 +196,19 @@ module _ {D : Type 0} (g : Ghosts D) where
       meant_moment = λ list honest w. moments _ honest (raises.meant list honest w).any_moment;
     }
 
-    pub begun_behind : (list : List BatchContent) → g.is_honest (inner_disk a) →
+    begun_behind : (list : List BatchContent) → g.is_honest (inner_disk a) →
         WereMeantToHold (g.state (inner_disk a)) old list → IfOk result (IsNewMerge g plan b new)
     begun_behind list honest w =
         let was = (raises.meant list honest w).list in
         is_begun plan m b new list was.meant was.hold.known result (begins_meant list honest was)
+
+    pub begun_did : IfOk result (λ it. begun_number it ≡ new.free_file) →
+        IfOk result (IsBegunBy g plan floor a b old new)
+    begun_did first = each result first begun_behind
+      where
+        each : (r : Result (Merge D) EngineError) → IfOk r (λ it. begun_number it ≡ new.free_file) →
+            ((list : List BatchContent) → g.is_honest (inner_disk a) →
+            WereMeantToHold (g.state (inner_disk a)) old list → IfOk r (IsNewMerge g plan b new)) →
+            IfOk r (IsBegunBy g plan floor a b old new)
+        each (Ok it) first begun = record { raised = raises.did; first = first; begun = begun }
+        each (Err e) first begun = tt

@@ -1,16 +1,13 @@
 -- A merge of which no entry is left: its edit, and what the files hold beside its outputs.
-use Rattle.std.proofs.Common.{◌≡◌, ◌⊎◌, ◌≤◌, ◌↔◌, ℕ, List, [], ◌∷◌, Option}
-use Rattle.std.proofs.Common.{None, Some, Result, Ok, Err, ap, arith, inl, inr, length, refl}
+use Rattle.std.proofs.Common.{◌≡◌, ◌⊎◌, ◌↔◌, ℕ, List, Option}
+use Rattle.std.proofs.Common.{None, Some, Result, Ok, Err, ap, arith, inl, inr, refl}
 use Rattle.std.proofs.Common.{subst, suc, sym}
-use Rattle.std.specs.Prelude.{All, IfErr, IfOk, IfSome, IsErrAnd, IsErrOf, IsNone, IsSomeAnd}
+use Rattle.std.specs.Prelude.{IfErr, IfOk, IfSome, IsErrOf, IsNone}
 use Rattle.std.specs.Prelude.{MatchResult}
 use Rattle.std.specs.List.{AllZip}
-use Rattle.std.specs.Option.{option_map}
-use Rattle.std.proofs.lemmas.List.Elements.{All-cons, All-nil}
-use Rattle.kv_types.specs.{BatchContent, Entry, StoredKey}
-use Rattle.disk.specs.{IsDurable, IsEnvironmental, Kept, Slot, State, contents, seen}
+use Rattle.kv_types.specs.{BatchContent}
+use Rattle.disk.specs.{IsDurable, IsEnvironmental, Slot, State, contents, seen}
 use Rattle.disk.specs.declared.Disk.{Ghosts}
-use Rattle.sorted_table.specs.{greatest_key}
 use Rattle.version_edits.specs.declared.TableLine.{TableLine}
 use Rattle.version_edits.specs.declared.TableName.{TableName}
 use Rattle.version_edits.specs.{IsFit, StoreVersion}
@@ -27,7 +24,7 @@ use Rattle.store_tables.specs.declared.error.EngineError.{EngineError}
 use Rattle.store_tables.specs.declared.error.EngineError.TheVariants as engine
 use Rattle.store_tables.specs.Errors.{IsEnd}
 use Rattle.store_tables.specs.KeepingLemmas.{kept_as, kept_but}
-use Rattle.store_tables.specs.LevelTables.{IsTableOf, least_key}
+use Rattle.store_tables.specs.LevelTables.{IsTableOf}
 use Rattle.store_tables.specs.RefusalLemmas.{on_ok}
 use Rattle.store_files.specs.declared.store_files.StoreFiles.{StoreFiles}
 use Rattle.store_files.specs.BesideFiles.{HasSameNamed, OtherFilesAreFree}
@@ -38,73 +35,12 @@ use Rattle.table_files.specs.{inner_disk}
 use Rattle.table_files.specs.declared.files.Files.{Files}
 use Rattle.engine.specs.LentFiles.{files_ghosts, union_ghosts}
 use Rattle.engine.specs.MergeParts.{HoldEdit, IsEditOf, IsMergeFile, KeepsPart, PartMayFail}
-use Rattle.engine.specs.MergeParts.{WereMeantEdit, error_of_merge}
+use Rattle.engine.specs.MergeParts.{IsCheckedEdit, WereMeantEdit, error_of_merge}
 use Rattle.engine.specs.UnderWay.{HoldsWithMerge, IsMergeOf, WasMeantWithMerge}
 use Rattle.engine.proofs.Abandons.{ends, environment, fails_alike}
 use Rattle.engine.proofs.Advances.{own_file, own_named}
 use Rattle.engine.proofs.Beside.{meant_beside, represent_beside}
-
--- ---- the lines of tables
-
--- what stands side by side does in a weaker relation
-zip_weaker : {A B : Type 0} (R Q : A → B → Type 0) → ((x : A) (y : B) → R x y → Q x y) →
-    (xs : List A) (ys : List B) → AllZip R xs ys → AllZip Q xs ys
-zip_weaker R Q so [] [] zip = tt
-zip_weaker R Q so [] (y ∷ ys) zip = absurd zip
-zip_weaker R Q so (x ∷ xs) [] zip = absurd zip
-zip_weaker R Q so (x ∷ xs) (y ∷ ys) zip = (so x y zip.0, zip_weaker R Q so xs ys zip.1)
-
--- and so each on the first side has what follows of it
-zip_each : {A B : Type 0} (R : A → B → Type 0) (P : A → Type 0) → ((x : A) (y : B) → R x y → P x) →
-    (xs : List A) (ys : List B) → AllZip R xs ys → All P xs
-zip_each R P so [] ys zip = All-nil P
-zip_each R P so (x ∷ xs) [] zip = absurd zip
-zip_each R P so (x ∷ xs) (y ∷ ys) zip =
-    All-cons P x xs (so x y zip.0) (zip_each R P so xs ys zip.1)
-
--- a key of an entry that there is
-key_is : (entry : Option Entry) (key : StoredKey) →
-    (option_map (λ (e : Entry). e.key) entry ≡ None → ⊥) → IfSome entry (λ e. key ≡ e.key) →
-    option_map (λ (e : Entry). e.key) entry ≡ Some key
-key_is None key some is = absurd (some refl)
-key_is (Some entry) key some is = ap (λ k. Some k) (sym is)
-
--- some entries have ends
-has_least : (entries : List Entry) → 1 ≤ length entries → least_key entries ≡ None → ⊥
-has_least [] some none = omega (arith, some)
-has_least (entry ∷ entries) some none = cc
-
-has_greatest : (entries : List Entry) → 1 ≤ length entries → greatest_key entries ≡ None → ⊥
-has_greatest [] some none = omega (arith, some)
-has_greatest (entry ∷ []) some none = cc
-has_greatest (entry ∷ next ∷ entries) some none =
-    has_greatest (next ∷ entries) (omega arith) none
-
--- what is said of the bytes of a durable file is said of what it reads as
-some_and : (P : List ℕ → Type 0) (slot : Slot) (bytes : List ℕ) → slot ≡ Kept bytes bytes [] →
-    P bytes → IsSomeAnd (seen slot) P
-some_and P slot bytes is p = subst (λ (s : Slot). IsSomeAnd (seen s) P) (sym is) p
-
--- the line of an output names its table
-output_read : (disk : State) (level : ℕ) (line : TableLine) (table : LevelTable) →
-    IsOutputTable disk level line table → IsTableOf (contents disk) line table
-output_read disk level line table it = record {
-  level = it.line_of.level;
-  file = it.line_of.file;
-  range = it.line_of.range;
-  represents = some_and _ (disk line.file) it.holds.table.bytes it.holds.table.durable
-      (sym it.holds.len, it.holds.table.represents);
-  least = key_is _ line.least (has_least table.entries it.holds.table.represents.some)
-      it.holds.least;
-  greatest = key_is _ line.greatest (has_greatest table.entries it.holds.table.represents.some)
-      it.holds.greatest;
-}
-
--- and its file is durable
-output_durable : (disk : State) (level : ℕ) (line : TableLine) (table : LevelTable) →
-    IsOutputTable disk level line table → IsDurable (disk line.file)
-output_durable disk level line table it =
-    subst IsDurable (sym it.holds.table.durable) (refl, refl)
+use Rattle.engine.proofs.OutputTables.{output_durable, output_read, zip_each, zip_weaker}
 
 -- what holds where an answer is `Full`
 of_full : (e : MergeError) (P : Type 0) → e ≡ merging.Full →
@@ -192,7 +128,7 @@ module _ {D : Type 0} (g : Ghosts D) (old : StoreFiles) (u : AreUsableFiles old)
         plan floor edit
     fit_of edit did tables plan m = did.ends m.meant plan floor m.merging done
 
-    pub edit_of : (edit : Change) → Did (Ok edit) → (tables : List LevelTable) (plan : MergePlan) →
+    edit_of : (edit : Change) → Did (Ok edit) → (tables : List LevelTable) (plan : MergePlan) →
         IsMergeOf g a old tables was plan → IsEditOf old plan (Some edit)
     edit_of edit did tables plan m =
         let it = (fit_of edit did tables plan m).merges in (
@@ -203,7 +139,7 @@ module _ {D : Type 0} (g : Ghosts D) (old : StoreFiles) (u : AreUsableFiles old)
           it.is,
         )
 
-    pub too_many : Did (Err merging.Full) → (tables : List LevelTable) (plan : MergePlan) →
+    too_many : Did (Err merging.Full) → (tables : List LevelTable) (plan : MergePlan) →
         IsMergeOf g a old tables was plan → IsEditOf old plan None
     too_many did tables plan m = of_full merging.Full (HasTooManyTables version plan floor) refl
         (did.ends m.meant plan floor m.merging done)
@@ -248,7 +184,7 @@ module _ {D : Type 0} (g : Ghosts D) (old : StoreFiles) (u : AreUsableFiles old)
         a b old old result
 
     -- the version would have too many tables
-    pub keeps_full : Did (Err merging.Full) → Keeps (Ok None)
+    keeps_full : Did (Err merging.Full) → Keeps (Ok None)
     keeps_full did = completes (Err merging.Full) did (Ok None) (λ f. cc, λ f. cc) tt
         (λ list h. (free.held (g.state (inner_disk a)) (g.state (inner_disk b)) old old.free_file
         list h.held (same (Err merging.Full) did h.held.known.tables h.merges.plan
@@ -266,7 +202,7 @@ module _ {D : Type 0} (g : Ghosts D) (old : StoreFiles) (u : AreUsableFiles old)
       | inr full ↦ absurd (room full.0)
     ]
 
-    pub keeps_refusal : (e : MergeError) → (e ≡ merging.Full → ⊥) → Did (Err e) →
+    keeps_refusal : (e : MergeError) → (e ≡ merging.Full → ⊥) → Did (Err e) →
         (told : EngineError) → told ≡ error_of_merge e → Keeps (Err told)
     keeps_refusal e room did told is = subst (λ (s : EngineError). Keeps (Err s)) (sym is)
         (completes (Err e) did (Err (error_of_merge e)) (fails_alike e) (ends e)
@@ -274,20 +210,12 @@ module _ {D : Type 0} (g : Ghosts D) (old : StoreFiles) (u : AreUsableFiles old)
         (λ list w. tt))
 
     -- memory was wanting
-    pub keeps_memory : (edit : Change) → Did (Ok edit) → Keeps (Err engine.Memory)
+    keeps_memory : (edit : Change) → Did (Ok edit) → Keeps (Err engine.Memory)
     keeps_memory edit did = completes (Ok edit) did (Err engine.Memory) (λ f. cc, λ f. cc) tt
         (λ list h. inr refl) (λ list w. tt)
 
-    -- so it was as the call was told
-    pub keeps_no_memory : (edit : Change) → Did (Ok edit) →
-        (result : Result (Option Change) EngineError) →
-        IsErrAnd result (λ s. s ≡ engine.Memory) → Keeps result
-    keeps_no_memory edit did (Ok made) told = absurd told
-    keeps_no_memory edit did (Err e) told =
-        subst (λ (s : EngineError). Keeps (Err s)) (sym told) (keeps_memory edit did)
-
     -- the store may record the edit, which gives up what the merge began with
-    pub may_merge : (edit : Change) → Did (Ok edit) → IsFit version edit →
+    may_merge : (edit : Change) → Did (Ok edit) → IsFit version edit →
         MayMerge old edit × (edit.tables_gone ≡ was.gone.items)
     may_merge edit did fit =
         let gone : edit.tables_gone ≡ was.gone.items =
@@ -304,7 +232,7 @@ module _ {D : Type 0} (g : Ghosts D) (old : StoreFiles) (u : AreUsableFiles old)
         )
 
     -- the edit is fit
-    pub keeps_edit : (edit : Change) → Did (Ok edit) → Keeps (Ok (Some edit))
+    keeps_edit : (edit : Change) → Did (Ok edit) → Keeps (Ok (Some edit))
     keeps_edit edit did = completes (Ok edit) did (Ok (Some edit)) (λ f. cc, λ f. cc) tt
         (λ list h.
         let m = h.merges.under_way in
@@ -332,7 +260,7 @@ module _ {D : Type 0} (g : Ghosts D) (old : StoreFiles) (u : AreUsableFiles old)
         })
 
     -- no edit of a merge that is under way is unfit
-    pub keeps_unfit : (edit : Change) → Did (Ok edit) → (IsFit version edit → ⊥) →
+    keeps_unfit : (edit : Change) → Did (Ok edit) → (IsFit version edit → ⊥) →
         Keeps (Err engine.Damaged)
     keeps_unfit edit did unfit = completes (Ok edit) did (Err engine.Damaged) (λ f. cc, λ f. cc) tt
         (λ list h.
@@ -342,13 +270,73 @@ module _ {D : Type 0} (g : Ghosts D) (old : StoreFiles) (u : AreUsableFiles old)
         (accepts (g.state (inner_disk a)) list h.held.known h.merges.plan m)).0))
         (λ list w. tt)
 
-    -- so it did where it was told so
-    pub did_as : (named : StoreVersion) → named ≡ version → (start : ℕ) → start ≡ old.free_file →
-        (answer outcome : Result Change MergeError) → answer ≡ outcome →
-        EndsMerge (union_ghosts g) (files_ghosts g) named start a was b now answer → Did outcome
-    did_as named named_is start start_is answer outcome outcome_is did =
-        subst Did outcome_is
-        (subst (λ (n : ℕ). EndsMerge (union_ghosts g) (files_ghosts g) version n a was b now answer)
-        start_is
-        (subst (λ (v : StoreVersion).
-        EndsMerge (union_ghosts g) (files_ghosts g) v start a was b now answer) named_is did))
+    -- ---- as the edit was checked
+
+    -- what is kept where the edit is the answer, if the version may take it
+    keeps : (answer : Result Change MergeError) → Did answer →
+        (result : Result (Option Change) EngineError) → IsCheckedEdit version answer result →
+        Keeps result
+    keeps (Ok edit) did (Ok made) checked =
+        subst (λ (m : Option Change). Keeps (Ok m)) (sym checked.0) (keeps_edit edit did)
+    keeps (Ok edit) did (Err e) (inl memory) =
+        subst (λ (s : EngineError). Keeps (Err s)) (sym memory) (keeps_memory edit did)
+    keeps (Ok edit) did (Err e) (inr damaged) =
+        subst (λ (s : EngineError). Keeps (Err s)) (sym damaged.0)
+        (keeps_unfit edit did damaged.1)
+    keeps (Err why) did (Ok made) checked =
+        subst (λ (m : Option Change). Keeps (Ok m)) (sym checked.0)
+        (keeps_full (subst (λ (e : MergeError). Did (Err e)) checked.1 did))
+    keeps (Err why) did (Err e) checked = keeps_refusal why checked.1 did e checked.0
+
+    -- the store may record it
+    fits : (answer : Result Change MergeError) → Did answer →
+        (result : Result (Option Change) EngineError) → IsCheckedEdit version answer result →
+        IfOk result (λ made. IfSome made (λ edit. MayMerge old edit
+        × (edit.tables_gone ≡ was.gone.items)))
+    fits (Ok edit) did (Ok made) checked =
+        subst (λ (m : Option Change). IfSome m (λ edit. MayMerge old edit
+        × (edit.tables_gone ≡ was.gone.items))) (sym checked.0) (may_merge edit did checked.1)
+    fits (Ok edit) did (Err e) checked = tt
+    fits (Err why) did (Ok made) checked =
+        subst (λ (m : Option Change). IfSome m (λ edit. MayMerge old edit
+        × (edit.tables_gone ≡ was.gone.items))) (sym checked.0) tt
+    fits (Err why) did (Err e) checked = tt
+
+    -- and it is that of the plan
+    edits : (answer : Result Change MergeError) → Did answer →
+        (result : Result (Option Change) EngineError) → IsCheckedEdit version answer result →
+        (tables : List LevelTable) (plan : MergePlan) → IsMergeOf g a old tables was plan →
+        IfOk result (IsEditOf old plan)
+    edits (Ok edit) did (Ok made) checked tables plan m =
+        subst (IsEditOf old plan) (sym checked.0) (edit_of edit did tables plan m)
+    edits (Ok edit) did (Err e) checked tables plan m = tt
+    edits (Err why) did (Ok made) checked tables plan m =
+        subst (IsEditOf old plan) (sym checked.0)
+        (too_many (subst (λ (e : MergeError). Did (Err e)) checked.1 did) tables plan m)
+    edits (Err why) did (Err e) checked tables plan m = tt
+
+    -- as the calls were told
+    module _ (named : StoreVersion) (named_is : named ≡ version) (start : ℕ)
+        (start_is : start ≡ old.free_file) (answer : Result Change MergeError)
+        (did : EndsMerge (union_ghosts g) (files_ghosts g) named start a was b now answer)
+        (result : Result (Option Change) EngineError)
+        (checked : IsCheckedEdit named answer result) where
+      did_so : Did answer
+      did_so = subst (λ (n : ℕ).
+          EndsMerge (union_ghosts g) (files_ghosts g) version n a was b now answer) start_is
+          (subst (λ (v : StoreVersion).
+          EndsMerge (union_ghosts g) (files_ghosts g) v start a was b now answer) named_is did)
+
+      checked_so : IsCheckedEdit version answer result
+      checked_so = subst (λ (v : StoreVersion). IsCheckedEdit v answer result) named_is checked
+
+      pub kept_told : Keeps result
+      kept_told = keeps answer did_so result checked_so
+
+      pub fit_told : IfOk result (λ made. IfSome made (λ edit. MayMerge old edit
+          × (edit.tables_gone ≡ was.gone.items)))
+      fit_told = fits answer did_so result checked_so
+
+      pub edit_told : (tables : List LevelTable) (plan : MergePlan) →
+          IsMergeOf g a old tables was plan → IfOk result (IsEditOf old plan)
+      edit_told = edits answer did_so result checked_so

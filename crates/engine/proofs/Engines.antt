@@ -1,35 +1,32 @@
 -- An engine over the files that it holds, and what its calls keep.
 use Rattle.std.proofs.Common.{◌≡◌, ℕ, List, [], Option, Some, None, Result, Ok, Err, inl, inr}
 use Rattle.std.proofs.Common.{refl}
-use Rattle.std.proofs.Common.{sym, ap, subst, ◌∙◌, Bool, false, true}
-use Rattle.std.specs.Prelude.{◌⊎◌, ◌↔◌, IfErr, IfOk, IsErrAnd, IsErrOf, IsTrue, MatchResult, OnOk}
-use Rattle.std.specs.Prelude.{is_err}
+use Rattle.std.proofs.Common.{sym, ap, subst, ◌∙◌}
+use Rattle.std.specs.Prelude.{◌⊎◌, IfErr, IsErrAnd, IsErrOf, OnOk}
 use Rattle.kv_types.specs.declared.Limits.{Limits}
 use Rattle.kv_types.specs.{BatchContent}
 use Rattle.disk.specs.declared.Disk.{Ghosts}
-use Rattle.disk.specs.{AlwaysLeaves, Contents, IsEnvironmental, IsSame}
+use Rattle.disk.specs.{Contents, IsEnvironmental, IsSame}
 use Rattle.disk.specs.{KeepsDisk, LeavesSince, OnlyLeaves, State}
-use Rattle.disk.specs.MomentsLemmas.{none_yet, weaker}
+use Rattle.disk.specs.MomentsLemmas.{none_yet}
 use Rattle.engine.specs.declared.engine.Engine.{Engine}
 use Rattle.store_tables.specs.declared.error.EngineError.{EngineError}
 use Rattle.store_files.specs.declared.store_files.StoreFiles.{StoreFiles}
 use Rattle.store_tables.specs.declared.error.EngineError.TheVariants as engine
 use Rattle.engine.specs.Calls.{ExplainsRefusal, KeepsEngine, ListFollows, IsAdrift, IsNoDamage}
 use Rattle.store_tables.specs.KeepingLemmas.{answered, kept_as, neither}
-use Rattle.store_tables.specs.RefusalLemmas.{passed_on}
-use Rattle.engine.specs.Calls.{IsOldOrNewSince, disk_after}
+use Rattle.store_tables.specs.RefusalLemmas.{on_ok, passed_on, refuses}
+use Rattle.engine.specs.Calls.{disk_after}
 use Rattle.engine.specs.Engines.{EngineHolds, EngineReads, EngineWasMeant, HasEnded, IsInMemory}
 use Rattle.engine.specs.Engines.{IsNearlyFull, LookUps, WasMeantInMemory, engine_disk, facts_of}
-use Rattle.engine.specs.Engines.{raised_facts}
 use Rattle.engine.specs.LentFiles.{files_ghosts}
 use Rattle.engine.specs.UnderWay.{HoldsWithMerge, MergesOfEngineLast, WasMeantWithMerge}
 use Rattle.table_files.specs.{inner_disk}
 use Rattle.table_files.specs.declared.files.Files.{Files}
 use Rattle.engine.proofs.Results.{closed_by, ends_by, is_refused, no_refusal, of_refusal, off_of}
-use Rattle.engine.proofs.Results.{on_ok, refuses}
 use Rattle.engine.proofs.Merges.{held_same, meant_same}
 use Rattle.compaction.specs.declared.Merge.{Merge}
-use Rattle.store_tables.specs.Errors.{EndsEngine, IsEnd}
+use Rattle.store_tables.specs.Errors.{IsEnd}
 use Rattle.store_files.specs.Files.{Facts}
 use Rattle.store_files.specs.HeldFiles.{HeldFilesAreLeft}
 use Rattle.store_files.specs.OpenFiles.{FilesHold, OpeningRefusal, WereMeantToHold}

@@ -8,12 +8,11 @@ pub mod BegunParts
 pub mod Beside
 pub mod Abandons
 pub mod Advances
+pub mod OutputTables
 pub mod Completes
 pub mod Parts
 pub mod PartFiles
 pub mod PartDid
-pub mod PartDue
 pub mod PartBegins
 pub mod StoreTends
-pub mod AlikeTends
 pub mod Adoptions

@@ -1,99 +1,91 @@
--- What a merge did that began.
-use Rattle.std.proofs.Common.{◌≡◌, ◌==◌, ℕ, Bool, true, false, List, Option, None, Some, Result, Ok}
-use Rattle.std.proofs.Common.{refl, subst, sym, ◌∙◌}
-use Rattle.std.specs.Prelude.{IfOk, OnOk, if◌then◌else◌}
-use Rattle.std.specs.Option.{is_some, option_or}
+-- What a tend of merges did: one began, or went on, or none was due.
+use Rattle.std.proofs.Common.{◌≡◌, ◌==◌, ◌∙◌, ℕ, List, Option, None, Some, Result, Ok, Err, ap}
+use Rattle.std.proofs.Common.{refl, subst, sym}
+use Rattle.std.specs.Prelude.{IfOk, if◌then◌else◌}
+use Rattle.std.specs.Option.{option_or}
 use Rattle.disk.specs.declared.Disk.{Ghosts}
-use Rattle.kv_types.specs.{BatchContent, StoredKey}
+use Rattle.kv_types.specs.{StoredKey}
 use Rattle.kv_types.specs.declared.Limits.{Limits}
 use Rattle.version_edits.specs.declared.TableLine.{TableLine}
-use Rattle.compaction.specs.{picked, turn_key}
+use Rattle.compaction.specs.{turn_key}
 use Rattle.compaction.specs.declared.Merge.{Merge}
 use Rattle.compaction.specs.declared.Plan.{Plan}
 use Rattle.compaction.specs.declared.Turn.{Turn}
-use Rattle.compaction.specs.Merges.{begun_number}
 use Rattle.store_tables.specs.declared.error.EngineError.{EngineError}
 use Rattle.store_files.specs.declared.store_files.StoreFiles.{StoreFiles}
-use Rattle.store_files.specs.OpenFiles.{WereMeantToHold, known_version}
-use Rattle.store_files.specs.Raising.{IsRaisedBy}
-use Rattle.table_files.specs.{inner_disk}
+use Rattle.store_files.specs.declared.tended.Tended.{Tended}
+use Rattle.store_files.specs.declared.tended.Tended.TheVariants as tended
+use Rattle.store_files.specs.OpenFiles.{known_version}
 use Rattle.table_files.specs.declared.files.Files.{Files}
-use Rattle.engine.specs.MergeParts.{IsNewMerge}
-use Rattle.engine.specs.Tends.{BeginsPlanned, MergeBegins, TendedStore, key_of_plan, turn_after}
+use Rattle.engine.specs.MergeParts.{IsBegunBy}
+use Rattle.engine.specs.Tends.{ContinuesAsPlanned, HasMerged as merged, MergesByPlan, due_plan}
+use Rattle.engine.specs.Tends.{key_of_plan, tended_store, turn_after}
 use Rattle.engine.specs.UnderWay.{WasMeantWithMerge}
 
--- there is none where a test finds none
-none_there : {T : Type 0} (one : Option T) → is_some one ≡ false → one ≡ None
-none_there None is = refl
-none_there (Some x) is = absurd cc
+-- the turn of the table is over, where the plan takes one alone
+pub turn_over : (plan : Plan) (named lines : List TableLine) → named ≡ lines → (turn later : Turn)
+    (found : Option StoredKey) → found ≡ key_of_plan plan named →
+    ((level : ℕ) → turn_key later level
+    ≡ (if level == plan.level then option_or found (turn_key turn level)
+    else turn_key turn level)) →
+    (level : ℕ) → turn_key later level ≡ turn_after plan lines (turn_key turn) level
+turn_over plan named lines same turn later found is over level =
+    subst (λ (them : List TableLine). turn_key later level
+    ≡ turn_after plan them (turn_key turn) level) same
+    (subst (λ (k : Option StoredKey). turn_key later level
+    ≡ (if level == plan.level then option_or k (turn_key turn level) else turn_key turn level)) is
+    (over level))
 
--- both branches of a choice are the same
-chosen : {T : Type 0} (test : Bool) (x : T) → x ≡ (if test then x else x)
-chosen true x = refl
-chosen false x = refl
-
-module _ (plan : Plan) (named lines : List TableLine) (same : named ≡ lines) (turn : Turn) where
-  -- the turn of the table is over, where the plan takes one alone
-  pub turn_over : (key : StoredKey) (later : Turn) (found : Option StoredKey) →
-      found ≡ Some key → found ≡ key_of_plan plan named →
+module _ {D : Type 0} (g : Ghosts D) (limits : Limits) (floor : ℕ) (a b : Files D g)
+    (old new : StoreFiles) (was left : Option (Merge D)) (turn later : Turn) where
+  -- the merge that was due began
+  pub begins : (plan : Plan) (called : Result (Merge D) EngineError) (merge : Merge D) →
+      called ≡ Ok merge → IfOk called (IsBegunBy g plan floor a b old new) → was ≡ None →
+      left ≡ Some merge → due_plan limits (tended_store old was turn) ≡ Some plan →
       ((level : ℕ) → turn_key later level
-      ≡ (if level == plan.level then Some key else turn_key turn level)) →
-      (level : ℕ) → turn_key later level ≡ turn_after plan lines (turn_key turn) level
-  turn_over key later found some is over level =
-      subst (λ (them : List TableLine). turn_key later level
-      ≡ turn_after plan them (turn_key turn) level) same
-      (subst (λ (k : Option StoredKey). turn_key later level
-      ≡ (if level == plan.level then option_or k (turn_key turn level) else turn_key turn level))
-      (sym some ∙ is) (over level))
+      ≡ turn_after plan (known_version old).version.tables (turn_key turn) level) →
+      MergesByPlan g limits floor a b (tended_store old was turn) (tended_store new left later)
+      tended.Worked
+  begins plan called merge is did none some due over =
+      let began = subst (λ r. IfOk r (IsBegunBy g plan floor a b old new)) is did in
+      record {
+        did = merged.HasBegun plan merge (record {
+          none = none;
+          due = due;
+          raised = began.raised;
+          turn = over;
+          is = some;
+          first = began.first;
+        }) refl;
+        planned = λ list honest w. began.begun list honest w.was;
+      }
 
-  -- and no turn is, where it takes all
-  pub turn_stays : (found : Option StoredKey) → found ≡ None → found ≡ key_of_plan plan named →
-      (level : ℕ) → turn_key turn level ≡ turn_after plan lines (turn_key turn) level
-  turn_stays found none is level =
-      subst (λ (them : List TableLine). turn_key turn level
-      ≡ turn_after plan them (turn_key turn) level) same
-      (subst (λ (k : Option StoredKey). turn_key turn level
-      ≡ (if level == plan.level then option_or k (turn_key turn level) else turn_key turn level))
-      (sym none ∙ is) (chosen (level == plan.level) (turn_key turn level)))
+module _ {D : Type 0} (g : Ghosts D) (limits : Limits) (floor : ℕ) (a b : Files D g)
+    (old new : StoreFiles) (was left : Option (Merge D)) (turn : Turn) where
+  -- one that was under way went on
+  pub goes_on : (it : Merge D) → was ≡ Some it → (result : Result Tended EngineError) →
+      IfOk result (ContinuesAsPlanned g a b old new it left) →
+      IfOk result (MergesByPlan g limits floor a b (tended_store old was turn)
+      (tended_store new left turn))
+  goes_on it some (Ok answer) on = record {
+    did = merged.HasContinued it some refl on.did;
+    planned = λ list honest w.
+        let here = subst (λ m. WasMeantWithMerge g a old m list) some w in (
+          here.was.hold.known.tables,
+          here.merges.plan,
+          here.merges.under_way,
+          on.planned here.was.hold.known.tables here.merges.plan here.merges.under_way,
+        );
+  }
+  goes_on it some (Err e) on = tt
 
-module _ {D : Type 0} (g : Ghosts D) (limits : Limits) (floor : ℕ) (plan : Plan)
-    (a b : Files D g) (old new : StoreFiles) (was : Option (Merge D)) (turn later : Turn)
-    (merge : Merge D) where
-  abbrev before : TendedStore D g
-  before = record { files = a; store = old; merge = was; turn = turn }
-
-  abbrev after : TendedStore D g
-  after = record { files = b; store = new; merge = Some merge; turn = later }
-
-  module _ (called : Result (Merge D) EngineError) (is : called ≡ Ok merge)
-      (none : is_some was ≡ false)
-      (due : picked limits.l0 limits.level (turn_key turn) (known_version old).version ≡ Some plan)
-      (raised : OnOk called (IsRaisedBy floor old new × (new.free_file ≡ old.free_file)))
-      (first : IfOk called (λ it. begun_number it ≡ new.free_file))
-      (over : (level : ℕ) → turn_key later level
-      ≡ turn_after plan (known_version old).version.tables (turn_key turn) level) where
-    -- the merge that was due began
-    pub begins : MergeBegins limits floor plan before after merge
-    begins = record {
-      none = none_there was none;
-      due = due;
-      raised = (subst (λ (r : Result (Merge D) EngineError).
-          OnOk r (IsRaisedBy floor old new × (new.free_file ≡ old.free_file))) is raised).0;
-      turn = over;
-      is = refl;
-      first = subst (λ (r : Result (Merge D) EngineError).
-          IfOk r (λ it. begun_number it ≡ new.free_file)) is first;
-    }
-
-    -- by the plan that was due
-    pub begins_planned : ((list : List BatchContent) → g.is_honest (inner_disk a) →
-        WereMeantToHold (g.state (inner_disk a)) old list → IfOk called (IsNewMerge g plan b new)) →
-        (list : List BatchContent) → g.is_honest (inner_disk a) →
-        WasMeantWithMerge g a old was list → BeginsPlanned g limits floor before after
-    begins_planned begun list honest w = record {
-      plan = plan;
-      merge = merge;
-      begins = begins;
-      begun = subst (λ (r : Result (Merge D) EngineError). IfOk r (IsNewMerge g plan b new)) is
-          (begun list honest w.was);
-    }
+-- none was due
+pub rests : {D : Type 0} (g : Ghosts D) (limits : Limits) (floor : ℕ) (a : Files D g)
+    (store : StoreFiles) (was left : Option (Merge D)) (turn : Turn) → was ≡ None → left ≡ None →
+    due_plan limits (tended_store store was turn) ≡ None →
+    MergesByPlan g limits floor a a (tended_store store was turn) (tended_store store left turn)
+    tended.Idle
+rests g limits floor a store was left turn none after due = record {
+  did = merged.HasRested none due (ap (λ m. tended_store store m turn) (after ∙ sym none)) refl;
+  planned = λ list honest w. tt;
+}

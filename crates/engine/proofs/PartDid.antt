@@ -1,65 +1,158 @@
--- What a merge did that went on and ended, or was given up.
-use Rattle.std.proofs.Common.{◌≡◌, ◌∙◌, ℕ, Option, Some, None, Result, Ok, ap, refl, subst, sym}
-use Rattle.std.specs.Prelude.{IfOk}
+-- What a merge did that went on, and ended or was given up behind that.
+use Rattle.std.proofs.Common.{◌≡◌, ◌∙◌, ◌≤◌, ℕ, List, Option, Some, None, Result, Ok, Err, ap, inl}
+use Rattle.std.proofs.Common.{inr, refl, subst, sym}
+use Rattle.std.specs.Prelude.{IfOk, MatchResult, OnOk}
+use Rattle.std.specs.Result.{result_and}
 use Rattle.disk.specs.declared.Disk.{Ghosts}
-use Rattle.kv_types.specs.declared.Limits.{Limits}
-use Rattle.manifest.specs.{Change}
+use Rattle.manifest.specs.{Change, NodeVersion}
+use Rattle.store_model.specs.{LevelTable, MergePlan}
 use Rattle.compaction.specs.declared.Merge.{Merge}
-use Rattle.compaction.specs.declared.Turn.{Turn}
+use Rattle.compaction.specs.Leftovers.{IsBesideVersion, IsLeftover}
 use Rattle.compaction.specs.Merges.{begun_number}
 use Rattle.store_tables.specs.declared.error.EngineError.{EngineError}
+use Rattle.store_tables.specs.Errors.{IsEnd}
 use Rattle.store_files.specs.declared.store_files.StoreFiles.{StoreFiles}
 use Rattle.store_files.specs.declared.tended.Tended.{Tended}
-use Rattle.store_files.specs.declared.tended.Tended.TheVariants as answer
+use Rattle.store_files.specs.declared.tended.Tended.TheVariants as tended
 use Rattle.store_files.specs.BesideFiles.{with_free}
 use Rattle.store_files.specs.Merging.{IsMergedBy}
+use Rattle.store_files.specs.OpenFiles.{known_version}
+use Rattle.table_files.specs.{inner_disk}
 use Rattle.table_files.specs.declared.files.Files.{Files}
-use Rattle.engine.specs.MergeParts.{IsAdvanced, IsEndedBy, free_behind}
-use Rattle.engine.specs.Tends.{HasMerged, HasMerged as merged}
+use Rattle.engine.specs.declared.merging.Progress.{Progress}
+use Rattle.engine.specs.declared.merging.Progress.TheVariants as progress
+use Rattle.engine.specs.MergeParts.{AdvancesPlanned, HasNoLeftovers, HasProgress, IsAdvanced}
+use Rattle.engine.specs.MergeParts.{IsEditOf, IsEndedBy, MergeHasEnded, ended_answer, free_behind}
+use Rattle.engine.specs.Tends.{ContinuesMerge as continues, ContinuesAsPlanned}
+use Rattle.engine.specs.UnderWay.{IsMergeOf}
+use Rattle.engine.proofs.PartFiles.{same_version}
 
-module _ {D : Type 0} where
-  -- the files of a merge that went on and is given up
-  pub abandoned_store : (old mid new : StoreFiles) (was now : Merge D) →
-      IsAdvanced old mid was now → new ≡ with_free mid (free_behind (begun_number now) mid) →
-      new ≡ with_free old (free_behind (begun_number was) (with_free old mid.free_file))
-  abandoned_store old mid new was now on freed =
-      freed ∙ ap (λ (s : StoreFiles). with_free s (free_behind (begun_number now) s)) on.store
-      ∙ ap (λ (n : ℕ). with_free (with_free old mid.free_file)
-      (free_behind n (with_free old mid.free_file))) on.first
+module _ {D : Type 0} (old mid : StoreFiles) (was now : Merge D) (on : IsAdvanced old mid was now)
+  where
+    -- the files of a merge that went on and is given up
+    abandoned_store : (new : StoreFiles) →
+        new ≡ with_free mid (free_behind (begun_number now) mid) →
+        new ≡ with_free old (free_behind (begun_number was) (with_free old mid.free_file))
+    abandoned_store new freed =
+        freed ∙ ap (λ (s : StoreFiles). with_free s (free_behind (begun_number now) s)) on.store
+        ∙ ap (λ (n : ℕ). with_free (with_free old mid.free_file)
+        (free_behind n (with_free old mid.free_file))) on.first
 
--- what the end of a merge answers
-abbrev pub EndsSo : Option Change → Result Tended EngineError → Type 0
-EndsSo None result = result ≡ Ok answer.Full
-EndsSo (Some edit) result = result ≡ Ok answer.Worked
+    -- what a merge has written, it has where numbers of files were used
+    leftover_on : (file : ℕ) →
+        IsLeftover (begun_number was) mid.free_file (known_version old).version file →
+        IsLeftover (begun_number now) mid.free_file (known_version mid).version file
+    leftover_on file left = record {
+      begun = subst (λ (n : ℕ). n ≤ file) (sym on.first) left.begun;
+      early = left.early;
+      beside = subst (λ (n : NodeVersion). IsBesideVersion n.version file)
+          (sym (same_version old mid was now on)) left.beside;
+    }
 
--- what a merge did that went on and ended
-pub ended_did : {D : Type 0} (g : Ghosts D) (limits : Limits) (floor : ℕ) (turn : Turn)
-    (a c : Files D g) (old mid new : StoreFiles) (before after : Option (Merge D))
-    (was now : Merge D) (made : Option Change) (result : Result Tended EngineError) →
-    before ≡ Some was → after ≡ None → IsAdvanced old mid was now →
-    IsEndedBy (begun_number now) mid new made → EndsSo made result →
-    IfOk result (HasMerged {g = g} limits floor
-    (record { files = a; store = old; merge = before; turn = turn })
-    (record { files = c; store = new; merge = after; turn = turn }))
-ended_did {D = D} g limits floor turn a c old mid new before after was now None result some none on
-    ended so = subst (λ r. IfOk r (HasMerged {g = g} limits floor
-    (record { files = a; store = old; merge = before; turn = turn })
-    (record { files = c; store = new; merge = after; turn = turn }))) (sym so)
-    (merged.HasAbandoned was (record {
-      before = some;
-      after = none;
-      used = mid.free_file;
-      store = abandoned_store old mid new was now on ended;
-      turn = refl;
-    }) refl)
-ended_did {D = D} g limits floor turn a c old mid new before after was now (Some edit) result some
-    none on ended so = subst (λ r. IfOk r (HasMerged {g = g} limits floor
-    (record { files = a; store = old; merge = before; turn = turn })
-    (record { files = c; store = new; merge = after; turn = turn }))) (sym so)
-    (merged.HasEnded was edit (record {
-      before = some;
-      after = none;
-      used = mid.free_file;
-      merged = subst (λ (s : StoreFiles). IsMergedBy edit s new) on.store ended;
-      turn = refl;
-    }) refl)
+module _ {D : Type 0} (g : Ghosts D) (a b c : Files D g) (old mid new : StoreFiles)
+    (was now : Merge D) (on : IsAdvanced old mid was now) (called : Result Progress EngineError)
+    (advances : AdvancesPlanned g a b old mid was now called) where
+  -- how it went on that answered so
+  ahead : (told : Progress) → called ≡ Ok told → (tables : List LevelTable) (plan : MergePlan)
+      (before : IsMergeOf g a old tables was plan) →
+      HasProgress g a b old mid was now tables plan before told
+  ahead told is tables plan before =
+      subst (λ r. IfOk r (HasProgress g a b old mid was now tables plan before)) is
+      (advances tables plan before)
+
+  -- others are left
+  pub stepped : called ≡ Ok progress.More → (left : Option (Merge D)) → left ≡ Some now →
+      ContinuesAsPlanned g a b old mid was left tended.Worked
+  stepped is left some = record {
+    did = continues.HasStepped now on some refl;
+    planned = ahead progress.More is;
+  }
+
+  module _ (left : Option (Merge D)) (none : left ≡ None)
+      (honest : g.is_honest (inner_disk a) → g.is_honest (inner_disk b)) where
+    -- it ended by this edit, or was given up where there is none
+    of_made : called ≡ Ok progress.Done → (answer : Tended) (made : Option Change) →
+        answer ≡ ended_answer made → IsEndedBy (begun_number now) mid new made →
+        ((tables : List LevelTable) (plan : MergePlan) → IsMergeOf g b mid tables now plan →
+        IsEditOf mid plan made) →
+        (g.is_honest (inner_disk b) → made ≡ None → HasNoLeftovers g (begun_number now) mid c) →
+        ContinuesAsPlanned g a c old new was left answer
+    of_made is answer None told ended edit gone = record {
+      did = continues.IsGivenUp mid.free_file (abandoned_store old mid was now on new ended) none
+          told;
+      planned = λ tables plan before. record {
+        why = inr (subst (λ (s : StoreFiles). IsEditOf s plan None) on.store
+            (edit tables plan (ahead progress.Done is tables plan before).0));
+        removed = λ file it. gone (honest before.merging.walk.honest) refl file
+            (leftover_on old mid was now on file it);
+      };
+    }
+    of_made is answer (Some made) told ended edit gone = record {
+      did = continues.EndsByEdit made mid.free_file
+          (subst (λ (s : StoreFiles). IsMergedBy made s new) on.store ended) none told;
+      planned = λ tables plan before. subst (λ (s : StoreFiles). IsEditOf s plan (Some made))
+          on.store (edit tables plan (ahead progress.Done is tables plan before).0);
+    }
+
+    pub ended : called ≡ Ok progress.Done → (result : Result Tended EngineError) →
+        IfOk result (MergeHasEnded g b c mid new now) →
+        IfOk result (ContinuesAsPlanned g a c old new was left)
+    ended is (Ok answer) it = of_made is answer it.made it.told it.ended it.edit it.removed
+    ended is (Err e) it = tt
+
+    -- it had no room, and was given up
+    pub had_no_room : called ≡ Ok progress.Full → (result : Result (Unit {0}) EngineError) →
+        new ≡ with_free mid (free_behind (begun_number now) mid) →
+        (g.is_honest (inner_disk b) → OnOk result (HasNoLeftovers g (begun_number now) mid c)) →
+        IfOk (result_and result (Ok tended.Full)) (ContinuesAsPlanned g a c old new was left)
+    had_no_room is (Ok x) freed gone = record {
+      did = continues.IsGivenUp mid.free_file (abandoned_store old mid was now on new freed) none
+          refl;
+      planned = λ tables plan before. record {
+        why = inl (ahead progress.Full is tables plan before);
+        removed = λ file it. gone (honest before.merging.walk.honest) file
+            (leftover_on old mid was now on file it);
+      };
+    }
+    had_no_room is (Err e) freed gone = tt
+
+-- ---- what its end did
+
+module _ {D : Type 0} (g : Ghosts D) (a c : Files D g) (old new : StoreFiles) (was : Merge D)
+    (called : Result (Option Change) EngineError)
+    (edit : (tables : List LevelTable) (plan : MergePlan) → IsMergeOf g a old tables was plan →
+    IfOk called (IsEditOf old plan)) where
+  -- the edit is that of the plan
+  edit_is : (made : Option Change) → called ≡ Ok made → (tables : List LevelTable)
+      (plan : MergePlan) → IsMergeOf g a old tables was plan → IsEditOf old plan made
+  edit_is made is tables plan m = subst (λ r. IfOk r (IsEditOf old plan)) is (edit tables plan m)
+
+  -- it was recorded
+  pub merged_here : (made : Change) → called ≡ Ok (Some made) →
+      (result : Result (Unit {0}) EngineError) →
+      MatchResult result (λ _. IsMergedBy made old new) IsEnd →
+      IfOk (result_and result (Ok tended.Worked)) (MergeHasEnded g a c old new was)
+  merged_here made is (Ok x) did = record {
+    made = Some made;
+    told = refl;
+    ended = did;
+    edit = edit_is (Some made) is;
+    removed = λ honest none. absurd cc;
+  }
+  merged_here made is (Err e) did = tt
+
+  -- there was none, and the merge was given up
+  pub given_up_here : (b : Files D g) (now : Merge D) → begun_number now ≡ begun_number was →
+      (g.is_honest (inner_disk a) → g.is_honest (inner_disk b)) → called ≡ Ok None →
+      (result : Result (Unit {0}) EngineError) →
+      new ≡ with_free old (free_behind (begun_number now) old) →
+      (g.is_honest (inner_disk b) → OnOk result (HasNoLeftovers g (begun_number now) old c)) →
+      IfOk (result_and result (Ok tended.Full)) (MergeHasEnded g a c old new was)
+  given_up_here b now first honest is (Ok x) freed gone = record {
+    made = None;
+    told = refl;
+    ended = subst (λ (n : ℕ). new ≡ with_free old (free_behind n old)) first freed;
+    edit = edit_is None is;
+    removed = λ kept none. subst (λ (n : ℕ). HasNoLeftovers g n old c) first (gone (honest kept));
+  }
+  given_up_here b now first honest is (Err e) freed gone = tt

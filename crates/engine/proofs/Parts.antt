@@ -1,11 +1,13 @@
 -- Parts of a merge, one behind another.
-use Rattle.std.proofs.Common.{◌≡◌, ◌∙◌, ℕ, List, Result, Ok, Err}
+use Rattle.std.proofs.Common.{◌≡◌, ◌∙◌, ℕ, List, None, Result, Ok, Err}
 use Rattle.std.proofs.Common.{refl, subst, sym}
 use Rattle.std.specs.Prelude.{Contains, IfErr, IfOk, IsErrAnd, IsErrOf, MatchResult, OnOk}
+use Rattle.std.specs.Result.{result_and}
 use Rattle.kv_types.specs.{BatchContent}
 use Rattle.disk.specs.{AlwaysLeaves, IsEnvironmental, OnlyLeaves, State}
 use Rattle.disk.specs.declared.Disk.{Ghosts}
 use Rattle.disk.specs.MomentsLemmas.{join, none_yet, weaker}
+use Rattle.manifest.specs.{Change, HasFullSlot}
 use Rattle.store_tables.specs.declared.error.EngineError.{EngineError}
 use Rattle.store_tables.specs.declared.error.EngineError.TheVariants as engine
 use Rattle.store_tables.specs.Errors.{IsEnd}
@@ -13,6 +15,8 @@ use Rattle.store_tables.specs.KeepingLemmas.{kept_as, kept_behind, kept_but, nei
 use Rattle.store_tables.specs.RefusalLemmas.{done, passed_on}
 use Rattle.store_files.specs.declared.store_files.StoreFiles.{StoreFiles}
 use Rattle.store_files.specs.Files.{Facts}
+use Rattle.store_files.specs.Merging.{HeldWithOutputs, InstallsMerge, MeantWithOutputs}
+use Rattle.store_files.specs.Merging.{merged_files}
 use Rattle.store_files.specs.OpenFiles.{AreUsableFiles, FilesHold, WereMeantToHold, known_facts}
 use Rattle.store_files.specs.StoreFiles.{FilesRepresent, WereMeant}
 use Rattle.store_files.specs.TendKeeps.{StoreKeeps}
@@ -20,6 +24,7 @@ use Rattle.table_files.specs.{inner_disk}
 use Rattle.table_files.specs.declared.files.Files.{Files}
 use Rattle.engine.specs.LentFiles.{files_ghosts}
 use Rattle.engine.specs.MergeParts.{KeepsPart}
+use Rattle.engine.specs.UnderWay.{HoldsWithMerge, WasMeantWithMerge}
 use Rattle.engine.proofs.Results.{of_answer, of_refusal}
 
 -- these facts alone
@@ -170,6 +175,22 @@ module _ {D : Type 0} (g : Ghosts D) where
         meant_moment = here.meant_moment;
       }
 
+  -- a part whose answer stands for another
+  pub part_and : {T U : Type 0} {touched : ℕ → Type 0} {OfFacts : (Facts → Type 0) → Type 0}
+      {cause : Type 0} {Held Meant : List BatchContent → Type 0}
+      {Holds IsMeant : U → List BatchContent → Type 0}
+      {Goes Were : T → List BatchContent → Type 0} (a b : Files D g) (old new : StoreFiles)
+      (called : Result U EngineError) (answer : T) →
+      KeepsPart g touched OfFacts cause Held Meant Holds IsMeant a b old new called →
+      ((x : U) (list : List BatchContent) → Holds x list → Goes answer list) →
+      ((x : U) (list : List BatchContent) → IsMeant x list → Were answer list) →
+      KeepsPart g touched OfFacts cause Held Meant Goes Were a b old new
+      (result_and called (Ok answer))
+  part_and a b old new (Ok x) answer part goes were =
+      part_answers a b old new (Ok x) x answer refl part (goes x) (were x)
+  part_and a b old new (Err e) answer part goes were =
+      part_refused a b old new (Err e) e (Err e) refl refl part
+
   -- what a call of a store keeps, as a part
   pub part_of_store : {T : Type 0} {Held WereHeld : State → List BatchContent → Type 0}
       {touched : List ℕ} {OfFacts : (Facts → Type 0) → Type 0} {cause : Type 0} {Did : T → Type 0}
@@ -190,6 +211,19 @@ module _ {D : Type 0} (g : Ghosts D) where
         (keeps.meant list honest m).list;
     meant_moment = λ list honest m. (keeps.meant list honest m).any_moment;
   }
+
+  -- what the record of a merge keeps, as a part that leaves none under way
+  pub part_installed : {T : Type 0} (a b : Files D g) (old new : StoreFiles) (edit : Change)
+      (called : Result (Unit {0}) EngineError) (answer : T) →
+      InstallsMerge (files_ghosts g) edit a b old new called →
+      KeepsPart g (Contains (merged_files old edit)) (λ IsSaid. IsSaid (known_facts old))
+      (HasFullSlot old.manifest) (λ list. HeldWithOutputs (g.state (inner_disk a)) old list edit)
+      (λ list. MeantWithOutputs (g.state (inner_disk a)) old list edit)
+      (λ _. HoldsWithMerge g b new None) (λ _. WasMeantWithMerge g b new None) a b old new
+      (result_and called (Ok answer))
+  part_installed a b old new edit called answer installs =
+      part_and a b old new called answer (part_of_store a b old new called installs)
+      (λ _ list h. record { held = h; merges = tt }) (λ _ list m. record { was = m; merges = tt })
 
   -- a part that does nothing
   pub part_none : {T : Type 0} {touched : ℕ → Type 0} {OfFacts : (Facts → Type 0) → Type 0}

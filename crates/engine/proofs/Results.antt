@@ -12,17 +12,6 @@ use Rattle.store_tables.specs.Errors.{EndsEngine, IsEnd}
 pub not_true : false ≡ true → ⊥
 not_true e = cc
 
--- a property of every result holds of an answer
-pub on_ok : {T E P : Type 0} (result : Result T E) → P → OnOk result P
-on_ok (Ok x) p = p
-on_ok (Err e) p = tt
-
--- what holds of the cause holds of the refusal that tells it
-pub refuses : {T E : Type 0} (result : Result T E) {e : E} (P : T → Type 0) (Q : E → Type 0) →
-    IsErrAnd result (λ s. s ≡ e) → Q e → MatchResult result P Q
-refuses (Ok x) P Q told q = absurd told
-refuses (Err s) P Q told q = subst Q (sym told) q
-
 -- an answer leaves an engine that works
 pub works_on_ok : {T : Type 0} (result : Result T EngineError) (ended : Bool) →
     ended ≡ is_err result → OnOk result (IsTrue ended → ⊥)

@@ -1,7 +1,7 @@
 -- A tend of an engine's store, which leaves a merge under way.
-use Rattle.std.proofs.Common.{◌≡◌, ◌+◌, ◌≤◌, ℕ, List, [], ◌∷◌, Option, Result, Ok, Err, ap, arith}
+use Rattle.std.proofs.Common.{◌≡◌, ◌≢◌, ◌+◌, ◌≤◌, ℕ, List, [], ◌∷◌, Option, Result, Ok, Err, arith}
 use Rattle.std.proofs.Common.{inl, inr, refl, subst, sym}
-use Rattle.std.specs.Prelude.{Contains, IfOk, MatchResult, OnOk}
+use Rattle.std.specs.Prelude.{Contains, IfOk, MatchResult}
 use Rattle.kv_types.specs.{BatchContent}
 use Rattle.kv_types.specs.declared.Limits.{Limits}
 use Rattle.disk.specs.declared.Disk.{Ghosts}
@@ -18,19 +18,20 @@ use Rattle.store_files.specs.declared.tended.Tended.{Tended}
 use Rattle.store_files.specs.declared.tended.Tended.TheVariants as answer
 use Rattle.store_files.specs.Apart.{OpenFilesAreApart}
 use Rattle.store_files.specs.Files.{Facts}
-use Rattle.store_files.specs.OpenFiles.{known_facts}
+use Rattle.store_files.specs.OpenFiles.{WereMeantToHold, known_facts}
 use Rattle.store_files.specs.Plans.{KeepsPlans}
 use Rattle.store_files.specs.Raising.{facts_with_floor}
 use Rattle.store_files.specs.StoreFiles.{FilesRepresent, WereMeant}
 use Rattle.store_files.specs.TendKeeps.{FilesAreTended, OfEitherFacts}
-use Rattle.store_files.specs.Tending.{IsFlushAnswer, IsRewriteAnswer, IsTend, IsWorkAnswer}
-use Rattle.store_files.specs.Tending.{IsWorkAnswer as work, TendMayFail, tended_files}
+use Rattle.store_files.specs.Tending.{FlushIsDue, IsFlushAnswer, IsRewriteAnswer, IsTend}
+use Rattle.store_files.specs.Tending.{IsWorkAnswer, IsWorkAnswer as work, RewriteIsDue, TendMayFail}
+use Rattle.store_files.specs.Tending.{tended_files}
 use Rattle.table_files.specs.{inner_disk}
 use Rattle.table_files.specs.declared.files.Files.{Files}
 use Rattle.engine.specs.LentFiles.{files_ghosts}
 use Rattle.engine.specs.MergeParts.{IsMergeFile as own, IsTendedFile as tended, IsTendedFile}
-use Rattle.engine.specs.Tends.{KeepsTended, MergesAreNext, StoreIsTended, TendedStore}
-use Rattle.engine.specs.Tends.{tended_store}
+use Rattle.engine.specs.Tends.{KeepsTended, MergesByPlan, TendedStore, TendsByPlan}
+use Rattle.engine.specs.Tends.{TendsStore as tends, tended_store}
 use Rattle.engine.specs.UnderWay.{MergesOfEngineLast, MergesOfEngineStayBeside}
 use Rattle.engine.proofs.Results.{answers_so, answers_with, of_refusal, on_answer}
 use Rattle.engine.proofs.Merges.{goes_with_merge, meant_with_merge, tend_leaves_ok, unused_held}
@@ -68,7 +69,7 @@ module _ {D : Type 0} (g : Ghosts D) (lasts : MergesOfEngineLast g)
       (old new : StoreFiles) (result : Result Tended EngineError) →
       FilesAreTended (files_ghosts g) (TendMayFail (files_ghosts g) a old) (IsTend old new) a b old
       new result → KeepsPlans (files_ghosts g) (λ list. list) a b old new result →
-      KeepsTended g floor (tended_store a old merge turn) (tended_store b new merge turn) result
+      KeepsTended g floor a b (tended_store old merge turn) (tended_store new merge turn) result
   part_of_tend floor merge turn a b old new result tends plans =
       let before = g.state (inner_disk a) in
       let after = g.state (inner_disk b) in
@@ -123,34 +124,49 @@ behind_rest a b old new P rests p =
 
 -- ---- what was done
 
-module _ {D : Type 0} {g : Ghosts D} where
+module _ {D : Type 0} (g : Ghosts D) (limits : Limits) (floor : ℕ) (a b : Files D g)
+    (old new : StoreFiles) (merge : Option (Merge D)) (turn : Turn) where
   -- what a tend of the store did that did not rest
-  pub tended_by : (IsDone : StoreFiles → StoreFiles → Tended → Type 0) (a b : Files D g)
-      (old new : StoreFiles) (merge : Option (Merge D)) (turn : Turn)
-      (result : Result Tended EngineError) → (result ≡ Ok answer.Idle → ⊥) →
-      IfOk result (IsDone old new) → IfOk result (StoreIsTended IsDone
-      (tended_store a old merge turn) (tended_store b new merge turn))
-  tended_by IsDone a b old new merge turn (Ok told) works did = record {
-    some = λ idle. works (ap (λ (x : Tended). Ok x) idle);
-    did = did;
-    merge = refl;
-    turn = refl;
+  pub store_did : (result : Result Tended EngineError) (told : Tended) → result ≡ Ok told →
+      told ≢ answer.Idle → MatchResult result (IsTend old new) IsEnd →
+      ((list : List BatchContent) → g.is_honest (inner_disk a) →
+      WereMeantToHold (g.state (inner_disk a)) old list →
+      IfOk result (IsWorkAnswer limits.log old new)) →
+      TendsByPlan g limits floor a b (tended_store old merge turn) (tended_store new merge turn)
+      told
+  store_did result told is some did work = record {
+    did = tends.OfStore (record {
+      some = some;
+      did = subst (λ r. MatchResult r (IsTend old new) IsEnd) is did;
+      merge = refl;
+      turn = refl;
+    });
+    in_order = λ list honest w. subst (λ r. IfOk r (IsWorkAnswer limits.log old new)) is
+        (work list honest w);
+    planned = λ list honest w. tt;
   }
-  tended_by IsDone a b old new merge turn (Err e) works did = tt
 
   -- where it rested, merges are next
-  pub next_at_rest : (limits : Limits) (it : TendedStore D g) (new : StoreFiles)
-      (result : Result Tended EngineError) → result ≡ Ok answer.Idle →
-      IfOk result (IsWorkAnswer limits.log it.store new) → MergesAreNext limits it
-  next_at_rest limits it new result is did =
-      each answer.Idle refl
-      (subst (λ r. IfOk r (IsWorkAnswer limits.log it.store new)) is did)
-    where
-      each : (told : Tended) → told ≡ answer.Idle → IsWorkAnswer limits.log it.store new told →
-          MergesAreNext limits it
-      each told idle (work.Rewrites due did) =
-          absurd (subst (λ (t : Tended). IsRewriteAnswer it.store new t) idle did)
-      each told idle (work.Flushes short due did) =
-          absurd (subst (λ (t : Tended). IsFlushAnswer it.store new t) idle did)
-      each told idle (work.Rests short few same rests) =
-          record { rewritten = short; flushed = few }
+  next_at_rest : (told : Tended) → told ≡ answer.Idle → IsWorkAnswer limits.log old new told →
+      (RewriteIsDue old → ⊥) × (FlushIsDue limits.log old → ⊥)
+  next_at_rest told idle (work.Rewrites due did) =
+      absurd (subst (λ (t : Tended). IsRewriteAnswer old new t) idle did)
+  next_at_rest told idle (work.Flushes short due did) =
+      absurd (subst (λ (t : Tended). IsFlushAnswer old new t) idle did)
+  next_at_rest told idle (work.Rests short few same rests) = (short, few)
+
+  -- and what a tend of merges did, the tend did
+  pub merge_did : (later : Files D g) (end : TendedStore D) (called : Result Tended EngineError) →
+      called ≡ Ok answer.Idle →
+      ((list : List BatchContent) → g.is_honest (inner_disk a) →
+      WereMeantToHold (g.state (inner_disk a)) old list →
+      IfOk called (IsWorkAnswer limits.log old new)) → (result : Result Tended EngineError) →
+      IfOk result (MergesByPlan g limits floor a later (tended_store old merge turn) end) →
+      IfOk result (TendsByPlan g limits floor a later (tended_store old merge turn) end)
+  merge_did later end called is work (Ok told) by = record {
+    did = tends.OfMerge by.did;
+    in_order = λ list honest w. next_at_rest answer.Idle refl
+        (subst (λ r. IfOk r (IsWorkAnswer limits.log old new)) is (work list honest w));
+    planned = by.planned;
+  }
+  merge_did later end called is work (Err e) by = tt

@@ -159,8 +159,8 @@ abbrev pub IsAdrift : {D : Type 0} (g : Ghosts D) → Engine D g → Type 0
 IsAdrift g engine = (list : List BatchContent) → EngineReads g engine list → ⊥
 
 -- what a tend of an engine works on
-abbrev pub tended_of : {D : Type 0} {g : Ghosts D} → Engine D g → TendedStore D g
-tended_of engine = tended_store engine.files engine.store engine.merge engine.turn
+abbrev pub tended_of : {D : Type 0} {g : Ghosts D} → Engine D g → TendedStore D
+tended_of engine = tended_store engine.store engine.merge engine.turn
 
 -- what a tend of any disk did
 abbrev pub IsTendOf : {D : Type 0} {g : Ghosts D} → Engine D g → Engine D g → Tended → Type 0
@@ -180,7 +180,7 @@ pub record TendsAsDue {D : Type 0} (g : Ghosts D) (old new : Engine D g)
   pub meant : (list : List BatchContent) → EngineWasMeant g old list →
       IfOk result (IsTendAnswer old new)
   pub planned : OfEachList g old (λ list. IfOk result (TendsAsPlanned g (look_ups old).limits
-      (least_read old) (tended_of old) (tended_of new)))
+      (least_read old) old.files new.files (tended_of old) (tended_of new)))
 
 -- two engines tell the same of their tends
 abbrev pub TendsAlike : {D : Type 0} {g : Ghosts D} → Engine D g → Engine D g → Type 0

@@ -2,11 +2,12 @@
 -- of the merge.
 use Rattle.std.specs.Prelude.{◌≡◌, ◌⊎◌, ℕ, ◌+◌, ◌≤◌, List, [], IsErrOf, IfErr, IfOk, MatchResult}
 use Rattle.std.specs.Prelude.{Contains, IsNone, IsSomeAnd, OnOk, Option, Some, None, Result, length}
-use Rattle.std.specs.Prelude.{map, max, min}
+use Rattle.std.specs.Prelude.{Bool, Err, Ok, false, map, max, min, true}
 use Rattle.std.specs.List.{AllZip}
 use Rattle.disk.specs.declared.Disk.{Ghosts}
 use Rattle.disk.specs.{AlwaysLeaves, IsEnvironmental, KeepsDisk, seen}
 use Rattle.kv_types.specs.{BatchContent, StoredKey}
+use Rattle.version_edits.specs.{IsFit, StoreVersion}
 use Rattle.manifest.specs.{Change, HasFullSlot, counting_file, spare_file}
 use Rattle.store_model.specs.{IsMerged, LevelTable, MergePlan}
 use Rattle.compaction.specs.declared.error.MergeError.{MergeError}
@@ -23,12 +24,14 @@ use Rattle.store_tables.specs.declared.error.EngineError.{EngineError}
 use Rattle.store_tables.specs.declared.error.EngineError.TheVariants as engine
 use Rattle.store_tables.specs.Errors.{IsEnd}
 use Rattle.store_files.specs.declared.store_files.StoreFiles.{StoreFiles}
+use Rattle.store_files.specs.declared.tended.Tended.{Tended}
+use Rattle.store_files.specs.declared.tended.Tended.TheVariants as tended
 use Rattle.store_files.specs.Files.{Facts, IsOwned}
 use Rattle.store_files.specs.BesideFiles.{with_free}
 use Rattle.store_files.specs.Merging.{HeldWithOutputs, IsMergedBy, MeantWithOutputs}
 use Rattle.store_files.specs.OpenFiles.{AreUsableFiles, FilesHold, WereMeantToHold, batch_count}
 use Rattle.store_files.specs.OpenFiles.{known_facts, known_version}
-use Rattle.store_files.specs.Raising.{obsolete_files}
+use Rattle.store_files.specs.Raising.{IsRaisedBy, obsolete_files}
 use Rattle.store_files.specs.StoreFiles.{FilesRepresent, WereMeant}
 use Rattle.table_files.specs.{inner_disk}
 use Rattle.table_files.specs.declared.files.Files.{Files}
@@ -116,10 +119,6 @@ module _ {D : Type 0} (g : Ghosts D) where
       (λ answer. HoldsWithMerge g b new (now answer))
       (λ answer. WasMeantWithMerge g b new (now answer)) a b old new result
 
-  -- the merge of this plan is under way, where the files were meant to hold a list
-  abbrev pub IsMergeIn : Files D g → StoreFiles → List LevelTable → Merge D → MergePlan → Type 0
-  IsMergeIn files store tables merge plan = IsMergeOf g files store tables merge plan
-
 -- ---- refusals
 
 -- The error of a store for that of a merge. One that lacks room is none, and one that has failed is
@@ -130,6 +129,11 @@ error_of_merge merging.Damaged = engine.Damaged
 error_of_merge merging.Memory = engine.Memory
 error_of_merge merging.Failed = engine.Damaged
 error_of_merge merging.Full = engine.Damaged
+
+-- the answer of a store for that of a merge
+abbrev pub answer_of_merge : {T : Type 0} → Result T MergeError → Result T EngineError
+answer_of_merge (Ok x) = Ok x
+answer_of_merge (Err e) = Err (error_of_merge e)
 
 -- ---- a merge begins
 
@@ -147,10 +151,29 @@ pub record IsNewMerge {D : Type 0} (g : Ghosts D) (plan : Plan) (files : Files D
   pub lines : AllZip IsLineOf (known_version store).version.tables tables
   pub range : _
   pub joint : range_of plan (known_version store).version.tables ≡ Some range
-  pub under_way : IsMergeIn g files store tables merge (model_plan plan range tables)
+  pub under_way : IsMergeOf g files store tables merge (model_plan plan range tables)
   pub none : under_way.merging.walk.met ≡ []
 
+-- A merge began behind a rise of the floor to this number: that of the plan, where the files were
+-- meant to hold a list.
+pub record IsBegunBy {D : Type 0} (g : Ghosts D) (plan : Plan) (floor : ℕ) (a b : Files D g)
+    (old new : StoreFiles) (merge : Merge D) : Type 0 where
+  pub raised : IsRaisedBy floor old new
+  pub first : begun_number merge ≡ new.free_file
+  pub begun : (list : List BatchContent) → g.is_honest (inner_disk a) →
+      WereMeantToHold (g.state (inner_disk a)) old list → IsNewMerge g plan b new merge
+
 -- ---- a merge goes on
+
+-- how a merge went on that answers so
+abbrev pub progress_after : Result Bool MergeError → Result Progress EngineError
+progress_after (Ok true) = Ok progress.More
+progress_after (Ok false) = Ok progress.Done
+progress_after (Err merging.Disk) = Err engine.Disk
+progress_after (Err merging.Damaged) = Err engine.Damaged
+progress_after (Err merging.Memory) = Err engine.Memory
+progress_after (Err merging.Failed) = Err engine.Damaged
+progress_after (Err merging.Full) = Ok progress.Full
 
 -- what is left of a merge that went on: nothing where it has no room
 abbrev pub merge_after : {D : Type 0} → Merge D → Progress → Option (Merge D)
@@ -166,18 +189,24 @@ pub record IsAdvanced {D : Type 0} (old new : StoreFiles) (was now : Merge D) : 
   pub first : begun_number now ≡ begun_number was
   pub gone : now.gone ≡ was.gone
 
+-- So many entries more of the inputs are merged, and others are left.
+pub record StepsOn {D : Type 0} (g : Ghosts D) (a b : Files D g) (old new : StoreFiles)
+    (was now : Merge D) (tables : List LevelTable) (plan : MergePlan)
+    (before : IsMergeOf g a old tables was plan) : Type 0 where
+  pub after : IsMergeOf g b new tables now plan
+  pub met : length after.merging.walk.met ≡ length before.merging.walk.met + step_length
+  pub left : HasEntriesLeft (union_ghosts g) (files_ghosts g) now
+
 module _ {D : Type 0} (g : Ghosts D) where
   -- How a merge of this plan went on: so many entries more are merged and others are left, or all
   -- are merged, or the next one wants a place that there is not.
   abbrev pub HasProgress : (a b : Files D g) → (old new : StoreFiles) → (was now : Merge D) →
-      (tables : List LevelTable) (plan : MergePlan) → IsMergeIn g a old tables was plan →
+      (tables : List LevelTable) (plan : MergePlan) → IsMergeOf g a old tables was plan →
       Progress → Type 0
   HasProgress a b old new was now tables plan before progress.More =
-      (after : IsMergeIn g b new tables now plan)
-      × (length after.merging.walk.met ≡ length before.merging.walk.met + step_length)
-      × HasEntriesLeft (union_ghosts g) (files_ghosts g) now
+      StepsOn g a b old new was now tables plan before
   HasProgress a b old new was now tables plan before progress.Done =
-      IsMergeIn g b new tables now plan
+      IsMergeOf g b new tables now plan
       × (HasEntriesLeft (union_ghosts g) (files_ghosts g) now → ⊥)
   HasProgress a b old new was now tables plan before progress.Full =
       FindsNoRoom (length (known_version old).version.tables) was.writer plan.inputs
@@ -186,10 +215,21 @@ module _ {D : Type 0} (g : Ghosts D) where
   abbrev pub AdvancesPlanned : (a b : Files D g) → (old new : StoreFiles) → (was now : Merge D) →
       Result Progress EngineError → Type 0
   AdvancesPlanned a b old new was now result =
-      (tables : List LevelTable) (plan : MergePlan) (before : IsMergeIn g a old tables was plan) →
+      (tables : List LevelTable) (plan : MergePlan) (before : IsMergeOf g a old tables was plan) →
       IfOk result (HasProgress a b old new was now tables plan before)
 
 -- ---- a merge ends
+
+-- The answer to a merge that made this edit, or was refused: the edit, where the version may take
+-- it; none, where the version would have too many tables; or what stands in the way.
+abbrev pub IsCheckedEdit : StoreVersion → Result Change MergeError →
+    Result (Option Change) EngineError → Type 0
+IsCheckedEdit version (Ok edit) result =
+    MatchResult result (λ made. (made ≡ Some edit) × IsFit version edit)
+    (λ e. (e ≡ engine.Memory) ⊎ ((e ≡ engine.Damaged) × (IsFit version edit → ⊥)))
+IsCheckedEdit version (Err why) result =
+    MatchResult result (λ made. (made ≡ None) × (why ≡ merging.Full))
+    (λ e. (e ≡ error_of_merge why) × (why ≡ merging.Full → ⊥))
 
 -- the files hold the list and the disk has the outputs of this edit, or they hold the list where
 -- there is no edit
@@ -239,3 +279,21 @@ abbrev pub HasNoLeftovers : {D : Type 0} (g : Ghosts D) → ℕ → StoreFiles �
 HasNoLeftovers g first store files =
     (file : ℕ) → IsLeftover first store.free_file (known_version store).version file →
     IsNone (seen (g.state (inner_disk files) file))
+
+-- ---- what an end did
+
+-- what a tend answers where a merge ends by this edit, or is given up
+abbrev pub ended_answer : Option Change → Tended
+ended_answer None = tended.Full
+ended_answer (Some edit) = tended.Worked
+
+-- What the end of a merge did of any files, and of those over which it was under way by a plan.
+pub record MergeHasEnded {D : Type 0} (g : Ghosts D) (a b : Files D g) (old new : StoreFiles)
+    (was : Merge D) (answer : Tended) : Type 0 where
+  pub made : Option Change
+  pub told : answer ≡ ended_answer made
+  pub ended : IsEndedBy (begun_number was) old new made
+  pub edit : (tables : List LevelTable) (plan : MergePlan) → IsMergeOf g a old tables was plan →
+      IsEditOf old plan made
+  pub removed : g.is_honest (inner_disk a) → made ≡ None →
+      HasNoLeftovers g (begun_number was) old b

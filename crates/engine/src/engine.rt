@@ -318,6 +318,8 @@ impl<D: Disk + Drop> Engine<D> {
     pub fn into_disk(self) -> D
         ensures { result ≡ engine_disk self }
     {
+        drop(self.merge);
+        drop(self.store);
         self.files.into_disk()
     }
 }

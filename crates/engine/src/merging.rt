@@ -1,7 +1,6 @@
 // The merges of a store: one begins, goes on by so many entries in a tend, and ends or is given up.
-ghost use Rattle.std.specs.Prelude.{◌≡◌, ◌<◌, ◌≤◌, ℕ, IfOk, IfSome, List, None, OnOk};
-ghost use Rattle.std.specs.Prelude.{Contains, IfErr, IsErrOf, IsSome, Option, Some};
-ghost use Rattle.kv_types.specs.{BatchContent};
+ghost use Rattle.std.specs.Prelude.{◌≡◌, ◌<◌, ◌≤◌, IfOk, IfSome, List, None, OnOk, Contains};
+ghost use Rattle.std.specs.Prelude.{IfErr, IsErrOf, Option, Some};
 ghost use Rattle.manifest.specs.{HasFullSlot};
 ghost use Rattle.store_model.specs.{LevelTable, MergePlan};
 ghost use Rattle.table_files.specs.{inner_disk};
@@ -11,36 +10,33 @@ ghost use Rattle.store_files.specs.BesideFiles.{with_free};
 ghost use Rattle.store_files.specs.Merging.{MayMerge};
 ghost use Rattle.store_files.specs.OpenFiles.{AreUsableFiles, FilesHold, WereMeantToHold};
 ghost use Rattle.store_files.specs.OpenFiles.{known_facts, known_version};
-ghost use Rattle.store_files.specs.Raising.{IsRaisedBy, MayRise, facts_with_floor, raised_files};
+ghost use Rattle.store_files.specs.Raising.{MayRise, facts_with_floor, raised_files};
 ghost use Rattle.store_files.specs.TendKeeps.{OfEitherFacts};
 ghost use Rattle.compaction.specs.Outputs.{WritesOnly};
 ghost use Rattle.store_tables.specs.Errors.{IsEnd};
 ghost use Rattle.engine.specs.BeginParts.{BeginsMerge};
 ghost use Rattle.engine.specs.LentFiles.{files_ghosts, union_ghosts};
 ghost use Rattle.engine.specs.declared.merging.Progress.TheVariants.{Done};
-ghost use Rattle.engine.specs.MergeParts.{AdvancesPlanned, IsAdvanced, HoldEdit, IsNewMerge};
-ghost use Rattle.engine.specs.MergeParts.{IsEditOf};
-ghost use Rattle.engine.specs.MergeParts.{IsMergeFile, IsMergeIn, IsPicked, KeepsMerge, KeepsPart};
-ghost use Rattle.engine.specs.MergeParts.{HasNoLeftovers, IsEndedBy, PartMayFail};
-ghost use Rattle.engine.specs.MergeParts.{BeganLate, WereMeantEdit, error_of_merge, free_behind};
-ghost use Rattle.engine.specs.MergeParts.{merge_after};
-ghost use Rattle.engine.specs.Tends.{HasMerged, MergesAsDue};
-ghost use Rattle.engine.specs.Tends.{tended_store};
-ghost use Rattle.compaction.specs.declared.Turn.{Turn};
-ghost use Rattle.kv_types.specs.declared.Limits.{Limits};
-ghost use Rattle.engine.specs.UnderWay.{HoldsWithMerge, WasMeantWithMerge};
+ghost use Rattle.engine.specs.MergeParts.{AdvancesPlanned, IsAdvanced, HoldEdit, IsEditOf};
+ghost use Rattle.engine.specs.MergeParts.{IsMergeFile, IsPicked, KeepsMerge, KeepsPart};
+ghost use Rattle.engine.specs.MergeParts.{HasNoLeftovers, PartMayFail, BeganLate, WereMeantEdit};
+ghost use Rattle.engine.specs.MergeParts.{error_of_merge, free_behind, merge_after, IsBegunBy};
+ghost use Rattle.engine.specs.MergeParts.{progress_after, IsCheckedEdit, answer_of_merge};
+ghost use Rattle.engine.specs.MergeParts.{MergeHasEnded};
+ghost use Rattle.engine.specs.Tends.{ContinuesAsPlanned};
+ghost use Rattle.engine.specs.UnderWay.{HoldsWithMerge, WasMeantWithMerge, IsMergeOf};
 
 use compaction::laws::{merge_edits_keep, picks_are_planned};
-use compaction::{Merge, MergeError, Plan, Turn};
+use compaction::{Merge, MergeError, Plan};
 use disk::Disk;
-use kv_types::{Limits, Number};
+use kv_types::Number;
 use std::alloc::Global;
 use store_files::laws::{open_files_are_apart, other_files_are_free};
 use store_files::{EngineError, StoreFiles, Tended};
 use store_model::plans_fit;
 use store_tables::laws::versions_name_own_files;
 use table_files::Files;
-use version_edits::{VersionEdit, is_fit};
+use version_edits::{StoreVersion, VersionEdit, is_fit};
 
 // The greatest number of entries that one tend merges.
 const STEP_LENGTH: usize = 256;
@@ -64,6 +60,51 @@ fn refusal_of(e: MergeError) -> EngineError
         MergeError::Disk => EngineError::Disk,
         MergeError::Memory => EngineError::Memory,
         MergeError::Damaged | MergeError::Failed | MergeError::Full => EngineError::Damaged,
+    }
+}
+
+// The answer of a store for that of a merge.
+fn answer_of<T>(answer: Result<T, MergeError>) -> Result<T, EngineError>
+    ensures { result ≡ answer_of_merge answer }
+{
+    match answer {
+        Ok(it) => Ok(it),
+        Err(e) => Err(refusal_of(e)),
+    }
+}
+
+// How a merge went on that answers so.
+fn progress_of(step: Result<bool, MergeError>) -> Result<Progress, EngineError>
+    ensures { result ≡ progress_after step }
+{
+    match step {
+        Ok(true) => Ok(Progress::More),
+        Ok(false) => Ok(Progress::Done),
+        Err(MergeError::Full) => Ok(Progress::Full),
+        Err(e) => Err(refusal_of(e)),
+    }
+}
+
+// The edit of a merge that ended so, if the version may take it. `None` where the version would
+// have too many tables.
+fn checked_edit(
+    alloc: Global,
+    version: &StoreVersion,
+    made: Result<VersionEdit, MergeError>,
+) -> Result<Option<VersionEdit>, EngineError>
+    ensures { IsCheckedEdit version.now.version made result }
+{
+    match made {
+        Ok(edit) => {
+            // A disk that lies may show entries of which no edit can be made.
+            if is_fit(alloc, version, &edit)? {
+                Ok(Some(edit))
+            } else {
+                Err(EngineError::Damaged)
+            }
+        }
+        Err(MergeError::Full) => Ok(None),
+        Err(e) => Err(refusal_of(e)),
     }
 }
 
@@ -92,10 +133,8 @@ fn begin_raised<D: Disk + Drop>(
     let next = store.free_file();
     let version = store.manifest.state();
     let cursors = store.tables.merge_cursors(alloc, plan, &version.tables)?;
-    match Merge::begin(alloc, files, version, plan, target, next, cursors) {
-        Ok(merge) => Ok(merge),
-        Err(e) => Err(refusal_of(e)),
-    }
+    let begun = Merge::begin(alloc, files, version, plan, target, next, cursors);
+    answer_of(begun)
 }
 
 /// Begins the merge of a plan: the floor rises, and the cursors over the inputs stand on their
@@ -119,12 +158,8 @@ pub(crate) fn begin<D: Disk + Drop>(
         (λ merge. HoldsWithMerge D.Disk files.new store.new (Some merge))
         (λ merge. WasMeantWithMerge D.Disk files.new store.new (Some merge))
         files.old files.new store.old store.new result }
-    ensures raised { OnOk result (IsRaisedBy floor store.old store.new
-        × (store.new.free_file ≡ store.old.free_file)) }
-    ensures first { IfOk result (λ merge. begun_number merge ≡ store.new.free_file) }
-    ensures begun { (list : List BatchContent) → D.is_honest (inner_disk files.old) →
-        WereMeantToHold (D.state (inner_disk files.old)) store.old list →
-        IfOk result (IsNewMerge D.Disk plan files.new store.new) }
+    ensures did { IfOk result (IsBegunBy D.Disk plan floor files.old files.new store.old
+        store.new) }
 {
     open_files_are_apart(); // law: no file exists from the first free one on
     store.raise_floor(alloc, files, floor)?;
@@ -154,12 +189,7 @@ fn advance<D: Disk + Drop>(
     let mut next = store.free_file();
     let step = merge.step(alloc, files, STEP_LENGTH, tables, &mut next);
     store.set_free_file(next);
-    match step {
-        Ok(true) => Ok(Progress::More),
-        Ok(false) => Ok(Progress::Done),
-        Err(MergeError::Full) => Ok(Progress::Full),
-        Err(e) => Err(refusal_of(e)),
-    }
+    progress_of(step)
 }
 
 // Completes the last output of a merge of which no entry is left, and makes the edit. `None` where
@@ -183,7 +213,7 @@ fn complete<D: Disk + Drop>(
         × (edit.tables_gone ≡ merge.old.gone.items))) }
     ensures first { begun_number merge.new ≡ begun_number merge.old }
     ensures ends { (tables : List LevelTable) (plan : MergePlan) →
-        IsMergeIn D.Disk files.old store.now tables merge.old plan →
+        IsMergeOf D.Disk files.old store.now tables merge.old plan →
         IfOk result (IsEditOf store.now plan) }
 {
     // laws: what open files hold does not depend on others; and a merge keeps the list
@@ -191,17 +221,8 @@ fn complete<D: Disk + Drop>(
     open_files_are_apart();
     merge_edits_keep();
     let (version, next) = (store.manifest.state(), store.free_file());
-    let edit = match merge.finish(alloc, files, version, next) {
-        Ok(edit) => edit,
-        Err(MergeError::Full) => return Ok(None),
-        Err(e) => return Err(refusal_of(e)),
-    };
-    // A disk that lies may show entries of which no edit can be made.
-    if is_fit(alloc, version, &edit)? {
-        Ok(Some(edit))
-    } else {
-        Err(EngineError::Damaged)
-    }
+    let made = merge.finish(alloc, files, version, next);
+    checked_edit(alloc, version, made)
 }
 
 // Gives a merge up: its files are removed, and their numbers are free again.
@@ -229,79 +250,63 @@ fn abandon<D: Disk + Drop>(
     let next = store.manifest.state().next_file;
     let answer = merge.abandon(files, store.manifest.state(), free);
     store.set_free_file(begun.max(next).min(free));
-    match answer {
-        Ok(()) => Ok(()),
-        Err(e) => Err(refusal_of(e)),
-    }
+    answer_of(answer)
 }
 
-// Ends a merge of which no entry is left, and answers its edit, which is recorded. `None` where the
-// version would have too many tables: then the merge is given up.
+// Ends a merge of which no entry is left: its edit is recorded. Where the version would have too
+// many tables, the merge is given up.
 fn end<D: Disk + Drop>(
     alloc: Global,
     files: &mut Files<D>,
     store: &mut StoreFiles,
     mut merge: Merge<D>,
-) -> Result<Option<VersionEdit>, EngineError>
+) -> Result<Tended, EngineError>
     requires usable { AreUsableFiles store.old }
     requires done { HasEntriesLeft (union_ghosts D.Disk) (files_ghosts D.Disk) merge → ⊥ }
     ensures kept { KeepsMerge D.Disk (λ _. None) (Some merge) files.old files.new store.old
         store.new result }
-    ensures ended { IfOk result (IsEndedBy (begun_number merge) store.old store.new) }
-    ensures edit { (tables : List LevelTable) (plan : MergePlan) →
-        IsMergeIn D.Disk files.old store.old tables merge plan →
-        IfOk result (IsEditOf store.old plan) }
-    ensures removed { D.is_honest (inner_disk files.old) → IfOk result (λ edit. edit ≡ None →
-        HasNoLeftovers D.Disk (begun_number merge) store.old files.new) }
+    ensures did { IfOk result (MergeHasEnded D.Disk files.old files.new store.old store.new merge) }
 {
-    match complete(alloc, files, store, &mut merge)? {
-        Some(edit) => {
-            store.install_merge(alloc, files, &edit)?;
-            Ok(Some(edit))
+    match complete(alloc, files, store, &mut merge) {
+        Ok(Some(edit)) => {
+            drop(merge);
+            let installed = store.install_merge(alloc, files, &edit);
+            installed.and(Ok(Tended::Worked))
         }
-        None => {
-            abandon(files, store, merge)?;
-            Ok(None)
+        Ok(None) => abandon(files, store, merge).and(Ok(Tended::Full)),
+        Err(e) => {
+            drop(merge);
+            Err(e)
         }
     }
 }
 
-/// Does the next part of the merge that is under way.
+/// Does the next part of a merge that is under way. Where it goes on, it is put in its place again,
+/// which is empty.
 pub(crate) fn continue_merge<D: Disk + Drop>(
     alloc: Global,
     files: &mut Files<D>,
     store: &mut StoreFiles,
-    merge: &mut Option<Merge<D>>,
+    mut merge: Merge<D>,
+    place: &mut Option<Merge<D>>,
 ) -> Result<Tended, EngineError>
     requires usable { AreUsableFiles store.old }
-    requires some { IsSome merge.old }
-    ensures kept { KeepsMerge D.Disk (λ _. merge.new) merge.old files.old files.new store.old
+    requires none { place.old ≡ None }
+    ensures kept { KeepsMerge D.Disk (λ _. place.new) (Some merge) files.old files.new store.old
         store.new result }
-    ensures did { (limits : Limits) (floor : ℕ) (turn : Turn) → IfOk result (HasMerged limits floor
-        (tended_store files.old store.old merge.old turn)
-        (tended_store files.new store.new merge.new turn)) }
-    ensures as_due { (limits : Limits) (floor : ℕ) (turn : Turn) (list : List BatchContent) →
-        D.is_honest (inner_disk files.old) →
-        WasMeantWithMerge D.Disk files.old store.old merge.old list →
-        IfOk result (MergesAsDue D.Disk limits floor
-        (tended_store files.old store.old merge.old turn)
-        (tended_store files.new store.new merge.new turn)) }
+    ensures did { IfOk result (ContinuesAsPlanned D.Disk files.old files.new store.old store.new
+        merge place.new) }
 {
-    let Some(mut it) = merge.take() else {
-        return Ok(Tended::Idle);
-    };
-    match advance(alloc, files, store, &mut it)? {
-        Progress::More => {
-            *merge = Some(it);
+    match advance(alloc, files, store, &mut merge) {
+        Ok(Progress::More) => {
+            drop(place.replace(merge));
             Ok(Tended::Worked)
         }
-        Progress::Done => match end(alloc, files, store, it)? {
-            Some(_) => Ok(Tended::Worked),
-            None => Ok(Tended::Full),
-        },
-        Progress::Full => {
-            abandon(files, store, it)?;
-            Ok(Tended::Full)
+        Ok(Progress::Done) => end(alloc, files, store, merge),
+        Ok(Progress::Full) => abandon(files, store, merge).and(Ok(Tended::Full)),
+        Err(e) => {
+            drop(merge);
+            Err(e)
         }
     }
 }

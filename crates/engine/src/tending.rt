@@ -1,15 +1,10 @@
 // A tend of a store's files: a rewrite of the manifest, a flush, or part of a merge.
-ghost use Rattle.std.specs.Prelude.{◌≡◌, ◌<◌, IfOk, List, None};
-ghost use Rattle.std.specs.Prelude.{Option, Some};
-ghost use Rattle.kv_types.specs.{BatchContent};
-ghost use Rattle.table_files.specs.{inner_disk};
-ghost use Rattle.store_files.specs.OpenFiles.{WereMeantToHold};
+ghost use Rattle.std.specs.Prelude.{◌≡◌, ◌≤◌, ◌==◌, ℕ, IfOk, if◌then◌else◌};
+ghost use Rattle.std.specs.Option.{option_or};
+ghost use Rattle.compaction.specs.{turn_key};
 ghost use Rattle.store_files.specs.Raising.{MayRise};
-ghost use Rattle.engine.specs.Tends.{HasMerged, TendsStore, KeepsTended, MergesAsDue};
-ghost use Rattle.engine.specs.Tends.{TendsAsPlanned, TendsInOrder, key_of_plan, tended_store};
-ghost use Rattle.compaction.specs.declared.Turn.{Turn};
-ghost use Rattle.kv_types.specs.declared.Limits.{Limits};
-ghost use Rattle.engine.specs.UnderWay.{WasMeantWithMerge};
+ghost use Rattle.engine.specs.Tends.{KeepsTended, MergesByPlan, TendsByPlan, key_of_plan};
+ghost use Rattle.engine.specs.Tends.{tended_store};
 
 use crate::merging::{begin, continue_merge};
 use compaction::laws::{merges_outlive_calls, merges_stay_beside};
@@ -39,6 +34,18 @@ fn key_of(plan: Plan, tables: &[TableLine]) -> Result<Option<Key>, AllocError>
     Ok(None)
 }
 
+// The turn of a level is over for the table with this greatest key, if there is one.
+fn end_turn(turn: &mut Turn, level: u8, key: Option<Key>)
+    requires { level ≤ 6 }
+    ensures { (other : ℕ) → turn_key turn.new other
+        ≡ (if other == level then option_or key (turn_key turn.old other)
+        else turn_key turn.old other) }
+{
+    if let Some(key) = key {
+        turn.advance(level, key);
+    }
+}
+
 // Does the next part of the merge that is under way, or begins the one that is due: then the floor
 // rises to this number.
 fn tend_merge<D: Disk + Drop>(
@@ -51,29 +58,23 @@ fn tend_merge<D: Disk + Drop>(
     floor: Number,
 ) -> Result<Tended, EngineError>
     requires { MayRise store.old floor }
-    ensures kept { KeepsTended D.Disk floor (tended_store files.old store.old merge.old turn.old)
-        (tended_store files.new store.new merge.new turn.new) result }
-    ensures did { IfOk result (HasMerged limits.now floor
-        (tended_store files.old store.old merge.old turn.old)
-        (tended_store files.new store.new merge.new turn.new)) }
-    ensures as_due { (list : List BatchContent) → D.is_honest (inner_disk files.old) →
-        WasMeantWithMerge D.Disk files.old store.old merge.old list →
-        IfOk result (MergesAsDue D.Disk limits.now floor
-        (tended_store files.old store.old merge.old turn.old)
-        (tended_store files.new store.new merge.new turn.new)) }
+    ensures kept { KeepsTended D.Disk floor files.old files.new
+        (tended_store store.old merge.old turn.old) (tended_store store.new merge.new turn.new)
+        result }
+    ensures did { IfOk result (MergesByPlan D.Disk limits.now floor files.old files.new
+        (tended_store store.old merge.old turn.old) (tended_store store.new merge.new turn.new)) }
 {
     held_files_are_left(); // law: what the disk of open files reads as, and leaves
-    if merge.is_some() {
-        return continue_merge(alloc, files, store, merge);
+    if let Some(it) = merge.take() {
+        return continue_merge(alloc, files, store, it, merge);
     }
     let Some(plan) = pick(store.manifest.state(), limits, turn) else {
         return Ok(Tended::Idle);
     };
     let key = key_of(plan, &store.manifest.state().tables)?;
-    *merge = Some(begin(alloc, files, store, plan, floor, limits.table)?);
-    if let Some(key) = key {
-        turn.advance(plan.level, key);
-    }
+    let begun = begin(alloc, files, store, plan, floor, limits.table)?;
+    drop(merge.replace(begun));
+    end_turn(turn, plan.level, key);
     Ok(Tended::Worked)
 }
 
@@ -89,21 +90,11 @@ pub(crate) fn tend_store<D: Disk + Drop>(
     floor: Number,
 ) -> Result<Tended, EngineError>
     requires { MayRise store.old floor }
-    ensures kept { KeepsTended D.Disk floor (tended_store files.old store.old merge.old turn.old)
-        (tended_store files.new store.new merge.new turn.new) result }
-    ensures did { IfOk result (TendsStore limits.now floor
-        (tended_store files.old store.old merge.old turn.old)
-        (tended_store files.new store.new merge.new turn.new)) }
-    ensures in_order { (list : List BatchContent) → D.is_honest (inner_disk files.old) →
-        WereMeantToHold (D.state (inner_disk files.old)) store.old list →
-        IfOk result (TendsInOrder limits.now floor
-        (tended_store files.old store.old merge.old turn.old)
-        (tended_store files.new store.new merge.new turn.new)) }
-    ensures planned { (list : List BatchContent) → D.is_honest (inner_disk files.old) →
-        WasMeantWithMerge D.Disk files.old store.old merge.old list →
-        IfOk result (TendsAsPlanned D.Disk limits.now floor
-        (tended_store files.old store.old merge.old turn.old)
-        (tended_store files.new store.new merge.new turn.new)) }
+    ensures kept { KeepsTended D.Disk floor files.old files.new
+        (tended_store store.old merge.old turn.old) (tended_store store.new merge.new turn.new)
+        result }
+    ensures did { IfOk result (TendsByPlan D.Disk limits.now floor files.old files.new
+        (tended_store store.old merge.old turn.old) (tended_store store.new merge.new turn.new)) }
 {
     held_files_are_left(); // law: what the disk of open files reads as, and leaves
     merges_outlive_calls::<D>(); // law: a merge outlives calls that leave its files

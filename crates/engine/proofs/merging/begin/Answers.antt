@@ -1,5 +1,5 @@
 use Rattle.engine.proofs.Begins.{picked_behind}
-use Rattle.engine.proofs.BegunParts.{begun_behind, keeps_begun, not_raised}
+use Rattle.engine.proofs.BegunParts.{begun_did, keeps_begun, not_raised}
 use Rattle.engine.proofs.merging.begin.Goals as goal
 
 -- the floor did not rise
@@ -23,9 +23,9 @@ returns-clause-kept g c =
     c.in_ok-raise_floor.field-0 c.in_ok-raise_floor.ensures.raises c.begin_raised.result
     c.begin_raised.ensures.writes c.begin_raised.ensures.begins c.begin_raised.ensures.refused
 
-pub returns-clause-begun : goal.returns-clause-begun
-returns-clause-begun g c =
-    begun_behind g.D.Disk c.open_files_are_apart.ensures c.args.floor c.args.plan c.args.files.now
+pub returns-clause-did : goal.returns-clause-did
+returns-clause-did g c =
+    begun_did g.D.Disk c.open_files_are_apart.ensures c.args.floor c.args.plan c.args.files.now
     c.raise_floor.new.disk c.begin_raised.new.files c.args.store.now c.raise_floor.new.self
     c.in_ok-raise_floor.field-0 c.in_ok-raise_floor.ensures.raises c.begin_raised.result
-    c.begin_raised.ensures.writes c.begin_raised.ensures.begins
+    c.begin_raised.ensures.writes c.begin_raised.ensures.begins c.begin_raised.ensures.first

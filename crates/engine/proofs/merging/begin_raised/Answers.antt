@@ -1,8 +1,7 @@
-use Rattle.std.proofs.Common.{◌≡◌, Ok, Err, ap, refl, subst, sym}
+use Rattle.std.proofs.Common.{◌≡◌, ap, refl, subst, sym}
 use Rattle.disk.specs.MomentsLemmas.{none_yet}
 use Rattle.manifest.specs.{NodeVersion}
 use Rattle.compaction.specs.Outputs.{IsLeftBeyond}
-use Rattle.store_tables.specs.declared.error.EngineError.{EngineError}
 use Rattle.store_tables.specs.KeepingLemmas.{kept_as, neither, unchanged}
 use Rattle.store_tables.specs.RefusalLemmas.{lacks_memory}
 use Rattle.store_files.specs.OpenFiles.{known_version}
@@ -24,9 +23,9 @@ returns-in_err-cursors-clause-writes g c =
           (files.past a) (λ left at file apart. at file);
     }
 
--- the cursors are over the inputs of the plan
-pub returns-in-Ok-clause-begins : goal.returns-in-Ok-clause-begins
-returns-in-Ok-clause-begins g c =
+-- the cursors are over the inputs of the plan, and the answer is passed on
+pub returns-clause-begins : goal.returns-clause-begins
+returns-clause-begins g c =
     let version = ap (λ (v : NodeVersion). v.version.tables) c.state-version.ensures in
     let lines : c.deref.result.now ≡ (known_version c.args.store.now).version.tables =
     cc (
@@ -34,28 +33,11 @@ returns-in-Ok-clause-begins g c =
       ap (λ (v : NodeVersion). v.version.tables) c.version.view_is,
       version,
     ) in
-    begins_merge g.D.Disk c.args.store.now c.args.plan c.picks_are_planned.ensures
-    c.plans_fit.ensures c.versions_name_own_files.ensures c.requires.picked c.args.files.now
-    c.begin.new.files c.in_ok-cursors.cursors.items c.state-version.result.now
-    c.free_file-next.result c.deref.result.now c.state-version.ensures c.free_file-next.ensures
-    lines c.in_ok-cursors.ensures.over c.in_ok-cursors.ensures.intact (Ok c.in-Ok.merge)
-    c.in-Ok.ensures.begun c.in-Ok.ensures.first
-
--- a refusal is passed on
-pub returns-in-Err-clause-begins : goal.returns-in-Err-clause-begins
-returns-in-Err-clause-begins g c =
-    let version = ap (λ (v : NodeVersion). v.version.tables) c.state-version.ensures in
-    let lines : c.deref.result.now ≡ (known_version c.args.store.now).version.tables =
-    cc (
-      c.deref.ensures.value,
-      ap (λ (v : NodeVersion). v.version.tables) c.version.view_is,
-      version,
-    ) in
-    subst (λ (e : EngineError). BeginsMerge g.D.Disk c.args.plan c.args.files.now c.begin.new.files
-    c.args.store.now (Err e)) (sym c.refusal_of.ensures)
+    subst (BeginsMerge g.D.Disk c.args.plan c.args.files.now c.begin-begun.new.files
+    c.args.store.now) (sym c.answer_of.ensures)
     (begins_merge g.D.Disk c.args.store.now c.args.plan c.picks_are_planned.ensures
     c.plans_fit.ensures c.versions_name_own_files.ensures c.requires.picked c.args.files.now
-    c.begin.new.files c.in_ok-cursors.cursors.items c.state-version.result.now
+    c.begin-begun.new.files c.in_ok-cursors.cursors.items c.state-version.result.now
     c.free_file-next.result c.deref.result.now c.state-version.ensures c.free_file-next.ensures
-    lines c.in_ok-cursors.ensures.over c.in_ok-cursors.ensures.intact (Err c.in-Err.e)
-    c.in-Err.ensures.begun c.in-Err.ensures.first)
+    lines c.in_ok-cursors.ensures.over c.in_ok-cursors.ensures.intact c.begin-begun.result
+    c.begin-begun.ensures.begun c.begin-begun.ensures.first)

@@ -1,12 +1,13 @@
 use Rattle.std.proofs.Common.{List, Ok, refl, rules}
 use Rattle.kv_types.specs.{BatchContent}
+use Rattle.store_tables.specs.RefusalLemmas.{refuses}
 use Rattle.table_files.specs.{inner_disk}
 use Rattle.engine.specs.Engines.{engine_disk}
 use Rattle.engine.proofs.Adoptions.{adoption_leaves, slot_changes}
 use Rattle.engine.proofs.Engines.{answered_keeps, goes_to, held_of, refused_keeps, told_alike}
 use Rattle.engine.proofs.Engines.{were_meant}
 use Rattle.engine.proofs.Merges.{goes_with_merge, meant_with_merge}
-use Rattle.engine.proofs.Results.{not_true, refuses}
+use Rattle.engine.proofs.Results.{not_true}
 use Rattle.engine.proofs.engine.Engine.adopt.Goals as goal
 
 -- the store is usable

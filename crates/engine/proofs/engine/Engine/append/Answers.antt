@@ -1,5 +1,6 @@
 use Rattle.std.proofs.Common.{◌∷◌, [], ◌++◌, List, Ok, Err, ap, inl, refl, rules}
 use Rattle.kv_types.specs.{BatchContent}
+use Rattle.store_tables.specs.RefusalLemmas.{refuses}
 use Rattle.table_files.specs.{inner_disk}
 use Rattle.engine.proofs.Merges.{goes_with_merge, log_leaves, meant_with_merge}
 use Rattle.disk.specs.MomentsLemmas.{weaker}
@@ -7,7 +8,7 @@ use Rattle.engine.specs.Engines.{engine_disk, facts_of}
 use Rattle.store_files.specs.StoreFiles.{FilesRepresent, IsOneOf}
 use Rattle.engine.proofs.Engines.{answered_keeps, goes_to, held_of, none_since, one_left}
 use Rattle.engine.proofs.Engines.{only_exhausted, refused_keeps, were_meant}
-use Rattle.engine.proofs.Results.{not_true, refuses}
+use Rattle.engine.proofs.Results.{not_true}
 use Rattle.engine.proofs.engine.Engine.append.Goals as goal
 
 -- nothing was written

@@ -2,13 +2,12 @@ use Rattle.std.proofs.Common.{ℕ, inl, inr, refl, subst}
 use Rattle.std.specs.Prelude.{IfOk}
 use Rattle.engine.specs.Calls.{tended_of}
 use Rattle.engine.specs.Engines.{FactsRise, facts_of, least_read, raised_facts}
-use Rattle.engine.specs.Tends.{KeepsTended, TendsAsPlanned, TendsInOrder, TendsStore}
-use Rattle.engine.specs.Tends.{tended_store}
+use Rattle.engine.specs.Tends.{KeepsTended, TendsByPlan, tended_store}
 use Rattle.engine.proofs.Engines.{goes_to, may_fail, meant_as_held, meant_merge_as_held}
 use Rattle.engine.proofs.Engines.{meant_with_merge, merged_of, told_alike, were_meant}
 use Rattle.engine.proofs.Floors.{counted_after, floor_after, least_below, may_rise, readable_after}
-use Rattle.engine.proofs.Results.{answers_as, closed_by, ends_by, match_of, no_refusal, of_refusal}
-use Rattle.engine.proofs.Results.{on_answer, unless_refused, works_on_ok}
+use Rattle.engine.proofs.Results.{answers_as, closed_by, ends_by, if_ok, match_of, no_refusal}
+use Rattle.engine.proofs.Results.{of_refusal, on_answer, unless_refused, works_on_ok}
 use Rattle.engine.proofs.engine.Engine.tend.Goals as goal
 
 -- the floor may rise
@@ -24,10 +23,9 @@ invariant_of-self g c =
     let old = c.args.self.now in
     let new = c.tend_store-answer.new.store in
     let answer = c.tend_store-answer.result in
-    let later = tended_store c.tend_store-answer.new.files new c.tend_store-answer.new.merge
-    c.tend_store-answer.new.turn in
-    let part = subst (λ (n : ℕ). KeepsTended g.D.Disk n (tended_of old) later answer)
-    c.least-floor.ensures c.tend_store-answer.ensures.kept in
+    let later = tended_store new c.tend_store-answer.new.merge c.tend_store-answer.new.turn in
+    let part = subst (λ (n : ℕ). KeepsTended g.D.Disk n old.files c.tend_store-answer.new.files
+    (tended_of old) later answer) c.least-floor.ensures c.tend_store-answer.ensures.kept in
     let may = may_rise old.store old.committed (least_read old) old.snapshots
     (old.usable c.if-self.false) old.counted old.readable refl in
     record {
@@ -47,10 +45,10 @@ returns-clause-changes g c =
     let d = g.D.Disk in
     let old = c.args.self.now in
     let answer = c.tend_store-answer.result in
-    let later = tended_store c.tend_store-answer.new.files c.tend_store-answer.new.store
-    c.tend_store-answer.new.merge c.tend_store-answer.new.turn in
-    let part = subst (λ (n : ℕ). KeepsTended d n (tended_of old) later answer)
-    c.least-floor.ensures c.tend_store-answer.ensures.kept in
+    let later = tended_store c.tend_store-answer.new.store c.tend_store-answer.new.merge
+    c.tend_store-answer.new.turn in
+    let part = subst (λ (n : ℕ). KeepsTended d n old.files c.tend_store-answer.new.files
+    (tended_of old) later answer) c.least-floor.ensures c.tend_store-answer.ensures.kept in
     let kept = part.kept in
     record {
       keeps = record {
@@ -80,10 +78,11 @@ returns-clause-changes g c =
 
 pub returns-clause-told : goal.returns-clause-told
 returns-clause-told g c =
-    let later = tended_store c.tend_store-answer.new.files c.tend_store-answer.new.store
-    c.tend_store-answer.new.merge c.tend_store-answer.new.turn in
-    let part = subst (λ (n : ℕ). KeepsTended g.D.Disk n (tended_of c.args.self.now) later
-    c.tend_store-answer.result) c.least-floor.ensures c.tend_store-answer.ensures.kept in
+    let later = tended_store c.tend_store-answer.new.store c.tend_store-answer.new.merge
+    c.tend_store-answer.new.turn in
+    let part = subst (λ (n : ℕ). KeepsTended g.D.Disk n c.args.self.now.files
+    c.tend_store-answer.new.files (tended_of c.args.self.now) later c.tend_store-answer.result)
+    c.least-floor.ensures c.tend_store-answer.ensures.kept in
     elim part.numbers.1 [
       | inl same ↦ inl (told_alike same part.numbers.0)
       | inr raised ↦ inr (told_alike raised part.numbers.0)
@@ -107,31 +106,33 @@ returns-clause-work g c =
     let old = c.args.self.now in
     let answer = c.tend_store-answer.result in
     let laws = c.held_files_are_left.ensures in
-    let floor = c.least-floor.ensures in
-    let called = c.tend_store-answer.ensures in
-    let later = tended_store c.tend_store-answer.new.files c.tend_store-answer.new.store
-    c.tend_store-answer.new.merge c.tend_store-answer.new.turn in
+    let later = tended_store c.tend_store-answer.new.store c.tend_store-answer.new.merge
+    c.tend_store-answer.new.turn in
+    let did = subst (λ (n : ℕ). IfOk answer (TendsByPlan d old.limits n old.files
+    c.tend_store-answer.new.files (tended_of old) later)) c.least-floor.ensures
+    c.tend_store-answer.ensures.did in
     record {
       reads = λ list r.
-          match_of answer _ (subst (λ (n : ℕ). IfOk answer (TendsInOrder old.limits n
-          (tended_of old) later)) floor
-          (called.in_order list r.honest (meant_as_held d laws old list r)))
-          (of_refusal answer _ _ (called.kept.held list r.honest (merged_of d old list r)));
-      meant = λ list m. subst (λ (n : ℕ). IfOk answer (TendsInOrder old.limits n
-          (tended_of old) later)) floor (called.in_order list m.honest (were_meant d old list m));
+          match_of answer _ (if_ok answer (λ told by.
+          (by.did, by.in_order list r.honest (meant_as_held d laws old list r))) did)
+          (of_refusal answer _ _
+          (c.tend_store-answer.ensures.kept.held list r.honest (merged_of d old list r)));
+      meant = λ list m. if_ok answer
+          (λ told by. (by.did, by.in_order list m.honest (were_meant d old list m))) did;
       planned = record {
-        reads = λ list r. subst (λ (n : ℕ). IfOk answer (TendsAsPlanned d old.limits n
-            (tended_of old) later)) floor
-            (called.planned list r.honest (meant_merge_as_held d laws old list r));
-        meant = λ list m. subst (λ (n : ℕ). IfOk answer (TendsAsPlanned d old.limits n
-            (tended_of old) later)) floor
-            (called.planned list m.honest (meant_with_merge d old list m));
+        reads = λ list r. if_ok answer (λ told by.
+            (by.did, by.planned list r.honest (meant_merge_as_held d laws old list r))) did;
+        meant = λ list m. if_ok answer
+            (λ told by. (by.did, by.planned list m.honest (meant_with_merge d old list m))) did;
       };
     }
 
 pub returns-clause-did : goal.returns-clause-did
 returns-clause-did g c =
-    let later = tended_store c.tend_store-answer.new.files c.tend_store-answer.new.store
-    c.tend_store-answer.new.merge c.tend_store-answer.new.turn in
-    subst (λ (n : ℕ). IfOk c.tend_store-answer.result (TendsStore c.args.self.now.limits n
-    (tended_of c.args.self.now) later)) c.least-floor.ensures c.tend_store-answer.ensures.did
+    let old = c.args.self.now in
+    let answer = c.tend_store-answer.result in
+    let later = tended_store c.tend_store-answer.new.store c.tend_store-answer.new.merge
+    c.tend_store-answer.new.turn in
+    if_ok answer (λ told by. by.did) (subst (λ (n : ℕ). IfOk answer (TendsByPlan g.D.Disk old.limits
+    n old.files c.tend_store-answer.new.files (tended_of old) later)) c.least-floor.ensures
+    c.tend_store-answer.ensures.did)
