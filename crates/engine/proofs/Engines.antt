@@ -37,7 +37,7 @@ use Rattle.engine.specs.MergeParts.{PartMayFail}
 -- ---- what is kept
 
 -- what is kept of files is kept of their disk
-kept_inside : {D : Type 0} (g : Ghosts D) (a b : Files D g) {told cause : Type 0}
+pub kept_inside : {D : Type 0} (g : Ghosts D) (a b : Files D g) {told cause : Type 0}
     {IsKept : State → State → Type 0} → KeepsDisk (files_ghosts g) a b told cause IsKept →
     KeepsDisk g (inner_disk a) (inner_disk b) told cause IsKept
 kept_inside g a b kept = record {

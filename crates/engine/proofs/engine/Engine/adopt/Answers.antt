@@ -1,5 +1,6 @@
-use Rattle.std.proofs.Common.{List, Ok, refl, rules}
+use Rattle.std.proofs.Common.{Err, List, Ok, refl}
 use Rattle.kv_types.specs.{BatchContent}
+use Rattle.store_tables.specs.declared.error.EngineError.TheVariants as error
 use Rattle.store_tables.specs.RefusalLemmas.{refuses}
 use Rattle.table_files.specs.{inner_disk}
 use Rattle.engine.specs.Engines.{engine_disk}
@@ -8,12 +9,21 @@ use Rattle.engine.proofs.Engines.{answered_keeps, goes_to, held_of, refused_keep
 use Rattle.engine.proofs.Engines.{were_meant}
 use Rattle.engine.proofs.Merges.{goes_with_merge, meant_with_merge}
 use Rattle.engine.proofs.Results.{not_true}
+use Rattle.engine.proofs.Unchanged.{changes_none, follows_none, none_keeps}
 use Rattle.engine.proofs.engine.Engine.adopt.Goals as goal
 
 -- the store is usable
 pub adopt-requires : goal.adopt-requires
 adopt-requires g c =
     record { usable = c.args.self.now.usable c.if-self.false; later = c.requires }
+
+-- one that has ended does nothing
+pub returns-then-self-clause-changes : goal.returns-then-self-clause-changes
+returns-then-self-clause-changes g c =
+    let it = c.args.self.now in
+    changes_none g.D.Disk it error.Failed (Err error.Failed) refl c.held_files_are_left.ensures
+    (none_keeps g.D.Disk it error.Failed (Err error.Failed) refl (λ end. end)
+    (λ _. c.if-self.true, λ _. refl) (λ s file other. refl)) _ (λ list. list)
 
 -- a device that works refuses none
 pub returns-in_err-adopt-clause-met : goal.returns-in_err-adopt-clause-met
@@ -39,7 +49,8 @@ returns-in_err-adopt-clause-changes g c =
           c.in_err-adopt.was c.from_residual.ensures.1 c.in_err-adopt.ensures.adopts.did
           (λ h. let off = c.if-self.false in absurd cc) refl
           (slot_changes d old.files c.adopt.new.disk old.store adopts.kept adopts.touches);
-      list = search rules;
+      list = λ list. follows_none d old c.in_err-adopt.field-0.0 c.from_residual.result
+          c.from_residual.ensures.1 old _ list list;
       any_moment = λ list h.
           (adopts.tended list h.reads.honest (held_of d old list h.reads)).any_moment;
       meant = λ list m. (adopts.meant list m.honest (were_meant d old list m)).any_moment;

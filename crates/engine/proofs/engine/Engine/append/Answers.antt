@@ -1,32 +1,26 @@
-use Rattle.std.proofs.Common.{◌∷◌, [], ◌++◌, List, Ok, Err, ap, inl, refl, rules}
+use Rattle.std.proofs.Common.{◌∷◌, [], ◌++◌, Err, List, Ok, ap, inl, refl}
 use Rattle.kv_types.specs.{BatchContent}
 use Rattle.store_tables.specs.RefusalLemmas.{refuses}
 use Rattle.table_files.specs.{inner_disk}
 use Rattle.engine.proofs.Merges.{goes_with_merge, log_leaves, meant_with_merge}
-use Rattle.disk.specs.MomentsLemmas.{weaker}
 use Rattle.engine.specs.Engines.{engine_disk, facts_of}
-use Rattle.store_files.specs.StoreFiles.{FilesRepresent, IsOneOf}
-use Rattle.engine.proofs.Engines.{answered_keeps, goes_to, held_of, none_since, one_left}
+use Rattle.engine.proofs.Engines.{answered_keeps, goes_to, held_of}
 use Rattle.engine.proofs.Engines.{only_exhausted, refused_keeps, were_meant}
 use Rattle.engine.proofs.Results.{not_true}
+use Rattle.engine.proofs.Unchanged.{changes_none, failed_as, follows_none, none_keeps}
+use Rattle.engine.proofs.Unchanged.{number_is_none}
 use Rattle.engine.proofs.engine.Engine.append.Goals as goal
 
 -- nothing was written
 pub returns-in_err-number-clause-changes : goal.returns-in_err-number-clause-changes
 returns-in_err-number-clause-changes g c =
-    let laws = c.held_files_are_left.ensures in
-    let old = c.args.self.now in
-    let disk = g.D.Disk.state (engine_disk old) in
-    let past = g.D.Disk.past (engine_disk old) in
-    record {
-      keeps = search rules;
-      list = search rules;
-      any_moment = λ list h. weaker (FilesRepresent (facts_of old) list)
-          (IsOneOf (facts_of old) list (facts_of old) (list ++ c.args.batch.now ∷ []))
-          disk past disk past (λ left at. inl at) (none_since g.D.Disk laws old list h.reads past);
-      meant = λ list m.
-          one_left (facts_of old) list (list ++ c.args.batch.now ∷ []) disk past m.crash;
-    }
+    let it = c.args.self.now in
+    let e = c.in_err-number.field-0.0 in
+    let told = c.from_residual.ensures.1 in
+    changes_none g.D.Disk it e c.from_residual.result told c.held_files_are_left.ensures
+    (none_keeps g.D.Disk it e c.from_residual.result told
+    (number_is_none c.in_err-number.ensures.only) (failed_as c.in_err-number.ensures.closed)
+    (λ s file other. refl)) (facts_of it) (λ list. list ++ c.args.batch.now ∷ [])
 
 -- an engine that works has no next number
 pub returns-in_err-number-clause-met : goal.returns-in_err-number-clause-met
@@ -63,7 +57,8 @@ returns-in_err-append-clause-changes g c = record {
       c.from_residual-in_err-append.ensures.1 c.in_err-append.ensures.counts.1
       (λ h. let failed = c.in_ok-number.ensures.closed.1 h in absurd cc) refl
       c.append.ensures.kept;
-  list = search rules;
+  list = λ list. follows_none g.D.Disk c.args.self.now c.in_err-append.field-0.0
+      c.from_residual-in_err-append.result c.from_residual-in_err-append.ensures.1 _ _ list _;
   any_moment = λ list h.
       (c.append.ensures.appended list h.reads.honest
       (held_of g.D.Disk c.args.self.now list h.reads)).any_moment;

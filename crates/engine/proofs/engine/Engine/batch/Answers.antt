@@ -1,17 +1,16 @@
-use Rattle.std.proofs.Common.{refl, rules}
-use Rattle.disk.specs.StillLemmas.{still}
-use Rattle.engine.proofs.Engines.{goes_on, meant_as_held, were_meant}
-use Rattle.engine.proofs.Results.{works_on_ok}
+use Rattle.std.proofs.Common.{Err, refl}
+use Rattle.store_tables.specs.declared.error.EngineError.TheVariants as error
+use Rattle.store_tables.specs.KeepingLemmas.{same_files}
+use Rattle.engine.proofs.Engines.{meant_as_held, were_meant}
+use Rattle.engine.proofs.Unchanged.{none_keeps, reads_none, reads_so}
 use Rattle.engine.proofs.engine.Engine.batch.Goals as goal
 
 -- no call of the disk is made
 pub returns-then-self-clause-reads : goal.returns-then-self-clause-reads
-returns-then-self-clause-reads g c = record {
-  keeps = search rules;
-  told = search rules;
-  kept = search rules;
-  still = λ honest. still _ _;
-}
+returns-then-self-clause-reads g c =
+    let it = c.args.self.now in
+    reads_none g.D.Disk it error.Failed (Err error.Failed) refl (none_keeps g.D.Disk it error.Failed
+    (Err error.Failed) refl (λ end. end) (λ _. c.if-self.true, λ _. refl) same_files)
 
 -- the record of the log is that of the batch
 pub returns-clause-found : goal.returns-clause-found
@@ -24,17 +23,7 @@ returns-clause-found g c = record {
 }
 
 pub returns-clause-reads : goal.returns-clause-reads
-returns-clause-reads g c = record {
-  keeps = search rules;
-  told = search rules;
-  kept = λ list.
-      let laws = c.held_files_are_left.ensures in
-      goes_on g.D.Disk laws c.merges_outlive_calls.ensures c.args.self.now _ list
-      c.batch-answer.result (record {
-        store = refl;
-        merge = refl;
-        honest = c.batch-answer.ensures.reads.kept.honest.1;
-        same = c.batch-answer.ensures.reads.kept.files;
-      }) (works_on_ok c.batch-answer.result c.is_err-self.result c.is_err-self.ensures.value);
-  still = search rules;
-}
+returns-clause-reads g c =
+    reads_so g.D.Disk c.held_files_are_left.ensures c.merges_outlive_calls.ensures c.args.self.now _
+    c.batch-answer.result (λ h. let off = c.if-self.false in cc) c.batch-answer.ensures.reads refl
+    refl refl c.is_err-self.ensures.value

@@ -1,19 +1,46 @@
-use Rattle.std.proofs.Common.{refl, rules}
+use Rattle.std.proofs.Common.{Err, refl, rules}
+use Rattle.store_tables.specs.declared.error.EngineError.TheVariants as error
+use Rattle.store_tables.specs.KeepingLemmas.{same_files}
+use Rattle.engine.specs.Engines.{HasEnded, with_opened}
 use Rattle.engine.proofs.Engines.{goes_on}
+use Rattle.engine.proofs.Unchanged.{failed_as, keeps_on, none_keeps, read_is_none, snapshots_none}
 use Rattle.engine.proofs.engine.Engine.open_snapshot.Goals as goal
+
+-- the number may not be read
+pub returns-in_err-may_read-clause-changes : goal.returns-in_err-may_read-clause-changes
+returns-in_err-may_read-clause-changes g c =
+    let it = c.args.self.now in
+    let e = c.in_err-may_read.field-0.0 in
+    let told = c.from_residual.ensures.1 in
+    snapshots_none g.D.Disk it e (λ told. with_opened told c.args.at) c.from_residual.result told
+    (none_keeps g.D.Disk it e c.from_residual.result told
+    (read_is_none c.in_err-may_read.ensures.only) (failed_as c.in_err-may_read.ensures.closed)
+    same_files)
+
+-- too many are open
+pub returns-then-is_full-clause-changes : goal.returns-then-is_full-clause-changes
+returns-then-is_full-clause-changes g c =
+    let it = c.args.self.now in
+    let e = error.TooManySnapshots in
+    snapshots_none g.D.Disk it e (λ told. with_opened told c.args.at) (Err e) refl
+    (none_keeps g.D.Disk it e (Err e) refl (λ end. end)
+    (λ is. cc, λ h. let failed = c.in_ok-may_read.ensures.closed.1 h in absurd cc) same_files)
 
 -- the files and the store stay
 pub returns-in-Ok-clause-changes : goal.returns-in-Ok-clause-changes
-returns-in-Ok-clause-changes g c = record {
-  keeps = search rules;
-  told = search rules;
-  kept = λ list.
-      goes_on g.D.Disk c.held_files_are_left.ensures c.merges_outlive_calls.ensures
-      c.args.self.now _ list _ (record {
-        store = refl;
-        merge = refl;
-        honest = λ honest. honest;
-        same = λ honest file. refl;
-      }) (λ h. let failed = c.in_ok-may_read.ensures.closed.1 h in absurd cc);
-  disk = search rules;
-}
+returns-in-Ok-clause-changes g c =
+    let works : HasEnded c.args.self.now → ⊥ =
+    λ h. let failed = c.in_ok-may_read.ensures.closed.1 h in absurd cc in
+    record {
+      keeps = keeps_on g.D.Disk c.args.self.now _ tt refl works works;
+      told = search rules;
+      kept = λ list.
+          goes_on g.D.Disk c.held_files_are_left.ensures c.merges_outlive_calls.ensures
+          c.args.self.now _ list _ (record {
+            store = refl;
+            merge = refl;
+            honest = λ honest. honest;
+            same = λ honest file. refl;
+          }) works;
+      disk = refl;
+    }

@@ -1,18 +1,19 @@
-use Rattle.std.proofs.Common.{◌≤◌, arith, refl, rules}
-use Rattle.disk.specs.StillLemmas.{still}
+use Rattle.std.proofs.Common.{◌≤◌, arith, refl}
+use Rattle.store_tables.specs.KeepingLemmas.{same_files}
 use Rattle.store_files.specs.OpenFiles.{batch_count}
-use Rattle.engine.proofs.Engines.{goes_on, held_of, meant_as_held, no_damage, were_meant}
-use Rattle.engine.proofs.Results.{works_on_ok}
+use Rattle.engine.proofs.Engines.{held_of, meant_as_held, no_damage, were_meant}
+use Rattle.engine.proofs.Unchanged.{failed_as, none_keeps, read_is_none, reads_none, reads_so}
 use Rattle.engine.proofs.engine.Engine.rows.Goals as goal
 
 -- no call of the disk is made
 pub returns-in_err-may_read-clause-reads : goal.returns-in_err-may_read-clause-reads
-returns-in_err-may_read-clause-reads g c = record {
-  keeps = search rules;
-  told = search rules;
-  kept = search rules;
-  still = λ honest. still _ _;
-}
+returns-in_err-may_read-clause-reads g c =
+    let it = c.args.self.now in
+    let e = c.in_err-may_read.field-0.0 in
+    let told = c.from_residual.ensures.1 in
+    reads_none g.D.Disk it e c.from_residual.result told (none_keeps g.D.Disk it e
+    c.from_residual.result told (read_is_none c.in_err-may_read.ensures.only)
+    (failed_as c.in_err-may_read.ensures.closed) same_files)
 
 -- the rows of memory and tables are those of the list
 pub returns-clause-found : goal.returns-clause-found
@@ -39,17 +40,7 @@ returns-clause-intact g c = λ list r.
     (held_of g.D.Disk c.args.self.now list r) readable.0 count)
 
 pub returns-clause-reads : goal.returns-clause-reads
-returns-clause-reads g c = record {
-  keeps = search rules;
-  told = search rules;
-  kept = λ list.
-      let laws = c.held_files_are_left.ensures in
-      goes_on g.D.Disk laws c.merges_outlive_calls.ensures c.args.self.now _ list
-      c.rows-answer.result (record {
-        store = refl;
-        merge = refl;
-        honest = c.rows-answer.ensures.reads.kept.honest.1;
-        same = c.rows-answer.ensures.reads.kept.files;
-      }) (works_on_ok c.rows-answer.result c.is_err-self.result c.is_err-self.ensures.value);
-  still = search rules;
-}
+returns-clause-reads g c =
+    reads_so g.D.Disk c.held_files_are_left.ensures c.merges_outlive_calls.ensures c.args.self.now _
+    c.rows-answer.result (λ h. let failed = c.in_ok-may_read.ensures.closed.1 h in cc)
+    c.rows-answer.ensures.reads refl refl refl c.is_err-self.ensures.value

@@ -1,5 +1,6 @@
-use Rattle.std.proofs.Common.{ℕ, inl, inr, refl, subst}
+use Rattle.std.proofs.Common.{ℕ, Err, inl, inr, refl, subst}
 use Rattle.std.specs.Prelude.{IfOk}
+use Rattle.store_tables.specs.declared.error.EngineError.TheVariants as error
 use Rattle.engine.specs.Calls.{tended_of}
 use Rattle.engine.specs.Engines.{FactsRise, facts_of, least_read, raised_facts}
 use Rattle.engine.specs.Tends.{KeepsTended, TendsByPlan, tended_store}
@@ -8,6 +9,7 @@ use Rattle.engine.proofs.Engines.{meant_with_merge, merged_of, told_alike, were_
 use Rattle.engine.proofs.Floors.{counted_after, floor_after, least_below, may_rise, readable_after}
 use Rattle.engine.proofs.Results.{answers_as, closed_by, ends_by, if_ok, match_of, no_refusal}
 use Rattle.engine.proofs.Results.{of_refusal, on_answer, unless_refused, works_on_ok}
+use Rattle.engine.proofs.Unchanged.{changes_none, none_keeps}
 use Rattle.engine.proofs.engine.Engine.tend.Goals as goal
 
 -- the floor may rise
@@ -37,6 +39,14 @@ invariant_of-self g c =
           part.numbers.0 part.numbers.1;
       usable = unless_refused _ answer c.is_err-self.result c.is_err-self.ensures.value part.usable;
     }
+
+-- one that has ended does nothing
+pub returns-then-self-clause-changes : goal.returns-then-self-clause-changes
+returns-then-self-clause-changes g c =
+    let it = c.args.self.now in
+    changes_none g.D.Disk it error.Failed (Err error.Failed) refl c.held_files_are_left.ensures
+    (none_keeps g.D.Disk it error.Failed (Err error.Failed) refl (λ end. end)
+    (λ _. c.if-self.true, λ _. refl) (λ s file other. refl)) _ (λ list. list)
 
 -- A device that works fails where the files are full or are none of the engine. The list stays, at
 -- each moment, and also where blocks of tables are damaged.
