@@ -19,6 +19,8 @@ enum Comes {
     Forward(u32, u16, u64),
     // An Ack with this epoch, sender, committed number and number of batches.
     Ack(u32, u16, u64, u64),
+    // A notice of the configuration of this epoch, with these ids.
+    Notice(u32, &'static [u16]),
     Tick,
 }
 
@@ -33,6 +35,8 @@ enum Gives {
     ShowRows(u64),
     Open(u64),
     Close(u64),
+    // A later configuration is adopted, with this epoch.
+    Adopt(u32),
     Resend,
     Refuse(Refusal),
     Drop(DropReason),
@@ -79,6 +83,10 @@ fn input(rt: &impl Abort, alloc: Global, comes: Comes) -> Input {
                 have: number(have),
             }
         }
+        Comes::Notice(epoch, ids) => Input::Notice {
+            epoch: origin(rt, epoch, 1).0,
+            config: config_of(rt, alloc, ids),
+        },
         Comes::Tick => Input::Tick,
     }
 }
@@ -93,35 +101,31 @@ fn given(decision: &Decision) -> Gives {
         Decision::ReadRows { at, .. } => Gives::ShowRows(at.get()),
         Decision::Open { number, .. } => Gives::Open(number.get()),
         Decision::Close { number, .. } => Gives::Close(number.get()),
+        Decision::Adopt { epoch, .. } => Gives::Adopt(epoch.get()),
         Decision::Resend => Gives::Resend,
         Decision::Refuse { refusal, .. } => Gives::Refuse(*refusal),
         Decision::Drop(reason) => Gives::Drop(*reason),
     }
 }
 
+// What a step by this decision has done, where it changes what the node knows.
+fn done_of(decision: Decision) -> Option<Done> {
+    match decision {
+        Decision::Accept { request, .. } => Some(Done::Accepted { request }),
+        Decision::Append { .. } => Some(Done::Appended),
+        Decision::OnAck { committed, have } => Some(Done::Acked { committed, have }),
+        Decision::Adopt { epoch, config } => Some(Done::Adopted { epoch, config }),
+        Decision::Open { request, number } => Some(Done::Opened { request, number }),
+        Decision::Close { request, number } => Some(Done::Closed { request, number }),
+        _ => None,
+    }
+}
+
 /// The decision, and the number of requests that are answered once it is done.
 fn step(rt: &impl Abort, alloc: Global, state: &mut CoreState, comes: Comes) -> (Gives, usize) {
     let decision = decide(state, input(rt, alloc, comes));
-    let done = match &decision {
-        Decision::Accept { request, .. } => Some(Done::Accepted { request: *request }),
-        Decision::Append { .. } => Some(Done::Appended),
-        Decision::OnAck { committed, have } => Some(Done::Acked {
-            committed: *committed,
-            have: *have,
-        }),
-        Decision::Open { request, number } => Some(Done::Opened {
-            request: *request,
-            number: *number,
-        }),
-        Decision::Close { request, number } => Some(Done::Closed {
-            request: *request,
-            number: *number,
-        }),
-        _ => None,
-    };
     let gives = given(&decision);
-    drop(decision);
-    match done {
+    match done_of(decision) {
         Some(done) => (gives, state.after(alloc, done).expect(rt, "a state").len()),
         None => (gives, 0),
     }
@@ -134,7 +138,7 @@ fn created(rt: &impl Abort, alloc: Global, id: u16) -> CoreState {
 }
 
 // The inputs of a head in turn, its decisions, and the numbers of answered requests.
-static HEAD: [(Comes, Gives, usize); 20] = [
+static HEAD: [(Comes, Gives, usize); 33] = [
     (Comes::Get(None), Gives::Show(0), 0),
     (Comes::Submit(1), Gives::Accept, 0),
     (Comes::Submit(2), Gives::Accept, 0),
@@ -171,6 +175,52 @@ static HEAD: [(Comes, Gives, usize); 20] = [
     (Comes::Close(2), Gives::Close(2), 0),
     (Comes::Close(2), Gives::Refuse(Refusal::NoSuchSnapshot), 0),
     (Comes::Tick, Gives::Resend, 0),
+    (
+        Comes::Notice(0, &[1, 2]),
+        Gives::Drop(DropReason::OldNotice),
+        0,
+    ),
+    (
+        Comes::Notice(1, &[1, 2, 3]),
+        Gives::Drop(DropReason::BadNotice),
+        0,
+    ),
+    (
+        Comes::Notice(1, &[3, 1]),
+        Gives::Drop(DropReason::BadNotice),
+        0,
+    ),
+    (
+        Comes::Notice(1, &[1, 4]),
+        Gives::Drop(DropReason::BadNotice),
+        0,
+    ),
+    (Comes::Notice(2, &[1, 3]), Gives::Adopt(2), 0),
+    (
+        Comes::Notice(1, &[1]),
+        Gives::Drop(DropReason::OldNotice),
+        0,
+    ),
+    (
+        Comes::Ack(0, 2, 2, 2),
+        Gives::Drop(DropReason::OtherEpoch),
+        0,
+    ),
+    (
+        Comes::Ack(2, 2, 2, 2),
+        Gives::Drop(DropReason::NotSuccessor),
+        0,
+    ),
+    (Comes::Submit(3), Gives::Accept, 0),
+    (
+        Comes::Notice(3, &[1, 2]),
+        Gives::Drop(DropReason::BadNotice),
+        0,
+    ),
+    // The new tail commits all that it has, and answers for it.
+    (Comes::Notice(3, &[1]), Gives::Adopt(3), 1),
+    (Comes::Get(None), Gives::Show(3), 0),
+    (Comes::Submit(4), Gives::Accept, 1),
 ];
 
 // Takes the steps. The failure names the first with another decision.
@@ -181,14 +231,14 @@ fn take_steps(rt: &impl Abort, alloc: Global, head: &mut CoreState) {
     }
 }
 
-// Then the head has two batches, both committed.
+// Then the head, which is alone now, has four batches, all committed.
 #[test]
 fn a_head(rt: HostRuntime) {
     let mut head = created(&rt, rt.alloc(), 1);
     take_steps(&rt, rt.alloc(), &mut head);
     let numbers = (head.count().get(), head.committed().get());
     drop(head);
-    is_so(&rt, numbers == (2, 2), "it has other batches");
+    is_so(&rt, numbers == (4, 4), "it has other batches");
 }
 
 // A new node, an input, and its decision.
@@ -201,7 +251,7 @@ impl Case for Other {
     }
 }
 
-static OTHERS: [Other; 7] = [
+static OTHERS: [Other; 9] = [
     Other(2, Comes::Submit(1), Gives::Refuse(Refusal::NotHead)),
     Other(2, Comes::Forward(0, 1, 2), Gives::TellAgain),
     Other(2, Comes::Forward(0, 1, 1), Gives::Append),
@@ -213,6 +263,9 @@ static OTHERS: [Other; 7] = [
     ),
     Other(4, Comes::Submit(1), Gives::Refuse(Refusal::Removed)),
     Other(4, Comes::Tick, Gives::Drop(DropReason::Removed)),
+    Other(2, Comes::Notice(1, &[1, 3]), Gives::Adopt(1)),
+    // A node that is no longer in the chain adopts, too.
+    Other(4, Comes::Notice(1, &[1]), Gives::Adopt(1)),
 ];
 
 #[test]
@@ -250,10 +303,12 @@ impl Case for Sending {
     }
 }
 
-static SENDINGS: [Sending; 3] = [
+static SENDINGS: [Sending; 5] = [
     Sending(1, Comes::Submit(1), (None, Some(2), 1, 2)),
     Sending(2, Comes::Forward(0, 1, 1), (Some(1), Some(3), 1, 2)),
     Sending(3, Comes::Forward(0, 2, 1), (Some(2), None, 1, 1)),
+    Sending(3, Comes::Notice(1, &[1, 3]), (Some(1), None, 1, 1)),
+    Sending(2, Comes::Notice(1, &[1, 3]), (None, None, 1, 1)),
 ];
 
 #[test]
