@@ -21,11 +21,11 @@ use Rattle.store_files.specs.declared.store_files.StoreFiles.{StoreFiles}
 use Rattle.store_files.specs.Apart.{OpenFilesAreApart}
 use Rattle.store_files.specs.Files.{IsOwned}
 use Rattle.store_files.specs.BesideFiles.{HasSameNamed, IsNamedFile, OtherFilesAreFree, with_free}
-use Rattle.store_files.specs.OpenFiles.{AreUsableFiles, known_facts, known_version}
+use Rattle.store_files.specs.OpenFiles.{AreUsableFiles, known_version}
 use Rattle.table_files.specs.{inner_disk}
 use Rattle.table_files.specs.declared.files.Files.{Files}
 use Rattle.engine.specs.LentFiles.{files_ghosts}
-use Rattle.engine.specs.MergeParts.{BeganLate, KeepsPart, answer_of_merge, error_of_merge}
+use Rattle.engine.specs.MergeParts.{BeganLate, KeepsAbandoned, answer_of_merge, error_of_merge}
 use Rattle.engine.specs.MergeParts.{free_behind}
 use Rattle.engine.specs.UnderWay.{HoldsWithMerge, WasMeantWithMerge}
 use Rattle.engine.proofs.Beside.{beside_from, beside_named, meant_beside, represent_beside}
@@ -129,12 +129,7 @@ module _ {D : Type 0} (g : Ghosts D) (free : OtherFilesAreFree) (apart : OpenFil
 
   -- what giving it up keeps
   abbrev Keeps : Result (Unit {0}) EngineError → Type 0
-  Keeps result = KeepsPart g own (λ IsSaid. IsSaid (known_facts old)) ⊥
-      (BeganLate merge (HoldsWithMerge g a old None))
-      (BeganLate merge (WasMeantWithMerge g a old None))
-      (λ _. HoldsWithMerge g b (with_free old behind) None)
-      (λ _. WasMeantWithMerge g b (with_free old behind) None)
-      a b old (with_free old behind) result
+  Keeps result = KeepsAbandoned g merge a b old (with_free old behind) result
 
   pub abandons : (answer : Result (Unit {0}) MergeError) →
       RemovesLeftovers (files_ghosts g) first old.free_file version a b answer →
@@ -199,19 +194,11 @@ module _ {D : Type 0} (g : Ghosts D) (free : OtherFilesAreFree) (apart : OpenFil
       RemovesLeftovers (files_ghosts g) first next named a b answer → (now : StoreFiles) →
       now ≡ with_free old behind → (result : Result (Unit {0}) EngineError) →
       result ≡ answer_of_merge answer →
-      KeepsPart g own (λ IsSaid. IsSaid (known_facts old)) ⊥
-      (BeganLate merge (HoldsWithMerge g a old None))
-      (BeganLate merge (WasMeantWithMerge g a old None))
-      (λ _. HoldsWithMerge g b now None) (λ _. WasMeantWithMerge g b now None)
-      a b old now result
+      KeepsAbandoned g merge a b old now result
   abandoned next next_is named named_is answer did now now_is result result_is =
       let of_version = subst (λ (n : ℕ). RemovesLeftovers (files_ghosts g) first n named a b answer)
       next_is did in
       let kept = abandons answer (subst (λ (v : StoreVersion).
       RemovesLeftovers (files_ghosts g) first old.free_file v a b answer) named_is of_version) in
       let told = subst Keeps (sym result_is) kept in
-      subst (λ (s : StoreFiles). KeepsPart g own (λ IsSaid. IsSaid (known_facts old)) ⊥
-      (BeganLate merge (HoldsWithMerge g a old None))
-      (BeganLate merge (WasMeantWithMerge g a old None))
-      (λ _. HoldsWithMerge g b s None) (λ _. WasMeantWithMerge g b s None)
-      a b old s result) (sym now_is) told
+      subst (λ (s : StoreFiles). KeepsAbandoned g merge a b old s result) (sym now_is) told

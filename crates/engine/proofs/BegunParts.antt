@@ -2,12 +2,11 @@
 use Rattle.std.proofs.Common.{◌≡◌, ◌⊎◌, ◌∙◌, List, Some, Result, Ok, Err, inl, inr, refl}
 use Rattle.std.proofs.Common.{subst, sym}
 use Rattle.std.proofs.Math.Path.{fun_ext}
-use Rattle.std.specs.Prelude.{Contains, IfErr, IfOk, IsErrAnd, IsErrOf, MatchResult, ℕ}
+use Rattle.std.specs.Prelude.{IfErr, IfOk, IsErrAnd, IsErrOf, MatchResult, ℕ}
 use Rattle.kv_types.specs.{BatchContent}
 use Rattle.disk.specs.{AlwaysLeaves, Contents, IsEnvironmental, State}
 use Rattle.disk.specs.MomentsLemmas.{join, weaker}
 use Rattle.disk.specs.declared.Disk.{Ghosts}
-use Rattle.manifest.specs.{HasFullSlot}
 use Rattle.compaction.specs.declared.Merge.{Merge}
 use Rattle.compaction.specs.declared.Plan.{Plan}
 use Rattle.compaction.specs.{model_plan}
@@ -24,34 +23,23 @@ use Rattle.store_tables.specs.RefusalLemmas.{refuses}
 use Rattle.store_files.specs.declared.store_files.StoreFiles.{StoreFiles}
 use Rattle.store_files.specs.Apart.{OpenFilesAreApart}
 use Rattle.store_files.specs.OpenFiles.{AreUsableFiles, FilesAreRead, FilesHold, WereMeantToHold}
-use Rattle.store_files.specs.OpenFiles.{known_facts, known_version}
-use Rattle.store_files.specs.Raising.{RaisesFloor, facts_with_floor, raised_files}
-use Rattle.store_files.specs.TendKeeps.{OfEitherFacts}
+use Rattle.store_files.specs.OpenFiles.{known_version}
+use Rattle.store_files.specs.Raising.{RaisesFloor}
 use Rattle.table_files.specs.{inner_disk}
 use Rattle.table_files.specs.declared.files.Files.{Files}
 use Rattle.engine.specs.BeginParts.{BeginsMerge, BeginsOver}
 use Rattle.engine.specs.LentFiles.{files_ghosts}
-use Rattle.engine.specs.MergeParts.{IsBegunBy, IsNewMerge, KeepsPart}
+use Rattle.engine.specs.MergeParts.{IsBegunBy, IsNewMerge, KeepsBegun}
 use Rattle.engine.specs.UnderWay.{HoldsWithMerge, IsIntactMergeOf, IsSomeMergeOf}
 use Rattle.engine.specs.UnderWay.{WasMeantWithMerge}
 use Rattle.engine.proofs.Begins.{are_served, lines_of_tables, were_served}
 
 module _ {D : Type 0} (g : Ghosts D) where
-  -- what the beginning of a merge keeps of open files
-  abbrev pub KeepsBegun : ℕ → (a b : Files D g) → (old new : StoreFiles) →
-      Result (Merge D) EngineError → Type 0
-  KeepsBegun floor a b old new result =
-      KeepsPart g (Contains (raised_files old floor))
-      (OfEitherFacts (known_facts old) (facts_with_floor old floor)) (HasFullSlot old.manifest)
-      (FilesHold (g.state (inner_disk a)) old) (WereMeantToHold (g.state (inner_disk a)) old)
-      (λ it. HoldsWithMerge g b new (Some it)) (λ it. WasMeantWithMerge g b new (Some it))
-      a b old new result
-
   -- a rise that is refused is all that was done
   pub not_raised : (floor : ℕ) (a m : Files D g) (old new : StoreFiles) (e : EngineError)
       (result : Result (Merge D) EngineError) →
       RaisesFloor (files_ghosts g) floor a m old new (Err e) → IsErrAnd result (λ s. s ≡ e) →
-      KeepsBegun floor a m old new result
+      KeepsBegun g floor a m old new result
   not_raised floor a m old new e result raises told = record {
     kept = kept_as (files_ghosts g) (passed_on (Err e) e result refl told) (λ s t same. same)
         raises.kept;
@@ -174,7 +162,7 @@ module _ {D : Type 0} (g : Ghosts D) where
         (λ left at. before.now left (λ file. at file (λ no. no)))
         (writes.any_moment (raises.kept.honest.1 honest)))
 
-    pub keeps_begun : IfErr result IsEnd → KeepsBegun floor a b old new result
+    pub keeps_begun : IfErr result IsEnd → KeepsBegun g floor a b old new result
     keeps_begun ends = record {
       kept = kept_behind (files_ghosts g) (λ s t u before after. tt) raises.kept done
           (kept_but (files_ghosts g) (λ no. absurd no) writes.kept);

@@ -34,7 +34,7 @@ use Rattle.store_files.specs.OpenFiles.{known_facts, known_store, known_version}
 use Rattle.table_files.specs.{inner_disk}
 use Rattle.table_files.specs.declared.files.Files.{Files}
 use Rattle.engine.specs.LentFiles.{files_ghosts, union_ghosts}
-use Rattle.engine.specs.MergeParts.{HoldEdit, IsEditOf, IsMergeFile, KeepsPart, PartMayFail}
+use Rattle.engine.specs.MergeParts.{HoldEdit, IsEditOf, KeepsCompleted}
 use Rattle.engine.specs.MergeParts.{IsCheckedEdit, WereMeantEdit, error_of_merge}
 use Rattle.engine.specs.UnderWay.{HoldsWithMerge, IsMergeOf, WasMeantWithMerge}
 use Rattle.engine.proofs.Abandons.{ends, environment, fails_alike}
@@ -153,10 +153,7 @@ module _ {D : Type 0} (g : Ghosts D) (old : StoreFiles) (u : AreUsableFiles old)
         (IsEnvironmental engine.Disk engine.Memory)) →
         ((list : List BatchContent) → WasMeantWithMerge g a old (Some was) list →
         IfOk result (λ made. WereMeantEdit g b old made list)) →
-        KeepsPart g (IsMergeFile old (Some was)) (λ IsSaid. IsSaid (known_facts old))
-        (PartMayFail g a old (Some was)) (HoldsWithMerge g a old (Some was))
-        (WasMeantWithMerge g a old (Some was)) (HoldEdit g b old) (WereMeantEdit g b old)
-        a b old old result
+        KeepsCompleted g a b old was result
     completes answer did result alike refused held meant = record {
       kept = kept_but (files_ghosts g)
           (λ no. inr (λ list honest h. let m = h.merges.under_way in
@@ -178,10 +175,7 @@ module _ {D : Type 0} (g : Ghosts D) (old : StoreFiles) (u : AreUsableFiles old)
     }
 
     abbrev Keeps : Result (Option Change) EngineError → Type 0
-    Keeps result = KeepsPart g (IsMergeFile old (Some was)) (λ IsSaid. IsSaid (known_facts old))
-        (PartMayFail g a old (Some was)) (HoldsWithMerge g a old (Some was))
-        (WasMeantWithMerge g a old (Some was)) (HoldEdit g b old) (WereMeantEdit g b old)
-        a b old old result
+    Keeps result = KeepsCompleted g a b old was result
 
     -- the version would have too many tables
     keeps_full : Did (Err merging.Full) → Keeps (Ok None)

@@ -30,7 +30,7 @@ use Rattle.store_tables.specs.Errors.{IsEnd}
 use Rattle.store_files.specs.Files.{Facts}
 use Rattle.store_files.specs.HeldFiles.{HeldFilesAreLeft}
 use Rattle.store_files.specs.OpenFiles.{FilesHold, OpeningRefusal, WereMeantToHold}
-use Rattle.store_files.specs.StoreFiles.{FilesRepresent, IsOneOf, StillLeavesOneOf, WereMeant}
+use Rattle.store_files.specs.StoreFiles.{FilesRepresent, IsOneOf, StillLeavesOneOf}
 use Rattle.store_files.specs.StoreFiles.{WereOneOf}
 use Rattle.engine.specs.MergeParts.{PartMayFail}
 
@@ -348,13 +348,6 @@ module _ {D : Type 0} (g : Ghosts D) (laws : HeldFilesAreLeft) where
   none_since engine list r past =
       none_yet (FilesRepresent (facts_of engine) list) (g.state (engine_disk engine)) past
       (holds_of engine list r).crash
-
--- no call leaves files of one of two lists
-pub one_left : (facts : Facts) (list more : List BatchContent) (disk : State) (past : List State) →
-    OnlyLeaves (WereMeant facts list) disk →
-    LeavesSince disk past disk past (WereOneOf facts list facts more)
-one_left facts list more disk past only =
-    none_yet (WereOneOf facts list facts more) disk past (λ left leaves. inl (only left leaves))
 
 -- an engine that works has no next number only at the greatest
 pub only_exhausted : {T : Type 0} {M : Type 0} (result : Result T EngineError) (e : EngineError) →

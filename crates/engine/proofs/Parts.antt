@@ -27,10 +27,6 @@ use Rattle.engine.specs.MergeParts.{KeepsPart}
 use Rattle.engine.specs.UnderWay.{HoldsWithMerge, WasMeantWithMerge}
 use Rattle.engine.proofs.Results.{of_answer, of_refusal}
 
--- these facts alone
-abbrev pub OfFactsOf : StoreFiles → (Facts → Type 0) → Type 0
-OfFactsOf store IsSaid = IsSaid (known_facts store)
-
 module _ {D : Type 0} (g : Ghosts D) where
   -- one part behind another that answered, which leaves the facts too, and touches no other files
   pub part_then : {T U : Type 0} {touched later : ℕ → Type 0} {cause other : Type 0}

@@ -11,9 +11,11 @@ use Rattle.store_tables.specs.declared.error.EngineError.{EngineError}
 use Rattle.store_tables.specs.declared.error.EngineError.TheVariants as error
 use Rattle.store_tables.specs.Errors.{IsEnd}
 use Rattle.store_tables.specs.KeepingLemmas.{kept_as, neither, same_files, unchanged}
-use Rattle.store_files.specs.Files.{Facts}
+use Rattle.store_files.specs.Files.{Facts, IsOwned}
 use Rattle.store_files.specs.HeldFiles.{HeldFilesAreLeft}
 use Rattle.store_files.specs.StoreFiles.{FilesRepresent, IsOneOf, WereOneOf}
+use Rattle.table_files.specs.{inner_disk}
+use Rattle.table_files.specs.declared.files.Files.{Files}
 use Rattle.engine.specs.declared.engine.Engine.{Engine}
 use Rattle.engine.specs.Calls.{ChangesList, ChangesSnapshots, KeepsEngine, ListFollows, ReadsEngine}
 use Rattle.engine.specs.Engines.{HasEnded, LookUps, engine_disk, facts_of, look_ups}
@@ -172,3 +174,14 @@ keeps_on g old new answer {cause = cause} same works on = record {
   );
   refusal = λ told. absurd told;
 }
+
+-- ---- calls that are given a disk
+
+-- what such a call keeps of the disk, by what it keeps of the files over it
+pub owned_keeps : {D : Type 0} (g : Ghosts D) (disk after : D) (a b : Files D g)
+    {first told : Type 0} → inner_disk a ≡ disk → after ≡ inner_disk b → (first ↔ told) →
+    KeepsDisk (files_ghosts g) a b first ⊥ IsOwned → KeepsDisk g disk after told ⊥ IsOwned
+owned_keeps g disk after a b {told = told} from to same kept =
+    subst (λ d. KeepsDisk g d after told ⊥ IsOwned) from
+    (subst (λ d. KeepsDisk g (inner_disk a) d told ⊥ IsOwned) (sym to)
+    (kept_as g same (λ p q own. own) (kept_inside g a b kept)))

@@ -31,8 +31,9 @@ use Rattle.store_files.specs.BesideFiles.{with_free}
 use Rattle.store_files.specs.Merging.{HeldWithOutputs, IsMergedBy, MeantWithOutputs}
 use Rattle.store_files.specs.OpenFiles.{AreUsableFiles, FilesHold, WereMeantToHold, batch_count}
 use Rattle.store_files.specs.OpenFiles.{known_facts, known_version}
-use Rattle.store_files.specs.Raising.{IsRaisedBy, obsolete_files}
+use Rattle.store_files.specs.Raising.{IsRaisedBy, facts_with_floor, obsolete_files, raised_files}
 use Rattle.store_files.specs.StoreFiles.{FilesRepresent, WereMeant}
+use Rattle.store_files.specs.TendKeeps.{OfEitherFacts}
 use Rattle.table_files.specs.{inner_disk}
 use Rattle.table_files.specs.declared.files.Files.{Files}
 use Rattle.engine.specs.declared.merging.Progress.{Progress}
@@ -118,6 +119,16 @@ module _ {D : Type 0} (g : Ghosts D) where
       (PartMayFail a old was) (HoldsWithMerge g a old was) (WasMeantWithMerge g a old was)
       (λ answer. HoldsWithMerge g b new (now answer))
       (λ answer. WasMeantWithMerge g b new (now answer)) a b old new result
+
+  -- what the begin of a merge keeps behind a rise of the floor to this number
+  abbrev pub KeepsBegun : ℕ → (a b : Files D g) → (old new : StoreFiles) →
+      Result (Merge D) EngineError → Type 0
+  KeepsBegun floor a b old new result =
+      KeepsPart g (Contains (raised_files old floor))
+      (OfEitherFacts (known_facts old) (facts_with_floor old floor)) (HasFullSlot old.manifest)
+      (FilesHold (g.state (inner_disk a)) old) (WereMeantToHold (g.state (inner_disk a)) old)
+      (λ merge. HoldsWithMerge g b new (Some merge))
+      (λ merge. WasMeantWithMerge g b new (Some merge)) a b old new result
 
 -- ---- refusals
 
@@ -246,6 +257,15 @@ WereMeantEdit g files store None list = WereMeantToHold (g.state (inner_disk fil
 WereMeantEdit g files store (Some edit) list =
     MeantWithOutputs (g.state (inner_disk files)) store list edit
 
+-- what the completion of its last output keeps
+abbrev pub KeepsCompleted : {D : Type 0} (g : Ghosts D) → (a b : Files D g) → StoreFiles →
+    Merge D → Result (Option Change) EngineError → Type 0
+KeepsCompleted g a b store was result =
+    KeepsPart g (IsMergeFile store (Some was)) (λ IsSaid. IsSaid (known_facts store))
+    (PartMayFail g a store (Some was)) (HoldsWithMerge g a store (Some was))
+    (WasMeantWithMerge g a store (Some was)) (HoldEdit g b store) (WereMeantEdit g b store)
+    a b store store result
+
 -- the edit is that of a merge of this plan, or the version would have too many tables
 abbrev pub IsEditOf : StoreFiles → MergePlan → Option Change → Type 0
 IsEditOf store plan None =
@@ -273,6 +293,15 @@ IsEndedBy first old new (Some edit) = IsMergedBy edit old new
 abbrev pub BeganLate : {D : Type 0} → Merge D → (List BatchContent → Type 0) →
     List BatchContent → Type 0
 BeganLate merge IsSaid list = (3 ≤ begun_number merge) × IsSaid list
+
+-- what it keeps that a merge is given up, where it began with a number that no slot has
+abbrev pub KeepsAbandoned : {D : Type 0} (g : Ghosts D) → Merge D → (a b : Files D g) →
+    (old new : StoreFiles) → Result (Unit {0}) EngineError → Type 0
+KeepsAbandoned g merge a b old new result =
+    KeepsPart g (IsLeftover (begun_number merge) old.free_file (known_version old).version)
+    (λ IsSaid. IsSaid (known_facts old)) ⊥ (BeganLate merge (HoldsWithMerge g a old None))
+    (BeganLate merge (WasMeantWithMerge g a old None)) (λ _. HoldsWithMerge g b new None)
+    (λ _. WasMeantWithMerge g b new None) a b old new result
 
 -- the files that a merge wrote, which used numbers from this one on, are gone
 abbrev pub HasNoLeftovers : {D : Type 0} (g : Ghosts D) → ℕ → StoreFiles → Files D g → Type 0

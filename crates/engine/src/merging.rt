@@ -1,30 +1,25 @@
 // The merges of a store: one begins, goes on by so many entries in a tend, and ends or is given up.
-ghost use Rattle.std.specs.Prelude.{◌≡◌, ◌<◌, ◌≤◌, IfOk, IfSome, List, None, OnOk, Contains};
-ghost use Rattle.std.specs.Prelude.{IfErr, IsErrOf, Option, Some};
-ghost use Rattle.manifest.specs.{HasFullSlot};
+ghost use Rattle.std.specs.Prelude.{◌≡◌, ◌<◌, ◌≤◌, IfErr, IfOk, IfSome, IsErrOf, List, None, OnOk};
+ghost use Rattle.std.specs.Prelude.{Option, Some};
 ghost use Rattle.store_model.specs.{LevelTable, MergePlan};
 ghost use Rattle.table_files.specs.{inner_disk};
-ghost use Rattle.compaction.specs.Leftovers.{IsLeftover};
 ghost use Rattle.compaction.specs.Merges.{HasEntriesLeft, begun_number};
 ghost use Rattle.store_files.specs.BesideFiles.{with_free};
 ghost use Rattle.store_files.specs.Merging.{MayMerge};
-ghost use Rattle.store_files.specs.OpenFiles.{AreUsableFiles, FilesHold, WereMeantToHold};
-ghost use Rattle.store_files.specs.OpenFiles.{known_facts, known_version};
-ghost use Rattle.store_files.specs.Raising.{MayRise, facts_with_floor, raised_files};
-ghost use Rattle.store_files.specs.TendKeeps.{OfEitherFacts};
+ghost use Rattle.store_files.specs.OpenFiles.{AreUsableFiles};
+ghost use Rattle.store_files.specs.Raising.{MayRise};
 ghost use Rattle.compaction.specs.Outputs.{WritesOnly};
 ghost use Rattle.store_tables.specs.Errors.{IsEnd};
 ghost use Rattle.engine.specs.BeginParts.{BeginsMerge};
 ghost use Rattle.engine.specs.LentFiles.{files_ghosts, union_ghosts};
 ghost use Rattle.engine.specs.declared.merging.Progress.TheVariants.{Done};
-ghost use Rattle.engine.specs.MergeParts.{AdvancesPlanned, IsAdvanced, HoldEdit, IsEditOf};
-ghost use Rattle.engine.specs.MergeParts.{IsMergeFile, IsPicked, KeepsMerge, KeepsPart};
-ghost use Rattle.engine.specs.MergeParts.{HasNoLeftovers, PartMayFail, BeganLate, WereMeantEdit};
-ghost use Rattle.engine.specs.MergeParts.{error_of_merge, free_behind, merge_after, IsBegunBy};
-ghost use Rattle.engine.specs.MergeParts.{progress_after, IsCheckedEdit, answer_of_merge};
-ghost use Rattle.engine.specs.MergeParts.{MergeHasEnded};
+ghost use Rattle.engine.specs.MergeParts.{AdvancesPlanned, HasNoLeftovers, IsAdvanced, IsBegunBy};
+ghost use Rattle.engine.specs.MergeParts.{IsCheckedEdit, IsEditOf, IsPicked, KeepsAbandoned};
+ghost use Rattle.engine.specs.MergeParts.{KeepsBegun, KeepsCompleted, KeepsMerge, MergeHasEnded};
+ghost use Rattle.engine.specs.MergeParts.{answer_of_merge, error_of_merge, free_behind};
+ghost use Rattle.engine.specs.MergeParts.{merge_after, progress_after};
 ghost use Rattle.engine.specs.Tends.{ContinuesAsPlanned};
-ghost use Rattle.engine.specs.UnderWay.{HoldsWithMerge, WasMeantWithMerge, IsMergeOf};
+ghost use Rattle.engine.specs.UnderWay.{IsMergeOf};
 
 use compaction::laws::{merge_edits_keep, picks_are_planned};
 use compaction::{Merge, MergeError, Plan};
@@ -150,14 +145,7 @@ pub(crate) fn begin<D: Disk + Drop>(
     requires rises { MayRise store.old floor }
     requires picked { IsPicked store.old plan }
     requires within { (plan.level ≤ 5) × (0 < target) }
-    ensures kept { KeepsPart D.Disk (Contains (raised_files store.old floor))
-        (OfEitherFacts (known_facts store.old) (facts_with_floor store.old floor))
-        (HasFullSlot store.old.manifest)
-        (FilesHold (D.state (inner_disk files.old)) store.old)
-        (WereMeantToHold (D.state (inner_disk files.old)) store.old)
-        (λ merge. HoldsWithMerge D.Disk files.new store.new (Some merge))
-        (λ merge. WasMeantWithMerge D.Disk files.new store.new (Some merge))
-        files.old files.new store.old store.new result }
+    ensures kept { KeepsBegun D.Disk floor files.old files.new store.old store.new result }
     ensures did { IfOk result (IsBegunBy D.Disk plan floor files.old files.new store.old
         store.new) }
 {
@@ -202,13 +190,7 @@ fn complete<D: Disk + Drop>(
 ) -> Result<Option<VersionEdit>, EngineError>
     requires usable { AreUsableFiles store.now }
     requires done { HasEntriesLeft (union_ghosts D.Disk) (files_ghosts D.Disk) merge.old → ⊥ }
-    ensures kept { KeepsPart D.Disk (IsMergeFile store.now (Some merge.old))
-        (λ IsSaid. IsSaid (known_facts store.now))
-        (PartMayFail D.Disk files.old store.now (Some merge.old))
-        (HoldsWithMerge D.Disk files.old store.now (Some merge.old))
-        (WasMeantWithMerge D.Disk files.old store.now (Some merge.old))
-        (HoldEdit D.Disk files.new store.now) (WereMeantEdit D.Disk files.new store.now)
-        files.old files.new store.now store.now result }
+    ensures kept { KeepsCompleted D.Disk files.old files.new store.now merge.old result }
     ensures fit { IfOk result (λ made. IfSome made (λ edit. MayMerge store.now edit
         × (edit.tables_gone ≡ merge.old.gone.items))) }
     ensures first { begun_number merge.new ≡ begun_number merge.old }
@@ -232,13 +214,7 @@ fn abandon<D: Disk + Drop>(
     merge: Merge<D>,
 ) -> Result<(), EngineError>
     requires { AreUsableFiles store.old }
-    ensures kept { KeepsPart D.Disk (IsLeftover (begun_number merge) store.old.free_file
-        (known_version store.old).version) (λ IsSaid. IsSaid (known_facts store.old)) ⊥
-        (BeganLate merge (HoldsWithMerge D.Disk files.old store.old None))
-        (BeganLate merge (WasMeantWithMerge D.Disk files.old store.old None))
-        (λ _. HoldsWithMerge D.Disk files.new store.new None)
-        (λ _. WasMeantWithMerge D.Disk files.new store.new None)
-        files.old files.new store.old store.new result }
+    ensures kept { KeepsAbandoned D.Disk merge files.old files.new store.old store.new result }
     ensures freed { store.new ≡ with_free store.old (free_behind (begun_number merge) store.old) }
     ensures removed { D.is_honest (inner_disk files.old) →
         OnOk result (HasNoLeftovers D.Disk (begun_number merge) store.old files.new) }

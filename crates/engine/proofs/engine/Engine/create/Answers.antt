@@ -1,6 +1,8 @@
-use Rattle.std.proofs.Common.{[], subst, sym}
+use Rattle.std.proofs.Common.{◌∙◌, [], Err, ap, refl, subst, sym}
+use Rattle.store_tables.specs.KeepingLemmas.{answered, neither}
 use Rattle.engine.proofs.Engines.{holds_of, reads_of, told_of}
 use Rattle.engine.proofs.Results.{not_true}
+use Rattle.engine.proofs.Unchanged.{owned_keeps}
 use Rattle.engine.proofs.engine.Engine.create.Goals as goal
 
 -- the store has no batch
@@ -19,3 +21,17 @@ returns-in-Ok-clause-begun g c = record {
   told = told_of c.in-Ok.ensures.begun.facts c.in-Ok.ensures.begun.none c.new.ensures;
   files = λ honest. c.in-Ok.ensures.first (c.create.ensures.kept.honest.0 honest);
 }
+
+-- the disk is the device that it was
+pub returns-in-Ok-clause-kept : goal.returns-in-Ok-clause-kept
+returns-in-Ok-clause-kept g c =
+    owned_keeps g.D.Disk c.args.disk _ _ c.create.new.disk c.in_ok-files.ensures.files refl
+    (neither (answered c.create.result c.in-Ok.is) (λ no. no)) c.create.ensures.kept
+
+pub returns-in-Err-clause-kept : goal.returns-in-Err-clause-kept
+returns-in-Err-clause-kept g c =
+    owned_keeps g.D.Disk c.args.disk _ _ c.create.new.disk c.in_ok-files.ensures.files
+    c.into_disk.ensures (
+      λ fails. let is = sym c.in-Err.is ∙ fails in cc,
+      λ is. c.in-Err.is ∙ ap (λ e. Err e) is,
+    ) c.create.ensures.kept

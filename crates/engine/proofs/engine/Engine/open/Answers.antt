@@ -1,12 +1,14 @@
-use Rattle.std.proofs.Common.{◌∙◌, ap, refl, subst, sym}
+use Rattle.std.proofs.Common.{◌∙◌, Err, ap, refl, subst, sym}
 use Rattle.std.proofs.lemmas.Result.{err_from_is_err_and}
 use Rattle.disk.specs.{contents, seen}
 use Rattle.store_files.specs.OpenFiles.{OpeningRefusal}
 use Rattle.store_files.specs.StoreFiles.{FilesRepresent, IsOneOf, StillLeavesOneOf, WereMeant}
 use Rattle.store_files.specs.StoreFiles.{WereOneOf}
+use Rattle.store_tables.specs.KeepingLemmas.{answered, neither}
 use Rattle.engine.proofs.Engines.{explains, holds_of, leaves_since_same, meant_of, reads_of}
 use Rattle.engine.proofs.Engines.{still_refused}
 use Rattle.engine.proofs.Results.{not_true}
+use Rattle.engine.proofs.Unchanged.{owned_keeps}
 use Rattle.engine.proofs.engine.Engine.open.Goals as goal
 
 -- there was no memory for the cache
@@ -104,3 +106,17 @@ returns-in-Err-clause-told g c = λ honest.
     (c.in-Err.ensures.opens.told honest'))
     (λ facts list represents. (c.in-Err.ensures.opens.opened facts list honest').whole
     (subst (λ d. FilesRepresent facts list (contents (g.D.Disk.state d))) (sym is) represents))
+
+-- the disk is the device that it was
+pub returns-in-Ok-clause-kept : goal.returns-in-Ok-clause-kept
+returns-in-Ok-clause-kept g c =
+    owned_keeps g.D.Disk c.args.disk _ _ c.open.new.disk c.in_ok-files.ensures.files refl
+    (neither (answered c.open.result c.in-Ok.is) (λ no. no)) c.open.ensures.opens.kept
+
+pub returns-in-Err-clause-kept : goal.returns-in-Err-clause-kept
+returns-in-Err-clause-kept g c =
+    owned_keeps g.D.Disk c.args.disk _ _ c.open.new.disk c.in_ok-files.ensures.files
+    c.into_disk.ensures (
+      λ fails. let is = sym c.in-Err.is ∙ fails in cc,
+      λ is. c.in-Err.is ∙ ap (λ e. Err e) is,
+    ) c.open.ensures.opens.kept
