@@ -1,13 +1,15 @@
 //! The configurations of a script: the numbers of a line, as the ids of nodes.
 ghost use Rattle.std.specs.Prelude.{◌≡◌, ◌≢◌, ◌⊎◌, map, true, false, Some, None, IfOk, MatchResult};
-ghost use Rattle.std.specs.Prelude.{MatchOption};
+ghost use Rattle.std.specs.Prelude.{IfSome, MatchOption, List, ℕ};
 ghost use Rattle.std.specs.Fmt.{decimal};
 ghost use Rattle.std.specs.List.{list_all};
 ghost use Rattle.lab.specs.Configs.{IsConfig, is_config};
+ghost use Rattle.lab.specs.Configuration.{Lawful};
 ghost use Rattle.program.specs.declared.script.error.ScriptError.TheVariants.{OutOfMemory};
 ghost use Rattle.program.specs.declared.script.error.ScriptError.TheVariants.{BadConfiguration};
 ghost use Rattle.program.specs.Words.{is_number};
-ghost use Rattle.program.specs.Faults.{numbers_of, config_fault};
+ghost use Rattle.program.specs.Faults.{config_fault, may_follow, numbers_of};
+ghost use Rattle.program.specs.Scripts.{MayFollow, up_to};
 
 use super::error::ScriptError;
 use super::fault::split_fault;
@@ -79,7 +81,8 @@ fn config_of(alloc: Global, numbers: &[u64]) -> Result<Config, ScriptError>
 
 // The configurations of a list, with memory of their own.
 fn copies_of(alloc: Global, configs: &Configs) -> Result<Vec<Config>, AllocError>
-    ensures { IfOk result (λ copies. copies.items ≡ configs.now) }
+    ensures copies { IfOk result (λ copies. copies.items ≡ configs.now) }
+    ensures lawful { Lawful configs.now }
 {
     let _first = configs.first(); // law: the list is lawful
     let mut copies = Vec::new(alloc);
@@ -92,6 +95,23 @@ fn copies_of(alloc: Global, configs: &Configs) -> Result<Vec<Config>, AllocError
     Ok(copies)
 }
 
+// The configurations of earlier lines, and this one.
+fn listed(
+    alloc: Global,
+    before: &Option<Configs>,
+    config: Config,
+) -> Result<Vec<Config>, AllocError>
+    ensures list { IfOk result (λ list. list.items ≡ up_to before.now config) }
+    ensures lawful { IfSome before.now Lawful }
+{
+    let mut list = match before {
+        None => Vec::new(alloc),
+        Some(configs) => copies_of(alloc, configs)?,
+    };
+    list.push(config)?;
+    Ok(list)
+}
+
 // The configurations up to the line of this one.
 fn extended(
     alloc: Global,
@@ -99,18 +119,14 @@ fn extended(
     config: Config,
 ) -> Result<Configs, ScriptError>
     ensures { MatchResult result
-        (λ configs. (may_follow before.now config ≡ true) × (configs ≡ up_to before.now config))
+        (λ configs. (may_follow before.now config ≡ true) × MayFollow before.now config
+        × (configs ≡ up_to before.now config))
         (λ e. e ≢ OutOfMemory → (e ≡ BadConfiguration) × (may_follow before.now config ≡ false)) }
 {
     test_decides_config(); // law: the test succeeds exactly for the configurations
     is_part_decides(); // law: the test of a part decides
     let _ids = config.ids(); // law: they are a configuration
-    let mut configs = match before {
-        None => Vec::new(alloc),
-        Some(configs) => copies_of(alloc, configs)?,
-    };
-    configs.push(config)?;
-    match Configs::new(configs) {
+    match Configs::new(listed(alloc, before, config)?) {
         Ok(configs) => Ok(configs),
         Err(_) => Err(ScriptError::BadConfiguration),
     }
@@ -136,6 +152,8 @@ pub fn config(alloc: Global, before: &ParserState, args: &[&[u8]]) -> Result<Con
     if before.begun {
         return Err(ScriptError::OutOfPlace);
     }
-    let config = config_of(alloc, &numbers)?;
-    extended(alloc, &before.configs, config)
+    match config_of(alloc, &numbers) {
+        Ok(config) => extended(alloc, &before.configs, config),
+        Err(e) => Err(e),
+    }
 }

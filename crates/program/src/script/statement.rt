@@ -1,9 +1,10 @@
 //! The statements of a script, and what the reader knows between two lines.
-ghost use Rattle.std.specs.Prelude.{◌≡◌, ◌++◌, true, false, Some, None};
+ghost use Rattle.std.specs.Prelude.{◌≡◌, ◌++◌, ℕ, true, false, Option, Some, None};
 ghost use Rattle.std.specs.Prelude.{IfOk, MatchOption, MatchResult};
 ghost use Rattle.lab.specs.Configuration.{has};
-ghost use Rattle.program.specs.Faults.{node_fault};
-ghost use Rattle.program.specs.Reading.{after_item, begins, statements_of};
+ghost use Rattle.program.specs.Faults.{node_fault, place_fault};
+ghost use Rattle.program.specs.Reading.{HasEpoch, after_item, statements_of};
+ghost use Rattle.program.specs.Scripts.{begins};
 
 use super::error::ScriptError;
 use super::limits::{LimitName, ScriptLimits};
