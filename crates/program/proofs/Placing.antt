@@ -18,6 +18,8 @@ use Rattle.lab.specs.declared.EventKind.TheVariants.{Submit, Get, Deliver, Tick,
 use Rattle.lab.specs.declared.EventKind.TheVariants.{Rows, Open, Close, Notice}
 use Rattle.lab.specs.Events.{epoch_in}
 use Rattle.lab.specs.{node_in, NamesNode}
+use Rattle.program.specs.declared.script.command.Command.{Command}
+use Rattle.program.specs.declared.script.command.Command.TheVariants as command
 use Rattle.program.specs.declared.script.error.ScriptError.{ScriptError}
 use Rattle.program.specs.declared.script.error.ScriptError.TheVariants.{OutOfPlace, BadFault}
 use Rattle.program.specs.declared.script.error.ScriptError.TheVariants.{BadNumber}
@@ -33,6 +35,7 @@ use Rattle.program.specs.Events.{SpellsEvent, bears_fault, fault_word, may_bear_
 use Rattle.program.specs.Faults.{node_named, node_fault, statement_fault, config_fault, numbers_of}
 use Rattle.program.specs.Faults.{epoch_named, place_fault, spelling_fault}
 use Rattle.program.specs.Reading.{IsOfOneNode, Places, PlacesNode, ReadsFaultAs, ReadsWords}
+use Rattle.program.specs.Reading.{what_of}
 use Rattle.program.specs.Scripts.{MayFollow, NamesEpoch, up_to}
 use Rattle.program.proofs.FaultWords.{split_words}
 use Rattle.program.proofs.Numbers.{own}
@@ -156,6 +159,18 @@ is_read name args cut behind event first others good said spelled reads = record
     none = λ no. reads.none (bears event.kind name cut spelled ∙ no);
   };
 }
+
+-- what a command asks for is no notice
+pub no_epoch : (command : Command) → epoch_in (what_of command) ≡ None
+no_epoch (command.Submit node changes) = refl
+no_epoch (command.Get node key at) = refl
+no_epoch (command.Rows node range at) = refl
+no_epoch (command.Open node at) = refl
+no_epoch (command.Close node number) = refl
+no_epoch (command.Tick node) = refl
+no_epoch (command.Tend node) = refl
+no_epoch (command.Stop node junk) = refl
+no_epoch (command.Start node) = refl
 
 -- a statement that stands in its place, and one that does not
 pub is_placed : (before : ParserState) (name : List ℕ) (args : List (List ℕ)) (event : lab.Event)
