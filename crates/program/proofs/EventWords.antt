@@ -16,7 +16,7 @@ use Rattle.kv_types.specs.declared.Edit.TheVariants.{Put, Delete}
 use Rattle.lab.specs.declared.Event.{Event}
 use Rattle.lab.specs.declared.EventKind.{EventKind}
 use Rattle.lab.specs.declared.EventKind.TheVariants.{Submit, Get, Deliver, Tick, Tend, Start, Stop}
-use Rattle.lab.specs.declared.EventKind.TheVariants.{Rows, Open, Close}
+use Rattle.lab.specs.declared.EventKind.TheVariants.{Rows, Open, Close, Notice}
 use Rattle.program.specs.Words.{AreBytes, is_plain, bound_text, bytes_text}
 use Rattle.program.specs.Words.{begins_fault, has_fault, before_fault, from_fault}
 use Rattle.program.specs.Statements.{AreBytesIn, AreBytesOf, CanBeSaid, edit_word, hex_text, IsJunk}
@@ -106,6 +106,12 @@ no_fault (Close node number) words said e =
     ) refl
 no_fault (Deliver place) words said e =
     rw (e, number_begins (decimal place) (number_read place said)) refl
+no_fault (Notice node epoch) words said e =
+    rw (
+      e,
+      number_begins (decimal node) (number_read node said.0),
+      number_begins (decimal epoch) (number_read epoch said.1),
+    ) refl
 no_fault (Tick node) words said e =
     rw (e, number_begins (decimal node) (number_read node said)) refl
 no_fault (Tend node) words said e =
@@ -193,6 +199,7 @@ opens (Rows node range at) words e = (_, e)
 opens (Open node at) words e = (_, e)
 opens (Close node number) words e = (_, e)
 opens (Deliver place) words e = (_, e)
+opens (Notice node epoch) words e = (_, e)
 opens (Tick node) words e = (_, e)
 opens (Tend node) words e = (_, e)
 opens (Start node) words e = (_, e)

@@ -1,14 +1,15 @@
 -- How a script goes on by one line.
 use Rattle.std.proofs.Common.{◌≡◌, ◌+◌, ◌++◌, ℕ, suc, List, [], ◌∷◌, refl, sym, ap, subst}
-use Rattle.std.proofs.Common.{Option, Some, None, Ok, inl, inr, add-one, append_assoc}
-use Rattle.std.specs.Prelude.{All}
+use Rattle.std.proofs.Common.{Option, Some, None, Ok, inl, inr, add-one, append_assoc, true}
+use Rattle.std.proofs.Common.{false}
+use Rattle.std.specs.Prelude.{All, IfSome, ◌||◌}
 use Rattle.std.proofs.lemmas.List.Elements.{All-nil, All-cons}
 use Rattle.std.proofs.Common.{arith}
 use Rattle.std.proofs.lemmas.Grind.{common_steps}
 use Rattle.std.specs.Option.{option_map_or}
-use Rattle.lab.specs.Configuration.{Configurations}
+use Rattle.lab.specs.Configuration.{Configurations, at_epoch, has}
 use Rattle.lab.specs.declared.Event as lab
-use Rattle.lab.specs.{NamesNode}
+use Rattle.lab.specs.{NamesNode, node_in}
 use Rattle.program.specs.declared.script.limits.ScriptLimits.{ScriptLimits}
 use Rattle.program.specs.declared.script.setup.Setup.{Setup}
 use Rattle.program.specs.declared.script.statement.ParserState.{ParserState}
@@ -17,11 +18,12 @@ use Rattle.program.specs.declared.script.statement.LineItem.TheVariants.{Skipped
 use Rattle.program.specs.declared.script.statement.LineItem.TheVariants.{Asks}
 use Rattle.program.specs.declared.script.statement.Statement.{Statement}
 use Rattle.program.specs.Actions.{error_of}
-use Rattle.program.specs.declared.script.statement.Action.TheVariants.{Event, Invalid}
+use Rattle.program.specs.declared.script.statement.Action.TheVariants.{Event, Flow, Invalid}
+use Rattle.program.specs.declared.script.statement.Action.TheVariants.{Settle, Show}
 use Rattle.kv_types.specs.declared.KvError.{KvError}
 use Rattle.std.proofs.Common.{Bool}
 use Rattle.program.specs.declared.script.statement.Action.{Action}
-use Rattle.program.specs.Scripts.{IsScriptWith, AreStatements, IsStatement, Names, SetsUp}
+use Rattle.program.specs.Scripts.{AreLines, IsScriptWith, IsStatement, Names, SetsUp, begins}
 use Rattle.program.specs.Scripts.{statement, words_of}
 use Rattle.program.specs.Limits.{limits_with}
 use Rattle.program.specs.Faults.{script_fault}
@@ -29,11 +31,16 @@ use Rattle.program.specs.Reading.{IsItem, after_item, statements_of, ReadsNext}
 use Rattle.program.proofs.Limits.{HasRanges, with_ranges}
 
 -- lines that may stand behind configurations, if there were some
-abbrev pub IsRest : Option Configurations → ScriptLimits → ℕ → List (List ℕ) → Setup
+abbrev pub IsRest : Option Configurations → Bool → ScriptLimits → ℕ → List (List ℕ) → Setup
     → List Statement → Type 0
-IsRest None limits n lines setup statements = IsScriptWith limits n lines setup statements
-IsRest (Some own) limits n lines setup statements =
-    SetsUp setup limits own × AreStatements own n lines statements
+IsRest None begun limits n lines setup statements = IsScriptWith limits n lines setup statements
+IsRest (Some own) begun limits n lines setup statements =
+    (all : Configurations) × SetsUp setup limits all × AreLines own begun n lines all statements
+
+-- .. and then
+abbrev pub IsRestOf : ParserState → ℕ → List (List ℕ) → Setup → List Statement → Type 0
+IsRestOf before n lines setup statements =
+    IsRest before.configs before.begun before.limits n lines setup statements
 
 filled : (own : Configurations) → Some own ≡ None → ⊥
 filled own e = grind (arith, common_steps)
@@ -47,39 +54,34 @@ state_of configs begun limits = record { configs = configs; begun = begun; limit
 go : (before : Option Configurations) (begun : Bool) (limits : ScriptLimits) (n : ℕ)
     (line : List ℕ) (lines : List (List ℕ)) (setup : Setup) (rest : List Statement)
     (item : LineItem) → IsItem (state_of before begun limits) line item
-    → IsRest (after_item (state_of before begun limits) item).configs
-    (after_item (state_of before begun limits) item).limits (suc n) lines setup rest
-    → IsRest before limits n (line ∷ lines) setup (statements_of n item ++ rest)
+    → IsRestOf (after_item (state_of before begun limits) item) (suc n) lines setup rest
+    → IsRest before begun limits n (line ∷ lines) setup (statements_of n item ++ rest)
 go None begun limits n line lines setup rest Skipped is more = inl (is, more)
-go (Some own) begun limits n line lines setup rest Skipped is more = (more.0, inl (is, more.1))
+go (Some own) begun limits n line lines setup rest Skipped is (all, up, are) =
+    (all, up, inl (is, are))
 go None begun limits n line lines setup rest (Limit name number) (sets, free) more =
     inr (inl (name, number, sets, more))
 go (Some own) begun limits n line lines setup rest (Limit name number) (sets, free) more =
     absurd (filled own free)
-go None begun limits n line lines setup rest (Config own) (ids, words, good, one, free) more =
-    inr (inr (ids, words, good, rw one at more.0, rw one at more.1))
-go (Some own) begun limits n line lines setup rest (Config new) (ids, words, good, one, free) more =
-    absurd (filled own free)
+go None begun limits n line lines setup rest (Config new) (ids, words, follows, one, rests)
+    (all, up, are) =
+    let there : AreLines (ids ∷ []) false (suc n) lines all rest = rw (one, rests) at are in
+    inr (inr (ids, all, words, follows, up, there))
+go (Some own) begun limits n line lines setup rest (Config new) (ids, words, follows, one, rests)
+    (all, up, are) = (all, up, inr (inl (ids, words, follows, rests, rw one at are)))
 go None begun limits n line lines setup rest (Asks action) (found, at, is) more =
     absurd (filled found (sym at))
-go (Some own) begun limits n line lines setup rest (Asks action) (found, at, is) more = (
-  more.0,
-  inr (
-    action,
-    rest,
-    subst (λ (it : Configurations). IsStatement it (words_of line) action)
-        (one_of own found at) is,
-    refl,
-    more.1,
-  ),
-)
+go (Some own) begun limits n line lines setup rest (Asks action) (found, at, is)
+    (all, up, are) =
+    let own_is = subst (λ (it : Configurations). IsStatement it (words_of line) action)
+    (one_of own found at) is in
+    (all, up, inr (inr (action, rest, own_is, refl, are)))
 
 -- one line more in front
 pub goes_on : (before : ParserState) (n : ℕ) (line : List ℕ) (lines : List (List ℕ)) (setup : Setup)
     (rest : List Statement) (item : LineItem) → IsItem before line item
-    → IsRest (after_item before item).configs (after_item before item).limits (suc n) lines setup
-    rest
-    → IsRest before.configs before.limits n (line ∷ lines) setup (statements_of n item ++ rest)
+    → IsRestOf (after_item before item) (suc n) lines setup rest
+    → IsRestOf before n (line ∷ lines) setup (statements_of n item ++ rest)
 goes_on before n line lines setup rest item is more =
     go before.configs before.begun before.limits n line lines setup rest item is more
 
@@ -96,19 +98,51 @@ names cs words action (inl (inr is)) = elim is.said [
   | inl said ↦ rw said.0 is.there
   | inr said ↦ rw said.0 is.there
 ]
-names cs words action (inr (event, spells, named, same)) =
+names cs words action (inr (event, spells, named, told, same)) =
     rw same (has_name cs event (error_of event.kind) named)
 
 abbrev pub AllName : Configurations → List Statement → Type 0
 AllName cs ss = All (λ it. Names cs it.action) ss
 
-behind : (cs : Configurations) (n : ℕ) (lines : List (List ℕ)) (ss : List Statement)
-    → AreStatements cs n lines ss → AllName cs ss
-behind cs n [] ss e = rw e (All-nil _)
-behind cs n (line ∷ lines) ss (inl more) = behind cs (suc n) lines ss more.1
-behind cs n (line ∷ lines) ss (inr (action, rest, is, same, more)) =
-    rw same (All-cons (λ it. Names cs it.action) (statement n action) rest
-    (names cs (words_of line) action is) (behind cs (suc n) lines rest more))
+-- configurations keep the first one
+same_first : (c : List ℕ) (cs : Configurations) (begun : Bool) (n : ℕ) (lines : List (List ℕ))
+    (all : Configurations) (ss : List Statement) → AreLines (c ∷ cs) begun n lines all ss
+    → at_epoch all 0 ≡ c
+same_first c cs begun n [] all ss are = rw are.0 refl
+same_first c cs begun n (line ∷ lines) all ss (inl more) =
+    same_first c cs begun (suc n) lines all ss more.1
+same_first c cs begun n (line ∷ lines) all ss (inr (inl (ids, _, _, _, more))) =
+    same_first c (cs ++ ids ∷ []) begun (suc n) lines all ss more
+same_first c cs begun n (line ∷ lines) all ss (inr (inr (action, rest, _, _, more))) =
+    same_first c cs (begun || begins action) (suc n) lines all rest more
+
+-- .. and so nodes have their names at all of them
+first_names : (cs all : Configurations) (action : Action) → at_epoch all 0 ≡ at_epoch cs 0
+    → Names cs action → Names all action
+first_names cs all (Event event) same is = first_has (node_in event.kind) is
+  where
+    first_has : (node : Option ℕ) → IfSome node (λ x. has (at_epoch cs 0) x ≡ true)
+        → IfSome node (λ x. has (at_epoch all 0) x ≡ true)
+    first_has None is = tt
+    first_has (Some x) is = rw same is
+first_names cs all (Invalid e) same is = tt
+first_names cs all Flow same is = tt
+first_names cs all (Settle node) same is = rw same is
+first_names cs all (Show node) same is = rw same is
+
+behind : (c : List ℕ) (cs : Configurations) (begun : Bool) (n : ℕ) (lines : List (List ℕ))
+    (all : Configurations) (ss : List Statement) → AreLines (c ∷ cs) begun n lines all ss
+    → AllName all ss
+behind c cs begun n [] all ss are = rw are.1 (All-nil _)
+behind c cs begun n (line ∷ lines) all ss (inl more) =
+    behind c cs begun (suc n) lines all ss more.1
+behind c cs begun n (line ∷ lines) all ss (inr (inl (ids, _, _, _, more))) =
+    behind c (cs ++ ids ∷ []) begun (suc n) lines all ss more
+behind c cs begun n (line ∷ lines) all ss (inr (inr (action, rest, is, same, more))) =
+    let first = same_first c cs (begun || begins action) (suc n) lines all rest more in
+    rw same (All-cons (λ it. Names all it.action) (statement n action) rest
+    (first_names (c ∷ cs) all action first (names (c ∷ cs) (words_of line) action is))
+    (behind c cs (begun || begins action) (suc n) lines all rest more))
 
 pub all_name : (limits : ScriptLimits) (n : ℕ) (lines : List (List ℕ)) (setup : Setup)
     (ss : List Statement) → IsScriptWith limits n lines setup ss → AllName setup.configs ss
@@ -117,18 +151,16 @@ all_name limits n (line ∷ lines) setup ss (inl more) =
     all_name limits (suc n) lines setup ss more.1
 all_name limits n (line ∷ lines) setup ss (inr (inl (name, number, sets, more))) =
     all_name (limits_with limits name number) (suc n) lines setup ss more
-all_name limits n (line ∷ lines) setup ss (inr (inr (ids, words, good, up, more))) =
-    rw up.configs (behind (ids ∷ []) (suc n) lines ss more)
+all_name limits n (line ∷ lines) setup ss (inr (inr (ids, all, words, follows, up, more))) =
+    rw up.configs (behind ids [] false (suc n) lines all ss more)
 
 -- one line is taken
 pub takes_on : (before after : ParserState) (n : ℕ) (line : List ℕ) (lines : List (List ℕ))
     (old new : List Statement) (goal : Setup → List Statement → Type 0)
     → ReadsNext before n line old new (Ok after)
     → ((setup : Setup) (rest : List Statement)
-    → IsRest before.configs before.limits n (line ∷ lines) setup rest
-    → goal setup (old ++ rest))
-    → (setup : Setup) (rest : List Statement)
-    → IsRest after.configs after.limits (n + 1) lines setup rest
+    → IsRestOf before n (line ∷ lines) setup rest → goal setup (old ++ rest))
+    → (setup : Setup) (rest : List Statement) → IsRestOf after (n + 1) lines setup rest
     → goal setup (new ++ rest)
 takes_on before after n line lines old new goal (
   good,

@@ -16,8 +16,8 @@ use Rattle.program.specs.declared.script.statement.LineItem.TheVariants.{Asks, C
 use Rattle.program.specs.declared.script.statement.LineItem.TheVariants.{Skipped}
 use Rattle.program.specs.declared.script.statement.ParserState.{ParserState}
 use Rattle.program.specs.Actions.{error_of}
-use Rattle.program.specs.Reading.{Places, ReadsLine, ReadsWords, begins}
-use Rattle.program.specs.Scripts.{IsStatement, is_skipped, words_of}
+use Rattle.program.specs.Reading.{Places, ReadsLine, ReadsWords}
+use Rattle.program.specs.Scripts.{IsStatement, begins, is_skipped, words_of}
 use Rattle.program.proofs.EventWords.{opens}
 use Rattle.program.proofs.OneText.{first_word}
 use Rattle.program.proofs.OneEvent.{name_of, of_name}
@@ -31,6 +31,7 @@ never_shows = of_name (λ name. bytes_eq name (codes "show") ≡ false) (record 
   opening = refl;
   closing = refl;
   deliver = refl;
+  notice = refl;
   tick = refl;
   tend = refl;
   start = refl;
@@ -52,7 +53,7 @@ begins_by_name cs name args action (inl (inr is)) = elim is.said [
   | inl said ↦ rw (said.0, ap first_word said.1) refl
   | inr said ↦ rw (said.0, ap first_word said.1) refl
 ]
-begins_by_name cs name args action (inr (event, spells, there, same)) =
+begins_by_name cs name args action (inr (event, spells, there, known, same)) =
     let front = opens event.kind spells.first spells.kind in
     let is : name ≡ name_of event.kind = ap first_word (spells.parts
     ∙ ap (λ (ws : List (List ℕ)). ws ++ spells.behind) front.1) in

@@ -8,7 +8,7 @@ use Rattle.std.proofs.lemmas.Bool.Decides.{nat_tests}
 use Rattle.lab.specs.Machine.{without}
 use Rattle.lab.specs.declared.EventKind.{EventKind}
 use Rattle.lab.specs.declared.EventKind.TheVariants.{Submit, Get, Deliver, Tick, Tend, Start, Stop}
-use Rattle.lab.specs.declared.EventKind.TheVariants.{Rows, Open, Close}
+use Rattle.lab.specs.declared.EventKind.TheVariants.{Rows, Open, Close, Notice}
 use Rattle.program.specs.declared.script.statement.Action.{Action}
 use Rattle.program.specs.declared.script.statement.Action.TheVariants.{Event, Invalid, Flow}
 use Rattle.program.specs.declared.script.statement.Action.TheVariants.{Settle, Show}
@@ -112,6 +112,7 @@ event_rises (Rows node range at) xs low high up = up
 event_rises (Open node at) xs low high up = up
 event_rises (Close node number) xs low high up = up
 event_rises (Deliver place) xs low high up = without_rises xs low high place up
+event_rises (Notice node epoch) xs low high up = up
 event_rises (Tick node) xs low high up = up
 event_rises (Tend node) xs low high up = up
 event_rises (Start node) xs low high up = up

@@ -6,6 +6,8 @@ pub mod Places
 pub mod FirstLine
 pub mod FaultWords
 pub mod Placing
+pub mod Notices
+pub mod NextConfig
 pub mod Limits
 pub mod Ids
 pub mod Going

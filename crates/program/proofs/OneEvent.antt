@@ -20,7 +20,7 @@ use Rattle.program.specs.Statements.{CanBeSaid, NumberCanBeSaid, RangeCanBeSaid,
 use Rattle.program.specs.Statements.{walk_name}
 use Rattle.lab.specs.declared.EventKind.{EventKind}
 use Rattle.lab.specs.declared.EventKind.TheVariants.{Submit, Get, Deliver, Tick, Tend, Start, Stop}
-use Rattle.lab.specs.declared.EventKind.TheVariants.{Rows, Open, Close}
+use Rattle.lab.specs.declared.EventKind.TheVariants.{Rows, Open, Close, Notice}
 use Rattle.program.proofs.OneText.{first_word, head, no_star, one_digit, one_edit, one_text, rest}
 use Rattle.program.proofs.OneText.{words_behind}
 
@@ -92,6 +92,7 @@ name_of (Rows node range at) = walk_name range.backward
 name_of (Open node at) = codes "open"
 name_of (Close node number) = codes "close"
 name_of (Deliver place) = codes "deliver"
+name_of (Notice node epoch) = codes "notice"
 name_of (Tick node) = codes "tick"
 name_of (Tend node) = codes "tend"
 name_of (Start node) = codes "start"
@@ -106,6 +107,7 @@ pub record HoldsOfNames (P : List ℕ → Type 0) : Type 0 where
   pub opening : P (codes "open")
   pub closing : P (codes "close")
   pub deliver : P (codes "deliver")
+  pub notice : P (codes "notice")
   pub tick : P (codes "tick")
   pub tend : P (codes "tend")
   pub start : P (codes "start")
@@ -124,6 +126,7 @@ of_name P all (Rows node range at) = of_walk P all.rows all.back range.backward
 of_name P all (Open node at) = all.opening
 of_name P all (Close node number) = all.closing
 of_name P all (Deliver place) = all.deliver
+of_name P all (Notice node epoch) = all.notice
 of_name P all (Tick node) = all.tick
 of_name P all (Tend node) = all.tend
 of_name P all (Start node) = all.start
@@ -138,6 +141,7 @@ named (Rows node range at) words e = ap first_word e
 named (Open node at) words e = ap first_word e
 named (Close node number) words e = ap first_word e
 named (Deliver place) words e = ap first_word e
+named (Notice node epoch) words e = ap first_word e
 named (Tick node) words e = ap first_word e
 named (Tend node) words e = ap first_word e
 named (Start node) words e = ap first_word e
@@ -265,6 +269,16 @@ one_closing m n a b words la lb e f =
       one_number a b la.1 lb.1 (ap (λ w. first_word (words_behind (words_behind w))) both),
     ) refl
 
+one_notice : (m n a b : ℕ) (words : List (List ℕ)) → CanBeSaid (Notice m a)
+    → CanBeSaid (Notice n b) → IsSpelled (Notice m a) words → IsSpelled (Notice n b) words
+    → Notice m a ≡ Notice n b
+one_notice m n a b words la lb e f =
+    let both = sym e ∙ f in
+    rw (
+      one_number m n la.0 lb.0 (ap (λ w. first_word (words_behind w)) both),
+      one_number a b la.1 lb.1 (ap (λ w. first_word (words_behind (words_behind w))) both),
+    ) refl
+
 -- the number of a name among those of events
 abbrev kind_number : List ℕ → ℕ
 kind_number name =
@@ -272,7 +286,8 @@ kind_number name =
     if bytes_eq name (codes "rows") || bytes_eq name (codes "back") then 3 else
     if bytes_eq name (codes "open") then 4 else if bytes_eq name (codes "close") then 5 else
     if bytes_eq name (codes "deliver") then 6 else if bytes_eq name (codes "tick") then 7 else
-    if bytes_eq name (codes "tend") then 8 else if bytes_eq name (codes "start") then 9 else 10
+    if bytes_eq name (codes "tend") then 8 else if bytes_eq name (codes "start") then 9 else
+    if bytes_eq name (codes "notice") then 11 else 10
 
 -- .. of an event
 abbrev kind_of : EventKind → ℕ
@@ -286,6 +301,7 @@ kind_of (Tick node) = 7
 kind_of (Tend node) = 8
 kind_of (Start node) = 9
 kind_of (Stop node junk) = 10
+kind_of (Notice node epoch) = 11
 
 kind_named : (what : EventKind) → kind_number (name_of what) ≡ kind_of what
 kind_named (Submit node edits) = refl
@@ -299,6 +315,7 @@ kind_named (Tick node) = refl
 kind_named (Tend node) = refl
 kind_named (Start node) = refl
 kind_named (Stop node junk) = refl
+kind_named (Notice node epoch) = refl
 
 -- the names of kinds all differ
 apart : (a b : EventKind) (words : List (List ℕ)) → IsSpelled a words → IsSpelled b words
@@ -323,6 +340,7 @@ one_event (Open m o) (Open n p) words la lb e f = one_opening m n o p words la l
 one_event (Close m a) (Close n b) words la lb e f = one_closing m n a b words la lb e f
 one_event (Deliver m) (Deliver n) words la lb e f =
     rw (one_number m n la lb (ap (λ w. first_word (words_behind w)) (sym e ∙ f))) refl
+one_event (Notice m a) (Notice n b) words la lb e f = one_notice m n a b words la lb e f
 one_event (Tick m) (Tick n) words la lb e f =
     rw (one_number m n la lb (ap (λ w. first_word (words_behind w)) (sym e ∙ f))) refl
 one_event (Tend m) (Tend n) words la lb e f =

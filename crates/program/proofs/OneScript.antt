@@ -1,13 +1,12 @@
 -- Lines spell one script at most.
 use Rattle.std.proofs.Common.{◌≡◌, ◌≤◌, ℕ, suc, List, [], ◌∷◌, ◌++◌, codes, subst}
 use Rattle.std.proofs.Common.{refl, sym, ap, ◌∙◌, inl, inr, arith, true, false, map}
-use Rattle.std.specs.Prelude.{if◌then◌else◌, ◌⊎◌}
+use Rattle.std.specs.Prelude.{if◌then◌else◌, ◌⊎◌, ◌||◌, Bool, Option, Some, None}
 use Rattle.std.specs.Str.{bytes_eq}
 use Rattle.std.specs.Fmt.{decimal}
 use Rattle.lab.specs.declared.Event as lab
 use Rattle.lab.specs.declared.EventKind.{EventKind}
 use Rattle.lab.specs.Configuration.{Configurations}
-use Rattle.lab.specs.Configs.{IsConfig}
 use Rattle.program.specs.declared.script.limits.LimitName.{LimitName}
 use Rattle.program.specs.declared.script.limits.ScriptLimits.{ScriptLimits}
 use Rattle.program.specs.declared.script.setup.Setup.{Setup}
@@ -19,13 +18,14 @@ use Rattle.program.specs.Events.{SpellsEvent}
 use Rattle.program.specs.Faults.{numbers_of}
 use Rattle.program.specs.Laws.{AreAlike, ScriptsDiffer}
 use Rattle.program.specs.Limits.{SetsLimit, default_limits, limit_named, limit_word, limits_with}
-use Rattle.program.specs.Scripts.{words_of, is_skipped, statement, AreStatements, IsOtherStatement}
-use Rattle.program.specs.Scripts.{IsScriptWith, IsStatement, NamesOneNode, SetsUp}
+use Rattle.program.specs.Scripts.{AreLines, IsOtherStatement, IsScriptWith, IsStatement}
+use Rattle.program.specs.Scripts.{MayFollow, NamesOneNode, SetsUp, begins, is_skipped, statement}
+use Rattle.program.specs.Scripts.{up_to, words_of}
 use Rattle.program.proofs.OneEvent.{name_of, of_name, one_number}
 use Rattle.program.proofs.EventWords.{one_whole, opens}
 use Rattle.program.proofs.Ids.{ids_read}
 use Rattle.program.proofs.Limits.{is_small, named_by, one_name}
-use Rattle.program.proofs.ReadScripts.{first_byte, not_skipped, statement_passes}
+use Rattle.program.proofs.ReadScripts.{each_id, first_byte, not_skipped, statement_passes}
 
 -- ---- what kind of line words are, by their first one
 
@@ -69,6 +69,7 @@ event_number = of_name (λ name. name_number name ≡ 0) (record {
   opening = refl;
   closing = refl;
   deliver = refl;
+  notice = refl;
   tick = refl;
   tend = refl;
   start = refl;
@@ -172,11 +173,12 @@ one_other cs words a b (inr is) (inr other) = one_node cs words a b is other
 one_statement : (cs : Configurations) (words : List (List ℕ)) (a b : Action)
     → IsStatement cs words a → IsStatement cs words b → a ≡ b
 one_statement cs words a b (inl is) (inl other) = one_other cs words a b is other
-one_statement cs words a b (inl is) (inr (event, spells, _, _)) =
+one_statement cs words a b (inl is) (inr (event, spells, _, _, _)) =
     absurd (omega (arith, other_number cs words a is, event_words words event spells))
-one_statement cs words a b (inr (event, spells, _, _)) (inl other) =
+one_statement cs words a b (inr (event, spells, _, _, _)) (inl other) =
     absurd (omega (arith, other_number cs words b other, event_words words event spells))
-one_statement cs words a b (inr (event, spells, _, is)) (inr (other, spells_other, _, same)) =
+one_statement cs words a b (inr (event, spells, _, _, is))
+    (inr (other, spells_other, _, _, same)) =
     is ∙ ap action_of (one_whole event other words spells spells_other) ∙ sym same
 
 -- ---- line by line
@@ -190,22 +192,6 @@ stated_line cs line action is skips =
   where
     no_truth : true ≡ false → ⊥
     no_truth e = absurd (cc)
-
-one_list : (cs : Configurations) (n : ℕ) (lines : List (List ℕ)) (a b : List Statement)
-    → AreStatements cs n lines a → AreStatements cs n lines b → a ≡ b
-one_list cs n [] a b are other = are ∙ sym other
-one_list cs n (line ∷ lines) a b (inl are) (inl other) =
-    one_list cs (suc n) lines a b are.1 other.1
-one_list cs n (line ∷ lines) a b (inl are) (inr (action, rest, is, _, _)) =
-    absurd (stated_line cs line action is are.0)
-one_list cs n (line ∷ lines) a b (inr (action, rest, is, _, _)) (inl other) =
-    absurd (stated_line cs line action is other.0)
-one_list cs n (line ∷ lines) a b (inr (action, rest, is, same, are))
-    (inr (second, behind, is_second, same_b, other)) =
-    let action_same = one_statement cs (words_of line) action second is is_second in
-    let rest_same = one_list cs (suc n) lines rest behind are other in
-    same ∙ (ap (λ (it : Action). statement n it ∷ rest) action_same
-    ∙ (ap (λ (l : List Statement). statement n second ∷ l) rest_same ∙ sym same_b))
 
 -- a line of words that begin with a letter is not skipped
 lettered_line : (line : List ℕ) → 97 ≤ first_byte (words_of line) → is_skipped line ≡ true → ⊥
@@ -224,12 +210,68 @@ no_config words name number ids sets is =
     absurd (omega (arith, four, five))
 
 -- words are one list of ids at most
-one_ids : (words : List (List ℕ)) (a b : List ℕ) → words ≡ codes "config" ∷ map decimal a
-    → words ≡ codes "config" ∷ map decimal b → IsConfig a → IsConfig b → a ≡ b
-one_ids words a b is other lawful lawful_other =
-    sym (ids_read a lawful.each).back
+one_ids : (words : List (List ℕ)) (a b : List ℕ) (configs : Option Configurations)
+    → words ≡ codes "config" ∷ map decimal a → words ≡ codes "config" ∷ map decimal b
+    → MayFollow configs a → MayFollow configs b → a ≡ b
+one_ids words a b configs is other follows follows_other =
+    sym (ids_read a (each_id configs a follows)).back
     ∙ (ap (λ (ws : List (List ℕ)). numbers_of (later_words ws)) (sym is ∙ other)
-    ∙ (ids_read b lawful_other.each).back)
+    ∙ (ids_read b (each_id configs b follows_other)).back)
+
+-- a configuration is no statement
+no_statement : (cs : Configurations) (words : List (List ℕ)) (action : Action) (ids : List ℕ)
+    → IsStatement cs words action → words ≡ codes "config" ∷ map decimal ids → ⊥
+no_statement cs words action ids (inl (inl said)) is =
+    let one : words_number words ≡ 1 = rw said.1 refl in
+    let five : words_number words ≡ 5 = rw is refl in
+    absurd (omega (arith, one, five))
+no_statement cs words action ids (inl (inr said)) is =
+    let says = says_node cs words action said in
+    let five : words_number words ≡ 5 = rw is refl in
+    of_number (sym five ∙ says.1.kind) says.1.either
+  where
+    of_number : {k : ℕ} → 5 ≡ k → (k ≡ 2) ⊎ (k ≡ 3) → ⊥
+    of_number e (inl two) = absurd (omega (arith, e, two))
+    of_number e (inr three) = absurd (omega (arith, e, three))
+no_statement cs words action ids (inr (event, spells, _, _, _)) is =
+    let five : words_number words ≡ 5 = rw is refl in
+    absurd (omega (arith, event_words words event spells, five))
+
+-- the same lines behind the same configurations
+one_behind : (cs : Configurations) (begun : Bool) (n : ℕ) (lines : List (List ℕ))
+    (c d : Configurations) (a b : List Statement) → AreLines cs begun n lines c a
+    → AreLines cs begun n lines d b → (c ≡ d) × (a ≡ b)
+one_behind cs begun n [] c d a b are other = (are.0 ∙ sym other.0, are.1 ∙ sym other.1)
+one_behind cs begun n (line ∷ lines) c d a b (inl are) (inl other) =
+    one_behind cs begun (suc n) lines c d a b are.1 other.1
+one_behind cs begun n (line ∷ lines) c d a b (inl are) (inr (inl (ids, e, _, _, _))) =
+    absurd (lettered_line line (rw e (omega arith)) are.0)
+one_behind cs begun n (line ∷ lines) c d a b (inl are) (inr (inr (action, rest, is, _, _))) =
+    absurd (stated_line cs line action is are.0)
+one_behind cs begun n (line ∷ lines) c d a b (inr (inl (ids, e, _, _, _))) (inl other) =
+    absurd (lettered_line line (rw e (omega arith)) other.0)
+one_behind cs begun n (line ∷ lines) c d a b (inr (inr (action, rest, is, _, _))) (inl other) =
+    absurd (stated_line cs line action is other.0)
+one_behind cs begun n (line ∷ lines) c d a b (inr (inl (ids, e, follows, _, are)))
+    (inr (inl (second, f, follows_second, _, other))) =
+    let same = one_ids (words_of line) second ids (Some cs) f e follows_second follows in
+    one_behind (up_to (Some cs) ids) begun (suc n) lines c d a b are
+    (subst (λ (it : List ℕ). AreLines (up_to (Some cs) it) begun (suc n) lines d b) same other)
+one_behind cs begun n (line ∷ lines) c d a b (inr (inl (ids, e, _, _, _)))
+    (inr (inr (action, rest, is, _, _))) =
+    absurd (no_statement cs (words_of line) action ids is e)
+one_behind cs begun n (line ∷ lines) c d a b (inr (inr (action, rest, is, _, _)))
+    (inr (inl (ids, e, _, _, _))) = absurd (no_statement cs (words_of line) action ids is e)
+one_behind cs begun n (line ∷ lines) c d a b (inr (inr (action, rest, is, same, are)))
+    (inr (inr (second, behind, is_second, same_b, other))) =
+    let one = one_statement cs (words_of line) second action is_second is in
+    let more = one_behind cs (begun || begins action) (suc n) lines c d rest behind are
+    (subst (λ (it : Action). AreLines cs (begun || begins it) (suc n) lines d behind) one other)
+    in (
+      more.0,
+      same ∙ (ap (λ (l : List Statement). statement n action ∷ l) more.1
+          ∙ (ap (λ (it : Action). statement n it ∷ behind) (sym one) ∙ sym same_b)),
+    )
 
 abbrev words_of_limit : LimitName → ℕ → List (List ℕ)
 words_of_limit name number = codes "limit" ∷ limit_word name ∷ decimal number ∷ []
@@ -265,11 +307,11 @@ one_with limits n (line ∷ lines) one other a b (inl is) (inl is_other) =
     one_with limits (suc n) lines one other a b is.1 is_other.1
 one_with limits n (line ∷ lines) one other a b (inl is) (inr (inl (name, number, sets, _))) =
     absurd (lettered_line line (rw sets.0 (omega arith)) is.0)
-one_with limits n (line ∷ lines) one other a b (inl is) (inr (inr (ids, e, _, _, _))) =
+one_with limits n (line ∷ lines) one other a b (inl is) (inr (inr (ids, all, e, _, _, _))) =
     absurd (lettered_line line (rw e (omega arith)) is.0)
 one_with limits n (line ∷ lines) one other a b (inr (inl (name, number, sets, _))) (inl is_other) =
     absurd (lettered_line line (rw sets.0 (omega arith)) is_other.0)
-one_with limits n (line ∷ lines) one other a b (inr (inr (ids, e, _, _, _))) (inl is_other) =
+one_with limits n (line ∷ lines) one other a b (inr (inr (ids, all, e, _, _, _))) (inl is_other) =
     absurd (lettered_line line (rw e (omega arith)) is_other.0)
 one_with limits n (line ∷ lines) one other a b (inr (inl (name, number, sets, more)))
     (inr (inl (name_b, number_b, sets_b, more_b))) =
@@ -277,17 +319,15 @@ one_with limits n (line ∷ lines) one other a b (inr (inl (name, number, sets, 
     one_with (limits_with limits name number) (suc n) lines one other a b more
     (subst (λ (it : ScriptLimits). IsScriptWith it (suc n) lines other b) same more_b)
 one_with limits n (line ∷ lines) one other a b (inr (inl (name, number, sets, _)))
-    (inr (inr (ids, e, _, _, _))) = absurd (no_config (words_of line) name number ids sets e)
-one_with limits n (line ∷ lines) one other a b (inr (inr (ids, e, _, _, _)))
+    (inr (inr (ids, all, e, _, _, _))) = absurd (no_config (words_of line) name number ids sets e)
+one_with limits n (line ∷ lines) one other a b (inr (inr (ids, all, e, _, _, _)))
     (inr (inl (name, number, sets, _))) = absurd (no_config (words_of line) name number ids sets e)
-one_with limits n (line ∷ lines) one other a b (inr (inr (ids, e, is, up, are)))
-    (inr (inr (ids_b, e_b, is_b, up_b, are_b))) =
-    let same : ids_b ≡ ids = one_ids (words_of line) ids_b ids e_b e is_b is in
-    let configs : ids_b ∷ [] ≡ ids ∷ [] = ap (λ (l : List ℕ). l ∷ []) same in (
-      alike one other limits (ids ∷ []) (ids_b ∷ []) (sym configs) up up_b,
-      one_list (ids ∷ []) (suc n) lines a b are
-          (subst (λ (cs : Configurations). AreStatements cs (suc n) lines b) configs are_b),
-    )
+one_with limits n (line ∷ lines) one other a b (inr (inr (ids, all, e, is, up, are)))
+    (inr (inr (ids_b, all_b, e_b, is_b, up_b, are_b))) =
+    let same : ids_b ≡ ids = one_ids (words_of line) ids_b ids None e_b e is_b is in
+    let more = one_behind (ids ∷ []) false (suc n) lines all all_b a b are
+    (subst (λ (l : List ℕ). AreLines (l ∷ []) false (suc n) lines all_b b) same are_b) in
+    (alike one other limits all all_b more.0 up up_b, more.1)
 
 pub one_script : ScriptsDiffer
 one_script lines one other a b is is_other =

@@ -11,13 +11,15 @@ use Rattle.std.specs.Str.Parse.{digits_value}
 use Rattle.std.specs.Fmt.{decimal}
 use Rattle.std.proofs.lemmas.Fmt.{digits_value-decimal}
 use Rattle.lab.specs.Configuration.{Configurations, has, at_epoch}
-use Rattle.lab.specs.Configs.{IsConfig}
 use Rattle.lab.specs.Fault.{Fault}
 use Rattle.lab.specs.declared.Event as lab
 use Rattle.lab.specs.declared.EventKind.{EventKind}
 use Rattle.lab.specs.declared.EventKind.TheVariants.{Submit, Get, Deliver, Tick, Tend, Start, Stop}
-use Rattle.lab.specs.declared.EventKind.TheVariants.{Rows, Open, Close}
+use Rattle.lab.specs.declared.EventKind.TheVariants.{Rows, Open, Close, Notice}
+use Rattle.lab.specs.Events.{epoch_in}
 use Rattle.lab.specs.{node_in, NamesNode}
+use Rattle.program.specs.declared.script.command.Command.{Command}
+use Rattle.program.specs.declared.script.command.Command.TheVariants as command
 use Rattle.program.specs.declared.script.error.ScriptError.{ScriptError}
 use Rattle.program.specs.declared.script.error.ScriptError.TheVariants.{OutOfPlace, BadFault}
 use Rattle.program.specs.declared.script.error.ScriptError.TheVariants.{BadNumber}
@@ -31,8 +33,10 @@ use Rattle.program.specs.Statements.{CanBeSaid, IsSpelled, fault_of_words, walk_
 use Rattle.program.specs.Actions.{action_of}
 use Rattle.program.specs.Events.{SpellsEvent, bears_fault, fault_word, may_bear_fault}
 use Rattle.program.specs.Faults.{node_named, node_fault, statement_fault, config_fault, numbers_of}
-use Rattle.program.specs.Faults.{spelling_fault}
+use Rattle.program.specs.Faults.{epoch_named, place_fault, spelling_fault}
 use Rattle.program.specs.Reading.{IsOfOneNode, Places, PlacesNode, ReadsFaultAs, ReadsWords}
+use Rattle.program.specs.Reading.{what_of}
+use Rattle.program.specs.Scripts.{MayFollow, NamesEpoch, up_to}
 use Rattle.program.proofs.FaultWords.{split_words}
 use Rattle.program.proofs.Numbers.{own}
 use Rattle.program.proofs.OneEvent.{name_of, named, of_walk}
@@ -41,9 +45,12 @@ use Rattle.program.proofs.ReadBack.{event_read}
 pub number_back : (n : ℕ) → n < 2 ^ 63 → digits_value 10 (decimal n) ≡ n
 number_back n small = digits_value-decimal own n (omega (arith, small))
 
--- a walk is no delivery
+-- a walk is no delivery, and no notice
 no_delivery : (backward : Bool) → bytes_eq (walk_name backward) (codes "deliver") ≡ false
 no_delivery = of_walk (λ name. bytes_eq name (codes "deliver") ≡ false) refl refl
+
+no_notice : (backward : Bool) → bytes_eq (walk_name backward) (codes "notice") ≡ false
+no_notice = of_walk (λ name. bytes_eq name (codes "notice") ≡ false) refl refl
 
 -- the node that the words of an event name is that of the event
 pub names : (what : EventKind) (words : List (List ℕ)) → CanBeSaid what → IsSpelled what words
@@ -56,11 +63,29 @@ names (Rows n range at) words said e =
 names (Open n at) words said e = rw (e, number_back n said.0) refl
 names (Close n number) words said e = rw (e, number_back n said.0) refl
 names (Deliver place) words said e = rw e refl
+names (Notice n epoch) words said e = rw (e, number_back n said.0) refl
 names (Tick n) words said e = rw (e, number_back n said) refl
 names (Tend n) words said e = rw (e, number_back n said) refl
 names (Start n) words said e = rw (e, number_back n said) refl
 names (Stop n junk) words said (inl e) = rw (e.1, number_back n said.0) refl
 names (Stop n junk) words said (inr e) = rw (e.2, number_back n said.0) refl
+
+-- .. and so is the epoch
+epochs : (what : EventKind) (words : List (List ℕ)) → CanBeSaid what → IsSpelled what words
+    → epoch_named words ≡ epoch_in what
+epochs (Submit n batch) words said e = rw e refl
+epochs (Get n key None) words said e = rw e refl
+epochs (Get n key (Some at)) words said e = rw e refl
+epochs (Rows n range at) words said e = rw (e, no_notice range.backward) refl
+epochs (Open n at) words said e = rw e refl
+epochs (Close n number) words said e = rw e refl
+epochs (Deliver place) words said e = rw e refl
+epochs (Notice n epoch) words said e = rw (e, number_back epoch said.1) refl
+epochs (Tick n) words said e = rw e refl
+epochs (Tend n) words said e = rw e refl
+epochs (Start n) words said e = rw e refl
+epochs (Stop n junk) words said (inl e) = rw e.1 refl
+epochs (Stop n junk) words said (inr e) = rw e.2 refl
 
 bears_by_name : (what : EventKind) → may_bear_fault (name_of what) ≡ bears_fault what
 bears_by_name (Submit node edits) = refl
@@ -70,6 +95,7 @@ bears_by_name (Rows node range at) =
 bears_by_name (Open node at) = refl
 bears_by_name (Close node number) = refl
 bears_by_name (Deliver place) = refl
+bears_by_name (Notice node epoch) = refl
 bears_by_name (Tick node) = refl
 bears_by_name (Tend node) = refl
 bears_by_name (Start node) = refl
@@ -83,9 +109,14 @@ bears what name args e = rw (named what (name ∷ args) e) (bears_by_name what)
 -- the fault of a statement that is spelled is that of its place
 pub is_of_place : (before : ParserState) (name : List ℕ) (args : List (List ℕ)) (what : EventKind)
     → spelling_fault name args ≡ None → CanBeSaid what → IsSpelled what (name ∷ before_fault args)
-    → statement_fault before name args ≡ node_fault before.configs (node_in what)
+    → statement_fault before name args
+    ≡ place_fault (epoch_in what) before.configs (node_in what)
 is_of_place before name args what good said spelled =
-    rw (good, names what (name ∷ before_fault args) said spelled) refl
+    rw (
+      good,
+      names what (name ∷ before_fault args) said spelled,
+      epochs what (name ∷ before_fault args) said spelled,
+    ) refl
 
 -- a node that a statement may name is one of a configuration
 pub stands : (configs : Option Configurations) (n : ℕ) → node_fault configs (Some n) ≡ None →
@@ -129,32 +160,46 @@ is_read name args cut behind event first others good said spelled reads = record
   };
 }
 
+-- what a command asks for is no notice
+pub no_epoch : (command : Command) → epoch_in (what_of command) ≡ None
+no_epoch (command.Submit node changes) = refl
+no_epoch (command.Get node key at) = refl
+no_epoch (command.Rows node range at) = refl
+no_epoch (command.Open node at) = refl
+no_epoch (command.Close node number) = refl
+no_epoch (command.Tick node) = refl
+no_epoch (command.Tend node) = refl
+no_epoch (command.Stop node junk) = refl
+no_epoch (command.Start node) = refl
+
 -- a statement that stands in its place, and one that does not
 pub is_placed : (before : ParserState) (name : List ℕ) (args : List (List ℕ)) (event : lab.Event)
     (action : Action) (node : ℕ) → IsRead name args event → node_in event.kind ≡ Some node
-    → node_fault before.configs (Some node) ≡ None → action ≡ action_of event
-    → Places before name args (Ok action)
-is_placed before name args event action node r at free is =
+    → epoch_in event.kind ≡ None → node_fault before.configs (Some node) ≡ None
+    → action ≡ action_of event → Places before name args (Ok action)
+is_placed before name args event action node r at none free is =
     let found = stands before.configs node free in
-    let named : NamesNode found.0 event.kind = rw at found.2 in (
-      is_of_place before name args event.kind r.good r.said r.spelled ∙ rw at free,
-      (found.0, found.1, inr (event, r.spells, named, is)),
+    let named : NamesNode found.0 event.kind = rw at found.2 in
+    let known : NamesEpoch found.0 event.kind = rw none tt in (
+      is_of_place before name args event.kind r.good r.said r.spelled ∙ rw (at, none) free,
+      (found.0, found.1, inr (event, r.spells, named, known, is)),
     )
 
 pub is_misplaced : (before : ParserState) (name : List ℕ) (args : List (List ℕ))
     (event : lab.Event) (node : ℕ) (e : ScriptError) → IsRead name args event
-    → node_in event.kind ≡ Some node → node_fault before.configs (Some node) ≡ Some e
-    → Places before name args (Err e)
-is_misplaced before name args event node e r at fault =
-    λ _. is_of_place before name args event.kind r.good r.said r.spelled ∙ rw at fault
+    → node_in event.kind ≡ Some node → epoch_in event.kind ≡ None
+    → node_fault before.configs (Some node) ≡ Some e → Places before name args (Err e)
+is_misplaced before name args event node e r at none fault =
+    λ _. is_of_place before name args event.kind r.good r.said r.spelled ∙ rw (at, none) fault
 
 pub is_config : (before : ParserState) (words args : List (List ℕ)) (ids : List ℕ)
-    → words ≡ codes "config" ∷ args → args ≡ map decimal ids → IsConfig ids
-    → numbers_of args ≡ ids → before.configs ≡ None → config_fault before args ≡ None
-    → (cs : Configurations) → cs ≡ ids ∷ [] → ReadsWords before words (Ok (Config cs))
-is_config before words args ids e a is numbers free good cs one = (
+    → words ≡ codes "config" ∷ args → args ≡ map decimal ids → MayFollow before.configs ids
+    → numbers_of args ≡ ids → before.begun ≡ false → config_fault before args ≡ None
+    → (cs : Configurations) → cs ≡ up_to before.configs ids
+    → ReadsWords before words (Ok (Config cs))
+is_config before words args ids e a follows numbers rests good cs one = (
   rw (e, good) refl,
-  (ids, rw (e, a) refl, is, one, free),
+  (ids, rw (e, a) refl, follows, one, rests),
   rw (e, numbers, one) refl,
 )
 
@@ -189,7 +234,7 @@ delivers before args place fault r some =
     let names_none : node_fault before.configs None ≡ None = rw found.1 refl in (
       is_of_place before (codes "deliver") args (Deliver place) r.good r.said r.spelled
           ∙ names_none,
-      (found.0, found.1, inr (delivery place fault, r.spells, tt, refl)),
+      (found.0, found.1, inr (delivery place fault, r.spells, tt, tt, refl)),
     )
 
 pub undelivered : (before : ParserState) (args : List (List ℕ)) (place : ℕ) (fault : Fault)

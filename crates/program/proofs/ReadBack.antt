@@ -24,7 +24,7 @@ use Rattle.kv_types.specs.declared.Edit.{Edit}
 use Rattle.kv_types.specs.declared.Edit.TheVariants.{Put, Delete}
 use Rattle.lab.specs.declared.EventKind.{EventKind}
 use Rattle.lab.specs.declared.EventKind.TheVariants.{Submit, Get, Deliver, Tick, Tend, Start, Stop}
-use Rattle.lab.specs.declared.EventKind.TheVariants.{Rows, Open, Close}
+use Rattle.lab.specs.declared.EventKind.TheVariants.{Rows, Open, Close, Notice}
 use Rattle.program.specs.Words.{is_plain, byte_text, bytes_text, is_hex, hex_value, escaped}
 use Rattle.program.specs.Words.{are_bytes, bound_text, is_bound, is_byte_string, is_number}
 use Rattle.program.specs.Statements.{edit_word, hex_text, IsJunk, IsSpelled, is_edit, is_junk}
@@ -255,6 +255,8 @@ event_read (Open node (Some at)) words la e =
 event_read (Close node number) words la e =
     rw (e, number_read node la.0, number_read number la.1) refl
 event_read (Deliver place) words la e = rw (e, number_read place la) refl
+event_read (Notice node epoch) words la e =
+    rw (e, number_read node la.0, number_read epoch la.1) refl
 event_read (Tick node) words la e = rw (e, number_read node la) refl
 event_read (Tend node) words la e = rw (e, number_read node la) refl
 event_read (Start node) words la e = rw (e, number_read node la) refl

@@ -26,11 +26,13 @@ use Rattle.program.specs.declared.script.statement.Statement.{Statement}
 use Rattle.program.specs.Words.{before_fault, begins_fault}
 use Rattle.program.specs.Events.{SpellsEvent}
 use Rattle.program.specs.Limits.{SetsLimit, default_limits, limit_word, limits_with}
-use Rattle.program.specs.Scripts.{words_of, is_skipped, AreStatements, IsStatement, IsScript}
-use Rattle.program.specs.Scripts.{IsScriptWith}
+use Rattle.program.specs.Scripts.{AreLines, IsScript, IsScriptWith, IsStatement, MayFollow}
+use Rattle.program.specs.Scripts.{NamesEpoch, begins, is_skipped, up_to, words_of}
 use Rattle.program.specs.Faults.{statement_fault, words_fault, line_fault, after_words, after_line}
-use Rattle.program.specs.Faults.{script_fault, start, node_fault}
+use Rattle.program.specs.Faults.{epoch_fault, may_follow, node_fault, script_fault, start}
 use Rattle.program.proofs.FaultWords.{all_before}
+use Rattle.program.proofs.Items.{begins_by_name}
+use Rattle.program.proofs.Notices.{known_epoch}
 use Rattle.program.proofs.Placing.{is_of_place, number_back, of_one_node}
 use Rattle.program.proofs.Ids.{ids_read, number_begins}
 use Rattle.program.proofs.Limits.{is_small, named_by}
@@ -69,13 +71,13 @@ behind_configs cs begun limits = record { configs = Some cs; begun = begun; limi
 abbrev before_configs : ScriptLimits → ParserState
 before_configs limits = record { configs = None; begun = false; limits = limits }
 
--- what is to be said of the words of such a line
+-- what is to be said of the words of a line with such an action
 pub record IsPassed (cs : Configurations) (begun : Bool) (limits : ScriptLimits)
-    (words : List (List ℕ)) : Type 0
+    (words : List (List ℕ)) (action : Action) : Type 0
   where
     pub good : words_fault (behind_configs cs begun limits) words ≡ None
-    pub later : Bool
-    pub after : after_words (behind_configs cs begun limits) words ≡ behind_configs cs later limits
+    pub after : after_words (behind_configs cs begun limits) words
+        ≡ behind_configs cs (begun || begins action) limits
     pub letter : 97 ≤ first_byte words
 
 free : (cs : Configurations) (node : Option ℕ) → IfSome node (λ x. has (at_epoch cs 0) x ≡ true) →
@@ -83,27 +85,35 @@ free : (cs : Configurations) (node : Option ℕ) → IfSome node (λ x. has (at_
 free cs None is = refl
 free cs (Some x) is = rw is refl
 
+known : (cs : Configurations) (epoch : Option ℕ) → IfSome epoch (λ e. e < length cs) →
+    epoch_fault epoch (Some cs) ≡ None
+known cs None is = refl
+known cs (Some epoch) is = known_epoch cs epoch is
+
 good_statement : (cs : Configurations) (begun : Bool) (limits : ScriptLimits)
     (event : lab.Event) (name : List ℕ) (args : List (List ℕ)) → SpellsEvent (name ∷ args) event →
-    NamesNode cs event.kind → statement_fault (behind_configs cs begun limits) name args ≡ None
-good_statement cs begun limits event name args spells named =
+    NamesNode cs event.kind → NamesEpoch cs event.kind
+    → statement_fault (behind_configs cs begun limits) name args ≡ None
+good_statement cs begun limits event name args spells named told =
     let d = divides event name args spells in
     is_of_place (behind_configs cs begun limits) name args event.kind
     (divided_read event name args d) d.kind_said d.kind
-    ∙ free cs (node_in event.kind) named
+    ∙ rw (known cs (epoch_in event.kind) told) (free cs (node_in event.kind) named)
 
 passes : (cs : Configurations) (begun : Bool) (limits : ScriptLimits) (event : lab.Event)
-    (words : List (List ℕ)) (name : List ℕ) (args : List (List ℕ)) → words ≡ name ∷ args →
-    bytes_eq name (codes "config") ≡ false → bytes_eq name (codes "limit") ≡ false →
-    97 ≤ first_byte (name ∷ args) → SpellsEvent words event →
-    NamesNode cs event.kind → IsPassed cs begun limits words
-passes cs begun limits event words name args e other third letter spells named = record {
-  good = rw (e, other, third) (good_statement cs begun limits event name args
-      (subst (λ (ws : List (List ℕ)). SpellsEvent ws event) e spells) named);
-  later = begun || not (bytes_eq name (codes "show"));
-  after = rw (e, other, third) refl;
-  letter = rw e letter;
-}
+    (words : List (List ℕ)) (action : Action) (name : List ℕ) (args : List (List ℕ)) →
+    words ≡ name ∷ args → bytes_eq name (codes "config") ≡ false →
+    bytes_eq name (codes "limit") ≡ false → 97 ≤ first_byte (name ∷ args) →
+    SpellsEvent words event → NamesNode cs event.kind → NamesEpoch cs event.kind →
+    action ≡ action_of event → IsPassed cs begun limits words action
+passes cs begun limits event words action name args e other third letter spells named told is =
+    let own = subst (λ (ws : List (List ℕ)). SpellsEvent ws event) e spells in
+    let goes = begins_by_name cs name args action (inr (event, own, named, told, is)) in
+    record {
+      good = rw (e, other, third) (good_statement cs begun limits event name args own named told);
+      after = rw (e, other, third, ← goes) refl;
+      letter = rw e letter;
+    }
 
 -- no event's name is that of a configuration, and each begins with a letter
 no_config : (what : EventKind) → bytes_eq (name_of what) (codes "config") ≡ false
@@ -115,6 +125,7 @@ no_config = of_name (λ name. bytes_eq name (codes "config") ≡ false) (record 
   opening = refl;
   closing = refl;
   deliver = refl;
+  notice = refl;
   tick = refl;
   tend = refl;
   start = refl;
@@ -130,6 +141,7 @@ no_limit = of_name (λ name. bytes_eq name (codes "limit") ≡ false) (record {
   opening = refl;
   closing = refl;
   deliver = refl;
+  notice = refl;
   tick = refl;
   tend = refl;
   start = refl;
@@ -145,6 +157,7 @@ lettered what args = of_name (λ name. 97 ≤ first_byte (name ∷ args)) (recor
   opening = lit≤ tt;
   closing = lit≤ tt;
   deliver = lit≤ tt;
+  notice = lit≤ tt;
   tick = lit≤ tt;
   tend = lit≤ tt;
   start = lit≤ tt;
@@ -152,15 +165,15 @@ lettered what args = of_name (λ name. 97 ≤ first_byte (name ∷ args)) (recor
 }) what
 
 event_passes : (cs : Configurations) (begun : Bool) (limits : ScriptLimits) (event : lab.Event)
-    (words : List (List ℕ)) →
-    SpellsEvent words event → NamesNode cs event.kind → IsPassed cs begun limits words
-event_passes cs begun limits event words spells named =
+    (words : List (List ℕ)) (action : Action) → SpellsEvent words event →
+    NamesNode cs event.kind → NamesEpoch cs event.kind → action ≡ action_of event →
+    IsPassed cs begun limits words action
+event_passes cs begun limits event words action spells named told same =
     let front = opens event.kind spells.first spells.kind in
     let args = front.0 ++ spells.behind in
     let is : words ≡ name_of event.kind ∷ args = rw front.1 at spells.parts in
-    passes cs begun limits event words (name_of event.kind) args is (no_config event.kind)
-    (no_limit event.kind)
-    (lettered event.kind args) spells named
+    passes cs begun limits event words action (name_of event.kind) args is
+    (no_config event.kind) (no_limit event.kind) (lettered event.kind args) spells named told same
 
 -- a node that is settled or shown
 one_node_stands : (cs : Configurations) (begun : Bool) (limits : ScriptLimits) (node : ℕ) →
@@ -175,11 +188,10 @@ one_node_stands cs begun limits node small there name of_one =
 
 pub statement_passes : (cs : Configurations) (begun : Bool) (limits : ScriptLimits)
     (words : List (List ℕ)) (action : Action) → IsStatement cs words action →
-    IsPassed cs begun limits words
+    IsPassed cs begun limits words action
 statement_passes cs begun limits words action (inl (inl is)) = record {
   good = rw is.1 refl;
-  later = begun || true;
-  after = rw is.1 refl;
+  after = rw (is.0, is.1) refl;
   letter = rw is.1 (omega arith);
 }
 statement_passes cs begun limits words action (inl (inr is)) = one_node_passes is.said
@@ -187,23 +199,21 @@ statement_passes cs begun limits words action (inl (inr is)) = one_node_passes i
     one_node_passes : ((action ≡ Settle is.node)
         × (words ≡ codes "settle" ∷ decimal is.node ∷ []))
         ⊎ ((action ≡ Show is.node) × (words ≡ codes "show" ∷ decimal is.node ∷ [])) →
-        IsPassed cs begun limits words
+        IsPassed cs begun limits words action
     one_node_passes (inl said) = record {
       good = rw said.1 (one_node_stands cs begun limits is.node is.small is.there (codes "settle")
           (inl refl));
-      later = begun || true;
-      after = rw said.1 refl;
+      after = rw (said.0, said.1) refl;
       letter = rw said.1 (omega arith);
     }
     one_node_passes (inr said) = record {
       good = rw said.1 (one_node_stands cs begun limits is.node is.small is.there (codes "show")
           (inr refl));
-      later = begun || false;
-      after = rw said.1 refl;
+      after = rw (said.0, said.1) refl;
       letter = rw said.1 (omega arith);
     }
-statement_passes cs begun limits words action (inr (event, spells, named, same)) =
-    event_passes cs begun limits event words spells named
+statement_passes cs begun limits words action (inr (event, spells, named, told, same)) =
+    event_passes cs begun limits event words action spells named told same
 
 -- ---- line by line
 
@@ -237,37 +247,67 @@ stated before after n line lines short few letter good later rest =
 abbrev AreShort : List (List ℕ) → Type 0
 AreShort lines = All (λ line. length line ≤ 262144) lines
 
-statements_read : (cs : Configurations) (begun : Bool) (limits : ScriptLimits) (n : ℕ)
-    (lines : List (List ℕ)) (statements : List Statement) → AreShort lines →
-    n + length lines ≤ 100001 → AreStatements cs n lines statements →
-    script_fault (behind_configs cs begun limits) n lines ≡ None
-statements_read cs begun limits n [] statements short few are = refl
-statements_read cs begun limits n (line ∷ lines) statements short few (inl more) =
-    skipped (behind_configs cs begun limits) n line lines
-    (All-head (λ l. length l ≤ 262144) line lines short) (omega (arith, few)) more.0
-    (statements_read cs begun limits (suc n) lines statements
-    (All-tail (λ l. length l ≤ 262144) line lines short) (omega (arith, few)) more.1)
-statements_read cs begun limits n (line ∷ lines) statements short few
-    (inr (action, rest, is, same, more)) =
-    let p = statement_passes cs begun limits (words_of line) action is in
-    stated (behind_configs cs begun limits) (behind_configs cs p.later limits) n line lines
-    (All-head (λ l. length l ≤ 262144) line lines short) (omega (arith, few)) p.letter p.good
-    p.after
-    (statements_read cs p.later limits (suc n) lines rest
-    (All-tail (λ l. length l ≤ 262144) line lines short) (omega (arith, few)) more)
+-- ids that may be the next configuration are one, and the test says so
+pub each_id : (configs : Option Configurations) (ids : List ℕ) → MayFollow configs ids → All IsId ids
+each_id None ids is = is.each
+each_id (Some cs) ids is = is.0.each
 
--- a configuration
-config_good : TestDecidesConfig → (limits : ScriptLimits) (ids : List ℕ)
-    (words : List (List ℕ)) → IsConfig ids → words ≡ codes "config" ∷ map decimal ids →
-    (words_fault (before_configs limits) words ≡ None)
-    × (after_words (before_configs limits) words ≡ behind_configs (ids ∷ []) false limits)
-config_good decides limits ids words is e =
-    let r = ids_read ids is.each in
-    let before : map decimal ids ≡ before_fault (map decimal ids) =
+tested : TestDecidesConfig → (configs : Option Configurations) (ids : List ℕ)
+    → MayFollow configs ids → may_follow configs ids ≡ true
+tested decides None ids is = (decides ids).1 is
+tested decides (Some cs) ids is = rw ((decides ids).1 is.0) is.1
+
+-- a configuration, before a run has begun
+config_good : TestDecidesConfig → (before : ParserState) (ids : List ℕ)
+    (words : List (List ℕ)) → MayFollow before.configs ids → before.begun ≡ false →
+    words ≡ codes "config" ∷ map decimal ids → (words_fault before words ≡ None)
+    × (after_words before words
+    ≡ record before { configs = Some (up_to before.configs ids) })
+config_good decides before ids words follows rests e =
+    let r = ids_read ids (each_id before.configs ids follows) in
+    let front : map decimal ids ≡ before_fault (map decimal ids) =
     all_before (map decimal ids) (sym r.none) in (
-      rw (e, ← before, r.numbers, r.none, r.back, (decides ids).1 is) refl,
+      rw (
+        e,
+        ← front,
+        r.numbers,
+        r.none,
+        rests,
+        r.back,
+        tested decides before.configs ids follows,
+      ) refl,
       rw (e, r.back) refl,
     )
+
+behind_read : TestDecidesConfig → (cs : Configurations) (begun : Bool) (limits : ScriptLimits)
+    (n : ℕ) (lines : List (List ℕ)) (all : Configurations) (statements : List Statement) →
+    AreShort lines → n + length lines ≤ 100001 → AreLines cs begun n lines all statements →
+    script_fault (behind_configs cs begun limits) n lines ≡ None
+behind_read decides cs begun limits n [] all statements short few are = refl
+behind_read decides cs begun limits n (line ∷ lines) all statements short few (inl more) =
+    skipped (behind_configs cs begun limits) n line lines
+    (All-head (λ l. length l ≤ 262144) line lines short) (omega (arith, few)) more.0
+    (behind_read decides cs begun limits (suc n) lines all statements
+    (All-tail (λ l. length l ≤ 262144) line lines short) (omega (arith, few)) more.1)
+behind_read decides cs begun limits n (line ∷ lines) all statements short few
+    (inr (inl (ids, e, follows, rests, more))) =
+    let now = up_to (Some cs) ids in
+    let good = config_good decides (behind_configs cs begun limits) ids (words_of line) follows
+    rests e in
+    stated (behind_configs cs begun limits) (behind_configs now begun limits) n line lines
+    (All-head (λ l. length l ≤ 262144) line lines short) (omega (arith, few))
+    (rw e (omega arith)) good.0 good.1
+    (behind_read decides now begun limits (suc n) lines all statements
+    (All-tail (λ l. length l ≤ 262144) line lines short) (omega (arith, few)) more)
+behind_read decides cs begun limits n (line ∷ lines) all statements short few
+    (inr (inr (action, rest, is, same, more))) =
+    let p = statement_passes cs begun limits (words_of line) action is in
+    let later = begun || begins action in
+    stated (behind_configs cs begun limits) (behind_configs cs later limits) n line lines
+    (All-head (λ l. length l ≤ 262144) line lines short) (omega (arith, few)) p.letter p.good
+    p.after
+    (behind_read decides cs later limits (suc n) lines all rest
+    (All-tail (λ l. length l ≤ 262144) line lines short) (omega (arith, few)) more)
 
 -- the word of a limit begins no fault
 begins_none : (name : LimitName) → begins_fault (limit_word name) ≡ false
@@ -311,12 +351,12 @@ lines_read decides limits n (line ∷ lines) setup statements short few
     (lines_read decides after (suc n) lines setup statements
     (All-tail (λ l. length l ≤ 262144) line lines short) (omega (arith, few)) more)
 lines_read decides limits n (line ∷ lines) setup statements short few
-    (inr (inr (ids, e, is, up, more))) =
-    let good = config_good decides limits ids (words_of line) is e in
+    (inr (inr (ids, all, e, is, up, more))) =
+    let good = config_good decides (before_configs limits) ids (words_of line) is refl e in
     stated (before_configs limits) (behind_configs (ids ∷ []) false limits) n line lines
     (All-head (λ l. length l ≤ 262144) line lines short) (omega (arith, few))
     (rw e (omega arith)) good.0 good.1
-    (statements_read (ids ∷ []) false limits (suc n) lines statements
+    (behind_read decides (ids ∷ []) false limits (suc n) lines all statements
     (All-tail (λ l. length l ≤ 262144) line lines short) (omega (arith, few)) more)
 
 pub script_read : TestDecidesConfig

@@ -8,7 +8,7 @@ use Rattle.lab.specs.Machine.{without}
 use Rattle.lab.specs.declared.Event as lab
 use Rattle.lab.specs.declared.EventKind.{EventKind}
 use Rattle.lab.specs.declared.EventKind.TheVariants.{Submit, Get, Deliver, Tick, Tend, Start, Stop}
-use Rattle.lab.specs.declared.EventKind.TheVariants.{Rows, Open, Close}
+use Rattle.lab.specs.declared.EventKind.TheVariants.{Rows, Open, Close, Notice}
 use Rattle.lab.specs.declared.Line.{Line}
 use Rattle.lab.specs.declared.World.{World}
 use Rattle.lab.specs.Numbers.{Numbers}
@@ -36,6 +36,7 @@ leaves_all (Rows node range at) left other = refl
 leaves_all (Open node at) left other = refl
 leaves_all (Close node number) left other = refl
 leaves_all (Deliver place) left other = absurd (other place refl)
+leaves_all (Notice node epoch) left other = refl
 leaves_all (Tick node) left other = refl
 leaves_all (Tend node) left other = refl
 leaves_all (Start node) left other = refl

@@ -14,7 +14,7 @@ use Rattle.kv_types.specs.{Span}
 use Rattle.lab.specs.declared.Event as lab
 use Rattle.lab.specs.declared.EventKind.{EventKind}
 use Rattle.lab.specs.declared.EventKind.TheVariants.{Submit, Get, Deliver, Tick, Tend, Start, Stop}
-use Rattle.lab.specs.declared.EventKind.TheVariants.{Rows, Open, Close}
+use Rattle.lab.specs.declared.EventKind.TheVariants.{Rows, Open, Close, Notice}
 use Rattle.program.specs.declared.script.statement.Action.{Action}
 use Rattle.program.specs.declared.script.statement.Action.TheVariants.{Event, Invalid}
 
@@ -66,6 +66,7 @@ error_of (Rows node range at) = range_error range
 error_of (Open node at) = None
 error_of (Close node number) = None
 error_of (Deliver place) = None
+error_of (Notice node epoch) = None
 error_of (Tick node) = None
 error_of (Tend node) = None
 error_of (Start node) = None

@@ -10,7 +10,7 @@ use Rattle.lab.specs.Fault.TheVariants as disk
 use Rattle.lab.specs.declared.Event.{Event}
 use Rattle.lab.specs.declared.EventKind.{EventKind}
 use Rattle.lab.specs.declared.EventKind.TheVariants.{Submit, Get, Deliver, Tick, Tend, Start, Stop}
-use Rattle.lab.specs.declared.EventKind.TheVariants.{Rows, Open, Close}
+use Rattle.lab.specs.declared.EventKind.TheVariants.{Rows, Open, Close, Notice}
 use Rattle.program.specs.declared.script.error.ScriptError.{ScriptError}
 use Rattle.program.specs.declared.script.error.ScriptError.TheVariants.{BadFault}
 use Rattle.program.specs.Words.{is_number}
@@ -41,6 +41,7 @@ bears_fault (Rows node range at) = true
 bears_fault (Open node at) = true
 bears_fault (Close node number) = true
 bears_fault (Deliver place) = true
+bears_fault (Notice node epoch) = true
 bears_fault (Tick node) = true
 bears_fault (Tend node) = true
 bears_fault (Start node) = true

@@ -1,12 +1,12 @@
 -- The least fault of the first faulty line of a script.
-use Rattle.std.specs.Prelude.{◌≡◌, ◌≢◌, ◌<◌, ◌≤◌, ℕ, suc, Bool, false, ◌||◌, not, nat_lt}
+use Rattle.std.specs.Prelude.{◌≡◌, ◌≢◌, ◌<◌, ◌≤◌, ℕ, suc, Bool, false, ◌&&◌, ◌||◌, not, nat_lt}
 use Rattle.std.specs.Prelude.{if◌then◌else◌, List, [], ◌∷◌, length, map, codes, is_some, is_none}
 use Rattle.std.specs.Prelude.{Option, Some, None}
 use Rattle.std.specs.List.{list_all}
 use Rattle.std.specs.Option.{option_map_or, option_or}
 use Rattle.std.specs.Str.{bytes_eq}
 use Rattle.std.specs.Str.Parse.{digits_value}
-use Rattle.lab.specs.Configuration.{Configurations, has, at_epoch}
+use Rattle.lab.specs.Configuration.{Configurations, has, at_epoch, last_of, leaves_out}
 use Rattle.lab.specs.Configs.{is_config}
 use Rattle.program.specs.declared.script.error.ScriptError.{ScriptError}
 use Rattle.program.specs.declared.script.error.ScriptError.TheVariants.{LineTooLong, BadNumber}
@@ -23,20 +23,25 @@ use Rattle.program.specs.Words.{is_number, has_fault, before_fault, from_fault}
 use Rattle.program.specs.Statements.{fault_of_words}
 use Rattle.program.specs.Events.{fault_word}
 use Rattle.program.specs.Limits.{default_limits, is_allowed, limit_named, limits_with}
-use Rattle.program.specs.Scripts.{is_skipped, words_of}
+use Rattle.program.specs.Scripts.{is_skipped, up_to, words_of}
 
 -- the numbers that words spell
 abbrev pub numbers_of : List (List ℕ) → List ℕ
 numbers_of words = map (λ w. digits_value 10 w) words
 
--- there is one configuration, which bears no fault, and no statement stands before it
+-- whether ids may be the next configuration behind those of earlier lines, if there is one
+abbrev pub may_follow : Option Configurations → List ℕ → Bool
+may_follow None ids = is_config ids
+may_follow (Some cs) ids = is_config ids && leaves_out ids (last_of cs)
+
+-- the least fault of a configuration, by its numbers, the fault that it bears, its place, and the
+-- configurations of earlier lines
 abbrev pub config_fault : ParserState → List (List ℕ) → Option ScriptError
 config_fault before args =
     if not (list_all is_number (before_fault args)) then Some BadNumber else
     if has_fault args then Some BadFault else
     if before.begun then Some OutOfPlace else
-    if is_some before.configs || not (is_config (numbers_of args)) then Some BadConfiguration
-    else None
+    if may_follow before.configs (numbers_of args) then None else Some BadConfiguration
 
 -- a limit has this word, and may be this number
 abbrev pub is_limit : List ℕ → ℕ → Bool
@@ -57,11 +62,23 @@ limit_words_fault before faulty words = Some WrongNumberOfWords
 abbrev pub limit_fault : ParserState → List (List ℕ) → Option ScriptError
 limit_fault before args = limit_words_fault before (has_fault args) (before_fault args)
 
+-- a notice needs a configuration of its epoch, where there are configurations
+abbrev pub epoch_fault : Option ℕ → Option Configurations → Option ScriptError
+epoch_fault None configs = None
+epoch_fault (Some epoch) None = None
+epoch_fault (Some epoch) (Some cs) =
+    if nat_lt epoch (length cs) then None else Some BadConfiguration
+
 -- a statement needs a configuration, and a node of the first one where it names one
 abbrev pub node_fault : Option Configurations → Option ℕ → Option ScriptError
 node_fault None named = Some OutOfPlace
 node_fault (Some cs) None = None
 node_fault (Some cs) (Some n) = if has (at_epoch cs 0) n then None else Some UnknownNode
+
+-- the least fault of the place of a statement: it needs a configuration, a notice one of its epoch,
+-- and one that names a node a node of the first configuration
+abbrev pub place_fault : Option ℕ → Option Configurations → Option ℕ → Option ScriptError
+place_fault epoch configs named = option_or (epoch_fault epoch configs) (node_fault configs named)
 
 -- the node that the words of a statement name: a frame goes to its own addressee
 abbrev pub node_named : List (List ℕ) → Option ℕ
@@ -69,6 +86,17 @@ node_named [] = None
 node_named (name ∷ []) = None
 node_named (name ∷ word ∷ args) =
     if bytes_eq name (codes "deliver") then None else Some (digits_value 10 word)
+
+-- the epoch that the words behind a notice's name spell
+abbrev pub epoch_word : List (List ℕ) → Option ℕ
+epoch_word [] = None
+epoch_word (node ∷ []) = None
+epoch_word (node ∷ word ∷ words) = Some (digits_value 10 word)
+
+-- the epoch that the words of a statement name
+abbrev pub epoch_named : List (List ℕ) → Option ℕ
+epoch_named [] = None
+epoch_named (name ∷ args) = if bytes_eq name (codes "notice") then epoch_word args else None
 
 -- the least fault of a statement, by its own words and by those of the fault that it bears
 abbrev pub spelling_fault : List ℕ → List (List ℕ) → Option ScriptError
@@ -79,7 +107,8 @@ spelling_fault name args =
 abbrev pub statement_fault : ParserState → List ℕ → List (List ℕ) → Option ScriptError
 statement_fault before name args =
     option_or (spelling_fault name args)
-    (node_fault before.configs (node_named (name ∷ before_fault args)))
+    (place_fault (epoch_named (name ∷ before_fault args)) before.configs
+    (node_named (name ∷ before_fault args)))
 
 -- the least fault of the words of a line: each kind of line has its own
 abbrev pub words_fault : ParserState → List (List ℕ) → Option ScriptError
@@ -107,7 +136,7 @@ abbrev pub after_words : ParserState → List (List ℕ) → ParserState
 after_words before [] = before
 after_words before (name ∷ args) =
     if bytes_eq name (codes "config")
-    then record before { configs = Some (numbers_of args ∷ []) } else
+    then record before { configs = Some (up_to before.configs (numbers_of args)) } else
     if bytes_eq name (codes "limit")
     then record before { limits = limits_after before.limits args }
     else record before { begun = before.begun || not (bytes_eq name (codes "show")) }

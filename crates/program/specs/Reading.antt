@@ -1,14 +1,13 @@
 -- What the parts of the script's reader promise.
 use Rattle.std.specs.Prelude.{◌≡◌, ◌≢◌, ◌≤◌, ℕ, Bool, ◌||◌, true, false, List, [], ◌∷◌, ◌++◌, map}
 use Rattle.std.specs.Prelude.{codes}
-use Rattle.std.specs.Prelude.{Some, None, Result, Ok, Err, ◌⊎◌, ◌<◌, ◌^◌}
+use Rattle.std.specs.Prelude.{Option, Some, None, Result, Ok, Err, ◌⊎◌, ◌<◌, ◌^◌, length}
 use Rattle.std.specs.Fmt.{decimal}
 use Rattle.lab.specs.Fault.{Fault}
 use Rattle.lab.specs.Fault.TheVariants as disk
 use Rattle.lab.specs.declared.EventKind.{EventKind}
 use Rattle.lab.specs.declared.EventKind.TheVariants as what
 use Rattle.lab.specs.Configuration.{Configurations, at_epoch, has}
-use Rattle.lab.specs.Configs.{IsConfig}
 use Rattle.program.specs.declared.script.error.ScriptError.{ScriptError}
 use Rattle.program.specs.declared.script.error.ScriptError.TheVariants.{OutOfMemory}
 use Rattle.program.specs.declared.script.command.Command.{Command}
@@ -26,7 +25,8 @@ use Rattle.program.specs.declared.script.statement.Statement.{Statement}
 use Rattle.program.specs.Statements.{CanBeSaid, IsSpelled, fault_of_words}
 use Rattle.program.specs.Events.{FaultCanBeSaid, IsFault, fault_word, may_bear_fault}
 use Rattle.program.specs.Limits.{SetsLimit, limits_with}
-use Rattle.program.specs.Scripts.{IsStatement, is_skipped, words_of, statement}
+use Rattle.program.specs.Scripts.{IsStatement, MayFollow, begins, is_skipped, statement, up_to}
+use Rattle.program.specs.Scripts.{words_of}
 use Rattle.program.specs.Faults.{statement_fault, words_fault, after_words, line_fault}
 use Rattle.program.specs.Faults.{after_line, numbered_fault}
 
@@ -66,8 +66,8 @@ IsItemOfWords before words Skipped = ⊥
 IsItemOfWords before words (Limit name number) =
     SetsLimit words name number × (before.configs ≡ None)
 IsItemOfWords before words (Config cs) =
-    (ids : List ℕ) × (words ≡ codes "config" ∷ map decimal ids) × IsConfig ids
-    × (cs ≡ ids ∷ []) × (before.configs ≡ None)
+    (ids : List ℕ) × (words ≡ codes "config" ∷ map decimal ids) × MayFollow before.configs ids
+    × (cs ≡ up_to before.configs ids) × (before.begun ≡ false)
 IsItemOfWords before words (Asks action) =
     (cs : Configurations) × (before.configs ≡ Some cs) × IsStatement cs words action
 
@@ -75,14 +75,6 @@ IsItemOfWords before words (Asks action) =
 abbrev pub IsItem : ParserState → List ℕ → LineItem → Type 0
 IsItem before line Skipped = is_skipped line ≡ true
 IsItem before line item = IsItemOfWords before (words_of line) item
-
--- a run has begun with a statement, but not with one that only shows
-abbrev pub begins : Action → Bool
-begins (Event event) = true
-begins (Invalid e) = true
-begins Flow = true
-begins (Settle node) = true
-begins (Show node) = false
 
 -- what an item leaves for the lines behind it
 abbrev pub after_item : ParserState → LineItem → ParserState
@@ -98,6 +90,11 @@ statements_of n Skipped = []
 statements_of n (Limit name number) = []
 statements_of n (Config cs) = []
 statements_of n (Asks action) = statement n action ∷ []
+
+-- there are configurations, and one of this epoch
+abbrev pub HasEpoch : Option Configurations → ℕ → Type 0
+HasEpoch configs epoch =
+    (cs : Configurations) × (configs ≡ Some cs) × (epoch < length cs)
 
 -- a statement that may stand here
 abbrev pub Places : ParserState → List ℕ → List (List ℕ) → Result Action ScriptError → Type 0

@@ -9,7 +9,7 @@ use Rattle.lab.specs.Fault.TheVariants as fault
 use Rattle.lab.specs.declared.Event as lab
 use Rattle.lab.specs.declared.EventKind.{EventKind}
 use Rattle.lab.specs.declared.EventKind.TheVariants.{Submit, Get, Deliver, Tick, Tend, Start, Stop}
-use Rattle.lab.specs.declared.EventKind.TheVariants.{Rows, Open, Close}
+use Rattle.lab.specs.declared.EventKind.TheVariants.{Rows, Open, Close, Notice}
 use Rattle.lab.specs.declared.Line.{Line}
 use Rattle.lab.specs.declared.Line.TheVariants as line
 use Rattle.lab.specs.Numbers.{Numbers}
@@ -62,6 +62,7 @@ left_after_event (Get node key at) left = left
 left_after_event (Rows node range at) left = left
 left_after_event (Open node at) left = left
 left_after_event (Close node number) left = left
+left_after_event (Notice node epoch) left = left
 left_after_event (Tick node) left = left
 left_after_event (Tend node) left = left
 left_after_event (Start node) left = left

@@ -1,10 +1,13 @@
--- A whole script: lines that are skipped, limits, one configuration, and statements for its nodes.
-use Rattle.std.specs.Prelude.{◌≡◌, ◌⊎◌, ◌<◌, ◌^◌, ℕ, suc, Bool, true, ◌==◌}
-use Rattle.std.specs.Prelude.{if◌then◌else◌, List, [], ◌∷◌, map, codes}
+-- A whole script: lines that are skipped, limits, configurations, and statements for their nodes.
+use Rattle.std.specs.Prelude.{◌≡◌, ◌⊎◌, ◌<◌, ◌^◌, ℕ, suc, Bool, true, false, ◌==◌, ◌||◌}
+use Rattle.std.specs.Prelude.{if◌then◌else◌, List, [], ◌∷◌, ◌++◌, length, map, codes}
+use Rattle.std.specs.Prelude.{Option, Some, None, IfSome}
 use Rattle.std.specs.Fmt.{decimal}
 use Rattle.std.specs.List.{slice_split, onto_first}
-use Rattle.lab.specs.Configuration.{Configurations, at_epoch, has}
+use Rattle.lab.specs.Configuration.{Configurations, at_epoch, has, last_of, leaves_out}
 use Rattle.lab.specs.declared.Event as lab
+use Rattle.lab.specs.declared.EventKind.{EventKind}
+use Rattle.lab.specs.Events.{epoch_in}
 use Rattle.lab.specs.Configs.{IsConfig}
 use Rattle.lab.specs.{NamesNode}
 use Rattle.program.specs.declared.script.limits.LimitName.{LimitName}
@@ -50,20 +53,50 @@ abbrev pub IsOtherStatement : Configurations → List (List ℕ) → Action → 
 IsOtherStatement cs words action =
     ((action ≡ Flow) × (words ≡ codes "flow" ∷ [])) ⊎ NamesOneNode cs words action
 
+-- a notice is of one of these configurations
+abbrev pub NamesEpoch : Configurations → EventKind → Type 0
+NamesEpoch cs kind = IfSome (epoch_in kind) (λ epoch. epoch < length cs)
+
 -- words say what a statement comes to, at nodes of the first of these configurations
 abbrev pub IsStatement : Configurations → List (List ℕ) → Action → Type 0
 IsStatement cs words action =
     IsOtherStatement cs words action
     ⊎ ((event : lab.Event) × SpellsEvent words event × NamesNode cs event.kind
-    × (action ≡ action_of event))
+    × NamesEpoch cs event.kind × (action ≡ action_of event))
 
--- lines behind the configurations, the first with number n: each is skipped, or is a statement
-abbrev pub AreStatements : Configurations → ℕ → List (List ℕ) → List Statement → Type 0
-AreStatements cs n [] statements = statements ≡ []
-AreStatements cs n (line ∷ lines) statements =
-    ((is_skipped line ≡ true) × AreStatements cs (suc n) lines statements)
+-- a run has begun with a statement, but not with one that only shows
+abbrev pub begins : Action → Bool
+begins (Event event) = true
+begins (Invalid e) = true
+begins Flow = true
+begins (Settle node) = true
+begins (Show node) = false
+
+-- ids may be the next configuration behind those of earlier lines, if there is one: the one before
+-- with at least one node left out, order kept
+abbrev pub MayFollow : Option Configurations → List ℕ → Type 0
+MayFollow None ids = IsConfig ids
+MayFollow (Some cs) ids = IsConfig ids × (leaves_out ids (last_of cs) ≡ true)
+
+-- the configurations up to the line of this one
+abbrev pub up_to : Option Configurations → List ℕ → Configurations
+up_to None ids = ids ∷ []
+up_to (Some cs) ids = cs ++ ids ∷ []
+
+-- lines behind these configurations, the first with number n, where a run has begun or not: each
+-- is skipped, or the next configuration before a run begins, or a statement; and all configurations
+-- of the script are these
+abbrev pub AreLines : Configurations → Bool → ℕ → List (List ℕ) → Configurations → List Statement
+    → Type 0
+AreLines cs begun n [] all statements = (all ≡ cs) × (statements ≡ [])
+AreLines cs begun n (line ∷ lines) all statements =
+    ((is_skipped line ≡ true) × AreLines cs begun (suc n) lines all statements)
+    ⊎ (((ids : List ℕ) × (words_of line ≡ codes "config" ∷ map decimal ids)
+    × MayFollow (Some cs) ids × (begun ≡ false)
+    × AreLines (up_to (Some cs) ids) begun (suc n) lines all statements)
     ⊎ ((action : Action) × (rest : List Statement) × IsStatement cs (words_of line) action
-    × (statements ≡ statement n action ∷ rest) × AreStatements cs (suc n) lines rest)
+    × (statements ≡ statement n action ∷ rest)
+    × AreLines cs (begun || begins action) (suc n) lines all rest))
 
 -- a script that sets up these configurations, with these limits
 pub record SetsUp (setup : Setup) (script : ScriptLimits) (cs : Configurations) : Type 0 where
@@ -78,8 +111,9 @@ IsScriptWith limits n (line ∷ lines) setup statements =
     ((is_skipped line ≡ true) × IsScriptWith limits (suc n) lines setup statements)
     ⊎ (((name : LimitName) × (number : ℕ) × SetsLimit (words_of line) name number
     × IsScriptWith (limits_with limits name number) (suc n) lines setup statements)
-    ⊎ ((ids : List ℕ) × (words_of line ≡ codes "config" ∷ map decimal ids) × IsConfig ids
-    × SetsUp setup limits (ids ∷ []) × AreStatements (ids ∷ []) (suc n) lines statements))
+    ⊎ ((ids : List ℕ) × (all : Configurations) × (words_of line ≡ codes "config" ∷ map decimal ids)
+    × MayFollow None ids × SetsUp setup limits all
+    × AreLines (up_to None ids) false (suc n) lines all statements))
 
 -- lines that are a script, the first with number n, where no limit has been set
 abbrev pub IsScript : ℕ → List (List ℕ) → Setup → List Statement → Type 0

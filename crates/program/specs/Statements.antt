@@ -14,7 +14,7 @@ use Rattle.lab.specs.Junk.{Junk}
 use Rattle.lab.specs.Junk.TheVariants.{Old, New, Bytes}
 use Rattle.lab.specs.declared.EventKind.{EventKind}
 use Rattle.lab.specs.declared.EventKind.TheVariants.{Submit, Get, Deliver, Tick, Tend, Start, Stop}
-use Rattle.lab.specs.declared.EventKind.TheVariants.{Rows, Open, Close}
+use Rattle.lab.specs.declared.EventKind.TheVariants.{Rows, Open, Close, Notice}
 use Rattle.program.specs.declared.script.error.ScriptError.{ScriptError}
 use Rattle.program.specs.declared.script.error.ScriptError.TheVariants.{UnknownStatement}
 use Rattle.program.specs.declared.script.error.ScriptError.TheVariants.{WrongNumberOfWords}
@@ -68,6 +68,7 @@ CanBeSaid (Rows node range at) =
 CanBeSaid (Open node at) = (node < 2 ^ 63) × NumberCanBeSaid at
 CanBeSaid (Close node number) = (node < 2 ^ 63) × (number < 2 ^ 63)
 CanBeSaid (Deliver place) = place < 2 ^ 63
+CanBeSaid (Notice node epoch) = (node < 2 ^ 63) × (epoch < 2 ^ 63)
 CanBeSaid (Tick node) = node < 2 ^ 63
 CanBeSaid (Tend node) = node < 2 ^ 63
 CanBeSaid (Start node) = node < 2 ^ 63
@@ -99,6 +100,8 @@ IsSpelled (Stop node junk) words =
     ((junk ≡ Old) × (words ≡ codes "stop" ∷ decimal node ∷ []))
     ⊎ ((word : List ℕ) × IsJunk junk word × (words ≡ codes "stop" ∷ decimal node ∷ word ∷ []))
 IsSpelled (Deliver place) words = words ≡ codes "deliver" ∷ decimal place ∷ []
+IsSpelled (Notice node epoch) words =
+    words ≡ codes "notice" ∷ decimal node ∷ decimal epoch ∷ []
 IsSpelled (Tick node) words = words ≡ codes "tick" ∷ decimal node ∷ []
 IsSpelled (Tend node) words = words ≡ codes "tend" ∷ decimal node ∷ []
 IsSpelled (Start node) words = words ≡ codes "start" ∷ decimal node ∷ []
@@ -134,9 +137,9 @@ open_shape n =
     if n == 1 then Some (number ∷ [])
     else if n == 2 then Some (number ∷ number ∷ []) else None
 
--- a closing names a node and a number
-abbrev pub close_shape : ℕ → Option (List Kind)
-close_shape n = if n == 2 then Some (number ∷ number ∷ []) else None
+-- a closing names a node and a number, a notice a node and an epoch
+abbrev pub pair_shape : ℕ → Option (List Kind)
+pair_shape n = if n == 2 then Some (number ∷ number ∷ []) else None
 
 -- a stop names a node, and what it leaves or nothing
 abbrev pub stop_shape : ℕ → Option (List Kind)
@@ -156,7 +159,8 @@ shape name args =
     if bytes_eq name (codes "rows") then rows_shape (length args) else
     if bytes_eq name (codes "back") then rows_shape (length args) else
     if bytes_eq name (codes "open") then open_shape (length args) else
-    if bytes_eq name (codes "close") then close_shape (length args) else
+    if bytes_eq name (codes "close") then pair_shape (length args) else
+    if bytes_eq name (codes "notice") then pair_shape (length args) else
     if bytes_eq name (codes "stop") then stop_shape (length args) else
     if bytes_eq name (codes "flow") then none_shape (length args) else
     if length args == 1 then Some (number ∷ []) else None
@@ -209,7 +213,7 @@ abbrev pub is_name : List ℕ → Bool
 is_name w =
     bytes_eq w (codes "submit") || bytes_eq w (codes "get") || bytes_eq w (codes "rows")
     || bytes_eq w (codes "back") || bytes_eq w (codes "open") || bytes_eq w (codes "close")
-    || bytes_eq w (codes "stop")
+    || bytes_eq w (codes "notice") || bytes_eq w (codes "stop")
     || bytes_eq w (codes "start") || bytes_eq w (codes "deliver") || bytes_eq w (codes "flow")
     || bytes_eq w (codes "tick") || bytes_eq w (codes "tend") || bytes_eq w (codes "settle")
     || bytes_eq w (codes "show")

@@ -106,6 +106,11 @@ started_text node epoch count committed =
     codes "node " ++ (decimal node ++ (codes " started epoch " ++ (decimal epoch
     ++ (codes " count " ++ (decimal count ++ (codes " committed " ++ decimal committed))))))
 
+-- a node that adopted a configuration, with its epoch
+abbrev pub adopted_text : ℕ → ℕ → List ℕ
+adopted_text node epoch =
+    codes "node " ++ (decimal node ++ (codes " adopted " ++ decimal epoch))
+
 -- a frame: its place among all, the nodes that it goes between, and the sender's epoch
 abbrev pub frame_text : ℕ → ℕ → ℕ → List ℕ → ℕ → List ℕ
 frame_text place from to kind epoch =
@@ -163,6 +168,7 @@ abbrev pub line_text : Line → List ℕ
 line_text line.Nothing = codes "nothing"
 line_text (line.Dropped reason) = codes "dropped " ++ reason_text reason
 line_text (line.Started node epoch count committed) = started_text node epoch count committed
+line_text (line.Adopted node epoch) = adopted_text node epoch
 line_text (line.Forwarded place from to epoch number) =
     forwarded_text place from to epoch number
 line_text (line.Acknowledged place from to epoch committed have) =
@@ -186,6 +192,7 @@ rows_of_line (line.Replied reply) = rows_of_reply reply
 rows_of_line line.Nothing = []
 rows_of_line (line.Dropped reason) = []
 rows_of_line (line.Started node epoch count committed) = []
+rows_of_line (line.Adopted node epoch) = []
 rows_of_line (line.Forwarded place from to epoch number) = []
 rows_of_line (line.Acknowledged place from to epoch committed have) = []
 rows_of_line (line.Stopped node cause) = []
@@ -223,6 +230,7 @@ reply_place places here (line.Replied reply) = line_of_request places here (requ
 reply_place places here line.Nothing = here
 reply_place places here (line.Dropped reason) = here
 reply_place places here (line.Started node epoch count committed) = here
+reply_place places here (line.Adopted node epoch) = here
 reply_place places here (line.Forwarded place from to epoch number) = here
 reply_place places here (line.Acknowledged place from to epoch committed have) = here
 reply_place places here (line.Stopped node cause) = here

@@ -79,7 +79,7 @@ fn input_script<R: Read>(alloc: Global, input: &mut R) -> Result<Script, Failure
     }
 }
 
-/// Reads a script whole, runs it at the nodes of its first configuration, and writes what happened.
+/// Reads a script whole, runs it at the nodes of its configurations, and writes what happened.
 pub fn run_input<R: Read, W: Write>(
     alloc: Global,
     input: &mut R,

@@ -1,6 +1,7 @@
 // What comes of the program's words.
 use program::serve;
 use std::alloc::AllocError;
+use std::process::Abort;
 
 #[derive(Drop)]
 pub struct Outcome {
@@ -35,4 +36,22 @@ pub fn times(rt: &HostRuntime, bytes: &[u8], count: u32) -> Result<Vec<u8>, Allo
         all.extend_from_slice(bytes)?;
     }
     Ok(all)
+}
+
+/// A script, and what is told of it.
+pub type Fault = (&'static str, &'static str);
+
+// The first script that does not tell of its fault alone, if one does not.
+pub fn first_silent(rt: &HostRuntime, faults: &[Fault]) -> Option<&'static str> {
+    for (script, err) in faults {
+        let outcome = ran(rt, script.as_bytes());
+        if !outcome.prints(b"", err.as_bytes()) || outcome.status != 1 {
+            return Some(*script);
+        }
+    }
+    None
+}
+
+pub fn all_told(rt: &impl Abort, silent: Option<&str>) {
+    assert!(rt; silent.is_none(), "{silent:?}");
 }

@@ -1,24 +1,5 @@
 // Scripts with a fault, and the line that tells of the first one.
-use crate::calls::ran;
-use std::process::Abort;
-
-/// A script, and what is told of it.
-type Fault = (&'static str, &'static str);
-
-// The first script that does not tell of its fault alone, if one does not.
-fn first_silent(rt: &HostRuntime, faults: &[Fault]) -> Option<&'static str> {
-    for (script, err) in faults {
-        let outcome = ran(rt, script.as_bytes());
-        if !outcome.prints(b"", err.as_bytes()) || outcome.status != 1 {
-            return Some(*script);
-        }
-    }
-    None
-}
-
-fn all_told(rt: &impl Abort, silent: Option<&str>) {
-    assert!(rt; silent.is_none(), "{silent:?}");
-}
+use crate::calls::{Fault, all_told, first_silent};
 
 // Statements of no such word, with too few words or too many, and numbers.
 const STATEMENTS: &[Fault] = &[

@@ -6,11 +6,15 @@ mod calls;
 #[cfg(test)]
 mod chains;
 #[cfg(test)]
+mod configs;
+#[cfg(test)]
 mod failing;
 #[cfg(test)]
 mod faults;
 #[cfg(test)]
 mod merges;
+#[cfg(test)]
+mod notices;
 #[cfg(test)]
 mod rewrites;
 #[cfg(test)]

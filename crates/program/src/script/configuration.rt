@@ -1,19 +1,22 @@
-//! The configuration of a script: the numbers of its line, as the ids of nodes.
+//! The configurations of a script: the numbers of a line, as the ids of nodes.
 ghost use Rattle.std.specs.Prelude.{◌≡◌, ◌≢◌, ◌⊎◌, map, true, false, Some, None, IfOk, MatchResult};
-ghost use Rattle.std.specs.Prelude.{MatchOption};
+ghost use Rattle.std.specs.Prelude.{IfSome, MatchOption, List, ℕ};
 ghost use Rattle.std.specs.Fmt.{decimal};
 ghost use Rattle.std.specs.List.{list_all};
 ghost use Rattle.lab.specs.Configs.{IsConfig, is_config};
+ghost use Rattle.lab.specs.Configuration.{Lawful};
 ghost use Rattle.program.specs.declared.script.error.ScriptError.TheVariants.{OutOfMemory};
 ghost use Rattle.program.specs.declared.script.error.ScriptError.TheVariants.{BadConfiguration};
 ghost use Rattle.program.specs.Words.{is_number};
-ghost use Rattle.program.specs.Faults.{numbers_of, config_fault};
+ghost use Rattle.program.specs.Faults.{config_fault, may_follow, numbers_of};
+ghost use Rattle.program.specs.Scripts.{MayFollow, up_to};
 
 use super::error::ScriptError;
 use super::fault::split_fault;
 use super::statement::ParserState;
 use super::word::number;
-use lab::{Config, ConfigError, test_decides_config};
+use chain_model::is_part_decides;
+use lab::{Config, ConfigError, Configs, Epoch, test_decides_config};
 use std::alloc::{AllocError, Global};
 
 // The numbers that words spell.
@@ -76,12 +79,66 @@ fn config_of(alloc: Global, numbers: &[u64]) -> Result<Config, ScriptError>
     }
 }
 
-/// The configuration of a line, which is the only one.
-pub fn config(alloc: Global, before: &ParserState, args: &[&[u8]]) -> Result<Config, ScriptError>
+// The configurations of a list, with memory of their own.
+fn copies_of(alloc: Global, configs: &Configs) -> Result<Vec<Config>, AllocError>
+    ensures copies { IfOk result (λ copies. copies.items ≡ configs.now) }
+    ensures lawful { Lawful configs.now }
+{
+    let _first = configs.first(); // law: the list is lawful
+    let mut copies = Vec::new(alloc);
+    for number in 0..=15 {
+        let Some(config) = Epoch::new(number).and_then(|epoch| configs.at(epoch)) else {
+            return Ok(copies);
+        };
+        copies.push(config.clone()?)?;
+    }
+    Ok(copies)
+}
+
+// The configurations of earlier lines, and this one.
+fn listed(
+    alloc: Global,
+    before: &Option<Configs>,
+    config: Config,
+) -> Result<Vec<Config>, AllocError>
+    ensures list { IfOk result (λ list. list.items ≡ up_to before.now config) }
+    ensures lawful { IfSome before.now Lawful }
+{
+    let mut list = match before {
+        None => Vec::new(alloc),
+        Some(configs) => copies_of(alloc, configs)?,
+    };
+    list.push(config)?;
+    Ok(list)
+}
+
+// The configurations up to the line of this one.
+fn extended(
+    alloc: Global,
+    before: &Option<Configs>,
+    config: Config,
+) -> Result<Configs, ScriptError>
     ensures { MatchResult result
-        (λ config. (config_fault before.now (map (λ w. w.now) args.now) ≡ None)
-        × (map (λ w. w.now) args.now ≡ map decimal config) × IsConfig config
-        × (numbers_of (map (λ w. w.now) args.now) ≡ config) × (before.now.configs ≡ None))
+        (λ configs. (may_follow before.now config ≡ true) × MayFollow before.now config
+        × (configs ≡ up_to before.now config))
+        (λ e. e ≢ OutOfMemory → (e ≡ BadConfiguration) × (may_follow before.now config ≡ false)) }
+{
+    test_decides_config(); // law: the test succeeds exactly for the configurations
+    is_part_decides(); // law: the test of a part decides
+    let _ids = config.ids(); // law: they are a configuration
+    match Configs::new(listed(alloc, before, config)?) {
+        Ok(configs) => Ok(configs),
+        Err(_) => Err(ScriptError::BadConfiguration),
+    }
+}
+
+/// The configurations up to a line, which has another one.
+pub fn config(alloc: Global, before: &ParserState, args: &[&[u8]]) -> Result<Configs, ScriptError>
+    ensures { MatchResult result
+        (λ configs. (config_fault before.now (map (λ w. w.now) args.now) ≡ None)
+        × ((ids : List ℕ) × (map (λ w. w.now) args.now ≡ map decimal ids)
+        × (numbers_of (map (λ w. w.now) args.now) ≡ ids) × MayFollow before.now.configs ids
+        × (configs ≡ up_to before.now.configs ids)) × (before.now.begun ≡ false))
         (λ e. e ≢ OutOfMemory →
         config_fault before.now (map (λ w. w.now) args.now) ≡ Some e) }
 {
@@ -95,8 +152,8 @@ pub fn config(alloc: Global, before: &ParserState, args: &[&[u8]]) -> Result<Con
     if before.begun {
         return Err(ScriptError::OutOfPlace);
     }
-    if before.configs.is_some() {
-        return Err(ScriptError::BadConfiguration);
+    match config_of(alloc, &numbers) {
+        Ok(config) => extended(alloc, &before.configs, config),
+        Err(e) => Err(e),
     }
-    config_of(alloc, &numbers)
 }

@@ -20,7 +20,7 @@ use super::setup::Setup;
 use super::statement::{Action, LineItem, ParserState, Statement};
 use super::statements::command_of;
 use super::word::number;
-use lab::{Config, Configs, Event, EventKind, NodeId};
+use lab::{Event, EventKind, NodeId};
 use std::alloc::Global;
 
 /// The most bytes of a line, without its line feed.
@@ -35,19 +35,6 @@ fn skips(line: &[u8]) -> bool
     match line {
         [] | [b'#', ..] => true,
         _ => false,
-    }
-}
-
-// The list of one configuration.
-fn only(alloc: Global, config: Config) -> Result<Configs, ScriptError>
-    ensures { MatchResult result (λ configs. configs ≡ config ∷ []) (λ e. e ≡ OutOfMemory) }
-{
-    let mut configs = Vec::new(alloc);
-    configs.push(config)?;
-    // One configuration is lawful, so only memory can be wanting.
-    match Configs::new(configs) {
-        Ok(configs) => Ok(configs),
-        Err(_) => Err(ScriptError::OutOfMemory),
     }
 }
 
@@ -95,6 +82,24 @@ fn deliver(alloc: Global, before: &ParserState, args: &[&[u8]]) -> Result<Action
         return Err(ScriptError::OutOfPlace);
     }
     let kind = EventKind::Deliver { place };
+    Ok(Action::Event(Event { kind, fault }))
+}
+
+// A notice, if it may stand here.
+fn notice(alloc: Global, before: &ParserState, args: &[&[u8]]) -> Result<Action, ScriptError>
+    ensures { Places before.now (codes "notice") (map (λ w. w.now) args.now) result }
+{
+    let (words, behind) = split_fault(args);
+    let [node, epoch] = words else {
+        return Err(ScriptError::WrongNumberOfWords);
+    };
+    let (Some(node), Some(epoch)) = (number(node), number(epoch)) else {
+        return Err(ScriptError::BadNumber);
+    };
+    let fault = fault_behind(alloc, b"notice", behind)?;
+    let epoch = before.epoch(epoch)?;
+    let node = before.place(node)?;
+    let kind = EventKind::Notice { node, epoch };
     Ok(Action::Event(Event { kind, fault }))
 }
 
@@ -159,6 +164,7 @@ fn placed(
     args: &[&[u8]],
 ) -> Result<Action, ScriptError>
     requires deliver { bytes_eq name.now (codes "deliver") ≡ false }
+    requires notice { bytes_eq name.now (codes "notice") ≡ false }
     requires flow { bytes_eq name.now (codes "flow") ≡ false }
     requires settle { bytes_eq name.now (codes "settle") ≡ false }
     requires show { bytes_eq name.now (codes "show") ≡ false }
@@ -194,6 +200,8 @@ fn statement(
 {
     if name == b"deliver".as_slice() {
         deliver(alloc, before, args)
+    } else if name == b"notice".as_slice() {
+        notice(alloc, before, args)
     } else if name == b"flow".as_slice() {
         flow(before, args)
     } else if name == b"settle".as_slice() {
@@ -216,8 +224,7 @@ fn item_of_words(
         return Err(ScriptError::UnknownStatement);
     };
     if *name == b"config".as_slice() {
-        let config = config(alloc, before, args)?;
-        return Ok(LineItem::Config(only(alloc, config)?));
+        return Ok(LineItem::Config(config(alloc, before, args)?));
     }
     if *name == b"limit".as_slice() {
         let (limit, number) = limit(before, args)?;

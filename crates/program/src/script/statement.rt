@@ -1,14 +1,15 @@
 //! The statements of a script, and what the reader knows between two lines.
-ghost use Rattle.std.specs.Prelude.{◌≡◌, ◌++◌, true, false, Some, None};
+ghost use Rattle.std.specs.Prelude.{◌≡◌, ◌++◌, ℕ, true, false, Option, Some, None};
 ghost use Rattle.std.specs.Prelude.{IfOk, MatchOption, MatchResult};
 ghost use Rattle.lab.specs.Configuration.{has};
-ghost use Rattle.program.specs.Faults.{node_fault};
-ghost use Rattle.program.specs.Reading.{after_item, begins, statements_of};
+ghost use Rattle.program.specs.Faults.{node_fault, place_fault};
+ghost use Rattle.program.specs.Reading.{HasEpoch, after_item, statements_of};
+ghost use Rattle.program.specs.Scripts.{begins};
 
 use super::error::ScriptError;
 use super::limits::{LimitName, ScriptLimits};
 use kv_types::KvError;
-use lab::{Configs, Event, NodeId};
+use lab::{Configs, Epoch, Event, NodeId};
 use std::alloc::AllocError;
 
 /// What a statement comes to.
@@ -118,6 +119,26 @@ impl ParserState {
         ensures { result ≡ self.configs }
     {
         self.configs
+    }
+
+    /// The epoch that a notice may be of here.
+    pub fn epoch(&self, number: u64) -> Result<Epoch, ScriptError>
+        ensures { MatchResult result
+            (λ epoch. (epoch ≡ number) × HasEpoch self.now.configs number)
+            (λ e. (named : Option ℕ) →
+            place_fault (Some number) self.now.configs named ≡ Some e) }
+    {
+        let Some(configs) = &self.configs else {
+            return Err(ScriptError::OutOfPlace);
+        };
+        let _first = configs.first(); // law: the list is lawful
+        let Ok(number) = u32::try_from(number) else {
+            return Err(ScriptError::BadConfiguration);
+        };
+        match Epoch::new(number) {
+            Some(epoch) if configs.at(epoch).is_some() => Ok(epoch),
+            _ => Err(ScriptError::BadConfiguration),
+        }
     }
 
     /// The node that a statement may name here.

@@ -172,6 +172,7 @@ fn stop(alloc: Global, args: &[&[u8]]) -> Result<Command, ScriptError>
 /// fault.
 pub fn command_of(alloc: Global, name: &[u8], args: &[&[u8]]) -> Result<Command, ScriptError>
     requires deliver { bytes_eq name.now (codes "deliver") ≡ false }
+    requires notice { bytes_eq name.now (codes "notice") ≡ false }
     requires flow { bytes_eq name.now (codes "flow") ≡ false }
     requires settle { bytes_eq name.now (codes "settle") ≡ false }
     requires show { bytes_eq name.now (codes "show") ≡ false }

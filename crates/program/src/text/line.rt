@@ -1,7 +1,7 @@
 //! The text of each line of a report.
 ghost use Rattle.std.specs.Prelude.{◌≡◌, Some};
-ghost use Rattle.program.specs.Text.{reply_text, started_text, frame_text, stopped_text};
-ghost use Rattle.program.specs.Text.{line_text};
+ghost use Rattle.program.specs.Text.{adopted_text, frame_text, line_text, reply_text};
+ghost use Rattle.program.specs.Text.{started_text, stopped_text};
 
 use super::names::{cause_name, reason_name, refusal_name, tended_name};
 use super::rows::RowsText;
@@ -83,6 +83,19 @@ impl fmt::Display for StartedText {
     }
 }
 
+// A node, and the epoch of the configuration that it adopted.
+#[derive(Clone, Copy)]
+struct AdoptedText(NodeId, Epoch);
+
+impl fmt::Display for AdoptedText {
+    ghost output = { λ it. Some (adopted_text it.0 it.1) };
+
+    fn fmt<W: fmt::Write>(&self, f: &mut fmt::Formatter<W>) -> fmt::Result {
+        let (node, epoch) = (self.0.get(), self.1.get());
+        write!(f, "node {node} adopted {epoch}")
+    }
+}
+
 /// A node that is down, and for what cause if that is told.
 #[derive(Clone, Copy)]
 pub struct StoppedText(pub NodeId, pub Option<Stop>);
@@ -155,6 +168,7 @@ impl fmt::Display for LineText<'_> {
                 count,
                 committed,
             } => StartedText::of(node, epoch, count, committed).fmt(f),
+            Line::Adopted { node, epoch } => AdoptedText(node, epoch).fmt(f),
             Line::Forwarded {
                 place,
                 from,

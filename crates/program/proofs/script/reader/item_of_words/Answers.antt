@@ -10,9 +10,9 @@ pub returns-then-eq : goal.returns-then-eq
 returns-then-eq c =
     let e = c.in_ok-config.ensures in let ws = c.args.words.now in
     is_config c.args.before.now (map (λ w. w.now) ws) (map (λ w. w.now) (take (length ws - 1)
-    (drop 1 ws))) c.in_ok-config.config
-    (named_word ws (codes "config") c.in-len1-up.len_at_least (search rules)) e.1 e.2 e.3 e.4 e.0
-    c.in_ok-only.field-0 c.in_ok-only.ensures
+    (drop 1 ws))) e.1.0
+    (named_word ws (codes "config") c.in-len1-up.len_at_least (search rules)) e.1.1 e.1.3 e.1.2
+    e.2 e.0 c.in_ok-config.field-0 e.1.4
 
 pub returns-then-eq-2 : goal.returns-then-eq-2
 returns-then-eq-2 c =

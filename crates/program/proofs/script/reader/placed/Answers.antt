@@ -1,7 +1,7 @@
 use Rattle.std.proofs.Common.{map, rules}
 use Rattle.lab.specs.declared.Event.{Event}
 use Rattle.program.specs.Reading.{what_of}
-use Rattle.program.proofs.Placing.{is_read, is_placed, is_misplaced}
+use Rattle.program.proofs.Placing.{is_misplaced, is_placed, is_read, no_epoch}
 use Rattle.program.proofs.script.reader.placed.Goals as goal
 
 pub returns-in-Err-place : goal.returns-in-Err-place
@@ -17,7 +17,7 @@ returns-in-Err-place c =
       rules,
       is_misplaced c.args.before.now c.args.name.now args event _ c.in-Err-place.e
           (is_read c.args.name.now args _ _ event cut.before cut.behind command.0 command.1
-          command.2 fault) c.node.ensures c.in-Err-place.ensures,
+          command.2 fault) c.node.ensures (no_epoch c.in_ok-command.command) c.in-Err-place.ensures,
     )
 
 pub returns-in_ok-action-in-Ok-place : goal.returns-in_ok-action-in-Ok-place
@@ -31,4 +31,5 @@ returns-in_ok-action-in-Ok-place c =
     } in
     is_placed c.args.before.now c.args.name.now args event _ c.in-Ok-place.node
     (is_read c.args.name.now args _ _ event cut.before cut.behind command.0 command.1
-    command.2 fault) (search rules) (search rules) (search rules)
+    command.2 fault) (search rules) (no_epoch c.in_ok-command.command) (search rules)
+    (search rules)

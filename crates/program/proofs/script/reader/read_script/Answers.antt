@@ -48,7 +48,7 @@ returns-clause-found c =
     (c.loop-line.invariant.found setup [] (rw (
       c.in-None.ensures.steps.0,
       sym c.into_configs.ensures ∙ c.in-Some-into_configs.is,
-    ) (record { configs = refl; limits = c.of_store.ensures }, refl)))
+    ) (_, record { configs = refl; limits = c.of_store.ensures }, (refl, refl))))
 
 pub returns-clause-node : goal.returns-clause-node
 returns-clause-node c =
@@ -61,4 +61,4 @@ returns-clause-node c =
     (c.loop-line.invariant.found setup [] (rw (
       c.in-None.ensures.steps.0,
       sym c.into_configs.ensures ∙ c.in-Some-into_configs.is,
-    ) (record { configs = refl; limits = c.of_store.ensures }, refl))))
+    ) (_, record { configs = refl; limits = c.of_store.ensures }, (refl, refl)))))

@@ -3,7 +3,7 @@ use Rattle.program.specs.declared.script.setup.Setup.{Setup}
 use Rattle.program.specs.declared.script.statement.Statement.{Statement}
 use Rattle.program.specs.Scripts.{script_lines, IsScript}
 use Rattle.program.specs.Faults.{script_fault, start}
-use Rattle.program.proofs.Going.{IsRest}
+use Rattle.program.proofs.Going.{IsRestOf}
 use Rattle.program.proofs.Limits.{HasRanges}
 use Rattle.program.proofs.script.reader.read_script.Given as goal
 
@@ -11,7 +11,7 @@ use Rattle.program.proofs.script.reader.read_script.Given as goal
 -- and so many lines are left
 abbrev pub invariant-loop-line : goal.invariant-loop-line
 invariant-loop-line l = record {
-  found : (setup : Setup) (rest : List Statement) → IsRest l.before.configs l.before.limits l.number
+  found : (setup : Setup) (rest : List Statement) → IsRestOf l.before l.number
       (script_lines l.line-iterator.0.now) setup rest
       → IsScript 1 (script_lines l.fn.text) setup (l.statements.items ++ rest);
   fault : script_fault l.before l.number (script_lines l.line-iterator.0.now) ≡ script_fault start 1
