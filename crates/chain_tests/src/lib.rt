@@ -3,6 +3,8 @@
 #![tactic(auto)]
 
 #[cfg(test)]
+mod adoption_faults;
+#[cfg(test)]
 mod adoptions;
 #[cfg(test)]
 mod answers;
