@@ -29,6 +29,8 @@ mod openings;
 #[cfg(test)]
 mod pages;
 #[cfg(test)]
+mod resends;
+#[cfg(test)]
 mod rewrites;
 #[cfg(test)]
 mod sweep;
