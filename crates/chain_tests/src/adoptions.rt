@@ -66,7 +66,60 @@ const LATE: &[FaultyStep] = &[
     (Step::Get(3, None), None),
 ];
 
-static RUNS: [Adoptions; 6] = [
+// A node was down while epochs passed. It starts with its old one, takes a frame of that, and is
+// told of a later one at once; so is a node that was left out.
+const SKIPPED: &[FaultyStep] = &[
+    (Step::Submit(1, ONE), None),
+    (Step::Deliver(1), None),
+    (Step::Stop(3, b""), None),
+    (Step::Notice(1, 1), None),
+    (Step::Notice(2, 1), None),
+    (Step::Notice(2, 2), None),
+    (Step::Notice(3, 2), None),
+    (Step::Tick(2), None),
+    (Step::Deliver(4), None),
+    (Step::Start(3), None),
+    (Step::Deliver(4), None),
+    (Step::Deliver(2), None),
+    (Step::Notice(3, 2), None),
+    (Step::Notice(3, 1), None),
+    (Step::Deliver(6), None),
+    (Step::Deliver(5), None),
+    (Step::Deliver(7), None),
+    (Step::Notice(4, 3), None),
+    (Step::Notice(4, 2), None),
+    (Step::Get(4, None), None),
+    (Step::Notice(3, 3), None),
+    (Step::Submit(3, TWO), None),
+    (Step::Submit(1, TWO), None),
+    (Step::Deliver(8), None),
+];
+
+// A head that was left out answers nothing of what pends, though it is committed by the others.
+const FORGETS: &[FaultyStep] = &[
+    (Step::Submit(1, ONE), None),
+    (Step::Submit(1, TWO), None),
+    (Step::Deliver(1), None),
+    (Step::Deliver(2), None),
+    (Step::Deliver(3), None),
+    (Step::Deliver(5), None),
+    (Step::Notice(1, 1), None),
+    (Step::Deliver(6), None),
+    (Step::Notice(2, 1), None),
+    (Step::Notice(3, 1), None),
+    (Step::Deliver(7), None),
+    (Step::Deliver(4), None),
+    (Step::Tick(2), None),
+    (Step::Deliver(8), None),
+    (Step::Deliver(9), None),
+    (Step::Deliver(6), None),
+    (Step::Stop(1, b""), None),
+    (Step::Start(1), None),
+    (Step::Notice(1, 2), None),
+    (Step::Get(2, None), None),
+];
+
+static RUNS: [Adoptions; 9] = [
     (
         &[&[1, 2, 3], &[2, 3]],
         HEAD_LEAVES,
@@ -173,6 +226,101 @@ node 3 adopted 2
 node 1 epoch 2 count 0 committed 0 floor 0 kept 0 tables 0 0 0 0 0 0 0
 node 2 epoch 2 count 0 committed 0 floor 0 kept 0 tables 0 0 0 0 0 0 0
 node 3 epoch 2 count 0 committed 0 floor 0 kept 0 tables 0 0 0 0 0 0 0
+",
+    ),
+    (
+        &[&[1, 2, 3, 4], &[1, 2, 3], &[2, 3], &[3]],
+        SKIPPED,
+        "\
+#1 1>2 forward 0 1
+#2 2>3 forward 0 1
+node 3 stopped
+node 1 adopted 1
+node 2 adopted 1 / #3 2>1 ack 1 0 1
+node 2 adopted 2
+dropped NotRunning
+#4 2>3 forward 2 1
+dropped NotRunning
+node 3 started epoch 0 count 0 committed 0
+dropped OtherEpoch
+#5 3>4 forward 0 1
+node 3 adopted 2 / #6 3>2 ack 2 1 1
+dropped OldNotice
+
+#7 4>3 ack 0 1 1
+dropped OtherEpoch
+node 4 adopted 3
+dropped OldNotice
+20: refused 7 Removed
+node 3 adopted 3
+22: committed 2
+#8 1>2 forward 1 2
+dropped OtherEpoch
+node 1 epoch 1 count 2 committed 0 floor 0 kept 0 tables 0 0 0 0 0 0 0
+node 2 epoch 2 count 1 committed 1 floor 0 kept 0 tables 0 0 0 0 0 0 0
+node 3 epoch 3 count 2 committed 2 floor 0 kept 0 tables 0 0 0 0 0 0 0
+node 4 epoch 3 count 1 committed 1 floor 0 kept 0 tables 0 0 0 0 0 0 0
+",
+    ),
+    (
+        &[&[1, 2, 3], &[2, 3], &[3]],
+        FORGETS,
+        "\
+#1 1>2 forward 0 1
+#2 1>2 forward 0 2
+#3 2>3 forward 0 1
+#4 2>3 forward 0 2
+#5 3>2 ack 0 1 1
+#6 2>1 ack 0 1 2
+node 1 adopted 1
+dropped Removed
+node 2 adopted 1
+node 3 adopted 1 / #7 3>2 ack 1 1 1
+
+dropped OtherEpoch
+#8 2>3 forward 1 2
+#9 3>2 ack 1 2 2
+
+dropped Removed
+node 1 stopped
+node 1 started epoch 1 count 2 committed 0
+node 1 adopted 2
+20: value 2 at 2
+node 1 epoch 2 count 2 committed 0 floor 0 kept 0 tables 0 0 0 0 0 0 0
+node 2 epoch 1 count 2 committed 2 floor 0 kept 0 tables 0 0 0 0 0 0 0
+node 3 epoch 1 count 2 committed 2 floor 0 kept 0 tables 0 0 0 0 0 0 0
+",
+    ),
+    // Two tails leave at once. The new one commits what it has before the head knows of that.
+    (
+        &[&[1, 2, 3, 4], &[1, 2]],
+        &[
+            (Step::Submit(1, ONE), None),
+            (Step::Submit(1, TWO), None),
+            (Step::Deliver(1), None),
+            (Step::Deliver(2), None),
+            (Step::Notice(2, 1), None),
+            (Step::Get(2, None), None),
+            (Step::Deliver(5), None),
+            (Step::Notice(1, 1), None),
+            (Step::Deliver(5), None),
+            (Step::Deliver(3), None),
+        ],
+        "\
+#1 1>2 forward 0 1
+#2 1>2 forward 0 2
+#3 2>3 forward 0 1
+#4 2>3 forward 0 2
+node 2 adopted 1 / #5 2>1 ack 1 2 2
+6: value 2 at 2
+dropped OtherEpoch
+node 1 adopted 1
+1: committed 1 / 2: committed 2
+#6 3>4 forward 0 1
+node 1 epoch 1 count 2 committed 2 floor 0 kept 0 tables 0 0 0 0 0 0 0
+node 2 epoch 1 count 2 committed 2 floor 0 kept 0 tables 0 0 0 0 0 0 0
+node 3 epoch 0 count 1 committed 0 floor 0 kept 0 tables 0 0 0 0 0 0 0
+node 4 epoch 0 count 0 committed 0 floor 0 kept 0 tables 0 0 0 0 0 0 0
 ",
     ),
     // A machine stops in a notice: its disk has the old epoch or the new one.

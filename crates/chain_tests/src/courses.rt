@@ -4,8 +4,8 @@ use crate::items::{Change, Walk, batch_of, config_of, id_of, key_of, number, ran
 use configurations::{Configs, Epoch, NodeId};
 use disk::{Fault, Junk, JunkBytes};
 use kv_types::Limits;
-use lab::{Event, EventKind, Line, NodeReport, Report, Tended, World, names_nodes, run};
-use node::Stop;
+use lab::{Event, EventKind, Line, Report, Tended, World, names_nodes, run};
+use node::{Numbers, Stop};
 use std::alloc::{AllocError, Global};
 use std::process::Abort;
 
@@ -229,7 +229,7 @@ fn put_sent(text: &mut String, line: &Line) -> Result<(), AllocError> {
 }
 
 /// The lines of an event, parted by ` / `.
-fn put_lines(text: &mut String, lines: &[Line]) -> Result<(), AllocError> {
+pub fn put_lines(text: &mut String, lines: &[Line]) -> Result<(), AllocError> {
     for (index, line) in lines.iter().enumerate() {
         if index > 0 {
             text.push_str(" / ")?;
@@ -239,10 +239,14 @@ fn put_lines(text: &mut String, lines: &[Line]) -> Result<(), AllocError> {
     text.push_str("\n")
 }
 
-/// A node at the end: the numbers of one that runs.
-fn put_node(text: &mut String, node: &NodeReport) -> Result<(), AllocError> {
-    let id = node.id.get();
-    let Some(numbers) = node.running else {
+/// A node: the numbers of one that runs.
+pub fn put_node(
+    text: &mut String,
+    id: NodeId,
+    running: &Option<Numbers>,
+) -> Result<(), AllocError> {
+    let id = id.get();
+    let Some(numbers) = running else {
         return write!(text, "node {id} stopped\n");
     };
     let (epoch, count) = (numbers.epoch.get(), numbers.count.get());
@@ -267,7 +271,7 @@ fn put_report(text: &mut String, report: &Report) -> Result<(), AllocError> {
         put_lines(text, lines.as_slice())?;
     }
     for node in &report.nodes {
-        put_node(text, node)?;
+        put_node(text, node.id, &node.running)?;
     }
     Ok(())
 }

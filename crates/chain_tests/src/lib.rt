@@ -3,6 +3,8 @@
 #![tactic(auto)]
 
 #[cfg(test)]
+mod adoption_faults;
+#[cfg(test)]
 mod adoptions;
 #[cfg(test)]
 mod answers;
@@ -26,6 +28,10 @@ mod one_node;
 mod openings;
 #[cfg(test)]
 mod pages;
+#[cfg(test)]
+mod removals;
+#[cfg(test)]
+mod resends;
 #[cfg(test)]
 mod rewrites;
 #[cfg(test)]
