@@ -40,8 +40,8 @@ class Run:
 
     def __init__(self, script, output):
         """Reads both texts. A ValueError says where the output does not fit the script."""
-        nodes, statements = read_script(script)
-        self.nodes = [int(node) for node in nodes]
+        configurations, statements = read_script(script)
+        self.nodes = [int(node) for node in configurations[0]]
         self.lines = collections.deque(map(self.line_of, filter(None, output.split("\n"))))
         self.frames, self.steps = {}, []
         self.delivered, self.up = set(), set(self.nodes)
