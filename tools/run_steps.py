@@ -252,20 +252,23 @@ class Run:
         """The note of a configuration that a node adopts, with its part there if that is new."""
         if [epoch] != it.words[2:]:
             raise ValueError(f"the output's line '{it.line}: {text}' does not fit '{it.text}'")
-        before, self.epochs[node] = self.role(node), int(epoch)
-        role = self.role(node)
-        return Note(node, "adopt", f"{text}: {role}" if role != before else text, None)
+        return Note(node, "adopt", text + self.new_role(node, int(epoch)), None)
+
+    def new_role(self, node, epoch):
+        """The part of a node in the configuration of its new epoch, in words, if it is another."""
+        before, self.epochs[node] = self.role(node), epoch
+        return f": {self.role(node)}" if self.role(node) != before else ""
 
     def turn_of(self, text, node, it):
         """The notes of a node that stopped, with the statement or fault that did it, or started."""
         tends, batches = self.tends[node], self.batches[node]
         if started := re.match(r"started epoch (\d+) count (\d+)", text):
-            self.epochs[node] = min(int(started[1]), len(self.configurations) - 1)
+            role = self.new_role(node, min(int(started[1]), len(self.configurations) - 1))
             if int(started[2]) > len(batches) and node in self.unsure:
                 self.append(node, self.unsure[node])
             self.up.add(node)
             rest = Note(node, "none", text.removeprefix("started "), None)
-            return [Note(node, "start", "started", None), rest]
+            return [Note(node, "start", f"started{role}", None), rest]
         self.up.discard(node)
         if it.words[0] == "submit":
             self.unsure[node] = it.words[2:]
