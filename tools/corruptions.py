@@ -139,6 +139,13 @@ def forget(history, lines, choice):
         change(lines, line, r"count \d+", f"count {count - 1}")
 
 
+def leave_flush(history, lines, choice):
+    """A tend says that nothing is due, and a flush is."""
+    places = [it for it in history.flushes if f"{it}: tended" in lines]
+    if places:
+        change(lines, choice.choice(places), "tended", "idle")
+
+
 def refuse_firm(verb):
     """A read that is at the floor or above it is refused as too old."""
 
@@ -337,6 +344,7 @@ CORRUPTIONS = {
     "a snapshot at the floor or above it refused": refuse_firm("open"),
     "a get below the floor answered": answer_old,
     "a batch sent again that is in no log": send_old,
+    "a flush that is due left out": leave_flush,
     "a store that is full": edit("tended|idle", "full", "tend"),
     "a node shown as down": edit("epoch .* tables .*", "stopped", "show"),
     "a stop of another node": add("node ", 1, "stop"),

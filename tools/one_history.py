@@ -23,6 +23,7 @@ from known_store import MOST_FILES, KnownStore
 from lab_texts import SHOWN, Broken, expect, key_of, kind_of, limits_of
 from plain_maps import value_at
 from ruled_run import RuledRun
+from run_tends import NodeTends
 
 STARTED = re.compile(r"started epoch (\d+) count (\d+) committed (\d+)")
 # So many entries and keys tables have at most.
@@ -131,6 +132,7 @@ class History(RuledRun):
         self.history = OneHistory(self.configurations, self.nodes)
         limits = limits_of(script)
         self.stores = {name: KnownStore(limits) for name in self.nodes}
+        self.tends = {name: NodeTends(limits["log"]) for name in self.nodes}
         self.stopped = set()
         # What `corruptions.py` needs to know of the run.
         self.reads, self.starts, self.floors, self.shows = [], [], [], []
@@ -138,7 +140,8 @@ class History(RuledRun):
         # numbers that were known to be below the floor; the frames of batches sent again by places,
         # with the number of those that their senders are known to keep in no log.
         self.firm, self.too_old, self.again = [], [], []
-        self.adoptions, self.drops = [], []
+        # The lines of tends of which it is known that a flush was due, whatever went before.
+        self.adoptions, self.drops, self.flushes = [], [], []
         self.run()
         expect(not self.lines, f"{self.lines[0] if self.lines else ''}: a line too many")
         self.history.finish()
@@ -178,13 +181,25 @@ class History(RuledRun):
         return text if number == f"{it.line}" else ""
 
     def is_struck(self, it, node):
-        """Whether a fault strikes in a step that reads the disk: then its node stops."""
-        return self.peek(it).startswith(f"node {node.name} stopped")
+        """Whether a fault strikes in a step that reads the disk: then its node stops. A read of
+        keys needs a table for that."""
+        is_struck = self.peek(it).startswith(f"node {node.name} stopped")
+        has_tables = it.words[0] in ("start", "tick") or self.stores[node.name].flushes
+        expect(has_tables or not is_struck, "a stop in a read without tables")
+        return is_struck
 
     def fall(self, it, node):
         """A node stopped in a step."""
         self.stopped.add(node.name)
+        self.follow(node, NodeTends.stop, self.map_of(node, node.count), it.words[0] == "tend")
         super().fall(it, node)
+
+    def follow(self, node, event, *given):
+        """What a node's tends can have been goes on with an event: there is a course that fits."""
+        tends = self.tends[node.name]
+        tends.count = node.count
+        event(tends, *given)
+        expect(tends.courses, "no course of flushes and merges that fits")
 
     def step(self, it, node, rule, *given):
         """A step of a node, with what is known of it before."""
@@ -252,7 +267,7 @@ class History(RuledRun):
 
     def tend_of(self, it, node):
         """What a tend did, or several. It is full only with many entries."""
-        text = self.peek(it)
+        text, batches = self.peek(it), self.map_of(node, node.count)
         ends = ("idle", "full") if it.words[0] == "settle" else ("tended", "idle", "full")
         if it.fault and text.startswith(f"node {node.name} stopped"):
             text = "stopped"
@@ -260,8 +275,15 @@ class History(RuledRun):
             expect(text in ends, f"'{text}' of a tend")
         entries = self.most_of(node).entries
         expect(text != "full" or 2 * entries >= MOST_FILES, "full without cause")
-        is_one = it.words[0] == "tend"
+        is_one, tends = it.words[0] == "tend", self.tends[node.name]
         self.stores[node.name].tend(is_one, text, node.least(), node.count)
+        if text != "stopped" and is_one:
+            courses, tends.count = tends.courses, node.count
+            self.follow(node, NodeTends.tend, text, batches, None)
+            if all(tends.after_tend(one, batches)[0][0] == "flush" for one in courses):
+                self.flushes.append(it.line)
+        elif text != "stopped":
+            self.follow(node, NodeTends.settle, text, batches)
         return text
 
     def most_of(self, node):
@@ -288,7 +310,10 @@ class History(RuledRun):
 
     def stop(self, it):
         """A machine stops."""
-        self.stopped.add(it.words[1])
+        node = self.nodes[it.words[1]]
+        if node.is_up:
+            self.stopped.add(node.name)
+            self.follow(node, NodeTends.stop, self.map_of(node, node.count), False)
         super().stop(it)
 
     def numbers_of(self, it, node):
@@ -305,6 +330,7 @@ class History(RuledRun):
         expect(floor <= node.committed, "a floor above what is committed")
         expect(snapshot is None or floor <= snapshot, "a floor above an open snapshot")
         store.show(floor, kept, tables, most)
+        self.follow(node, NodeTends.show, tables, floor)
         self.history.give_up(node, kept)
         deepest = max((level for level, count in enumerate(tables) if count), default=0)
         self.seen[f"show: tables down to level {deepest}"] += 1

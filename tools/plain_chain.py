@@ -78,8 +78,9 @@ class PlainChain(RuledRun):
         super().stop(it)
 
     def is_struck(self, it, node):
-        """Whether a fault strikes in a step that reads the disk."""
-        return self.choice.random() < 0.3
+        """Whether a fault strikes in a step that reads the disk. A read of keys reads tables."""
+        is_read = it.words[0] in ("start", "tick", "tend") or any(self.stores[node.name].tables)
+        return is_read and self.choice.random() < 0.3
 
     def is_hidden(self, it, node, at):
         """Whether a number is below the floor."""
