@@ -8,7 +8,7 @@ import re
 
 from known_store import DEEPEST
 from lab_texts import ANSWERED
-from one_history import value_at
+from plain_maps import value_at
 
 
 def edit(form, new, verb=""):
@@ -36,20 +36,25 @@ def add(form, more, verb=""):
 
 
 def move_read(by):
-    """A read is said to be at another number, at which the key has another value."""
+    """A read is said to be at another number, at which the key has another value, or none."""
 
     def corrupt(history, lines, choice):
         places = []
-        for line, key, at, value in history.reads:
-            is_other = value_at(history.batches[: at + by], key) != value
-            if at + by >= 0 and (is_other or at + by > len(history.batches)):
-                places.append((line, at))
+        for it in history.reads:
+            at, there = it.at + by, history.map_of(it.node, it.at + by)
+            if at >= 0 and (at > it.node.count or value_at(there, it.key) != it.value):
+                places.append((it.line, at))
         if places:
             line, at = choice.choice(places)
-            found = next(i for i, it in enumerate(lines) if it.startswith(f"{line}: "))
-            lines[found] = re.sub(r"at \d+$", f"at {at + by}", lines[found])
+            change(lines, line, r"at \d+$", f"at {at}")
 
     return corrupt
+
+
+def change(lines, number, form, new):
+    """In the first line of a statement what has the form becomes the new."""
+    at = next(i for i, it in enumerate(lines) if it.startswith(f"{number}: "))
+    lines[at] = re.sub(form, new, lines[at])
 
 
 def exchange(history, lines, choice):
@@ -106,12 +111,14 @@ def twice(history, lines, choice):
 
 def early(history, lines, choice):
     """An acknowledgement comes right behind the frame that its submit sent."""
+    sent = {lines[at].partition(":")[0] for at in places_of(history, lines, ": #", "submit")}
     places = places_of(history, lines, ": committed")
-    if len(history.chain) > 1 and places:
+    places = [at for at in places if lines[at].partition(":")[0] in sent]
+    if places:
         line = lines.pop(choice.choice(places))
         number = line.partition(": ")[0]
-        sent = next(i for i, it in enumerate(lines) if it.startswith(number + ": #"))
-        lines.insert(sent + 1, line)
+        at = next(i for i, it in enumerate(lines) if it.startswith(number + ": #"))
+        lines.insert(at + 1, line)
 
 
 def foreign(history, lines, choice):
@@ -126,14 +133,17 @@ def foreign(history, lines, choice):
 
 def forget(history, lines, choice):
     """A node starts with a batch less than it must have."""
-    starts = [(line, least) for line, least in history.starts if least]
+    starts = [(line, count) for line, _, _, count in history.starts if count]
     if starts:
-        line, least = choice.choice(starts)
-        at = next(i for i, it in enumerate(lines) if it.startswith(f"{line}: node"))
-        node = lines[at].split(" ")[2]
-        committed = least - 1 if node == history.tail else 0
-        counts = f"epoch 0 count {least - 1} committed {committed}"
-        lines[at] = f"{line}: node {node} started {counts}"
+        line, count = choice.choice(starts)
+        change(lines, line, r"count \d+", f"count {count - 1}")
+
+
+def leave_flush(history, lines, choice):
+    """A tend says that nothing is due, and a flush is."""
+    places = [it for it in history.flushes if f"{it}: tended" in lines]
+    if places:
+        change(lines, choice.choice(places), "tended", "idle")
 
 
 def refuse_firm(verb):
@@ -152,8 +162,8 @@ def refuse_firm(verb):
 def answer_old(history, lines, choice):
     """A read below the floor is answered, with the value at its number."""
     if history.too_old:
-        line, key, at = choice.choice(history.too_old)
-        value = value_at(history.batches[:at], key)
+        line, key, at, node = choice.choice(history.too_old)
+        value = value_at(history.map_of(node, at), key)
         kind = "none" if value is None else f"value {value}"
         lines[lines.index(f"{line}: refused 3 TooOld")] = f"{line}: {kind} at {at}"
 
@@ -175,8 +185,7 @@ def start_at(by):
         floors = [it for it in floors if it[1] + by >= 0]
         if floors:
             line, floor, _ = choice.choice(floors)
-            at = next(i for i, it in enumerate(lines) if it.startswith(f"{line}: node"))
-            lines[at] = re.sub(r"\d+$", f"{floor + by}", lines[at])
+            change(lines, line, r"\d+$", f"{floor + by}")
 
     return corrupt
 
@@ -191,9 +200,8 @@ def show_other(changes):
             numbers = dict(zip(("count", "committed", "floor", "kept"), it.numbers))
             tables = new.pop("tables", it.tables)
             words = [f"{name} {number}" for name, number in (numbers | new).items()]
-            words = f"node {it.node} epoch 0 {' '.join(words)} tables {' '.join(map(str, tables))}"
-            at = next(i for i, text in enumerate(lines) if text.startswith(f"{it.line}: "))
-            lines[at] = f"{it.line}: {words}"
+            words = f"epoch {it.epoch} {' '.join(words)} tables {' '.join(map(str, tables))}"
+            change(lines, it.line, "epoch .*", words)
 
     return corrupt
 
@@ -303,19 +311,19 @@ CORRUPTIONS = {
     "an acknowledgement of another submit": foreign,
     "an acknowledged number too high": add(": committed ", 1),
     "an acknowledged number too low": add(": committed ", -1),
-    "a batch twice": add("forward 0 ", -1, "submit"),
-    "a number left out": add("forward 0 ", 1, "submit"),
+    "a batch twice": add(r"forward \d+ ", -1, "submit"),
+    "a number left out": add(r"forward \d+ ", 1, "submit"),
     "a refused batch sent on": edit("refused .*", "#1 1>2 forward 0 1", "submit"),
-    "a batch sent on that its sender lacks": add("forward 0 ", 100),
-    "a node reports more than it has": add(r"ack 0 \d+ ", 100),
-    "a node reports more than is committed": add("ack 0 ", 100),
+    "a batch sent on that its sender lacks": add(r"forward \d+ ", 100),
+    "a node reports more than it has": add(r"ack \d+ \d+ ", 100),
+    "a node reports more than is committed": add(r"ack \d+ ", 100),
     "a place left out": add("#", 1),
     "a frame of another sender": edit(r"(\d+)>(\d+)", r"\2>\1"),
-    "a frame of another epoch": edit("(forward|ack) 0", r"\1 1"),
+    "a frame of another epoch": add("(?:forward|ack) ", 1),
     "a node starts with less than it must have": forget,
     "a node starts with more than it can have": add("count ", 100),
     "a node starts with more committed": add("started .* committed ", 100),
-    "a node shown with more than it can have": add("epoch 0 count ", 100, "show"),
+    "a node shown with more than it can have": add(r"epoch \d+ count ", 100, "show"),
     "a node shown with more committed": add("count .* committed ", 100, "show"),
     "a floor that falls": show_other(fallen_floor),
     "a floor that no merge can have": show_other(high_floor),
@@ -336,8 +344,9 @@ CORRUPTIONS = {
     "a snapshot at the floor or above it refused": refuse_firm("open"),
     "a get below the floor answered": answer_old,
     "a batch sent again that is in no log": send_old,
+    "a flush that is due left out": leave_flush,
     "a store that is full": edit("tended|idle", "full", "tend"),
-    "a node shown as down": edit("epoch 0 .* tables .*", "stopped", "show"),
+    "a node shown as down": edit("epoch .* tables .*", "stopped", "show"),
     "a stop of another node": add("node ", 1, "stop"),
     "a stop of another cause": edit("stopped$", "stopped: disk"),
     "a failure of the disk hidden": edit("stopped: disk", "stopped"),

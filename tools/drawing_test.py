@@ -14,6 +14,8 @@ RUNS = {
     | {"circle": 1, "square": 1, "tend": 2},
     "merges": {"diamond": 2, "circle": 3, "square": 2, "tend": 3, "merge": 3, "stop": 1}
     | {"start": 1},
+    "node_removed": {"head": 5, "dot": 5, "adopt": 3, "cross": 1, "square": 1, "diamond": 1}
+    | {"circle": 1},
 }
 WORDS = {
     "frame_twice": ["#2 forward 0 1", "#3 ack 0 0 1", "dropped OtherNumber"]
@@ -21,21 +23,35 @@ WORDS = {
     "node_stops": ["stopped by !stop 3 new", "epoch 0 count 1 committed 1", "refused 1 NotRunning"]
     + ["#3 ack 0 1 1", "value 1 at 1", "tended: flush", "idle"],
     "merges": ["tended: merge ends", "2/2 floor 2 tables 0 1", "opened 1", "stopped by stop"],
+    "node_removed": ["config 1 3", "adopted 1: removed", "dropped OtherEpoch", "#3 ack 1 0 0"]
+    + ["refused 7 Removed", "committed 1 (line 3)"],
 }
-# Outputs that do not fit the script of node_stops: a form in the output, and what stands in its
+# The page that quotes a run, and how many nodes of it have a grey line, if it is not SCRIPT or none.
+QUOTED = {"node_removed": "MODEL"}
+GREY = {"node_removed": 1}
+# Outputs that do not fit the scripts of these runs: a form in the output, and what stands in its
 # place.
 MISFITS = {
-    "an answer left out": (r"9: value 1 at 1\n", ""),
-    "an answer to another statement": ("9: value", "2: value"),
-    "an answer of another statement": ("9: value 1 at 1", "9: tended"),
-    "two answers": ("9: value 1 at 1", "9: value 1 at 1\n9: none at 0"),
-    "a stop of another node": ("node 2 stopped", "node 1 stopped"),
-    "a frame of an unknown node": ("2>1 ack", "2>7 ack"),
-    "a place twice": ("#3", "#2"),
-    "no frame to deliver": (r"3: #1.*\n", ""),
-    "a line of no form": ("refused 1 NotRunning", "refused"),
-    "a line without a number": ("11: idle", "idle"),
-    "a line too many": ("11: idle", "11: idle\n12: idle"),
+    "node_stops": {
+        "an answer left out": (r"9: value 1 at 1\n", ""),
+        "an answer to another statement": ("9: value", "2: value"),
+        "an answer of another statement": ("9: value 1 at 1", "9: tended"),
+        "two answers": ("9: value 1 at 1", "9: value 1 at 1\n9: none at 0"),
+        "a stop of another node": ("node 2 stopped", "node 1 stopped"),
+        "a frame of an unknown node": ("2>1 ack", "2>7 ack"),
+        "a place twice": ("#3", "#2"),
+        "no frame to deliver": (r"3: #1.*\n", ""),
+        "a line of no form": ("refused 1 NotRunning", "refused"),
+        "a line without a number": ("11: idle", "idle"),
+        "a line too many": ("11: idle", "11: idle\n12: idle"),
+    },
+    "node_removed": {
+        "an adoption of another epoch": ("adopted 1", "adopted 0"),
+        "an adoption by another node": ("node 1 adopted", "node 2 adopted"),
+        "an adoption left out": (r"5: node 1 adopted 1\n", ""),
+        "two adoptions": ("5: node 1 adopted 1", "5: node 1 adopted 1\n5: node 1 adopted 1"),
+        "a frame of another epoch taken": ("8: dropped OtherEpoch", "8: #4 3>1 ack 1 1 1"),
+    },
 }
 
 
@@ -91,9 +107,13 @@ def page_faults(name, script, output, pages_of):
     yield from faults_of(pages, name)
     if [(DOCS / f"pictures/{name}.svg").read_text(encoding="utf-8")] != pages:
         yield "docs/pictures has another picture"
+    grey = "".join(pages).partition('<g class="legend">')[0].count('class="gone"')
+    if grey != GREY.get(name, 0):
+        yield f"{grey} grey lines"
+    page = f"{QUOTED.get(name, 'SCRIPT')}.md"
     quoted = f"```text\n{script}```\n\nprints\n\n```text\n{output}```\n"
-    if quoted not in (DOCS / "SCRIPT.md").read_text(encoding="utf-8"):
-        yield "docs/SCRIPT.md does not quote the run as it stands"
+    if quoted not in (DOCS / page).read_text(encoding="utf-8"):
+        yield f"docs/{page} does not quote the run as it stands"
 
 
 def cut_faults(name, script, output, pages_of):
@@ -106,9 +126,10 @@ def cut_faults(name, script, output, pages_of):
 
 def misfit_faults(pages_of):
     """The outputs that do not fit, and are drawn."""
-    script, output = texts_of("node_stops")
-    for what, (form, new) in MISFITS.items():
-        changed = re.sub(form, new, output, count=1)
+    pairs = [(name, what) for name, kinds in MISFITS.items() for what in kinds]
+    for name, what in pairs:
+        script, output = texts_of(name)
+        changed = re.sub(*MISFITS[name][what], output, count=1)
         try:
             pages_of(script, changed, 80)
         except ValueError as fault:

@@ -10,10 +10,10 @@ Statement = collections.namedtuple("Statement", "line text words fault")
 SENT = re.compile(r"#(\d+) (\d+)>(\d+) (forward|ack) (\d+ \d+(?: \d+)?)")
 # The statements that always have an answer: a submit may have a frame in place of it.
 ANSWERED = ("get", "submit", "tend", "settle", "show", "stop", "start", "rows", "back", "open")
-ANSWERED += ("close",)
+ANSWERED += ("close", "notice")
 # The statements that a line of each kind can be printed for.
 CAUSES = {
-    "sent": ("submit", "deliver", "tick", "flow"),
+    "sent": ("submit", "deliver", "tick", "flow", "notice"),
     "committed": ("submit",),
     "value": ("get",),
     "none": ("get",),
@@ -28,10 +28,12 @@ CAUSES = {
     "tended": ("tend",),
     "idle": ("tend", "settle"),
     "full": ("tend", "settle"),
-    "dropped": ("deliver", "tick", "tend", "settle", "start", "stop", "flow"),
-    "node": ("submit", "get", "deliver", "tick", "tend", "show", "start", "stop")
+    "dropped": ("deliver", "tick", "tend", "settle", "start", "stop", "flow", "notice"),
+    "node": ("submit", "get", "deliver", "tick", "tend", "show", "start", "stop", "notice")
     + ("rows", "back", "open", "close"),
 }
+# Bytes of a batch without its edits, of an edit without key and value, and of a value's length.
+BATCH, EDIT, LENGTH = 2, 3, 2
 # The limits of a store for which a script has no other.
 LIMITS = {"log": 4_194_304, "l0": 4, "table": 2_097_152, "level": 10_485_760}
 # What a node that runs shows: its epoch, count and committed number, its floor and kept number, and
@@ -62,25 +64,32 @@ def bytes_of(word):
     return plain.encode("latin-1")
 
 
+def bytes_of_batch(edits):
+    """The number of bytes in which a batch of these edits is spelled."""
+    length = BATCH
+    for edit in edits:
+        length += EDIT + len(bytes_of(key_of(edit)))
+        if edit[:1] != "-":
+            length += LENGTH + len(bytes_of(edit.partition("=")[2]))
+    return length
+
+
 def kind_of(text):
     """The kind of a line of the output, by how it begins."""
     return "sent" if text.startswith("#") else text.split(" ")[0]
 
 
 def read_script(text):
-    """The words of a script's nodes, from head to tail, and its statements. A second configuration
-    is a ValueError."""
-    nodes, statements = [], []
+    """The words of a script's configurations, each from head to tail, and its statements."""
+    configurations, statements = [], []
     for at, line in enumerate(text.split("\n"), 1):
         words = line.split(" ")
         first = next((i for i, word in enumerate(words) if word[:1] == "!"), len(words))
         if words[0] == "config":
-            if nodes:
-                raise ValueError(f"the script's line {at}, '{line}', is a second configuration")
-            nodes = words[1:]
+            configurations.append(words[1:])
         elif line and words[0] != "limit" and line[0] != "#":
             statements.append(Statement(at, line, words[:first], words[first:]))
-    return nodes, statements
+    return configurations, statements
 
 
 def limits_of(text):

@@ -28,6 +28,8 @@ SHAPES = {
     r"tended|idle|full|busy": "tend",
 }
 STEPS = ("deliver", "flow", "tick", *ANSWERED)
+# So many numbers a statement has at least, of nodes, places or epochs.
+NUMBERS = {"flow": 0, "notice": 2}
 
 
 def shorten(words, length):
@@ -40,16 +42,20 @@ class Run:
 
     def __init__(self, script, output):
         """Reads both texts. A ValueError says where the output does not fit the script."""
-        nodes, statements = read_script(script)
-        self.nodes = [int(node) for node in nodes]
+        configurations, statements = read_script(script)
+        self.configurations = [list(map(int, ids)) for ids in configurations]
+        self.nodes = self.configurations[0]
         self.lines = collections.deque(map(self.line_of, filter(None, output.split("\n"))))
         self.frames, self.steps = {}, []
         self.delivered, self.up = set(), set(self.nodes)
-        # The batches by number, the edits of the submit in which the head stopped last, and of each
-        # node its tends.
-        self.batches, self.unsure = [], None
+        # Of each node its epoch, its batches, the one in whose step it stopped last, and its tends.
+        self.epochs = dict.fromkeys(self.nodes, 0)
+        self.batches, self.unsure = {node: [] for node in self.nodes}, {}
         limit = limits_of(script)["log"]
         self.tends = {node: NodeTends(limit) for node in self.nodes}
+        if len(configurations) > 1:
+            lines = [it for it in enumerate(script.split("\n"), 1) if it[1].startswith("config ")]
+            self.steps += [Step(*it, None, None, []) for it in lines]
         for it in statements:
             self.check(it)
             self.add_statement(it)
@@ -57,6 +63,16 @@ class Run:
         if self.lines:
             line, text = self.lines[0]
             raise ValueError(f"the output's line '{line}: {text}' does not fit the script")
+
+    def ids(self, node):
+        """The configuration of a node, as far as it was told."""
+        return self.configurations[self.epochs[node]]
+
+    def role(self, node):
+        """The part of a node in its configuration, in words."""
+        ids = self.ids(node)
+        ends = [word for word, at in (("head", 0), ("tail", -1)) if ids[at] == node]
+        return ", ".join(ends) if node in ids else "removed"
 
     def line_of(self, text):
         """A line of the output as its number and the rest."""
@@ -75,14 +91,17 @@ class Run:
                     step.notes[at] = note._replace(shape=shape, text=f"{note.text}: {name}")
 
     def check(self, it):
-        """A statement is one that is drawn, and names a node of the configuration."""
+        """A statement is one that is drawn, and names a node and an epoch of the script."""
         if it.words[0] not in STEPS:
             raise ValueError(f"the script's line {it.line}, '{it.text}', is no statement")
-        number = "".join(it.words[1:2])
-        if it.words[0] != "flow" and not number.isdecimal():
+        count = NUMBERS.get(it.words[0], 1)
+        numbers = [int(word) for word in it.words[1 : count + 1] if word.isdecimal()]
+        if len(numbers) < count:
             raise ValueError(f"the script's line {it.line}, '{it.text}', has no number")
-        if it.words[0] not in ("flow", "deliver") and int(number) not in self.nodes:
+        if it.words[0] not in ("flow", "deliver") and numbers[0] not in self.nodes:
             raise ValueError(f"the script's line {it.line}, '{it.text}', names no known node")
+        if it.words[0] == "notice" and numbers[1] >= len(self.configurations):
+            raise ValueError(f"the script's line {it.line}, '{it.text}', names no known epoch")
 
     def add_statement(self, it):
         """The steps of a statement: one, or in a flow one for each delivery."""
@@ -96,26 +115,33 @@ class Run:
             # Of a page its own line is drawn, and not its rows.
             if it.words[0] in CAUSES["row"]:
                 texts = [text for text in texts if kind_of(text) != "row"]
-            if len(texts) != 1 and it.words[0] in ANSWERED:
-                number = len(texts) or "no"
+            number = sum(it.words[0] != "notice" or kind_of(text) != "sent" for text in texts)
+            if number != 1 and it.words[0] in ANSWERED:
+                number = number or "no"
                 raise ValueError(f"the output has {number} answers to '{it.line}: {it.text}'")
             for text in texts:
                 notes += self.notes_of(text, node, it)
                 self.note_store(text, node, it, notes[-1])
+            if it.words[0] == "notice" and self.role(node) == "head, tail":
+                notes += self.take_replies(node, len(self.batches[node]))
             self.steps.append(Step(it.line, it.text, node, None, notes))
 
     def note_store(self, text, node, it, note):
         """What a line says of the batches and the tends of its node."""
         tends, kind, shown = self.tends[node], kind_of(text), SHOWN.search(text)
         if it.words[0] == "submit" and kind in ("sent", "committed"):
-            self.batches.append(it.words[2:])
-            tends.count = len(self.batches)
+            self.append(node, it.words[2:])
         elif shown:
             tends.show([int(number) for number in shown[6].split(" ")], int(shown[4]))
         elif it.words[0] == "tend" and kind in ("tended", "idle", "full"):
-            tends.tend(kind, self.batches, note)
+            tends.tend(kind, self.batches[node], note)
         elif it.words[0] == "settle" and kind != "dropped":
-            tends.settle(kind, self.batches)
+            tends.settle(kind, self.batches[node])
+
+    def append(self, node, batch):
+        """A node has one batch more."""
+        self.batches[node].append(batch)
+        self.tends[node].count = len(self.batches[node])
 
     def add_flow(self, it):
         """A step for each frame that no statement delivered yet, in order of place."""
@@ -150,31 +176,40 @@ class Run:
 
     def take_delivery(self, it, frame):
         """The notes of one delivery. Only what it can have caused is taken, for a flow goes on."""
-        node = frame.addressee
+        node, (epoch, number, *_) = frame.addressee, map(int, frame.numbers.split())
         if node not in self.up:
             forms = ["dropped NotRunning"]
+        elif self.role(node) == "removed":
+            forms = ["dropped Removed"]
+        elif epoch != self.epochs[node]:
+            forms = ["dropped OtherEpoch"]
         elif frame.kind == "forward":
+            self.unsure[node] = self.batch_of(frame.sender, number)
             forms = ["dropped (?!NotRunning)", rf"#\d+ {node}>", f"node {node} stopped"]
         else:
-            committed = frame.numbers.split()[1]
-            forms = [rf"#\d+ {node}>\d+ ack \d+ {committed} ", f"node {node} stopped"]
+            forms = [rf"#\d+ {node}>\d+ ack \d+ {number} ", f"node {node} stopped"]
         notes = []
         for text in filter(None, [self.take(it.line, form) for form in forms]):
             notes += self.notes_of(text, node, it)
         if frame.kind == "forward" and [note.shape for note in notes[:1]] == ["dot"]:
-            self.tends[node].count = int(frame.numbers.split()[1])
-        if frame.kind == "ack" and node == self.nodes[0] and node in self.up:
-            notes += self.take_replies(int(frame.numbers.split()[1]))
+            self.append(node, self.batch_of(frame.sender, number))
+        if frame.kind == "ack" and len(forms) == 2 and self.ids(node)[0] == node:
+            notes += self.take_replies(node, number)
         return notes
 
-    def take_replies(self, committed):
-        """The acknowledgements that are due when so many batches are known as committed."""
+    def batch_of(self, node, number):
+        """The batch of this number of a node. An output may speak of one that it does not have."""
+        batches = self.batches[node]
+        return batches[number - 1] if 0 < number <= len(batches) else []
+
+    def take_replies(self, node, committed):
+        """What a head acknowledges when it knows so many batches as committed."""
         notes = []
         while self.lines and re.fullmatch(r"committed \d+", self.lines[0][1]):
             if int(self.lines[0][1].split()[1]) > committed:
                 break
             line, text = self.lines.popleft()
-            notes.append(Note(self.nodes[0], "diamond", f"{text} (line {line})", None))
+            notes.append(Note(node, "diamond", f"{text} (line {line})", None))
         return notes
 
     def notes_of(self, text, node, it):
@@ -187,6 +222,8 @@ class Run:
             return [Note(node, "circle", words, None)]
         if turn := re.fullmatch(rf"node {node} ((started|stopped).*)", text):
             return self.turn_of(turn[1], node, it)
+        if adopted := re.fullmatch(rf"node {node} (adopted (\d+))", text):
+            return [self.adoption_of(it, node, *adopted.groups())]
         for form, shape in SHAPES.items():
             if re.fullmatch(form, text):
                 words = " ".join(shorten(word, LONGEST_VALUE) for word in text.split(" "))
@@ -211,19 +248,31 @@ class Run:
         words = f"#{frame.place} {frame.kind} {frame.numbers}"
         return Note(frame.sender, "dot", words, frame.place)
 
+    def adoption_of(self, it, node, text, epoch):
+        """The note of a configuration that a node adopts, with its part there if that is new."""
+        if [epoch] != it.words[2:]:
+            raise ValueError(f"the output's line '{it.line}: {text}' does not fit '{it.text}'")
+        return Note(node, "adopt", text + self.new_role(node, int(epoch)), None)
+
+    def new_role(self, node, epoch):
+        """The part of a node in the configuration of its new epoch, in words, if it is another."""
+        before, self.epochs[node] = self.role(node), epoch
+        return f": {self.role(node)}" if self.role(node) != before else ""
+
     def turn_of(self, text, node, it):
         """The notes of a node that stopped, with the statement or fault that did it, or started."""
-        tends = self.tends[node]
-        if started := re.match(r"started epoch \d+ count (\d+)", text):
-            tends.count = int(started[1])
-            if tends.count > len(self.batches) and self.unsure:
-                self.batches.append(self.unsure)
+        tends, batches = self.tends[node], self.batches[node]
+        if started := re.match(r"started epoch (\d+) count (\d+)", text):
+            role = self.new_role(node, min(int(started[1]), len(self.configurations) - 1))
+            if int(started[2]) > len(batches) and node in self.unsure:
+                self.append(node, self.unsure[node])
             self.up.add(node)
             rest = Note(node, "none", text.removeprefix("started "), None)
-            return [Note(node, "start", "started", None), rest]
+            return [Note(node, "start", f"started{role}", None), rest]
         self.up.discard(node)
-        self.unsure = it.words[2:] if it.words[0] == "submit" else self.unsure
-        tends.stop(self.batches, it.words[0] == "tend")
+        if it.words[0] == "submit":
+            self.unsure[node] = it.words[2:]
+        tends.stop(batches, it.words[0] == "tend")
         by = ["stop", *it.words[2:]] if it.words[0] == "stop" else it.fault
         cause = f" by {' '.join(by)}" if by and text in ("stopped", "stopped: disk") else ""
         return [Note(node, "stop", text + cause, None)]

@@ -8,12 +8,11 @@ is taken that no rewrite of the manifest is due: its slot would need 65,536 byte
 
 import collections
 
-from lab_texts import bytes_of, key_of, limits_of
+from lab_texts import bytes_of_batch, key_of
 
 STEP, DEEPEST = 256, 6
-# Bytes of an empty log, of a record without its edits, of an edit without key and value, and of a
-# value's length.
-LOG, RECORD, EDIT, VALUE = 1, 15, 3, 2
+# Bytes of an empty log, and of a record beside its batch.
+LOG, RECORD = 1, 13
 # One way in which a node's tends can have gone: so many batches stand before the newest log; the
 # merge under way has had so many tends (none is under way: 0); and since the last look so many
 # flushes were done, and a merge ended, or not, and one began, or not.
@@ -34,12 +33,7 @@ NAMES = {
 
 def length_of(edits):
     """The bytes of a batch's record in a log."""
-    length = RECORD
-    for edit in edits:
-        length += EDIT + len(bytes_of(key_of(edit)))
-        if edit[:1] != "-":
-            length += VALUE + len(bytes_of(edit.partition("=")[2]))
-    return length
+    return RECORD + bytes_of_batch(edits)
 
 
 class NodeTends:

@@ -30,6 +30,13 @@ SCRIPTS = {
     "a chain of three": (
         "config 1 2 3\nsubmit 1 a=1\ndeliver 1\ndeliver 1\nflow\ntick 2\nflow\nget 2 a\n"
     ),
+    "a node left out": (
+        "config 1 2 3\nconfig 1 3\nsubmit 1 a=1\ndeliver 1\nnotice 1 1\nnotice 3 1\nflow\ntick 1\n"
+        "flow\nnotice 2 1\nget 2 a\nget 3 a\n"
+    ),
+    "a notice that a fault strikes": (
+        "config 1 2\nconfig 2\nnotice 2 1 !stop 4 01\nstart 2\nsubmit 2 a=1\nget 2 a\n"
+    ),
 }
 REFUSED = re.compile(r"(run: memory|line \d+: out of memory)\n")
 
