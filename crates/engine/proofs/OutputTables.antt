@@ -22,7 +22,8 @@ zip_weaker R Q so (x ∷ xs) [] zip = absurd zip
 zip_weaker R Q so (x ∷ xs) (y ∷ ys) zip = (so x y zip.0, zip_weaker R Q so xs ys zip.1)
 
 -- and so each on the first side has what follows of it
-pub zip_each : {A B : Type 0} (R : A → B → Type 0) (P : A → Type 0) → ((x : A) (y : B) → R x y → P x) →
+pub zip_each : {A B : Type 0} (R : A → B → Type 0) (P : A → Type 0)
+    → ((x : A) (y : B) → R x y → P x) →
     (xs : List A) (ys : List B) → AllZip R xs ys → All P xs
 zip_each R P so [] ys zip = All-nil P
 zip_each R P so (x ∷ xs) [] zip = absurd zip

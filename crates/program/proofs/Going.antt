@@ -23,7 +23,7 @@ use Rattle.program.specs.declared.script.statement.Action.TheVariants.{Settle, S
 use Rattle.kv_types.specs.declared.KvError.{KvError}
 use Rattle.std.proofs.Common.{Bool}
 use Rattle.program.specs.declared.script.statement.Action.{Action}
-use Rattle.program.specs.Scripts.{AreLines, IsScriptWith, IsStatement, Names, SetsUp, begins}
+use Rattle.program.specs.Scripts.{IsBody, IsScriptWith, IsStatement, Names, SetsUp, begins}
 use Rattle.program.specs.Scripts.{statement, words_of}
 use Rattle.program.specs.Limits.{limits_with}
 use Rattle.program.specs.Faults.{script_fault}
@@ -35,7 +35,7 @@ abbrev pub IsRest : Option Configurations → Bool → ScriptLimits → ℕ → 
     → List Statement → Type 0
 IsRest None begun limits n lines setup statements = IsScriptWith limits n lines setup statements
 IsRest (Some own) begun limits n lines setup statements =
-    (all : Configurations) × SetsUp setup limits all × AreLines own begun n lines all statements
+    (all : Configurations) × SetsUp setup limits all × IsBody own begun n lines all statements
 
 -- .. and then
 abbrev pub IsRestOf : ParserState → ℕ → List (List ℕ) → Setup → List Statement → Type 0
@@ -65,7 +65,7 @@ go (Some own) begun limits n line lines setup rest (Limit name number) (sets, fr
     absurd (filled own free)
 go None begun limits n line lines setup rest (Config new) (ids, words, follows, one, rests)
     (all, up, are) =
-    let there : AreLines (ids ∷ []) false (suc n) lines all rest = rw (one, rests) at are in
+    let there : IsBody (ids ∷ []) false (suc n) lines all rest = rw (one, rests) at are in
     inr (inr (ids, all, words, follows, up, there))
 go (Some own) begun limits n line lines setup rest (Config new) (ids, words, follows, one, rests)
     (all, up, are) = (all, up, inr (inl (ids, words, follows, rests, rw one at are)))
@@ -106,7 +106,7 @@ AllName cs ss = All (λ it. Names cs it.action) ss
 
 -- configurations keep the first one
 same_first : (c : List ℕ) (cs : Configurations) (begun : Bool) (n : ℕ) (lines : List (List ℕ))
-    (all : Configurations) (ss : List Statement) → AreLines (c ∷ cs) begun n lines all ss
+    (all : Configurations) (ss : List Statement) → IsBody (c ∷ cs) begun n lines all ss
     → at_epoch all 0 ≡ c
 same_first c cs begun n [] all ss are = rw are.0 refl
 same_first c cs begun n (line ∷ lines) all ss (inl more) =
@@ -131,7 +131,7 @@ first_names cs all (Settle node) same is = rw same is
 first_names cs all (Show node) same is = rw same is
 
 behind : (c : List ℕ) (cs : Configurations) (begun : Bool) (n : ℕ) (lines : List (List ℕ))
-    (all : Configurations) (ss : List Statement) → AreLines (c ∷ cs) begun n lines all ss
+    (all : Configurations) (ss : List Statement) → IsBody (c ∷ cs) begun n lines all ss
     → AllName all ss
 behind c cs begun n [] all ss are = rw are.1 (All-nil _)
 behind c cs begun n (line ∷ lines) all ss (inl more) =

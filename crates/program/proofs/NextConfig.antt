@@ -1,5 +1,6 @@
 -- A lawful list of configurations, and the next one behind it.
-use Rattle.std.proofs.Common.{◌≡◌, ◌+◌, ◌<◌, ◌≤◌, ℕ, zero, suc, List, [], ◌∷◌, ◌++◌, length, refl, sym}
+use Rattle.std.proofs.Common.{◌≡◌, ◌+◌, ◌<◌, ◌≤◌, ℕ, zero, suc, List, [], ◌∷◌, ◌++◌, length}
+use Rattle.std.proofs.Common.{refl, sym}
 use Rattle.std.proofs.Common.{◌∙◌, arith, true, false, Option, Some, None, inl, inr, length-append}
 use Rattle.std.proofs.Common.{Err, Ok, map}
 use Rattle.std.specs.Prelude.{nat_lt, ◌&&◌, ◌≢◌, if◌then◌else◌, IfSome, MatchResult, Result}

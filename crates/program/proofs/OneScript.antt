@@ -18,7 +18,7 @@ use Rattle.program.specs.Events.{SpellsEvent}
 use Rattle.program.specs.Faults.{numbers_of}
 use Rattle.program.specs.Laws.{AreAlike, ScriptsDiffer}
 use Rattle.program.specs.Limits.{SetsLimit, default_limits, limit_named, limit_word, limits_with}
-use Rattle.program.specs.Scripts.{AreLines, IsOtherStatement, IsScriptWith, IsStatement}
+use Rattle.program.specs.Scripts.{IsBody, IsOtherStatement, IsScriptWith, IsStatement}
 use Rattle.program.specs.Scripts.{MayFollow, NamesOneNode, SetsUp, begins, is_skipped, statement}
 use Rattle.program.specs.Scripts.{up_to, words_of}
 use Rattle.program.proofs.OneEvent.{name_of, of_name, one_number}
@@ -239,8 +239,8 @@ no_statement cs words action ids (inr (event, spells, _, _, _)) is =
 
 -- the same lines behind the same configurations
 one_behind : (cs : Configurations) (begun : Bool) (n : ℕ) (lines : List (List ℕ))
-    (c d : Configurations) (a b : List Statement) → AreLines cs begun n lines c a
-    → AreLines cs begun n lines d b → (c ≡ d) × (a ≡ b)
+    (c d : Configurations) (a b : List Statement) → IsBody cs begun n lines c a
+    → IsBody cs begun n lines d b → (c ≡ d) × (a ≡ b)
 one_behind cs begun n [] c d a b are other = (are.0 ∙ sym other.0, are.1 ∙ sym other.1)
 one_behind cs begun n (line ∷ lines) c d a b (inl are) (inl other) =
     one_behind cs begun (suc n) lines c d a b are.1 other.1
@@ -256,7 +256,7 @@ one_behind cs begun n (line ∷ lines) c d a b (inr (inl (ids, e, follows, _, ar
     (inr (inl (second, f, follows_second, _, other))) =
     let same = one_ids (words_of line) second ids (Some cs) f e follows_second follows in
     one_behind (up_to (Some cs) ids) begun (suc n) lines c d a b are
-    (subst (λ (it : List ℕ). AreLines (up_to (Some cs) it) begun (suc n) lines d b) same other)
+    (subst (λ (it : List ℕ). IsBody (up_to (Some cs) it) begun (suc n) lines d b) same other)
 one_behind cs begun n (line ∷ lines) c d a b (inr (inl (ids, e, _, _, _)))
     (inr (inr (action, rest, is, _, _))) =
     absurd (no_statement cs (words_of line) action ids is e)
@@ -266,7 +266,7 @@ one_behind cs begun n (line ∷ lines) c d a b (inr (inr (action, rest, is, same
     (inr (inr (second, behind, is_second, same_b, other))) =
     let one = one_statement cs (words_of line) second action is_second is in
     let more = one_behind cs (begun || begins action) (suc n) lines c d rest behind are
-    (subst (λ (it : Action). AreLines cs (begun || begins it) (suc n) lines d behind) one other)
+    (subst (λ (it : Action). IsBody cs (begun || begins it) (suc n) lines d behind) one other)
     in (
       more.0,
       same ∙ (ap (λ (l : List Statement). statement n action ∷ l) more.1
@@ -326,7 +326,7 @@ one_with limits n (line ∷ lines) one other a b (inr (inr (ids, all, e, is, up,
     (inr (inr (ids_b, all_b, e_b, is_b, up_b, are_b))) =
     let same : ids_b ≡ ids = one_ids (words_of line) ids_b ids None e_b e is_b is in
     let more = one_behind (ids ∷ []) false (suc n) lines all all_b a b are
-    (subst (λ (l : List ℕ). AreLines (l ∷ []) false (suc n) lines all_b b) same are_b) in
+    (subst (λ (l : List ℕ). IsBody (l ∷ []) false (suc n) lines all_b b) same are_b) in
     (alike one other limits all all_b more.0 up up_b, more.1)
 
 pub one_script : ScriptsDiffer

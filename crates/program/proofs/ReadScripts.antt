@@ -26,7 +26,7 @@ use Rattle.program.specs.declared.script.statement.Statement.{Statement}
 use Rattle.program.specs.Words.{before_fault, begins_fault}
 use Rattle.program.specs.Events.{SpellsEvent}
 use Rattle.program.specs.Limits.{SetsLimit, default_limits, limit_word, limits_with}
-use Rattle.program.specs.Scripts.{AreLines, IsScript, IsScriptWith, IsStatement, MayFollow}
+use Rattle.program.specs.Scripts.{IsBody, IsScript, IsScriptWith, IsStatement, MayFollow}
 use Rattle.program.specs.Scripts.{NamesEpoch, begins, is_skipped, up_to, words_of}
 use Rattle.program.specs.Faults.{statement_fault, words_fault, line_fault, after_words, after_line}
 use Rattle.program.specs.Faults.{epoch_fault, may_follow, node_fault, script_fault, start}
@@ -248,7 +248,8 @@ abbrev AreShort : List (List ℕ) → Type 0
 AreShort lines = All (λ line. length line ≤ 262144) lines
 
 -- ids that may be the next configuration are one, and the test says so
-pub each_id : (configs : Option Configurations) (ids : List ℕ) → MayFollow configs ids → All IsId ids
+pub each_id : (configs : Option Configurations) (ids : List ℕ) → MayFollow configs ids
+    → All IsId ids
 each_id None ids is = is.each
 each_id (Some cs) ids is = is.0.each
 
@@ -281,7 +282,7 @@ config_good decides before ids words follows rests e =
 
 behind_read : TestDecidesConfig → (cs : Configurations) (begun : Bool) (limits : ScriptLimits)
     (n : ℕ) (lines : List (List ℕ)) (all : Configurations) (statements : List Statement) →
-    AreShort lines → n + length lines ≤ 100001 → AreLines cs begun n lines all statements →
+    AreShort lines → n + length lines ≤ 100001 → IsBody cs begun n lines all statements →
     script_fault (behind_configs cs begun limits) n lines ≡ None
 behind_read decides cs begun limits n [] all statements short few are = refl
 behind_read decides cs begun limits n (line ∷ lines) all statements short few (inl more) =

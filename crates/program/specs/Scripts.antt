@@ -86,17 +86,17 @@ up_to (Some cs) ids = cs ++ ids ∷ []
 -- lines behind these configurations, the first with number n, where a run has begun or not: each
 -- is skipped, or the next configuration before a run begins, or a statement; and all configurations
 -- of the script are these
-abbrev pub AreLines : Configurations → Bool → ℕ → List (List ℕ) → Configurations → List Statement
+abbrev pub IsBody : Configurations → Bool → ℕ → List (List ℕ) → Configurations → List Statement
     → Type 0
-AreLines cs begun n [] all statements = (all ≡ cs) × (statements ≡ [])
-AreLines cs begun n (line ∷ lines) all statements =
-    ((is_skipped line ≡ true) × AreLines cs begun (suc n) lines all statements)
+IsBody cs begun n [] all statements = (all ≡ cs) × (statements ≡ [])
+IsBody cs begun n (line ∷ lines) all statements =
+    ((is_skipped line ≡ true) × IsBody cs begun (suc n) lines all statements)
     ⊎ (((ids : List ℕ) × (words_of line ≡ codes "config" ∷ map decimal ids)
     × MayFollow (Some cs) ids × (begun ≡ false)
-    × AreLines (up_to (Some cs) ids) begun (suc n) lines all statements)
+    × IsBody (up_to (Some cs) ids) begun (suc n) lines all statements)
     ⊎ ((action : Action) × (rest : List Statement) × IsStatement cs (words_of line) action
     × (statements ≡ statement n action ∷ rest)
-    × AreLines cs (begun || begins action) (suc n) lines all rest))
+    × IsBody cs (begun || begins action) (suc n) lines all rest))
 
 -- a script that sets up these configurations, with these limits
 pub record SetsUp (setup : Setup) (script : ScriptLimits) (cs : Configurations) : Type 0 where
@@ -113,7 +113,7 @@ IsScriptWith limits n (line ∷ lines) setup statements =
     × IsScriptWith (limits_with limits name number) (suc n) lines setup statements)
     ⊎ ((ids : List ℕ) × (all : Configurations) × (words_of line ≡ codes "config" ∷ map decimal ids)
     × MayFollow None ids × SetsUp setup limits all
-    × AreLines (up_to None ids) false (suc n) lines all statements))
+    × IsBody (up_to None ids) false (suc n) lines all statements))
 
 -- lines that are a script, the first with number n, where no limit has been set
 abbrev pub IsScript : ℕ → List (List ℕ) → Setup → List Statement → Type 0

@@ -113,11 +113,7 @@ fn listed(
 }
 
 // The configurations up to the line of this one.
-fn extended(
-    alloc: Global,
-    before: &Option<Configs>,
-    config: Config,
-) -> Result<Configs, ScriptError>
+fn extended(alloc: Global, before: &Option<Configs>, config: Config) -> Result<Configs, ScriptError>
     ensures { MatchResult result
         (λ configs. (may_follow before.now config ≡ true) × MayFollow before.now config
         × (configs ≡ up_to before.now config))

@@ -20,8 +20,8 @@ returns-in-Err c =
     let list = c.in_ok-listed.ensures.list in
     λ _. (
       refl,
-      refused_next c.is_part_decides.ensures c.test_decides_config.ensures before ids c.in-Err.field-0
-          c.listed.ensures.lawful c.ids-ids.ensures.is
+      refused_next c.is_part_decides.ensures c.test_decides_config.ensures before ids
+          c.in-Err.field-0 c.listed.ensures.lawful c.ids-ids.ensures.is
           (subst (λ (cs : Configurations). ListHas c.in-Err.field-0 cs) list
           c.in-Err.ensures.refused.has),
     )
