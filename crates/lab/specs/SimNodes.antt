@@ -1,9 +1,8 @@
 -- Simulated nodes: what a running or stopped one refines, and what the code may choose in a step.
 use Rattle.std.specs.Prelude.{◌≡◌, ℕ, Bool, None, false}
 use Rattle.kv_types.specs.declared.Limits.{Limits}
-use Rattle.disk.specs.{Marks, State, Slots, fault_of, state_of}
+use Rattle.disk.specs.{IsReliable, Marks, Slots, State, fault_of, past_states, state_of}
 use Rattle.disk.specs.declared.disk.Disk.{Ghosts}
-use Rattle.disk.specs.contracts.memory.MemDiskDisk.TheImpl.{ghosts}
 use Rattle.chain_model.specs as model
 use Rattle.engine.specs.Tended.{Tended}
 use Rattle.chain_core.specs.{Machine}
@@ -65,10 +64,6 @@ IsUnarmed g disk = fault_of (g.marks disk) ≡ None
 
 -- ---- a disk in memory
 
--- what a disk in memory is as a disk
-abbrev pub in_memory : Ghosts Slots
-in_memory = ghosts
-
 -- its state is that of its slots
 abbrev pub state : Slots → State
 state disk = state_of disk.slots
@@ -76,3 +71,15 @@ state disk = state_of disk.slots
 -- the faults that it was armed with, and its crashes
 abbrev pub marks : Slots → Marks
 marks disk = disk.marks
+
+-- what it is as a disk
+abbrev pub in_memory : Ghosts Slots
+in_memory = record {
+  is_honest = λ disk. Unit {0};
+  state = state;
+  failures = λ disk. disk.failures;
+  is_reliable = IsReliable;
+  past = past_states;
+  marks = marks;
+  allocates = ⊥;
+}
