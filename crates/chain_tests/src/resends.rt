@@ -3,7 +3,7 @@
 use crate::answers::{is_so, is_text};
 use crate::courses::{Step, configs_of, put_lines, put_node, take};
 use crate::items::{ONE, id_of};
-use disk::Fault;
+use disk::{Fault, MemDisk};
 use kv_types::Limits;
 use lab::{Line, Tended, World};
 use std::alloc::Global;
@@ -27,7 +27,7 @@ enum Act {
 // A world, and the place of the next frame.
 #[derive(Drop)]
 struct Chain {
-    world: World,
+    world: World<MemDisk>,
     next: u64,
 }
 

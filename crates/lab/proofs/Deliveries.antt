@@ -6,7 +6,6 @@ use Rattle.std.specs.Prelude.{nat_lt}
 use Rattle.kv_types.specs.{BatchContent, Span}
 use Rattle.disk.specs.declared.Fault.{Fault}
 use Rattle.disk.specs.declared.Junk.{Junk}
-use Rattle.disk.specs.{Slots}
 use Rattle.chain_model.specs.{Configurations, at_epoch, place, Message as ModelFrame}
 use Rattle.chain_model.specs.{dropped_for, silent}
 use Rattle.chain_model.specs.{started, stopped, SystemState, Answered, StoppedBefore, outcome}
@@ -34,7 +33,7 @@ use Rattle.lab.specs.Deliveries.{IsDeliveryOf, HasNoDelivery, input_of}
 use Rattle.lab.specs.Outcomes.{HasStarted, Starts, Fails, RunsOn, HasStopped, Stops, RestsOn}
 use Rattle.lab.specs.Outcomes.{OutcomeRefines, input_junk}
 use Rattle.lab.specs.Disks.{junk_of}
-use Rattle.lab.specs.SimNodes.{Choice, is_honest, state}
+use Rattle.lab.specs.SimNodes.{Choice}
 use Rattle.lab.proofs.AnswerLines.{notice_turns}
 use Rattle.lab.proofs.Outcomes.{IsOutcome, IsTraced, as_plain, chosen, drop_traced, given}
 use Rattle.lab.proofs.Outcomes.{stop_traced, told_fits, with_fault}
@@ -115,8 +114,8 @@ tick_replies x (Response.Opened j s) = refl
 tick_replies x (Response.Closed j s) = refl
 tick_replies x (Response.Refused j why) = refl
 
-module _ {g : Ghosts Slots} (cs : Configurations) (w : SystemState BatchContent) (i x : ℕ)
-    (it : Fault) (struck : Bool) (old new : NodeState Slots g) (did : StepOutcome)
+module _ {D : Type 0} {g : Ghosts D} (cs : Configurations) (w : SystemState BatchContent) (i x : ℕ)
+    (it : Fault) (struck : Bool) (old new : NodeState D g) (did : StepOutcome)
   where
     -- the choice in a step that the node does not stop by itself
     abbrev plain : Choice
@@ -130,7 +129,7 @@ module _ {g : Ghosts Slots} (cs : Configurations) (w : SystemState BatchContent)
         ap (λ (o : Option (ModelFrame BatchContent)). delivered w o choice.went) (there ∙ sym same)
 
     deliver : (p : ℕ) (sent : Frame) (f : ModelFrame BatchContent) → place w.frames p ≡ Some f →
-        frame_as x sent ≡ Some f → OutcomeRefines is_honest state it struck x (w.nodes x)
+        frame_as x sent ≡ Some f → OutcomeRefines g.is_honest g.state it struck x (w.nodes x)
         (input_of sent) old new did →
         IsOutcome cs w i x (Deliver p) it struck new did
     deliver p (frame.Forward epoch from number batch) f there same was =
@@ -154,7 +153,7 @@ module _ {g : Ghosts Slots} (cs : Configurations) (w : SystemState BatchContent)
     deliver p (frame.Refused request why) f there same was = absurd (cc)
     deliver p (frame.Closed request number) f there same was = absurd (cc)
 
-    start : HasStarted is_honest state it struck x (w.nodes x) new did →
+    start : HasStarted g.is_honest g.state it struck x (w.nodes x) new did →
         IsOutcome cs w i x (Start x) it struck new did
     start (Starts off is traced) =
         let o = answers x (silent (started x (w.nodes x))) in
@@ -185,7 +184,7 @@ module _ {g : Ghosts Slots} (cs : Configurations) (w : SystemState BatchContent)
         (drop_traced x (with_fault (Start x) it) plain (w.nodes x) reason.Running traced.0
         traced.2 refl))
 
-    stop : (junk : Junk) → HasStopped is_honest state x (w.nodes x) new did →
+    stop : (junk : Junk) → HasStopped g.is_honest g.state x (w.nodes x) new did →
         IsOutcome cs w i x (Stop x junk) it struck new did
     stop junk (Stops up is traced) =
         as_plain cs w i x (Stop x junk) it new did plain (refl, refl) (no_stop traced)
@@ -207,41 +206,41 @@ module _ {g : Ghosts Slots} (cs : Configurations) (w : SystemState BatchContent)
     -- the outcome of the input that an event delivers is the event's
     pub refined : (kind : EventKind) (node_input : NodeInput) → IsDeliveryOf cs w.frames i kind x
         node_input →
-        OutcomeRefines is_honest state it struck x (w.nodes x) node_input old new did →
+        OutcomeRefines g.is_honest g.state it struck x (w.nodes x) node_input old new did →
         IsOutcome cs w i x kind it struck new did
     refined (Submit node batch) node_input brings was =
         subst (λ (y : ℕ). IsOutcome cs w i x (Submit y batch) it struck new did) brings.0
         (given cs w i x (Submit x batch) it struck (input.Submit i batch) new did (λ choice. refl)
         (λ choice. refl) (λ choice. (refl, refl)) (submit_replies x i batch)
-        (subst (λ (k : NodeInput). OutcomeRefines is_honest state it struck x
+        (subst (λ (k : NodeInput). OutcomeRefines g.is_honest g.state it struck x
         (w.nodes x) k old new did) brings.1 was))
     refined (Get node key at) node_input brings was =
         subst (λ (y : ℕ). IsOutcome cs w i x (Get y key at) it struck new did) brings.0
         (given cs w i x (Get x key at) it struck (input.Get i key at) new did (λ choice. refl)
         (λ choice. refl) (λ choice. (refl, refl)) (get_replies x i key at)
-        (subst (λ (k : NodeInput). OutcomeRefines is_honest state it struck x
+        (subst (λ (k : NodeInput). OutcomeRefines g.is_honest g.state it struck x
         (w.nodes x) k old new did) brings.1 was))
     refined (Rows node range at) node_input brings was =
         subst (λ (y : ℕ). IsOutcome cs w i x (Rows y range at) it struck new did) brings.0
         (given cs w i x (Rows x range at) it struck (input.Rows i range at) new did
         (λ choice. refl) (λ choice. refl) (λ choice. (refl, refl)) (rows_replies x i range at)
-        (subst (λ (k : NodeInput). OutcomeRefines is_honest state it struck x
+        (subst (λ (k : NodeInput). OutcomeRefines g.is_honest g.state it struck x
         (w.nodes x) k old new did) brings.1 was))
     refined (Open node at) node_input brings was =
         subst (λ (y : ℕ). IsOutcome cs w i x (Open y at) it struck new did) brings.0
         (given cs w i x (Open x at) it struck (input.Open i at) new did (λ choice. refl)
         (λ choice. refl) (λ choice. (refl, refl)) (open_replies x i at)
-        (subst (λ (k : NodeInput). OutcomeRefines is_honest state it struck x
+        (subst (λ (k : NodeInput). OutcomeRefines g.is_honest g.state it struck x
         (w.nodes x) k old new did) brings.1 was))
     refined (Close node number) node_input brings was =
         subst (λ (y : ℕ). IsOutcome cs w i x (Close y number) it struck new did) brings.0
         (given cs w i x (Close x number) it struck (input.Close i number) new did (λ choice. refl)
         (λ choice. refl) (λ choice. (refl, refl)) (close_replies x i number)
-        (subst (λ (k : NodeInput). OutcomeRefines is_honest state it struck x
+        (subst (λ (k : NodeInput). OutcomeRefines g.is_honest g.state it struck x
         (w.nodes x) k old new did) brings.1 was))
     refined (Deliver p) node_input brings was =
         deliver p brings.it brings.frame brings.there brings.same
-        (subst (λ (k : NodeInput). OutcomeRefines is_honest state it struck x
+        (subst (λ (k : NodeInput). OutcomeRefines g.is_honest g.state it struck x
         (w.nodes x) k old new did) brings.is was)
     refined (Notice node epoch) node_input brings was =
         let ids = at_epoch cs epoch in
@@ -251,26 +250,27 @@ module _ {g : Ghosts Slots} (cs : Configurations) (w : SystemState BatchContent)
         (lt-ltb epoch (length cs) brings.within)) (λ choice. refl)
         (λ choice. (notice_turns x (w.nodes x) epoch ids choice, refl))
         (notice_replies x epoch ids)
-        (subst (λ (k : NodeInput). OutcomeRefines is_honest state it struck x
+        (subst (λ (k : NodeInput). OutcomeRefines g.is_honest g.state it struck x
         (w.nodes x) k old new did) brings.is was))
     refined (Tick node) node_input brings was =
         subst (λ (y : ℕ). IsOutcome cs w i x (Tick y) it struck new did) brings.0
         (given cs w i x (Tick x) it struck input.Tick new did (λ choice. refl)
         (λ choice. refl) (λ choice. (refl, refl)) (tick_replies x)
-        (subst (λ (k : NodeInput). OutcomeRefines is_honest state it struck x
+        (subst (λ (k : NodeInput). OutcomeRefines g.is_honest g.state it struck x
         (w.nodes x) k old new did) brings.1 was))
     refined (Tend node) node_input brings was =
         subst (λ (y : ℕ). IsOutcome cs w i x (Tend y) it struck new did) brings.0
         (tended cs w i x it struck old new did
-        (subst (λ (k : NodeInput). OutcomeRefines is_honest state it struck x (w.nodes x) k
+        (subst (λ (k : NodeInput). OutcomeRefines g.is_honest g.state it struck x (w.nodes x) k
         old new did) brings.1 was))
     refined (Start node) node_input brings was =
         subst (λ (y : ℕ). IsOutcome cs w i x (Start y) it struck new did) brings.0
-        (start (subst (λ (k : NodeInput). OutcomeRefines is_honest state it struck x (w.nodes x) k
+        (start (subst (λ (k : NodeInput). OutcomeRefines g.is_honest g.state it struck x
+        (w.nodes x) k
         old new did) brings.1 was))
     refined (Stop node junk) node_input brings was =
         subst (λ (y : ℕ). IsOutcome cs w i x (Stop y junk) it struck new did) brings.0
-        (stop junk (subst (λ (k : NodeInput). OutcomeRefines is_honest state it struck x
+        (stop junk (subst (λ (k : NodeInput). OutcomeRefines g.is_honest g.state it struck x
         (w.nodes x) k old new did)
         brings.1 was))
 

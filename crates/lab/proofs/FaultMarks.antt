@@ -28,7 +28,7 @@ use Rattle.lab.specs.Traces.{modelled_from}
 use Rattle.lab.specs.declared.report.NodeReport.{NodeReport}
 use Rattle.lab.specs.declared.report.Report.{Report}
 use Rattle.lab.specs.Events.{modelled}
-use Rattle.lab.specs.SimNodes.{Choice, state, failures, marks}
+use Rattle.lab.specs.SimNodes.{Choice, in_memory, marks, state}
 use Rattle.lab.specs.FaultMarks.{AllWork, AreSame, HasSamePast, HasWorked, IsSameFault, with_faults}
 
 -- ends of the same length of one list
@@ -48,7 +48,7 @@ same_ends (x ∷ a) (y ∷ c) b d is long =
 
 -- the marks of a step
 worked_so : (event : Event) (choice : Choice) (o : model.Outcome BatchContent) (n : Machine)
-    (old new : Slots) → DiskFollows state failures past_states marks event choice o n old new →
+    (old new : Slots) → DiskFollows in_memory event choice o n old new →
     HasWorked event.kind o n → marks new ≡ marks_of_step event.fault choice.struck o.stopped
     (length (past_states old)) (length (past_of_step o.stopped (past_states new))) (marks old)
 worked_so event choice o n old new follows works = by follows.marked
@@ -109,8 +109,8 @@ marks_told it other struck true before before' now now' old old' same =
 -- one step
 step_told : (event event' : Event) (choice : Choice) (o : model.Outcome BatchContent) (n : Machine)
     (old old' new new' : Slots) →
-    DiskFollows state failures past_states marks event choice o n old new →
-    DiskFollows state failures past_states marks event' choice o n old' new' →
+    DiskFollows in_memory event choice o n old new →
+    DiskFollows in_memory event' choice o n old' new' →
     HasWorked event.kind o n → HasWorked event'.kind o n → HasSamePast new new' →
     IsSameFault event.fault event'.fault choice.struck o.stopped × HasSamePast old old'
 step_told event event' choice o n old old' new new' a b works works' same =
@@ -132,8 +132,8 @@ step_told event event' choice o n old old' new new' a b works works' same =
 told : (cs : Configurations) (i : ℕ) (kinds : List EventKind) (f f' : ℕ → Fault)
     (choices : List Choice) (w : model.SystemState BatchContent)
     (first first' disks disks' : ℕ → Slots) → AllWork cs i kinds choices w →
-    AllFollow state failures past_states marks cs i (with_faults f kinds) choices w first disks →
-    AllFollow state failures past_states marks cs i (with_faults f' kinds) choices w first' disks' →
+    AllFollow in_memory cs i (with_faults f kinds) choices w first disks →
+    AllFollow in_memory cs i (with_faults f' kinds) choices w first' disks' →
     ((x : ℕ) → has (at_epoch cs 0) x ≡ true → disks x ≡ disks' x) →
     AreSame cs i f f' kinds choices w
     × ((x : ℕ) → has (at_epoch cs 0) x ≡ true → HasSamePast (first x) (first' x))
@@ -219,12 +219,12 @@ faults_told cs kinds f f' choices report works run run' =
 -- the mark of a stop event, and the past that its disk had
 stop_marks : (event : Event) (choice : Choice) (o : model.Outcome BatchContent) (n : Machine)
     (junk : Junk) (old new : Slots) → junk_of event.kind ≡ Some junk → o.stopped ≡ true →
-    DiskFollows state failures past_states marks event choice o n old new →
+    DiskFollows in_memory event choice o n old new →
     (marks new ≡ (length (past_states old), Crashed junk) ∷ marks old)
     × (past_states old ≡ before_crash (past_states new))
 stop_marks event choice o n junk old new is stops follows =
     let crashed = subst (λ (j : Option Junk).
-    IsStopOf state failures past_states j event.fault choice
+    IsStopOf in_memory j event.fault choice
     old new) is (follows.stops stops) in
     let past : past_states old ≡ before_crash (past_states new) =
     ap (λ (l : List State). before_crash l) (sym crashed.moment.2) in
@@ -260,8 +260,8 @@ same_state a (now ∷ before) s t same left other =
 pub stops_told : (event event' : Event) (choice choice' : Choice) (o : model.Outcome BatchContent)
     (n : Machine) (junk junk' : Junk) (old old' new : Slots) → junk_of event.kind ≡ Some junk →
     junk_of event'.kind ≡ Some junk' → o.stopped ≡ true →
-    DiskFollows state failures past_states marks event choice o n old new →
-    DiskFollows state failures past_states marks event' choice' o n old' new →
+    DiskFollows in_memory event choice o n old new →
+    DiskFollows in_memory event' choice' o n old' new →
     IsLastLeft (past_states old) (state old) → IsLastLeft (past_states old') (state old') →
     (junk ≡ junk') × HasSamePast old old' × IsSame (state old) (state old')
 stops_told event event' choice choice' o n junk junk' old old' new is is' stops a b last last' =

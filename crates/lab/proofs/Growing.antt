@@ -3,20 +3,20 @@ use Rattle.std.proofs.Common.{◌≡◌, ℕ, suc, ◌+◌, ◌≤◌, List, [],
 use Rattle.std.proofs.Common.{ap, ap₂}
 use Rattle.std.proofs.Common.{subst, ◌∙◌, length-append, arith}
 use Rattle.std.specs.Prelude.{All}
+use Rattle.disk.specs.declared.disk.Disk.{Ghosts}
 use Rattle.std.specs.List.{AllZip}
 use Rattle.std.proofs.lemmas.Slice.Zip.{AllZip-long}
 use Rattle.kv_types.specs.declared.Limits.{Limits}
 use Rattle.kv_types.specs.{BatchContent}
 use Rattle.chain_model.specs.{Configurations, at_epoch, SystemState, run, reached, first_state}
 use Rattle.chain_model.specs.{state_after, outcome}
-use Rattle.disk.specs.{Slots, past_states}
 use Rattle.lab.specs.declared.event.Event.{Event}
 use Rattle.lab.specs.declared.delivery.Posted.{Posted}
 use Rattle.lab.specs.declared.report.Line.{Line}
 use Rattle.lab.specs.declared.sim_node.SimNode.{SimNode}
 use Rattle.lab.specs.Disks.{DisksFollow, AllFollow}
 use Rattle.lab.specs.Events.{modelled, lines_of_event, ChoiceFits}
-use Rattle.lab.specs.SimNodes.{Choice, IsUnarmed, state, failures, marks}
+use Rattle.lab.specs.SimNodes.{Choice, IsUnarmed}
 use Rattle.lab.specs.Traces.{modelled_from, lines_from, AllFit}
 use Rattle.lab.specs.Worlds.{AllNodesFollow, HaveLimits, NodesFollow, NodesRefine, PostedRefines}
 use Rattle.lab.specs.Worlds.{RunRefines, SimNodeRefines, WorldRun, extended, frames_in_steps}
@@ -69,73 +69,75 @@ module _ (cs : Configurations) (e : Event) (ch : Choice) where
         all.1 one,
   )
 
-  pub follow-push : (i k : ℕ) (es : List Event) (chs : List Choice) (w : SystemState BatchContent)
-      (old disks new : ℕ → Slots) → length chs ≡ length es → k ≡ i + length es →
-      AllFollow state failures past_states marks cs i es chs w old disks →
-      let u = run cs (modelled_from i es chs) w in
-      DisksFollow state failures past_states marks e ch
-      (outcome u cs (modelled k e.kind ch)) disks new →
-      AllFollow state failures past_states marks cs i (es ++ e ∷ []) (chs ++ ch ∷ []) w old new
-  follow-push i k [] [] w old disks new same at all one = (
-    new,
-    subst (λ (d : ℕ → Slots). DisksFollow state failures past_states marks e ch
-        (outcome w cs (modelled i e.kind ch)) d new) all
-        (subst (λ (j : ℕ). DisksFollow state failures past_states marks e ch
-        (outcome w cs (modelled j e.kind ch)) disks new) (omega arith) one),
-    refl,
-  )
-  follow-push i k [] (c ∷ chs) w old disks new same at all one = absurd (omega arith)
-  follow-push i k (f ∷ es) [] w old disks new same at all one = absurd all
-  follow-push i k (f ∷ es) (c ∷ chs) w old disks new same at all one = (
-    all.0,
-    all.1,
-    follow-push (suc i) k es chs (state_after cs w (modelled i f.kind c)) all.0 disks new
-        (omega arith) (omega arith) all.2 one,
-  )
+module _ {D : Type 0} {g : Ghosts D} where
+  module _ (cs : Configurations) (e : Event) (ch : Choice) where
+    pub follow-push : (i k : ℕ) (es : List Event) (chs : List Choice) (w : SystemState BatchContent)
+        (old disks new : ℕ → D) → length chs ≡ length es → k ≡ i + length es →
+        AllFollow g cs i es chs w old disks →
+        let u = run cs (modelled_from i es chs) w in
+        DisksFollow g e ch
+        (outcome u cs (modelled k e.kind ch)) disks new →
+        AllFollow g cs i (es ++ e ∷ []) (chs ++ ch ∷ []) w old new
+    follow-push i k [] [] w old disks new same at all one = (
+      new,
+      subst (λ (d : ℕ → D). DisksFollow g e ch
+          (outcome w cs (modelled i e.kind ch)) d new) all
+          (subst (λ (j : ℕ). DisksFollow g e ch
+          (outcome w cs (modelled j e.kind ch)) disks new) (omega arith) one),
+      refl,
+    )
+    follow-push i k [] (c ∷ chs) w old disks new same at all one = absurd (omega arith)
+    follow-push i k (f ∷ es) [] w old disks new same at all one = absurd all
+    follow-push i k (f ∷ es) (c ∷ chs) w old disks new same at all one = (
+      all.0,
+      all.1,
+      follow-push (suc i) k es chs (state_after cs w (modelled i f.kind c)) all.0 disks new
+          (omega arith) (omega arith) all.2 one,
+    )
 
-  pub nodes-push : (limits : Limits) (i k : ℕ) (es : List Event) (chs : List Choice)
-      (w : SystemState BatchContent) (old sims new : List SimNode) →
-      length chs ≡ length es → k ≡ i + length es →
-      AllNodesFollow cs limits i es chs w old sims →
-      let u = run cs (modelled_from i es chs) w in
-      let o = outcome u cs (modelled k e.kind ch) in
-      NodesFollow o.acted_on e ch o sims new → HaveLimits new limits →
-      NodesRefine (state_after cs u (modelled k e.kind ch)).nodes new →
-      AllNodesFollow cs limits i (es ++ e ∷ []) (chs ++ ch ∷ []) w old new
-  nodes-push limits i k [] [] w old sims new same at all one has are = (
-    new,
-    subst (λ (l : List SimNode). let o = outcome w cs (modelled i e.kind ch) in
-        NodesFollow o.acted_on e ch o l new) all
-        (subst (λ (j : ℕ). let o = outcome w cs (modelled j e.kind ch) in
-        NodesFollow o.acted_on e ch o sims new) (omega arith) one),
-    has,
-    subst (λ (j : ℕ). NodesRefine (state_after cs w (modelled j e.kind ch)).nodes new)
-        (omega arith) are,
-    refl,
-  )
-  nodes-push limits i k [] (c ∷ chs) w old sims new same at all one has are = absurd (omega arith)
-  nodes-push limits i k (f ∷ es) [] w old sims new same at all one has are = absurd all
-  nodes-push limits i k (f ∷ es) (c ∷ chs) w old sims new same at all one has are = (
-    all.0,
-    all.1,
-    all.2,
-    all.3,
-    nodes-push limits (suc i) k es chs (state_after cs w (modelled i f.kind c)) all.0 sims new
-        (omega arith) (omega arith) all.4 one has are,
-  )
+    pub nodes-push : (limits : Limits) (i k : ℕ) (es : List Event) (chs : List Choice)
+        (w : SystemState BatchContent) (old sims new : List (SimNode D g)) →
+        length chs ≡ length es → k ≡ i + length es →
+        AllNodesFollow cs limits i es chs w old sims →
+        let u = run cs (modelled_from i es chs) w in
+        let o = outcome u cs (modelled k e.kind ch) in
+        NodesFollow o.acted_on e ch o sims new → HaveLimits new limits →
+        NodesRefine (state_after cs u (modelled k e.kind ch)).nodes new →
+        AllNodesFollow cs limits i (es ++ e ∷ []) (chs ++ ch ∷ []) w old new
+    nodes-push limits i k [] [] w old sims new same at all one has are = (
+      new,
+      subst (λ (l : List (SimNode D g)). let o = outcome w cs (modelled i e.kind ch) in
+          NodesFollow o.acted_on e ch o l new) all
+          (subst (λ (j : ℕ). let o = outcome w cs (modelled j e.kind ch) in
+          NodesFollow o.acted_on e ch o sims new) (omega arith) one),
+      has,
+      subst (λ (j : ℕ). NodesRefine (state_after cs w (modelled j e.kind ch)).nodes new)
+          (omega arith) are,
+      refl,
+    )
+    nodes-push limits i k [] (c ∷ chs) w old sims new same at all one has are = absurd (omega arith)
+    nodes-push limits i k (f ∷ es) [] w old sims new same at all one has are = absurd all
+    nodes-push limits i k (f ∷ es) (c ∷ chs) w old sims new same at all one has are = (
+      all.0,
+      all.1,
+      all.2,
+      all.3,
+      nodes-push limits (suc i) k es chs (state_after cs w (modelled i f.kind c)) all.0 sims new
+          (omega arith) (omega arith) all.4 one has are,
+    )
 
--- nodes that follow from some with these limits have them
-pub follow_limited : (cs : Configurations) (limits : Limits) (i : ℕ) (es : List Event)
-    (chs : List Choice)
-    (w : SystemState BatchContent) (old new : List SimNode) →
-    AllNodesFollow cs limits i es chs w old new → HaveLimits old limits → HaveLimits new limits
-follow_limited cs limits i [] chs w old new all has =
-    subst (λ (l : List SimNode). HaveLimits l limits) (sym all) has
-follow_limited cs limits i (e ∷ es) [] w old new all has = absurd all
-follow_limited cs limits i (e ∷ es) (ch ∷ chs) w old new all has =
-    follow_limited cs limits (suc i) es chs (state_after cs w (modelled i e.kind ch)) all.0 new
-    all.4
-    all.2
+  -- nodes that follow from some with these limits have them
+  pub follow_limited : (cs : Configurations) (limits : Limits) (i : ℕ) (es : List Event)
+      (chs : List Choice)
+      (w : SystemState BatchContent) (old new : List (SimNode D g)) →
+      AllNodesFollow cs limits i es chs w old new → HaveLimits old limits → HaveLimits new limits
+  follow_limited cs limits i [] chs w old new all has =
+      subst (λ (l : List (SimNode D g)). HaveLimits l limits) (sym all) has
+  follow_limited cs limits i (e ∷ es) [] w old new all has = absurd all
+  follow_limited cs limits i (e ∷ es) (ch ∷ chs) w old new all has =
+      follow_limited cs limits (suc i) es chs (state_after cs w (modelled i e.kind ch)) all.0 new
+      all.4
+      all.2
 
 -- each event has its lines
 pub length-lines_from : (cs : Configurations) (i : ℕ) (es : List Event) (chs : List Choice)
@@ -153,25 +155,29 @@ pub frames_in_steps-push : (steps : List (List Line)) (lines : List Line) →
 frames_in_steps-push [] lines = omega arith
 frames_in_steps-push (step ∷ steps) lines = omega (arith, frames_in_steps-push steps lines)
 
--- what the event in place i makes of a world, and its lines
-pub record Next (cs : Configurations) (w : SystemState BatchContent) (old : ℕ → Slots) (i : ℕ)
-    (event : Event) (choice : Choice) (sims : List SimNode) (posted : List Posted)
-    (lines : List Line)
-    : Type 0 where
-  pub traced : lines ≡ lines_of_event (length w.frames) event choice
-      (outcome w cs (modelled i event.kind choice))
-  pub fits : ChoiceFits event choice (outcome w cs (modelled i event.kind choice))
-  pub counted : frames_of_step lines ≡ length (outcome w cs (modelled i event.kind choice)).frames
-  pub frames : AllZip PostedRefines posted (state_after cs w (modelled i event.kind choice)).frames
-  pub nodes : map (λ sim. sim.id) sims ≡ at_epoch cs 0
-  pub disks : ℕ → Slots
-  pub follow : DisksFollow state failures past_states marks event choice
-      (outcome w cs (modelled i event.kind choice)) old disks
-  pub few : (x : ℕ) → failures (disks x) ≤ i
-  pub unarmed : (x : ℕ) → IsUnarmed (disks x)
-  pub each : All (SimNodeRefines (state_after cs w (modelled i event.kind choice)).nodes disks) sims
+module _ {D : Type 0} {g : Ghosts D} where
+  -- what the event in place i makes of a world, and its lines
+  pub record Next (cs : Configurations) (w : SystemState BatchContent) (old : ℕ → D) (i : ℕ)
+      (event : Event) (choice : Choice) (sims : List (SimNode D g)) (posted : List Posted)
+      (lines : List Line)
+      : Type 0 where
+    pub traced : lines ≡ lines_of_event (length w.frames) event choice
+        (outcome w cs (modelled i event.kind choice))
+    pub fits : ChoiceFits event choice (outcome w cs (modelled i event.kind choice))
+    pub counted : frames_of_step lines ≡ length (outcome w cs (modelled i event.kind choice)).frames
+    pub frames : AllZip PostedRefines posted (state_after cs w
+        (modelled i event.kind choice)).frames
+    pub nodes : map (λ sim. sim.id) sims ≡ at_epoch cs 0
+    pub disks : ℕ → D
+    pub follow : DisksFollow g event choice
+        (outcome w cs (modelled i event.kind choice)) old disks
+    pub few : (x : ℕ) → g.failures (disks x) ≤ i
+    pub unarmed : (x : ℕ) → IsUnarmed g (disks x)
+    pub each : All (SimNodeRefines (state_after cs w (modelled i event.kind choice)).nodes disks)
+        sims
 
-module _ (past : WorldRun) (sims : List SimNode) (posted : List Posted)
+module _ {D : Type 0} {g : Ghosts D} (past : WorldRun) (sims : List (SimNode D g))
+    (posted : List Posted)
     (made : RunRefines sims posted past)
   where
     abbrev cs : Configurations
@@ -193,7 +199,8 @@ module _ (past : WorldRun) (sims : List SimNode) (posted : List Posted)
         ∙ length-lines_from cs 1 events choices (first_state cs) made.trace.one_each
 
     -- the next step is one event more
-    pub grown : (i : ℕ) (event : Event) (choice : Choice) (now : List SimNode) (more : List Posted)
+    pub grown : (i : ℕ) (event : Event) (choice : Choice) (now : List (SimNode D g))
+        (more : List Posted)
         (lines : List Line) → i ≡ length events + 1 →
         Next cs so_far made.disks i event choice now more lines →
         RunRefines now more (extended past event choice lines)

@@ -7,7 +7,7 @@ use Rattle.std.proofs.lemmas.Bool.{cond-true, cond-false, false≢true}
 use Rattle.kv_types.specs.{BatchContent}
 use Rattle.disk.specs.declared.Fault.{Fault}
 use Rattle.disk.specs.declared.Fault.TheVariants as fault
-use Rattle.disk.specs.{IsEnvironmental, Slots}
+use Rattle.disk.specs.{IsEnvironmental}
 use Rattle.chain_model.specs.{Configurations, Answer, dropped_for, stopped, SystemState, Outcome}
 use Rattle.chain_model.specs.{StepResult, Answered, StoppedBefore, StoppedAfter, outcome, answers}
 use Rattle.chain_model.specs.{stops, as_completed}
@@ -34,7 +34,7 @@ use Rattle.lab.specs.declared.report.Line.TheVariants as line
 use Rattle.lab.specs.Events.{RiseFits, dropped_lines, epoch_in, frame_lines, lines_of_event}
 use Rattle.lab.specs.Events.{modelled, turn_trace}
 use Rattle.lab.specs.Events.{reply_line, reply_lines, reported_cause, line_cause}
-use Rattle.lab.specs.SimNodes.{StateRefines, Choice, is_honest, state}
+use Rattle.lab.specs.SimNodes.{StateRefines, Choice}
 use Rattle.lab.specs.Outcomes.{down_answer, IsAnswer, IsDrop, HasAnswered}
 use Rattle.lab.specs.Outcomes.{HasHandled, Answers, Ends, Rests, StopsByItself}
 use Rattle.lab.specs.Outcomes.{adopted_lines, outcome_lines, sent_by}
@@ -76,9 +76,10 @@ with_fault kind it = record { kind = kind; fault = it }
 
 -- an event's outcome with its lines: the node that it was for, and the state of that node now,
 -- where the fault struck or did not
-pub record IsOutcome {g : Ghosts Slots} (cs : Configurations) (w : SystemState BatchContent)
+pub record IsOutcome {D : Type 0} {g : Ghosts D} (cs : Configurations)
+    (w : SystemState BatchContent)
     (i x : ℕ)
-    (kind : EventKind) (it : Fault) (struck : Bool) (new : NodeState Slots g) (did : StepOutcome)
+    (kind : EventKind) (it : Fault) (struck : Bool) (new : NodeState D g) (did : StepOutcome)
     : Type 0 where
   pub choice : Choice
   pub chose : choice.struck ≡ struck
@@ -86,7 +87,7 @@ pub record IsOutcome {g : Ghosts Slots} (cs : Configurations) (w : SystemState B
   pub risen : RaisesAsTold x (w.nodes x) new choice did
   pub node : Machine
   pub came : (outcome w cs (modelled i kind choice)).acted_on ≡ Some (x, node)
-  pub is : StateRefines is_honest state new x node
+  pub is : StateRefines g.is_honest g.state new x node
   pub frames : AreFrames (sent_by did) (outcome w cs (modelled i kind choice)).frames
   pub traced : (n : ℕ) → outcome_lines x (epoch_in kind) n did
       ≡ lines_of_event n (with_fault kind it) choice (outcome w cs (modelled i kind choice))
@@ -120,13 +121,13 @@ chosen went struck cause =
       gives_up = 0;
     }
 
-module _ {g : Ghosts Slots} (cs : Configurations) (w : SystemState BatchContent) (i x : ℕ)
-    (kind : EventKind) (it : Fault) (new : NodeState Slots g) (did : StepOutcome) where
+module _ {D : Type 0} {g : Ghosts D} (cs : Configurations) (w : SystemState BatchContent) (i x : ℕ)
+    (kind : EventKind) (it : Fault) (new : NodeState D g) (did : StepOutcome) where
   -- with this choice the outcome is this one
   pub as_chosen : (choice : Choice) (o : Outcome BatchContent) (n : Machine) →
       RiseFits kind choice o → RaisesAsTold x (w.nodes x) new choice did →
       outcome w cs (modelled i kind choice) ≡ o → o.acted_on ≡ Some (x, n) →
-      StateRefines is_honest state new x n → IsTraced x (with_fault kind it) choice did o →
+      StateRefines g.is_honest g.state new x n → IsTraced x (with_fault kind it) choice did o →
       IsOutcome cs w i x kind it choice.struck new did
   as_chosen choice o n tends risen is_o came is tells =
       let same = sym is_o in
@@ -152,7 +153,7 @@ module _ {g : Ghosts Slots} (cs : Configurations) (w : SystemState BatchContent)
   pub as_plain : (choice : Choice) → ChoosesNoRise choice → IsNoTend did →
       (o : Outcome BatchContent) (n : Machine) →
       outcome w cs (modelled i kind choice) ≡ o → o.acted_on ≡ Some (x, n) →
-      StateRefines is_honest state new x n → IsTraced x (with_fault kind it) choice did o →
+      StateRefines g.is_honest g.state new x n → IsTraced x (with_fault kind it) choice did o →
       IsOutcome cs w i x kind it choice.struck new did
   as_plain choice none other o n =
       as_chosen choice o n (no_rise kind choice o none) (λ answer is. absurd (other answer is))
@@ -236,8 +237,8 @@ shows_so inp kind (r ∷ replies) each =
     (replies_of inp replies))
 
 -- an input, as the model has it
-module _ {g : Ghosts Slots} (cs : Configurations) (w : SystemState BatchContent) (i x : ℕ)
-    (kind : EventKind) (it : Fault) (struck : Bool) (inp : Input) (new : NodeState Slots g)
+module _ {D : Type 0} {g : Ghosts D} (cs : Configurations) (w : SystemState BatchContent) (i x : ℕ)
+    (kind : EventKind) (it : Fault) (struck : Bool) (inp : Input) (new : NodeState D g)
     (did : StepOutcome)
     (at : (choice : Choice) → outcome w cs (modelled i kind choice)
     ≡ cond (w.nodes x).running
@@ -277,7 +278,7 @@ module _ {g : Ghosts Slots} (cs : Configurations) (w : SystemState BatchContent)
       (stop_traced x (with_fault kind it) choice (line_cause it struck stop.cause) n (causes choice)
       stop.device (told_fits it struck stop.cause stop.environmental))
 
-  pub given : HasHandled is_honest state it struck x (w.nodes x) inp new did →
+  pub given : HasHandled g.is_honest g.state it struck x (w.nodes x) inp new did →
       IsOutcome cs w i x kind it struck new did
   given (Answers up is traced) =
       as_plain cs w i x kind it new did (chosen Answered struck Disk) (refl, refl)
@@ -301,7 +302,7 @@ module _ {g : Ghosts Slots} (cs : Configurations) (w : SystemState BatchContent)
       (no_answer traced.1) (answers x (down_answer (w.nodes x) inp))
       (down_answer (w.nodes x) inp).node
       (rests (chosen Answered struck Disk) off) refl
-      (subst (λ (n : Machine). StateRefines is_honest state new x n) (sym (rests_same inp)) is)
+      (subst (λ (n : Machine). StateRefines g.is_honest g.state new x n) (sym (rests_same inp)) is)
       (tells (down_answer (w.nodes x) inp) traced (turns (chosen Answered struck Disk)).1)
     where
       rests_same : (inp : Input) → (down_answer (w.nodes x) inp).node ≡ w.nodes x

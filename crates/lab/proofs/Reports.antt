@@ -6,7 +6,7 @@ use Rattle.std.proofs.lemmas.List.Elements.{All-weaker, recursion_from_All}
 use Rattle.kv_types.specs.declared.Limits.{Limits}
 use Rattle.kv_types.specs.{BatchContent}
 use Rattle.kv_types.specs.Pages.{PagesAgree}
-use Rattle.disk.specs.{Marks, Slots, State}
+use Rattle.disk.specs.{Slots}
 use Rattle.chain_model.specs.{Configurations, has, last_of, ResponseAgrees, OneList, batches, Part}
 use Rattle.chain_model.specs.{IsPrefix, RunIsOutcomes, Response, Outcome, SystemEvent as ModelEvent}
 use Rattle.chain_model.specs.{outcomes, first_state, reached, node_of}
@@ -14,7 +14,6 @@ use Rattle.chain_core.specs.{Machine}
 use Rattle.disk.specs.declared.Disk.{Ghosts}
 use Rattle.node.specs.declared.Node.{Node}
 use Rattle.node.specs.{NodeRefines, DiskAlwaysRefines, disk_of}
-use Rattle.disk.specs.{past_states}
 use Rattle.lab.specs.declared.event.Event.{Event}
 use Rattle.lab.specs.declared.node_state.NodeState.{NodeState}
 use Rattle.lab.specs.declared.node_state.NodeState.TheVariants.{Up, Down}
@@ -26,27 +25,25 @@ use Rattle.lab.specs.declared.sim_node.SimNode.{SimNode}
 use Rattle.lab.specs.Disks.{HaveDisks, IsDiskOf}
 use Rattle.lab.specs.Freshness.{NodesKeepEnough, ReadsAreFresh}
 use Rattle.lab.specs.History.{HasAll, IsHistory, LineAgrees, Placed}
-use Rattle.lab.specs.SimNodes.{Choice, IsUnarmed, StateRefines, disk_in, is_honest, state}
-use Rattle.lab.specs.SimNodes.{failures, marks}
+use Rattle.lab.specs.SimNodes.{Choice, IsUnarmed, StateRefines, disk_in, in_memory, state}
 use Rattle.lab.specs.Runs.{IsRun, RunningRefines}
 use Rattle.lab.specs.Traces.{modelled_from, IsTrace}
-use Rattle.lab.specs.declared.world.World.{World}
 use Rattle.lab.specs.Worlds.{AreLeft, AreNodesAfter, AreReportsAfter, HasRun, IsLeft, IsReportOf}
-use Rattle.lab.specs.Worlds.{RunRefines, SimNodeRefines, WorldHasLimits, WorldRun}
+use Rattle.lab.specs.Worlds.{MemNode, MemWorld, RunRefines, SimNodeRefines, WorldHasLimits}
+use Rattle.lab.specs.Worlds.{WorldRun}
 use Rattle.lab.proofs.Histories.{numbered_same, submitted_same, all_agree}
 use Rattle.lab.proofs.Submits.{all_ordered, all_submitted}
 use Rattle.lab.proofs.Nodes.{reported_ids}
 
 -- the model's one list is that of the lines and of the disks
-pub one_of : {D N : Type 0} (state : D → State) (failures : D → ℕ) (past : D → List State)
-    (marks : D → Marks) (id : N → ℕ) (disk : N → D)
+pub one_of : {D N : Type 0} (g : Ghosts D) (id : N → ℕ) (disk : N → D)
     (cs : Configurations) (events : List Event) (choices : List Choice) (steps : List (List Line))
     (nodes : List N) → IsTrace cs events choices steps →
-    HaveDisks state failures past marks id disk cs events choices nodes →
+    HaveDisks g id disk cs events choices nodes →
     OneList cs (modelled_from 1 events choices) →
     RunIsOutcomes cs (modelled_from 1 events choices) → PagesAgree →
-    IsHistory state id disk cs events steps nodes
-one_of state failures past marks id disk cs events choices steps nodes trace disks one made pages =
+    IsHistory g.state id disk cs events steps nodes
+one_of g id disk cs events choices steps nodes trace disks one made pages =
     let es = modelled_from 1 events choices in
     let same = numbered_same 1 events choices in
     let agrees = subst (λ (l : List (ModelEvent BatchContent)). All (ResponseAgrees one.B)
@@ -72,9 +69,9 @@ one_of state failures past marks id disk cs events choices steps nodes trace dis
             (all_agree pages one.B cs 1 events choices (first_state cs) trace.one_each replies);
       };
       disks = All-weaker
-          (λ node. IsDiskOf state (id node) (node_of cs es (id node)) (disk node)
+          (λ node. IsDiskOf g.state (id node) (node_of cs es (id node)) (disk node)
           (disks.disks (id node)))
-          (λ node. has (last_of cs) (id node) ≡ true → HasAll one.B (id node) (state (disk node)))
+          (λ node. has (last_of cs) (id node) ≡ true → HasAll one.B (id node) (g.state (disk node)))
           (λ node own last. λ after now. (
             (node_of cs es (id node)).epoch,
             (node_of cs es (id node)).ids,
@@ -87,14 +84,15 @@ one_of state failures past marks id disk cs events choices steps nodes trace dis
     }
 
 -- the disk of a node represents its machine, up or down, where that of each node that is up does
-pub disk_represents : {g : Ghosts Slots} → ((node : Node Slots g) (x : ℕ) (n : Machine) →
-    NodeRefines is_honest state node x n → DiskAlwaysRefines (state (disk_of node)) x n) →
-    (new : NodeState Slots g) (x : ℕ) (n : Machine) → StateRefines is_honest state new x n →
-    DiskAlwaysRefines (state (disk_in new)) x n
+pub disk_represents : {D : Type 0} {g : Ghosts D} → ((node : Node D g) (x : ℕ) (n : Machine) →
+    NodeRefines g.is_honest g.state node x n → DiskAlwaysRefines (g.state (disk_of node)) x n) →
+    (new : NodeState D g) (x : ℕ) (n : Machine) → StateRefines g.is_honest g.state new x n →
+    DiskAlwaysRefines (g.state (disk_in new)) x n
 disk_represents law (Up node) x n is = law node x n is
 disk_represents law (Down disk) x n is = is.1
 
-module _ (sims : List SimNode) (posted : List Posted) (past : WorldRun)
+module _ {D : Type 0} {g : Ghosts D} (sims : List (SimNode D g)) (posted : List Posted)
+    (past : WorldRun)
     (made : RunRefines sims posted past) where
   abbrev cs : Configurations
   cs = past.configs
@@ -105,17 +103,52 @@ module _ (sims : List SimNode) (posted : List Posted) (past : WorldRun)
   abbrev choices : List Choice
   choices = past.choices
 
+  -- no disk of its nodes has a fault
+  pub unarmed_so_far : All (λ (sim : SimNode D g). IsUnarmed g (disk_in sim.state)) sims
+  unarmed_so_far =
+      All-weaker (SimNodeRefines (node_of cs (modelled_from 1 events choices)) made.disks)
+      (λ sim. IsUnarmed g (disk_in sim.state))
+      (λ sim refined_at. subst (λ (d : D). IsUnarmed g d) (sym refined_at.disk)
+      (made.unarmed sim.id)) sims made.each
+
+  -- and the disks of its nodes are those that its run left so far
+  pub disks_so_far : ((sim : SimNode D g) (x : ℕ) (n : Machine) →
+      StateRefines g.is_honest g.state sim.state x n →
+      DiskAlwaysRefines (g.state (disk_in sim.state)) x n) →
+      HaveDisks g (λ (sim : SimNode D g). sim.id)
+      (λ (sim : SimNode D g). disk_in sim.state) cs
+      events choices sims
+  disks_so_far law =
+      let machines = node_of cs (modelled_from 1 events choices) in
+      record {
+        ids = made.nodes;
+        disks = made.disks;
+        after = made.after;
+        each = All-weaker (SimNodeRefines machines made.disks)
+            (λ sim. IsDiskOf g.state sim.id (machines sim.id) (disk_in sim.state)
+            (made.disks sim.id))
+            (λ sim refined_at. record {
+              same = refined_at.disk;
+              stands = law sim sim.id (machines sim.id) refined_at.is;
+            }) sims made.each;
+      }
+
+module _ (sims : List MemNode) (posted : List Posted) (past : WorldRun)
+    (made : RunRefines sims posted past) where
   -- what is left of a world's nodes is a run
   pub run_left : (report : Report) → report.steps.items ≡ past.steps →
-      AreLeft sims report.nodes.items → ReadsAreFresh cs events choices past.steps →
-      NodesKeepEnough cs events choices → IsRun cs events choices report
+      AreLeft sims report.nodes.items → ReadsAreFresh past.configs past.events past.choices
+      past.steps →
+      NodesKeepEnough past.configs past.events past.choices →
+      IsRun past.configs past.events past.choices report
   run_left report same left fresh enough =
       let nodes = report.nodes.items in
-      let machines = node_of cs (modelled_from 1 events choices) in
+      let machines = node_of past.configs (modelled_from 1 past.events past.choices) in
       let each = left.each machines made.disks made.each in
       let Left : NodeReport → Type 0 = λ n. IsLeft (machines n.id) (made.disks n.id) n in
       record {
-        trace = subst (λ (l : List (List Line)). IsTrace cs events choices l) (sym same)
+        trace = subst (λ (l : List (List Line)). IsTrace past.configs past.events past.choices l)
+            (sym same)
             made.trace;
         disks = record {
           ids = reported_ids sims nodes left.own ∙ made.nodes;
@@ -125,49 +158,21 @@ module _ (sims : List SimNode) (posted : List Posted) (past : WorldRun)
               (λ n. IsDiskOf state n.id (machines n.id) n.disk (made.disks n.id))
               (λ n left. left.disk) nodes each;
         };
-        unarmed = All-weaker Left (λ n. IsUnarmed n.disk)
-            (λ n left. subst (λ (d : Slots). IsUnarmed d) (sym left.disk.same)
+        reliable = λ disk few. few;
+        unarmed = All-weaker Left (λ n. IsUnarmed in_memory n.disk)
+            (λ n left. subst (λ (d : Slots). IsUnarmed in_memory d) (sym left.disk.same)
             (made.unarmed n.id)) nodes each;
         numbers = All-weaker Left (λ n. RunningRefines n.running (machines n.id))
             (λ n left. left.numbers)
             nodes each;
-        fresh = subst (λ (l : List (List Line)). ReadsAreFresh cs events choices l) (sym same)
+        fresh = subst (λ (l : List (List Line)). ReadsAreFresh past.configs past.events past.choices
+            l) (sym same)
             fresh;
         enough = enough;
       }
 
-  -- no disk of its nodes has a fault
-  pub unarmed_so_far : All (λ (sim : SimNode). IsUnarmed (disk_in sim.state)) sims
-  unarmed_so_far =
-      All-weaker (SimNodeRefines (node_of cs (modelled_from 1 events choices)) made.disks)
-      (λ sim. IsUnarmed (disk_in sim.state))
-      (λ sim refined_at. subst (λ (d : Slots). IsUnarmed d) (sym refined_at.disk)
-      (made.unarmed sim.id)) sims made.each
-
-  -- and the disks of its nodes are those that its run left so far
-  pub disks_so_far : ((sim : SimNode) (x : ℕ) (n : Machine) →
-      StateRefines is_honest state sim.state x n →
-      DiskAlwaysRefines (state (disk_in sim.state)) x n) →
-      HaveDisks state failures past_states marks (λ (sim : SimNode). sim.id)
-      (λ (sim : SimNode). disk_in sim.state) cs
-      events choices sims
-  disks_so_far law =
-      let machines = node_of cs (modelled_from 1 events choices) in
-      record {
-        ids = made.nodes;
-        disks = made.disks;
-        after = made.after;
-        each = All-weaker (SimNodeRefines machines made.disks)
-            (λ sim. IsDiskOf state sim.id (machines sim.id) (disk_in sim.state)
-            (made.disks sim.id))
-            (λ sim refined_at. record {
-              same = refined_at.disk;
-              stands = law sim sim.id (machines sim.id) refined_at.is;
-            }) sims made.each;
-      }
-
 -- a report of a world that has run these events is of the nodes that they left, with its limits
-pub reported_run : {E : Type 0} (world : World) (limits : Limits) (past : WorldRun) →
+pub reported_run : {E : Type 0} (world : MemWorld) (limits : Limits) (past : WorldRun) →
     HasRun world past → WorldHasLimits world limits → (result : Result Report E) →
     IfOk result (IsRun past.configs past.events past.choices) →
     IfOk result (λ report. AllZip IsReportOf world.nodes.items report.nodes.items) →

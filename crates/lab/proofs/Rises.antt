@@ -4,7 +4,6 @@ use Rattle.std.proofs.lemmas.Bool.{false≢true}
 use Rattle.std.specs.Prelude.{Option}
 use Rattle.kv_types.specs.{BatchContent}
 use Rattle.disk.specs.declared.Disk.{Ghosts}
-use Rattle.disk.specs.{Slots}
 use Rattle.chain_model.specs.{Outcome}
 use Rattle.chain_core.specs.{Machine}
 use Rattle.engine.specs.Tended.{Tended}
@@ -19,7 +18,7 @@ use Rattle.lab.specs.Outcomes.{rises_in}
 use Rattle.lab.specs.SimNodes.{Choice}
 
 -- where the outcome is a tend's, the floor was chosen to rise as the node's facts tell
-abbrev pub RaisesAsTold : {g : Ghosts Slots} → ℕ → Machine → NodeState Slots g → Choice
+abbrev pub RaisesAsTold : {D : Type 0} {g : Ghosts D} → ℕ → Machine → NodeState D g → Choice
     → StepOutcome → Type 0
 RaisesAsTold x n new choice did =
     (answer : Tended) → did ≡ done.Tended answer → choice.rises ≡ rises_in x n new

@@ -3,48 +3,63 @@ use Rattle.std.proofs.Common.{◌≡◌, ℕ, zero, suc, ◌<◌, List, [], ◌�
 use Rattle.std.proofs.Common.{Some, true, false, ◌==◌, refl, sym, ap, subst, ◌∙◌, eq-eqb, eqb-true}
 use Rattle.std.proofs.Common.{arith}
 use Rattle.std.specs.List.{AllByRecursion}
+use Rattle.std.specs.Prelude.{All}
 use Rattle.std.proofs.lemmas.Bool.{cond_both, cond-true, cond-false, false≢true}
-use Rattle.std.proofs.lemmas.List.Elements.{recursion_from_All}
+use Rattle.std.proofs.lemmas.List.Elements.{All-get_or, recursion_from_All}
 use Rattle.kv_types.specs.{BatchContent}
+use Rattle.disk.specs.declared.disk.Disk.{Ghosts}
 use Rattle.chain_model.specs.{has, AllDifferent, SystemState, Outcome, after}
 use Rattle.chain_core.specs.{Machine}
 use Rattle.lab.specs.declared.sim_node.SimNode.{SimNode}
-use Rattle.disk.specs.{Slots}
-use Rattle.lab.specs.SimNodes.{StateRefines, disk_in, is_honest, state}
-use Rattle.lab.specs.Worlds.{SimNodeRefines, HasNoNode}
+use Rattle.lab.specs.SimNodes.{StateRefines, disk_in}
+use Rattle.lab.specs.Worlds.{HasNoNode, IsIndexOf, SimNodeRefines}
 use Rattle.lab.proofs.Disks.{with_disk, disk_here, disk_elsewhere}
 
--- the ids of nodes
-abbrev pub ids_of : List SimNode → List ℕ
-ids_of sims = map (λ (sim : SimNode). sim.id) sims
+module _ {D : Type 0} {g : Ghosts D} where
+  -- the ids of nodes
+  abbrev pub ids_of : List (SimNode D g) → List ℕ
+  ids_of sims = map (λ (sim : SimNode D g). sim.id) sims
 
--- an id that is among the ids has a node
-pub has_node : (sims : List SimNode) (x : ℕ) → has (ids_of sims) x ≡ true →
-    AllByRecursion (λ (sim : SimNode). sim.id ≡ x → ⊥) sims → ⊥
-has_node [] x is none = false≢true is
-has_node (s ∷ sims) x is none =
-    cond_both (s.id == x) true (has (ids_of sims) x) (λ b. b ≡ true → ⊥)
-    (λ same e. none.0 (eqb-true s.id x same)) (λ other e. has_node sims x e none.1) is
+  -- an id that is among the ids has a node
+  pub has_node : (sims : List (SimNode D g)) (x : ℕ) → has (ids_of sims) x ≡ true →
+      AllByRecursion (λ (sim : SimNode D g). sim.id ≡ x → ⊥) sims → ⊥
+  has_node [] x is none = false≢true is
+  has_node (s ∷ sims) x is none =
+      cond_both (s.id == x) true (has (ids_of sims) x) (λ b. b ≡ true → ⊥)
+      (λ same e. none.0 (eqb-true s.id x same)) (λ other e. has_node sims x e none.1) is
 
-pub has_one : (sims : List SimNode) (x : ℕ) → has (ids_of sims) x ≡ true → HasNoNode sims x → ⊥
-has_one sims x is none =
-    has_node sims x is (recursion_from_All (λ (sim : SimNode). sim.id ≡ x → ⊥) sims none)
+  pub has_one : (sims : List (SimNode D g)) (x : ℕ) → has (ids_of sims) x ≡ true →
+      HasNoNode sims x → ⊥
+  has_one sims x is none =
+      has_node sims x is (recursion_from_All (λ (sim : SimNode D g). sim.id ≡ x → ⊥) sims none)
 
--- the id of each node is among them
-pub has_at : (sims : List SimNode) (k : ℕ) (d : SimNode) → k < length sims →
-    has (ids_of sims) (get_or sims k d).id ≡ true
-has_at [] k d within = absurd (omega arith)
-has_at (s ∷ sims) zero d within =
-    cond-true (s.id == s.id) true (has (ids_of sims) s.id) (eq-eqb s.id s.id refl)
-has_at (s ∷ sims) (suc k) d within =
-    cond_both (s.id == (get_or sims k d).id) true (has (ids_of sims) (get_or sims k d).id)
-    (λ b. b ≡ true) (λ same. refl) (λ other. has_at sims k d (omega arith))
+  -- the id of each node is among them
+  pub has_at : (sims : List (SimNode D g)) (k : ℕ) (d : SimNode D g) → k < length sims →
+      has (ids_of sims) (get_or sims k d).id ≡ true
+  has_at [] k d within = absurd (omega arith)
+  has_at (s ∷ sims) zero d within =
+      cond-true (s.id == s.id) true (has (ids_of sims) s.id) (eq-eqb s.id s.id refl)
+  has_at (s ∷ sims) (suc k) d within =
+      cond_both (s.id == (get_or sims k d).id) true (has (ids_of sims) (get_or sims k d).id)
+      (λ b. b ≡ true) (λ same. refl) (λ other. has_at sims k d (omega arith))
+
+  -- the node at the index of an id refines the machine of that
+  pub refined_of : (machines : ℕ → Machine) (disks : ℕ → D) (sims : List (SimNode D g)) (i x : ℕ)
+      (own : SimNode D g) → IsIndexOf sims i x → own ≡ get_or sims i own →
+      All (SimNodeRefines machines disks) sims →
+      StateRefines g.is_honest g.state own.state x (machines x)
+  refined_of machines disks sims i x own at is all =
+      let P : SimNode D g → Type 0 = SimNodeRefines machines disks in
+      let had = subst P (sym is) (All-get_or P sims i own at.within all) in
+      subst (λ (y : ℕ). StateRefines g.is_honest g.state own.state y (machines y))
+      (ap (λ (s : SimNode D g). s.id) is ∙ at.id own) had.is
 
 -- an event was for node x, which is n after it and has this disk
-module _ (w : SystemState BatchContent) (disks : ℕ → Slots) (o : Outcome BatchContent) (x : ℕ)
-    (n : Machine) (own : Slots) (came : o.acted_on ≡ Some (x, n)) where
+module _ {D : Type 0} (g : Ghosts D) (w : SystemState BatchContent) (disks : ℕ → D)
+    (o : Outcome BatchContent) (x : ℕ)
+    (n : Machine) (own : D) (came : o.acted_on ≡ Some (x, n)) where
   -- the disks then
-  abbrev now_disks : ℕ → Slots
+  abbrev now_disks : ℕ → D
   now_disks = with_disk disks x own
 
   here : (after w o).nodes x ≡ n
@@ -59,17 +74,17 @@ module _ (w : SystemState BatchContent) (disks : ℕ → Slots) (o : Outcome Bat
           (λ differs. differs)
 
   -- a node with another id is as it was
-  stays : (s : SimNode) → (s.id == x) ≡ false → SimNodeRefines w.nodes disks s →
+  stays : (s : SimNode D g) → (s.id == x) ≡ false → SimNodeRefines w.nodes disks s →
       SimNodeRefines (after w o).nodes now_disks s
   stays s other refined_at = record {
-    is = subst (λ (m : Machine). StateRefines is_honest state s.state s.id m) (sym
+    is = subst (λ (m : Machine). StateRefines g.is_honest g.state s.state s.id m) (sym
         (elsewhere s.id other))
         refined_at.is;
     disk = refined_at.disk ∙ sym (disk_elsewhere disks x own s.id other);
   }
 
   -- .. and so are all of them
-  stay : (sims : List SimNode) → has (ids_of sims) x ≡ false →
+  stay : (sims : List (SimNode D g)) → has (ids_of sims) x ≡ false →
       AllByRecursion (SimNodeRefines w.nodes disks) sims →
       AllByRecursion (SimNodeRefines (after w o).nodes now_disks) sims
   stay [] none all = tt
@@ -83,17 +98,17 @@ module _ (w : SystemState BatchContent) (disks : ℕ → Slots) (o : Outcome Bat
       )) none
 
   -- the one that it was for is n
-  pub refined_at : (sims : List SimNode) (k : ℕ) (now : SimNode) → k < length sims →
+  pub refined_at : (sims : List (SimNode D g)) (k : ℕ) (now : SimNode D g) → k < length sims →
       AllDifferent (ids_of sims) → (get_or sims k now).id ≡ x → now.id ≡ x →
-      StateRefines is_honest state now.state x n → disk_in now.state ≡ own →
+      StateRefines g.is_honest g.state now.state x n → disk_in now.state ≡ own →
       AllByRecursion (SimNodeRefines w.nodes disks) sims →
       AllByRecursion (SimNodeRefines (after w o).nodes now_disks) (slice_set sims k now)
   refined_at [] k now within differ was id is owns all = absurd (omega arith)
   refined_at (s ∷ sims) zero now within differ was id is owns all = (
     record {
-      is = subst (λ (y : ℕ). StateRefines is_honest state now.state y ((after w o).nodes y))
+      is = subst (λ (y : ℕ). StateRefines g.is_honest g.state now.state y ((after w o).nodes y))
           (sym id)
-          (subst (λ (m : Machine). StateRefines is_honest state now.state x m) (sym here) is);
+          (subst (λ (m : Machine). StateRefines g.is_honest g.state now.state x m) (sym here) is);
       disk = owns ∙ (sym (disk_here disks x own) ∙ ap now_disks (sym id));
     },
     stay sims (subst (λ (y : ℕ). has (ids_of sims) y ≡ false) was differ.0) all.1,

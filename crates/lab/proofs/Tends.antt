@@ -5,7 +5,6 @@ use Rattle.std.proofs.lemmas.Bool.{cond-true, cond-false, false≢true}
 use Rattle.kv_types.specs.{BatchContent}
 use Rattle.disk.specs.declared.Disk.{Ghosts}
 use Rattle.disk.specs.declared.Fault.{Fault}
-use Rattle.disk.specs.{Slots}
 use Rattle.chain_model.specs.declared.DropReason.TheVariants as reason
 use Rattle.chain_model.specs.{Answered, Configurations, Outcome, StoppedAfter, StoppedBefore}
 use Rattle.chain_model.specs.{StepResult, SystemState, answers, as_completed, dropped_for, outcome}
@@ -27,7 +26,7 @@ use Rattle.lab.specs.declared.node_state.NodeState.TheVariants.{Up, Down}
 use Rattle.lab.specs.Events.{RiseFits, line_cause, modelled}
 use Rattle.lab.specs.Outcomes.{Halts, HasTended, IsTendedAnswer, StopsByItself, Tends, TendsNot}
 use Rattle.lab.specs.Outcomes.{rises_in, tended_in}
-use Rattle.lab.specs.SimNodes.{Choice, StateRefines, is_honest, state}
+use Rattle.lab.specs.SimNodes.{Choice, StateRefines}
 use Rattle.lab.proofs.Outcomes.{IsOutcome, IsTraced, as_chosen, as_plain, chosen, drop_traced}
 use Rattle.lab.proofs.Outcomes.{stop_traced, told_fits, with_fault}
 use Rattle.lab.proofs.Rises.{no_answer, no_rise, no_stop}
@@ -53,8 +52,8 @@ tend_again : (n : Machine) (kept : ℕ) →
 tend_again n kept =
     ap (λ (k : ℕ). record (tend n true kept).node { kept = k }) (kept_again n kept)
 
-module _ {g : Ghosts Slots} (cs : Configurations) (w : SystemState BatchContent) (i x : ℕ)
-    (it : Fault) (struck : Bool) (old new : NodeState Slots g) (did : StepOutcome)
+module _ {D : Type 0} {g : Ghosts D} (cs : Configurations) (w : SystemState BatchContent) (i x : ℕ)
+    (it : Fault) (struck : Bool) (old new : NodeState D g) (did : StepOutcome)
   where
     -- the machine of the node
     abbrev machine : Machine
@@ -95,8 +94,8 @@ module _ {g : Ghosts Slots} (cs : Configurations) (w : SystemState BatchContent)
         no_rise (Tend x) choice o (rises, gives_up)
 
     -- the node ran, and its facts say what rose
-    tends_so : (now : Node Slots g) (answer : Tended) → new ≡ Up now → machine.running ≡ true →
-        StateRefines is_honest state (Up now) x (tended_in x machine (Up now)).node →
+    tends_so : (now : Node D g) (answer : Tended) → new ≡ Up now → machine.running ≡ true →
+        StateRefines g.is_honest g.state (Up now) x (tended_in x machine (Up now)).node →
         did ≡ done.Tended answer → IsOutcome cs w i x (Tend x) it struck new did
     tends_so now answer is_up up is traced =
         let facts = facts_of (engine_of now) in
@@ -109,7 +108,7 @@ module _ {g : Ghosts Slots} (cs : Configurations) (w : SystemState BatchContent)
         (λ _. ap (λ (f : Facts). f.kept) is.facts))
         (λ told _. ap (rises_in x machine) (sym is_up))
         (ran choice up ∙ ap (answers x) same) refl
-        (subst (λ (s : NodeState Slots g). StateRefines is_honest state s x a.node) (sym is_up) is)
+        (subst (λ (s : NodeState D g). StateRefines g.is_honest g.state s x a.node) (sym is_up) is)
         (subst (λ (d : StepOutcome). IsTraced x (with_fault (Tend x) it) choice d (answers x a))
         (sym traced) (silent_traced rises))
       where
@@ -148,12 +147,12 @@ module _ {g : Ghosts Slots} (cs : Configurations) (w : SystemState BatchContent)
         (λ strikes. is_cause ∙ by.device (sym is_struck ∙ strikes))
         (told_fits it struck by.cause by.environmental))
 
-    pub tended : HasTended is_honest state it struck x machine old new did →
+    pub tended : HasTended g.is_honest g.state it struck x machine old new did →
         IsOutcome cs w i x (Tend x) it struck new did
     tended (Tends up is traced) = by_state old new refl is traced.2
       where
-        by_state : (was now : NodeState Slots g) → new ≡ now →
-            StateRefines is_honest state now x (tended_in x machine now).node →
+        by_state : (was now : NodeState D g) → new ≡ now →
+            StateRefines g.is_honest g.state now x (tended_in x machine now).node →
             IsTendedAnswer was now traced.0 → IsOutcome cs w i x (Tend x) it struck new did
         by_state (Up was) (Up now) same is told = tends_so now traced.0 same up is traced.1
         by_state (Up was) (Down disk) same is told = absurd told

@@ -2,6 +2,7 @@
 use Rattle.std.proofs.Common.{◌≡◌, ℕ, suc, ◌+◌, ◌≤◌, List, [], ◌∷◌, ◌++◌, length, true, false}
 use Rattle.std.proofs.Common.{Result, Ok, Err, refl, sym, ap, subst, ◌∙◌, arith}
 use Rattle.std.specs.Prelude.{MatchResult, OnErr, OnOk, Option, Some, None}
+use Rattle.disk.specs.declared.disk.Disk.{Ghosts}
 use Rattle.std.proofs.lemmas.Bool.{false≢true}
 use Rattle.std.proofs.lemmas.List.Elements.{All-weaker}
 use Rattle.kv_types.specs.declared.bounds.TheConstants.{MAX_NUMBER}
@@ -16,7 +17,7 @@ use Rattle.lab.specs.declared.report.Line.TheVariants.{Nothing}
 use Rattle.lab.specs.declared.sim_node.SimNode.{SimNode}
 use Rattle.lab.specs.declared.world.World.{World}
 use Rattle.lab.specs.Events.{NamesNode}
-use Rattle.lab.specs.SimNodes.{Choice, StateRefines, is_honest, state}
+use Rattle.lab.specs.SimNodes.{Choice, StateRefines}
 use Rattle.lab.specs.Traces.{modelled_from}
 use Rattle.lab.specs.Worlds.{FollowRun, HasApplied, HasFollowed, HasKept, HasNoNode, HasRun}
 use Rattle.lab.specs.Worlds.{HasStepped, HaveLimits, NodesRefine, RunRefines, SimNodeRefines}
@@ -27,7 +28,8 @@ use Rattle.lab.proofs.Worlds.{AlwaysInOrder, FitsDelivery, IsNext, node_after, n
 use Rattle.lab.proofs.Worlds.{refined_after}
 
 -- an event's place is one more than there are steps
-place_of : (world : World) (past : WorldRun) → HasRun world past → (n i : ℕ) →
+place_of : {D : Type 0} {g : Ghosts D} (world : World D g) (past : WorldRun) → HasRun world past →
+    (n i : ℕ) →
     n ≡ world.steps.len → n + 1 ≤ MAX_NUMBER → i ≡ n + 1 → IsNext past.events i
 place_of world past run n i long fits is = record {
   at = omega (
@@ -42,12 +44,12 @@ place_of world past run n i long fits is = record {
 }
 
 -- Nodes and frames of a world changed by an event, and then it kept the event and its lines.
-module _ (old mid new : World) (event : Event) (lines : List Line)
+module _ {D : Type 0} {g : Ghosts D} (old mid new : World D g) (event : Event) (lines : List Line)
     (delivers : mid ≡ record old { nodes = mid.nodes; frames = mid.frames; ended = true })
     (keeps : HasKept mid new event lines)
     (stay : HaveLimits old.nodes.items old.limits → HaveLimits mid.nodes.items old.limits) where
   -- what it is then
-  abbrev now : World
+  abbrev now : World D g
   now = record old {
     nodes = mid.nodes;
     frames = mid.frames;
@@ -57,7 +59,7 @@ module _ (old mid new : World) (event : Event) (lines : List Line)
   }
 
   so : new ≡ now
-  so = keeps.others ∙ ap (λ (w : World). record w {
+  so = keeps.others ∙ ap (λ (w : World D g). record w {
     events = new.events;
     steps = new.steps;
     ended = false;
@@ -66,8 +68,8 @@ module _ (old mid new : World) (event : Event) (lines : List Line)
   -- it has the limits that it had
   pub keeps_limits : WorldKeepsLimits old new
   keeps_limits limits has = record {
-    given = ap (λ (w : World). w.limits) so ∙ has.given;
-    nodes = subst (λ (w : World). HaveLimits w.nodes.items limits) (sym so)
+    given = ap (λ (w : World D g). w.limits) so ∙ has.given;
+    nodes = subst (λ (w : World D g). HaveLimits w.nodes.items limits) (sym so)
         (subst (λ (own : Limits). HaveLimits mid.nodes.items own) has.given
         (stay
         (subst (λ (own : Limits). HaveLimits old.nodes.items own) (sym has.given) has.nodes)));
@@ -83,14 +85,14 @@ module _ (old mid new : World) (event : Event) (lines : List Line)
       let came = run.came in
       let machines = node_of cs (modelled_from 1 (past.events ++ event ∷ [])
       (past.choices ++ choice ∷ [])) in
-      subst (λ (w : World). HasFollowed old w past event) (sym so) (record {
+      subst (λ (w : World D g). HasFollowed old w past event) (sym so) (record {
         choice = choice;
         lines = lines;
         run = record {
           configs = run.configs;
-          kept = keeps.kept ∙ ap (λ (w : World). w.steps.items ++ lines ∷ []) delivers
+          kept = keeps.kept ∙ ap (λ (w : World D g). w.steps.items ++ lines ∷ []) delivers
               ∙ ap (λ (l : List (List Line)). l ++ lines ∷ []) run.kept;
-          taken = keeps.taken ∙ ap (λ (w : World). w.events.items ++ event ∷ []) delivers
+          taken = keeps.taken ∙ ap (λ (w : World D g). w.events.items ++ event ∷ []) delivers
               ∙ ap (λ (l : List Event). l ++ event ∷ []) run.taken;
           made = ran;
           came = record {
@@ -105,7 +107,7 @@ module _ (old mid new : World) (event : Event) (lines : List Line)
                 (run-push cs event choice 1 (suc (length past.events)) past.events past.choices
                 (first_state cs) run.made.trace.one_each (omega arith))
                 (All-weaker (SimNodeRefines machines ran.disks)
-                (λ sim. StateRefines is_honest state sim.state sim.id (machines sim.id))
+                (λ sim. StateRefines g.is_honest g.state sim.state sim.id (machines sim.id))
                 (λ sim refined_at. refined_at.is) mid.nodes.items ran.each));
           };
         };
@@ -113,23 +115,25 @@ module _ (old mid new : World) (event : Event) (lines : List Line)
       })
 
 -- a world ends where it could not keep an event
-pub ends_so : {T E : Type 0} (r : Result T E) (mid new : World) (event : Event)
+pub ends_so : {D : Type 0} {g : Ghosts D} {T E : Type 0} (r : Result T E) (mid new : World D g)
+    (event : Event)
     (lines : List Line) → mid.ended ≡ true → OnOk r (HasKept mid new event lines) →
     OnErr r (new.ended ≡ mid.ended) →
     MatchResult r (λ _. WorldHasEnded new → ⊥) (λ _. WorldHasEnded new)
-ends_so (Ok v) mid new event lines ended keeps fails =
-    λ ends. false≢true (sym (ap (λ (w : World). w.ended) keeps.others) ∙ ends)
+ends_so {D = D} {g = g} (Ok v) mid new event lines ended keeps fails =
+    λ ends. false≢true (sym (ap (λ (w : World D g). w.ended) keeps.others) ∙ ends)
 ends_so (Err e) mid new event lines ended keeps fails = fails ∙ ended
 
 -- The next event of a world, which names a node of it or none, by what it was found to bring.
-module _ (in_order : AlwaysInOrder) (old : World) (n i : ℕ) (long : n ≡ old.steps.len)
+module _ {D : Type 0} {g : Ghosts D} (in_order : AlwaysInOrder) (old : World D g) (n i : ℕ)
+    (long : n ≡ old.steps.len)
     (few : n + 1 ≤ MAX_NUMBER) (at : i ≡ n + 1) (event : Event) (found : Option (ℕ × NodeInput))
     (here : FitsDelivery old.configs old.frames.items i event.kind found)
     (is_named : NamesNode old.configs event.kind) (past : WorldRun) (run : HasRun old past) where
   next : IsNext past.events i
   next = place_of old past run n i long few at
 
-  abbrev sims : List SimNode
+  abbrev sims : List (SimNode D g)
   sims = old.nodes.items
 
   abbrev posted : List Posted
@@ -144,7 +148,7 @@ module _ (in_order : AlwaysInOrder) (old : World) (n i : ℕ) (long : n ≡ old.
   names = subst (λ (cs : Configurations). NamesNode cs event.kind) run.configs is_named
 
   -- one that brings nothing is applied where it is kept
-  pub passed_after : found ≡ None → (new : World) →
+  pub passed_after : found ≡ None → (new : World D g) →
       HasKept (record old { ended = true }) new event (Nothing ∷ []) → HasApplied old new past event
   passed_after none new keeps =
       let grows = nothing_after in_order past sims posted run.made i next event found fits none in
@@ -156,7 +160,7 @@ module _ (in_order : AlwaysInOrder) (old : World) (n i : ℕ) (long : n ≡ old.
 
   module _ (it : ℕ × NodeInput) (is : found ≡ Some it) where
     -- one that is for a node is applied by the node's step
-    pub delivered_after : (mid new : World) (lines : List Line) →
+    pub delivered_after : (mid new : World D g) (lines : List Line) →
         mid ≡ record old { nodes = mid.nodes; frames = mid.frames; ended = true } →
         HasStepped sims posted it.0 it.1 event old.limits lines mid.nodes.items mid.frames.items →
         HasKept mid new event lines → HasApplied old new past event
@@ -171,6 +175,6 @@ module _ (in_order : AlwaysInOrder) (old : World) (n i : ℕ) (long : n ≡ old.
         }
 
     -- the world has the node that one is for
-    pub ignored_after : HasNoNode sims it.0 → (new : World) → HasApplied old new past event
+    pub ignored_after : HasNoNode sims it.0 → (new : World D g) → HasApplied old new past event
     ignored_after none new = absurd (node_after in_order past sims posted run.made i next event
         found fits it is names none)

@@ -4,6 +4,7 @@ use Rattle.std.proofs.Common.{Bool, true, false}
 use Rattle.std.proofs.Common.{refl, sym, ap, subst, ◌∙◌, arith, append-nil}
 use Rattle.std.proofs.Math.Seq.{map-set_same}
 use Rattle.std.specs.Prelude.{All, Option, Some, None, MatchOption}
+use Rattle.disk.specs.declared.disk.Disk.{Ghosts}
 use Rattle.std.proofs.lemmas.Bool.{false≢true}
 use Rattle.std.proofs.lemmas.Option.{MatchOption-at_none, MatchOption-at_some}
 use Rattle.std.specs.List.{AllZip, AllByRecursion}
@@ -13,7 +14,6 @@ use Rattle.kv_types.specs.declared.bounds.TheConstants.{MAX_NUMBER}
 use Rattle.kv_types.specs.declared.Limits.{Limits}
 use Rattle.kv_types.specs.{BatchContent}
 use Rattle.disk.specs.declared.Junk.{Junk}
-use Rattle.disk.specs.{IsReliable, Slots, past_states}
 use Rattle.chain_model.specs.{Configurations, Lawful, AllDifferent, has, at_epoch}
 use Rattle.chain_model.specs.{Message as ModelFrame, InOrder, SystemEvent as ModelEvent}
 use Rattle.chain_model.specs.{SystemState, Outcome, Answered, reached, first_state, outcome}
@@ -30,12 +30,11 @@ use Rattle.lab.specs.declared.report.Line.{Line}
 use Rattle.lab.specs.declared.report.Line.TheVariants.{Nothing}
 use Rattle.lab.specs.declared.sim_node.SimNode.{SimNode}
 use Rattle.lab.specs.Events.{modelled, lines_of_event, NamesNode}
-use Rattle.lab.specs.SimNodes.{StateRefines, Choice, IsUnarmed, disk_in, is_honest, state, failures}
-use Rattle.lab.specs.SimNodes.{marks}
+use Rattle.lab.specs.SimNodes.{StateRefines, Choice, IsUnarmed, disk_in}
 use Rattle.lab.specs.Deliveries.{IsDeliveryOf, HasNoDelivery}
 use Rattle.lab.specs.Outcomes.{DiskFits, IsExplained, MarksFit, OutcomeRefines, StateFollows}
 use Rattle.lab.specs.Outcomes.{has_struck_in, sent_by}
-use Rattle.lab.specs.Disks.{DiskFollows, HasGrown, junk_of}
+use Rattle.lab.specs.Disks.{DiskFollows, HasGrown, StaysReliable, junk_of}
 use Rattle.lab.specs.Traces.{modelled_from}
 use Rattle.lab.specs.Worlds.{FollowRun, HasNoNode, HasStepped, NodesFollow, PostedRefines}
 use Rattle.lab.specs.Worlds.{RunRefines, SimNodeRefines, WorldRun, extended, frames_of_step}
@@ -47,7 +46,7 @@ use Rattle.lab.proofs.Dispatching.{sound}
 use Rattle.lab.proofs.SimNodes.{ids_of, has_one, refined_at}
 use Rattle.lab.proofs.Growing.{grown, run-push}
 use Rattle.lab.proofs.Addressees.{IsNumbered, addressed, all_numbered, back, kept_all}
-use Rattle.lab.proofs.Moves.{crash_of, struck_by, tended_so}
+use Rattle.lab.proofs.Moves.{crash_of, honest_of, struck_by, tended_so}
 use Rattle.lab.proofs.Rises.{no_rise}
 
 -- the delivery that was found is that of the event, by the configurations and the frames that are
@@ -68,7 +67,8 @@ abbrev pub AlwaysInOrder : Type 0
 AlwaysInOrder = (cs : Configurations) (es : List (ModelEvent BatchContent)) → Lawful cs →
     InOrder cs es
 
-module _ (in_order : AlwaysInOrder) (past : WorldRun) (sims : List SimNode) (posted : List Posted)
+module _ {D : Type 0} {g : Ghosts D} (in_order : AlwaysInOrder) (past : WorldRun)
+    (sims : List (SimNode D g)) (posted : List Posted)
     (made : RunRefines sims posted past) (i : ℕ) (next : IsNext past.events i) (event : Event) where
   abbrev cs : Configurations
   cs = past.configs
@@ -114,13 +114,14 @@ module _ (in_order : AlwaysInOrder) (past : WorldRun) (sims : List SimNode) (pos
 
   -- nodes, frames and lines refine one event more, in which something was chosen, and the nodes
   -- follow
-  pub record Grows (now : List SimNode) (more : List Posted) (lines : List Line) : Type 0 where
+  pub record Grows (now : List (SimNode D g)) (more : List Posted)
+      (lines : List Line) : Type 0 where
     pub choice : Choice
     pub ran : RunRefines now more (extended past event choice lines)
     pub nodes : FollowRun past event choice sims now
 
   -- what follows by the outcome in the next place
-  followed : (choice : Choice) (now : List SimNode) →
+  followed : (choice : Choice) (now : List (SimNode D g)) →
       (let o = outcome w cs (modelled i event.kind choice) in
       NodesFollow o.acted_on event choice o sims now) →
       FollowRun past event choice sims now
@@ -130,7 +131,7 @@ module _ (in_order : AlwaysInOrder) (past : WorldRun) (sims : List SimNode) (pos
 
   -- a step of the node refines one event more
   refined_next : (x : ℕ) (node_input : NodeInput) (limits : Limits) (lines : List Line)
-      (now : List SimNode) (more : List Posted) →
+      (now : List (SimNode D g)) (more : List Posted) →
       IsDeliveryOf cs w.frames i event.kind x node_input →
       HasStepped sims posted x node_input event limits lines now more → Grows now more lines
   refined_next x node_input limits lines now more brings t =
@@ -138,9 +139,10 @@ module _ (in_order : AlwaysInOrder) (past : WorldRun) (sims : List SimNode) (pos
       let all = recursion_from_All (SimNodeRefines w.nodes made.disks) sims made.each in
       let old = get_or sims t.took.index sim in
       let was : old.id ≡ x = t.took.at.id sim in
-      let before : StateRefines is_honest state old.state x (w.nodes x) =
-      subst (λ (y : ℕ). StateRefines is_honest state old.state y (w.nodes y)) was
+      let before : StateRefines g.is_honest g.state old.state x (w.nodes x) =
+      subst (λ (y : ℕ). StateRefines g.is_honest g.state old.state y (w.nodes y)) was
       (made.each t.took.index sim t.took.at.within).is in
+      let honest = honest_of old.state x (w.nodes x) before in
       let slots : disk_in old.state ≡ made.disks x =
       (made.each t.took.index sim t.took.at.within).disk ∙ ap made.disks was in
       let own = disk_in sim.state in
@@ -148,40 +150,42 @@ module _ (in_order : AlwaysInOrder) (past : WorldRun) (sims : List SimNode) (pos
       let out = refined cs w i x event.fault struck old.state sim.state t.did event.kind node_input
       brings
       (t.took.dispatched.refines x (w.nodes x) before) in
-      let so : out.choice.struck ≡ has_struck_in past_states event.fault (made.disks x) sim.state =
+      let so : out.choice.struck ≡ has_struck_in g.past event.fault (made.disks x) sim.state =
       out.chose
-      ∙ ap (λ (d : Slots). has_struck_in past_states event.fault d sim.state) slots in
-      let left : DiskFits state failures past_states
+      ∙ ap (λ (d : D). has_struck_in g.past event.fault d sim.state) slots in
+      let left : DiskFits g.state g.failures g.past
       (junk_of event.kind) event.fault out.choice.struck
       t.did (made.disks x) sim.state =
-      subst (λ (b : Bool). DiskFits state failures past_states
+      subst (λ (b : Bool). DiskFits g.state g.failures g.past
       (junk_of event.kind) event.fault b t.did
       (made.disks x) sim.state) (sym out.chose)
-      (subst (λ (d : Slots). DiskFits state failures past_states
+      (subst (λ (d : D). DiskFits g.state g.failures g.past
       (junk_of event.kind) event.fault struck
       t.did d sim.state) slots
-      (subst (λ (j : Option Junk). DiskFits state failures past_states j event.fault struck t.did
+      (subst (λ (j : Option Junk). DiskFits g.state g.failures g.past j event.fault struck t.did
       (disk_in old.state) sim.state)
-      (junk_same cs w.frames i x event.kind node_input brings) (t.took.dispatched.disk tt))) in
-      let marked : MarksFit state past_states marks
+      (junk_same cs w.frames i x event.kind node_input brings) (t.took.dispatched.disk honest))) in
+      let marked : MarksFit g.state g.past g.marks
       (junk_of event.kind) event.fault out.choice.struck
       t.did (made.disks x) sim.state =
-      subst (λ (b : Bool). MarksFit state past_states marks (junk_of event.kind) event.fault b t.did
+      subst (λ (b : Bool). MarksFit g.state g.past g.marks (junk_of event.kind) event.fault b t.did
       (made.disks x) sim.state) (sym out.chose)
-      (subst (λ (d : Slots). MarksFit state past_states marks
+      (subst (λ (d : D). MarksFit g.state g.past g.marks
       (junk_of event.kind) event.fault struck
       t.did d sim.state) slots
-      (subst (λ (j : Option Junk). MarksFit state past_states marks j event.fault struck t.did
+      (subst (λ (j : Option Junk). MarksFit g.state g.past g.marks j event.fault struck t.did
       (disk_in old.state) sim.state)
-      (junk_same cs w.frames i x event.kind node_input brings) (t.took.dispatched.marked tt))) in
+      (junk_same cs w.frames i x event.kind node_input brings) (t.took.dispatched.marked honest)))
+      in
       let few = made.few x in
-      let may : MayRise (made.disks x) = omega (arith, few, next.at, next.fits) in
-      let reliable = subst IsReliable (sym slots) may in
-      let why : IsExplained (state (made.disks x)) out.choice.struck t.did =
-      subst (λ (b : Bool). IsExplained (state (made.disks x)) b t.did) (sym out.chose)
-      (subst (λ (d : Slots). IsExplained (state d) struck t.did) slots
-      (t.took.dispatched.only (sound _ old.state x (w.nodes x) before) reliable)) in
-      let grows = subst (λ (d : Slots). HasGrown past_states d own) slots
+      let may : MayRise g (made.disks x) = omega (arith, few, next.at, next.fits) in
+      let why : StaysReliable g (made.disks x) →
+      IsExplained (g.state (made.disks x)) out.choice.struck t.did =
+      λ stays. subst (λ (b : Bool). IsExplained (g.state (made.disks x)) b t.did) (sym out.chose)
+      (subst (λ (d : D). IsExplained (g.state d) struck t.did) slots
+      (t.took.dispatched.only (sound g old.state x (w.nodes x) before)
+      (subst g.is_reliable (sym slots) (stays may)))) in
+      let grows = subst (λ (d : D). HasGrown g.past d own) slots
       (t.took.dispatched.grows x (w.nodes x) before) in
       let o = outcome w cs (modelled i event.kind out.choice) in
       let follow = follows (made.disks x) sim.state may event out.choice o x out.node t.did out.is
@@ -206,22 +210,22 @@ module _ (in_order : AlwaysInOrder) (past : WorldRun) (sims : List SimNode) (pos
             (kept_all t.sent.more (sent_by t.did) o.frames t.sent.each out.frames
             (sent_numbered out.choice)));
         nodes = ap ids_of t.took.others
-            ∙ map-set_same (λ (s : SimNode). s.id) sims t.took.index sim sim
+            ∙ map-set_same (λ (s : SimNode D g). s.id) sims t.took.index sim sim
             (t.took.id ∙ sym was) ∙ made.nodes;
         disks = with_disk made.disks x own;
         follow = all_follow event out.choice o x out.node made.disks own out.came follow;
-        few = few_more made.disks x own (length events) i next.at made.few
+        few = few_more g made.disks x own (length events) i next.at made.few
             (at_most_one (junk_of event.kind) event.fault out.choice.struck t.did (made.disks x)
             sim.state left may);
-        unarmed = none_armed made.disks x own made.unarmed
-            (t.took.dispatched.forgets tt
-            (λ _. subst (λ (d : Slots). IsUnarmed d) (sym slots) (made.unarmed x)));
-        each = subst (λ (l : List SimNode). All (SimNodeRefines (state_after cs w
+        unarmed = none_armed g made.disks x own made.unarmed
+            (t.took.dispatched.forgets honest
+            (λ _. subst (λ (d : D). IsUnarmed g d) (sym slots) (made.unarmed x)));
+        each = subst (λ (l : List (SimNode D g)). All (SimNodeRefines (state_after cs w
             (modelled i event.kind out.choice)).nodes (with_disk made.disks x own)) l)
             (sym t.took.others)
             (All-from_recursion (SimNodeRefines (after w o).nodes (with_disk made.disks x own))
             (slice_set sims t.took.index sim)
-            (refined_at w made.disks o x out.node own out.came sims t.took.index sim
+            (refined_at g w made.disks o x out.node own out.came sims t.took.index sim
             t.took.at.within
             (subst (λ (c : List ℕ). AllDifferent c) (sym made.nodes) made.lawful.different)
             was id out.is refl all));
@@ -238,21 +242,21 @@ module _ (in_order : AlwaysInOrder) (past : WorldRun) (sims : List SimNode) (pos
               sim = sim;
               others = t.took.others;
               id = t.took.id;
-              disk = subst (λ (d : Slots). DiskFollows state failures past_states marks event
+              disk = subst (λ (d : D). DiskFollows g event
                   out.choice o
                   out.node d own) (sym slots) follow;
               stops = λ junk is own runs.
                   let stop = subst (λ (k : EventKind). IsDeliveryOf cs w.frames i k x node_input)
                   is brings in
-                  crash_of junk own old.state sim.state runs
-                  (subst (λ (k : NodeInput). StateFollows is_honest state failures past_states
+                  crash_of junk own old.state sim.state honest runs
+                  (subst (λ (k : NodeInput). StateFollows g.is_honest g.state g.failures g.past
                   old.state k sim.state) stop.1 t.took.dispatched.follows);
               tends = λ is.
                   let turn = subst (λ (k : EventKind). IsDeliveryOf cs w.frames i k x node_input)
                   is brings in
                   tended_so event.fault struck x (w.nodes x) old.state sim.state t.did out.choice
                   before
-                  (subst (λ (k : NodeInput). OutcomeRefines is_honest state event.fault struck x
+                  (subst (λ (k : NodeInput). OutcomeRefines g.is_honest g.state event.fault struck x
                   (w.nodes x) k old.state sim.state t.did) turn.1
                   (t.took.dispatched.refines x (w.nodes x) before)) out.told out.risen;
             }));
@@ -322,7 +326,7 @@ module _ (in_order : AlwaysInOrder) (past : WorldRun) (sims : List SimNode) (pos
         pub node_after : NamesNode cs event.kind → HasNoNode sims it.0 → ⊥
         node_after names none = has_its_node it.0 it.1 names brings none
 
-        pub refined_after : (limits : Limits) (lines : List Line) (now : List SimNode)
+        pub refined_after : (limits : Limits) (lines : List Line) (now : List (SimNode D g))
             (more : List Posted) →
             HasStepped sims posted it.0 it.1 event limits lines now more →
             Grows now more lines

@@ -1,7 +1,9 @@
 -- What a run leaves of its nodes' disks, event by event.
-use Rattle.std.specs.Prelude.{◌≡◌, ℕ, suc, ◌+◌, nat_le, List, [], ◌∷◌, ◌++◌, length, map}
+use Rattle.std.specs.Prelude.{◌≡◌, ℕ, suc, ◌+◌, ◌-◌, ◌^◌, ◌<◌, nat_le, List, [], ◌∷◌, ◌++◌, length}
+use Rattle.std.specs.Prelude.{map}
 use Rattle.std.specs.Prelude.{◌⊎◌, All, Bool, true, false, Option, Some, None, IsSome}
 use Rattle.kv_types.specs.{BatchContent}
+use Rattle.disk.specs.declared.disk.Disk.{Ghosts}
 use Rattle.disk.specs.declared.Fault.{Fault}
 use Rattle.disk.specs.declared.Fault.TheVariants as fault
 use Rattle.disk.specs.declared.Junk.{Junk}
@@ -56,27 +58,29 @@ junk_at_end (fault.Stop call junk) false = Old
 junk_at_end (fault.Fail call) struck = Old
 junk_at_end fault.None struck = Old
 
+-- the disk is reliable if its count of failures is below its last value
+abbrev pub StaysReliable : {D : Type 0} → Ghosts D → D → Type 0
+StaysReliable g disk = g.failures disk < 2 ^ 64 - 1 → g.is_reliable disk
+
 -- A node stopped by itself. If it stopped for the disk, one call of that failed, else none; and its
 -- disk is what a crash with this junk leaves of the last state that it had.
-pub record IsEndOf {D : Type 0} (state : D → State) (failures : D → ℕ) (past : D → List State)
-    (junk : Junk) (choice : Choice) (old new : D) : Type 0 where
-  pub failed : choice.cause ≡ Disk → failures new ≡ failures old + 1
-  pub others : (choice.cause ≡ Disk → ⊥) → failures new ≡ failures old
-  -- a call fails only where the fault struck, or where a file was nearly as long as one can be
-  pub only : choice.cause ≡ Disk → (choice.struck ≡ true) ⊎ HasLongFile (state old)
+pub record IsEndOf {D : Type 0} (g : Ghosts D) (junk : Junk) (choice : Choice) (old new : D)
+    : Type 0 where
+  pub failed : choice.cause ≡ Disk → g.failures new ≡ g.failures old + 1
+  pub others : (choice.cause ≡ Disk → ⊥) → g.failures new ≡ g.failures old
+  -- a call of a disk that stays reliable fails only where the fault struck, or where a file was
+  -- nearly as long as one can be
+  pub only : StaysReliable g old → choice.cause ≡ Disk →
+      (choice.struck ≡ true) ⊎ HasLongFile (g.state old)
   -- the last state before the crash
   pub left : State
-  pub last : IsLastLeft (before_crash (past new)) left
-  pub crashes : CrashOutcome junk left (state new)
+  pub last : IsLastLeft (before_crash (g.past new)) left
+  pub crashes : CrashOutcome junk left (g.state new)
 
 -- a node stopped: its disk crashed with the junk of the event, or else it stopped by itself
-abbrev pub IsStopOf : {D : Type 0} → (D → State) → (D → ℕ) → (D → List State) → Option Junk → Fault
-    → Choice
-    → D → D → Type 0
-IsStopOf state failures past (Some junk) fault choice old new =
-    IsCrashOf state failures past junk old new
-IsStopOf state failures past None fault choice old new =
-    IsEndOf state failures past (junk_at_end fault choice.struck) choice old new
+abbrev pub IsStopOf : {D : Type 0} → Ghosts D → Option Junk → Fault → Choice → D → D → Type 0
+IsStopOf g (Some junk) fault choice old new = IsCrashOf g.state g.failures g.past junk old new
+IsStopOf g None fault choice old new = IsEndOf g (junk_at_end fault choice.struck) choice old new
 
 -- a disk has had the states that it had before, and perhaps more since
 abbrev pub HasGrown : {D : Type 0} → (D → List State) → D → D → Type 0
@@ -113,58 +117,55 @@ IsMarkedBy state past marks may_rest junk fault struck stopped old new =
     (length (past_of_step stopped (past new))) (marks old)) new
 
 -- what an event leaves of the disk of the node that it was for, which is n after it
-pub record DiskFollows {D : Type 0} (state : D → State) (failures : D → ℕ)
-    (past : D → List State) (marks : D → Marks) (event : Event)
+pub record DiskFollows {D : Type 0} (g : Ghosts D) (event : Event)
     (choice : Choice) (o : model.Outcome BatchContent) (n : Machine) (old new : D) : Type 0 where
   -- it is the same disk
-  pub grows : HasGrown past old new
+  pub grows : HasGrown g.past old new
   -- a node that runs has worked, unless its event was dropped
-  pub marked : IsMarkedBy state past marks ((n.running ≡ false) ⊎ IsSome o.dropped)
+  pub marked : IsMarkedBy g.state g.past g.marks ((n.running ≡ false) ⊎ IsSome o.dropped)
       (junk_of event.kind) event.fault choice.struck o.stopped old new
   -- the fault struck exactly where the disk has had so many calls in the step
-  pub fault : choice.struck ≡ has_reached (struck_call event.fault) (length (past old))
-      (length (past_of_step o.stopped (past new)))
+  pub fault : choice.struck ≡ has_reached (struck_call event.fault) (length (g.past old))
+      (length (past_of_step o.stopped (g.past new)))
   pub stops : o.stopped ≡ true →
-      IsStopOf state failures past (junk_of event.kind) event.fault choice old new
+      IsStopOf g (junk_of event.kind) event.fault choice old new
   -- where the node did not stop, no call of its disk failed
-  pub count : o.stopped ≡ false → failures new ≡ failures old
+  pub count : o.stopped ≡ false → g.failures new ≡ g.failures old
   -- a node that was down, and still is, has the same disk
   pub rests : o.stopped ≡ false → n.running ≡ false → new ≡ old
 
 -- what an event leaves of all disks, by the ids of their nodes
-pub record DisksFollow {D : Type 0} (state : D → State) (failures : D → ℕ)
-    (past : D → List State) (marks : D → Marks) (event : Event)
+pub record DisksFollow {D : Type 0} (g : Ghosts D) (event : Event)
     (choice : Choice) (o : model.Outcome BatchContent) (old new : ℕ → D) : Type 0 where
   pub at : (x : ℕ) (n : Machine) → o.acted_on ≡ Some (x, n) →
-      DiskFollows state failures past marks event choice o n (old x) (new x)
+      DiskFollows g event choice o n (old x) (new x)
   pub others : (x : ℕ) → ((n : Machine) → o.acted_on ≡ Some (x, n) → ⊥) → new x ≡ old x
 
 -- what the events from place i on leave of all disks, one event after another, from a world on
-abbrev pub AllFollow : {D : Type 0} → (D → State) → (D → ℕ) → (D → List State) → (D → Marks)
-    → Configurations → ℕ → List Event → List Choice → model.SystemState BatchContent → (ℕ → D)
+abbrev pub AllFollow : {D : Type 0} → Ghosts D → Configurations → ℕ → List Event → List Choice →
+    model.SystemState BatchContent → (ℕ → D)
     → (ℕ → D) → Type 0
-AllFollow state failures past marks cs i [] choices w old new = new ≡ old
-AllFollow state failures past marks cs i (event ∷ events) [] w old new = ⊥
-AllFollow {D} state failures past marks cs i (event ∷ events) (choice ∷ choices) w old new =
+AllFollow g cs i [] choices w old new = new ≡ old
+AllFollow g cs i (event ∷ events) [] w old new = ⊥
+AllFollow {D} g cs i (event ∷ events) (choice ∷ choices) w old new =
     let o = model.outcome w cs (modelled i event.kind choice) in
-    (next : ℕ → D) × DisksFollow state failures past marks event choice o old next
-    × AllFollow state failures past marks cs (suc i) events choices (model.after w o) next new
+    (next : ℕ → D) × DisksFollow g event choice o old next
+    × AllFollow g cs (suc i) events choices (model.after w o) next new
 
 -- a disk that was just created: it was armed with no fault then, and its state is the latest of its
 -- past
-abbrev pub IsNewDisk : {D : Type 0} → (D → State) → (D → List State) → (D → Marks) → D → Type 0
-IsNewDisk state past marks disk =
-    IsMarkedSo state past marks ((length (past disk), Armed None) ∷ []) disk
+abbrev pub IsNewDisk : {D : Type 0} → Ghosts D → D → Type 0
+IsNewDisk g disk =
+    IsMarkedSo g.state g.past g.marks ((length (g.past disk), Armed None) ∷ []) disk
 
 -- the disks that a run leaves, by the ids of their nodes: no call of them failed before it
-pub record AreDisksAfter {D : Type 0} (state : D → State) (failures : D → ℕ)
-    (past : D → List State) (marks : D → Marks)
+pub record AreDisksAfter {D : Type 0} (g : Ghosts D)
     (cs : Configurations) (events : List Event) (choices : List Choice) (disks : ℕ → D) : Type 0
   where
     pub first : ℕ → D
-    pub begun : (x : ℕ) → failures (first x) ≡ 0
-    pub marked : (x : ℕ) → IsNewDisk state past marks (first x)
-    pub follow : AllFollow state failures past marks cs 1 events choices
+    pub begun : (x : ℕ) → g.failures (first x) ≡ 0
+    pub marked : (x : ℕ) → IsNewDisk g (first x)
+    pub follow : AllFollow g cs 1 events choices
         (model.first_state cs) first
         disks
 
@@ -176,13 +177,12 @@ pub record IsDiskOf {D : Type 0} (state : D → State) (x : ℕ) (n : Machine) (
     pub stands : DiskAlwaysRefines (state disk) x n
 
 -- each node of configuration 0 has the disk that the run leaves
-pub record HaveDisks {D N : Type 0} (state : D → State) (failures : D → ℕ)
-    (past : D → List State) (marks : D → Marks) (id : N → ℕ)
+pub record HaveDisks {D N : Type 0} (g : Ghosts D) (id : N → ℕ)
     (disk : N → D) (cs : Configurations) (events : List Event) (choices : List Choice)
     (nodes : List N) : Type 0 where
   pub ids : map id nodes ≡ at_epoch cs 0
   pub disks : ℕ → D
-  pub after : AreDisksAfter state failures past marks cs events choices disks
-  pub each : All (λ node. IsDiskOf state (id node)
+  pub after : AreDisksAfter g cs events choices disks
+  pub each : All (λ node. IsDiskOf g.state (id node)
       (model.node_of cs (modelled_from 1 events choices) (id node)) (disk node) (disks (id node)))
       nodes

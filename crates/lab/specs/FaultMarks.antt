@@ -13,7 +13,7 @@ use Rattle.lab.specs.declared.report.Report.{Report}
 use Rattle.lab.specs.Disks.{DiskFollows, junk_at_end, junk_of}
 use Rattle.lab.specs.Runs.{IsRun}
 use Rattle.lab.specs.Events.{modelled}
-use Rattle.lab.specs.SimNodes.{Choice, failures, marks, state}
+use Rattle.lab.specs.SimNodes.{Choice, in_memory, marks, state}
 
 -- events of these kinds with these faults
 abbrev pub with_faults : (ℕ → Fault) → List EventKind → List Event
@@ -75,7 +75,7 @@ StopsAreDetermined = (event event' : Event) (choice choice' : Choice)
     (o : model.Outcome BatchContent)
     (n : Machine) (junk junk' : Junk) (old old' new : Slots) → junk_of event.kind ≡ Some junk →
     junk_of event'.kind ≡ Some junk' → o.stopped ≡ true →
-    DiskFollows state failures past_states marks event choice o n old new →
-    DiskFollows state failures past_states marks event' choice' o n old' new →
+    DiskFollows in_memory event choice o n old new →
+    DiskFollows in_memory event' choice' o n old' new →
     IsLastLeft (past_states old) (state old) → IsLastLeft (past_states old') (state old') →
     (junk ≡ junk') × HasSamePast old old' × IsSame (state old) (state old')

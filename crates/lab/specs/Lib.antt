@@ -27,5 +27,5 @@ pub use Rattle.lab.specs.History.{ClientHistory, DisksHold, OneHistory}
 pub use Rattle.lab.specs.Runs.{AreNumbersOf, IsRun}
 pub use Rattle.lab.specs.SimNodes.{Choice}
 pub use Rattle.lab.specs.Worlds.{AreNodesAfter, AreReportsAfter, HasRun, WorldHasLimits, WorldRun}
-pub use Rattle.lab.specs.Worlds.{IsReportOf, ShowsTables}
+pub use Rattle.lab.specs.Worlds.{IsReportOf, MemWorld, ShowsTables}
 pub use Rattle.lab.specs.Worlds.{frames_of_step, frames_in_steps}

@@ -1,7 +1,7 @@
 -- The report of a run, and the run of the model that it refines.
 use Rattle.std.specs.Prelude.{◌≡◌, ℕ, List, Option, Some, None, true, false, All}
 use Rattle.chain_model.specs.{Configurations}
-use Rattle.disk.specs.{past_states}
+use Rattle.disk.specs.{Slots}
 use Rattle.chain_model.specs as model
 use Rattle.chain_core.specs.{Machine}
 use Rattle.node.specs.declared.Numbers.{Numbers}
@@ -9,9 +9,9 @@ use Rattle.node.specs.{NumbersRefine}
 use Rattle.lab.specs.declared.event.Event.{Event}
 use Rattle.lab.specs.declared.report.NodeReport.{NodeReport}
 use Rattle.lab.specs.declared.report.Report.{Report}
-use Rattle.lab.specs.Disks.{HaveDisks}
+use Rattle.lab.specs.Disks.{HaveDisks, StaysReliable}
 use Rattle.lab.specs.Freshness.{NodesKeepEnough, ReadsAreFresh}
-use Rattle.lab.specs.SimNodes.{Choice, IsUnarmed, state, failures, marks}
+use Rattle.lab.specs.SimNodes.{Choice, IsUnarmed, in_memory}
 use Rattle.lab.specs.Traces.{modelled_from, IsTrace}
 
 -- a running machine has its numbers in a report, and one that is down has none
@@ -31,9 +31,11 @@ AreNumbersOf cs events choices x told =
 pub record IsRun (cs : Configurations) (events : List Event) (choices : List Choice)
     (report : Report) : Type 0 where
   pub trace : IsTrace cs events choices report.steps.items
-  pub disks : HaveDisks state failures past_states marks (λ (node : NodeReport). node.id)
+  pub disks : HaveDisks in_memory (λ (node : NodeReport). node.id)
       (λ (node : NodeReport). node.disk) cs events choices report.nodes.items
-  pub unarmed : All (λ node. IsUnarmed node.disk) report.nodes.items
+  -- so a call of these disks failed only as its fault struck, or as a file was long
+  pub reliable : (disk : Slots) → StaysReliable in_memory disk
+  pub unarmed : All (λ node. IsUnarmed in_memory node.disk) report.nodes.items
   pub numbers : All (λ node. AreNumbersOf cs events choices node.id node.running)
       report.nodes.items
   pub fresh : ReadsAreFresh cs events choices report.steps.items

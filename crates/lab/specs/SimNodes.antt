@@ -1,7 +1,7 @@
 -- Simulated nodes: what a running or stopped one refines, and what the code may choose in a step.
 use Rattle.std.specs.Prelude.{◌≡◌, ℕ, Bool, None, false}
 use Rattle.kv_types.specs.declared.Limits.{Limits}
-use Rattle.disk.specs.{Marks, State, Slots, fault_of, state_of}
+use Rattle.disk.specs.{IsReliable, Marks, Slots, State, fault_of, past_states, state_of}
 use Rattle.disk.specs.declared.disk.Disk.{Ghosts}
 use Rattle.chain_model.specs as model
 use Rattle.engine.specs.Tended.{Tended}
@@ -58,24 +58,28 @@ pub record Choice : Type 0 where
   pub rises : Bool
   pub gives_up : ℕ
 
+-- a disk is armed with no fault
+abbrev pub IsUnarmed : {D : Type 0} → Ghosts D → D → Type 0
+IsUnarmed g disk = fault_of (g.marks disk) ≡ None
+
 -- ---- a disk in memory
 
--- it is always honest, and its state is that of its slots
-abbrev pub is_honest : Slots → Type 0
-is_honest disk = Unit {0}
-
--- the state of a disk in memory
+-- its state is that of its slots
 abbrev pub state : Slots → State
 state disk = state_of disk.slots
-
--- how often a call of it failed
-abbrev pub failures : Slots → ℕ
-failures disk = disk.failures
 
 -- the faults that it was armed with, and its crashes
 abbrev pub marks : Slots → Marks
 marks disk = disk.marks
 
--- it is armed with no fault
-abbrev pub IsUnarmed : Slots → Type 0
-IsUnarmed disk = fault_of disk.marks ≡ None
+-- what it is as a disk
+abbrev pub in_memory : Ghosts Slots
+in_memory = record {
+  is_honest = λ disk. Unit {0};
+  state = state;
+  failures = λ disk. disk.failures;
+  is_reliable = IsReliable;
+  past = past_states;
+  marks = marks;
+  allocates = ⊥;
+}

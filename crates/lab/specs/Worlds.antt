@@ -10,7 +10,7 @@ use Rattle.chain_model.specs as model_frame
 use Rattle.disk.specs.declared.Fault.{Fault}
 use Rattle.disk.specs.declared.Junk.{Junk}
 use Rattle.disk.specs.declared.disk.Disk.{Ghosts}
-use Rattle.disk.specs.{Slots, past_states}
+use Rattle.disk.specs.{Slots}
 use Rattle.node.specs.declared.Node.{Node}
 use Rattle.engine.specs.{IsTendAnswer, facts_of, table_count}
 use Rattle.node.specs.{disk_of, engine_of, has_risen}
@@ -31,7 +31,7 @@ use Rattle.lab.specs.declared.report.NodeReport.{NodeReport}
 use Rattle.node.specs.declared.Numbers.{Numbers}
 use Rattle.lab.specs.declared.sim_node.SimNode.{SimNode}
 use Rattle.lab.specs.declared.world.World.{World}
-use Rattle.lab.specs.SimNodes.{Choice, StateRefines, disk_in, is_honest, state, failures, marks}
+use Rattle.lab.specs.SimNodes.{Choice, StateRefines, disk_in, in_memory, state}
 use Rattle.lab.specs.SimNodes.{StateHasLimits, IsDown, IsUnarmed}
 use Rattle.lab.specs.Events.{NamesNode, epoch_in, modelled}
 use Rattle.lab.specs.Outcomes.{HasDispatched, outcome_lines, sent_by}
@@ -83,89 +83,6 @@ pub record HasPosted (old : List Posted) (sent : List Sent) (new : List Posted) 
   pub whole : new ≡ old ++ more
   pub each : AllZip IsPosted more sent
 
--- node x is the node at this index
-pub record IsIndexOf (sims : List SimNode) (index x : ℕ) : Type 0 where
-  pub within : index < length sims
-  pub id : HoldsAt (λ sim. sim.id ≡ x) sims index
-
--- node x is none of these
-abbrev pub HasNoNode : List SimNode → ℕ → Type 0
-HasNoNode sims x = All (λ sim. sim.id ≢ x) sims
-
--- a simulated node refines the machine of its id, and has the disk of its id
-pub record SimNodeRefines (nodes : ℕ → Machine) (disks : ℕ → Slots) (sim : SimNode) : Type 0 where
-  pub is : StateRefines is_honest state sim.state sim.id (nodes sim.id)
-  pub disk : disk_in sim.state ≡ disks sim.id
-
--- a node that was just created with this configuration: no call of its disk failed, and it was
--- armed with no fault
-pub record IsCreated (config : List ℕ) (sim : SimNode) : Type 0 where
-  pub is : StateRefines is_honest state sim.state sim.id (created config)
-  pub count : failures (disk_in sim.state) ≡ 0
-  pub marked : IsNewDisk state past_states marks (disk_in sim.state)
-
--- each of these nodes that is up has these limits
-abbrev pub HaveLimits : List SimNode → Limits → Type 0
-HaveLimits sims limits = All (λ sim. StateHasLimits sim.state limits) sims
-
--- these nodes were just created with this configuration and these limits, in this order
-pub record AreCreated (config ids : List ℕ) (given : Limits) (sims : List SimNode) : Type 0 where
-  pub nodes : map (λ sim. sim.id) sims ≡ ids
-  pub each : All (IsCreated config) sims
-  pub limits : HaveLimits sims given
-
--- the report of a node that is this machine and has this disk, at the end of a run
-pub record IsLeft (n : Machine) (own : Slots) (left : NodeReport) : Type 0 where
-  pub disk : IsDiskOf state left.id n left.disk own
-  pub numbers : RunningRefines left.running n
-
--- the node is up, and the numbers say how many tables each level of its store has
-abbrev pub HasTablesIn : {D : Type 0} {g : Ghosts D} → NodeState D g → Numbers → Type 0
-HasTablesIn (Up node) numbers = (level : ℕ) → level < 7 →
-    slice_index numbers.tables level ≡ table_count (engine_of node) level
-HasTablesIn (Down disk) numbers = ⊥
-
--- the report of this node has its id and its very disk, and numbers where it is up: they say how
--- many tables its store has
-pub record IsReportOf (sim : SimNode) (report : NodeReport) : Type 0 where
-  pub id : report.id ≡ sim.id
-  pub disk : report.disk ≡ disk_in sim.state
-  pub running : MatchOption report.running (IsDown sim.state) (HasTablesIn sim.state)
-
--- these reports are of these nodes, one of each in order, at the end of a run
-pub record AreLeft (sims : List SimNode) (nodes : List NodeReport) : Type 0 where
-  pub own : AllZip IsReportOf sims nodes
-  pub each : (machines : ℕ → Machine) (disks : ℕ → Slots) → All
-      (SimNodeRefines machines disks) sims →
-      All (λ node. IsLeft (machines node.id) (disks node.id) node) nodes
-
--- the numbers are those of node x, which is up: they say how many tables it has
-pub record ShowsTables (sims : List SimNode) (x : ℕ) (numbers : Numbers) : Type 0 where
-  pub index : ℕ
-  pub at : IsIndexOf sims index x
-  pub tables : HoldsAt (λ sim. HasTablesIn sim.state numbers) sims index
-
--- Node x took this input with this fault, and these limits if it was started: its new state and
--- its outcome. Every other node is as it was.
-pub record HasMoved (sims : List SimNode) (x : ℕ) (node_input : NodeInput) (fault : Fault)
-    (given : Limits) (did : StepOutcome) (now : List SimNode) : Type 0 where
-  pub index : ℕ
-  pub at : IsIndexOf sims index x
-  pub sim : SimNode
-  pub others : now ≡ slice_set sims index sim
-  pub id : sim.id ≡ x
-  pub dispatched : HasDispatched _ given fault node_input (get_or sims index sim).state sim.state
-      did
-
--- .. for this event: the frames that it sent are posted, and these are its lines
-pub record HasStepped (sims : List SimNode) (posted : List Posted) (x : ℕ) (node_input : NodeInput)
-    (event : Event) (given : Limits) (lines : List Line) (now : List SimNode) (more : List Posted)
-    : Type 0 where
-  pub did : StepOutcome
-  pub took : HasMoved sims x node_input event.fault given did now
-  pub sent : HasPosted posted (sent_by did) more
-  pub traced : lines ≡ outcome_lines x (epoch_in event.kind) (length posted) did
-
 -- a run of a world: its configurations, its events, what was chosen in each, and the lines of each
 pub record WorldRun : Type 0 where
   pub configs : Configurations
@@ -186,156 +103,256 @@ extended run event choice lines = record {
   steps = run.steps ++ lines ∷ [];
 }
 
--- a node that tended, and runs on, did and raised what was chosen
-pub record TendsAsChosen {g : Ghosts Slots} (choice : Choice) (was now : Node Slots g) : Type 0
-  where
-    pub did : IsTendAnswer (engine_of was) (engine_of now) choice.tended
-    pub rises : choice.rises ≡ has_risen (facts_of (engine_of was)) (facts_of (engine_of now))
+module _ {D : Type 0} {g : Ghosts D} where
+  -- node x is the node at this index
+  pub record IsIndexOf (sims : List (SimNode D g)) (index x : ℕ) : Type 0 where
+    pub within : index < length sims
+    pub id : HoldsAt (λ sim. sim.id ≡ x) sims index
 
--- An event acted on node x, which is machine n after it, and the disk that the node has follows
--- from the one that it had. Every other node is as it was.
-pub record HasActedOn (event : Event) (choice : Choice) (o : model_frame.Outcome BatchContent)
-    (x : ℕ) (n : Machine) (old new : List SimNode) : Type 0 where
-  pub index : ℕ
-  pub at : IsIndexOf old index x
-  pub sim : SimNode
-  pub others : new ≡ slice_set old index sim
-  pub id : sim.id ≡ x
-  pub disk : DiskFollows state failures past_states marks event choice o n
-      (disk_in (get_or old index sim).state) (disk_in sim.state)
-  -- a stop of a running node leaves a crash of its disk with the junk
-  pub stops : (junk : Junk) → event.kind ≡ Stop x junk → (was : Node Slots _) →
-      (get_or old index sim).state ≡ Up was →
-      IsCrashOf state failures past_states junk (disk_of was) (disk_in sim.state)
-  -- a tend of a running node that did not stop tells what it did, and what has risen
-  pub tends : event.kind ≡ Tend x → (was now : Node Slots _) →
-      (get_or old index sim).state ≡ Up was → sim.state ≡ Up now → TendsAsChosen choice was now
+  -- node x is none of these
+  abbrev pub HasNoNode : List (SimNode D g) → ℕ → Type 0
+  HasNoNode sims x = All (λ sim. sim.id ≢ x) sims
 
--- the nodes follow from those before, by the node that the event acted on
-abbrev pub NodesFollow : Option (ℕ × Machine) → Event → Choice → model_frame.Outcome BatchContent
-    → List SimNode → List SimNode → Type 0
-NodesFollow None event choice o old new = new ≡ old
-NodesFollow (Some at) event choice o old new = HasActedOn event choice o at.0 at.1 old new
+  -- a simulated node refines the machine of its id, and has the disk of its id
+  pub record SimNodeRefines (nodes : ℕ → Machine) (disks : ℕ → D) (sim : SimNode D g) : Type 0 where
+    pub is : StateRefines g.is_honest g.state sim.state sim.id (nodes sim.id)
+    pub disk : disk_in sim.state ≡ disks sim.id
 
--- these nodes follow by the outcome of the event in the model, behind a run
-abbrev pub FollowRun : WorldRun → Event → Choice → List SimNode → List SimNode → Type 0
-FollowRun run event choice old new =
-    let o = model_frame.outcome
-    (model_frame.reached run.configs (modelled_from 1 run.events run.choices)) run.configs
-    (modelled (suc (length run.events)) event.kind choice) in
-    NodesFollow o.acted_on event choice o old new
+  -- a node that was just created with this configuration: no call of its disk failed, and it was
+  -- armed with no fault
+  pub record IsCreated (config : List ℕ) (sim : SimNode D g) : Type 0 where
+    pub is : StateRefines g.is_honest g.state sim.state sim.id (created config)
+    pub count : g.failures (disk_in sim.state) ≡ 0
+    pub marked : IsNewDisk g (disk_in sim.state)
 
--- Nodes, posted frames and lines refine the model's run: how each step went was chosen so, and then
--- nodes, disks, frames and lines are those of that run.
-pub record RunRefines (sims : List SimNode) (posted : List Posted) (run : WorldRun) : Type 0 where
-  pub lawful : Lawful run.configs
-  pub trace : IsTrace run.configs run.events run.choices run.steps
-  pub frames : AllZip PostedRefines posted (model_frame.reached run.configs
-      (modelled_from 1 run.events run.choices)).frames
-  pub sent : frames_in_steps run.steps ≡ length posted
-  pub nodes : map (λ sim. sim.id) sims ≡ at_epoch run.configs 0
-  pub disks : ℕ → Slots
-  pub after : AreDisksAfter state failures past_states marks run.configs run.events run.choices
-      disks
-  -- no disk failed more often than there are events
-  pub few : (x : ℕ) → failures (disks x) ≤ length run.events
-  pub unarmed : (x : ℕ) → IsUnarmed (disks x)
-  pub each : All (SimNodeRefines (model_frame.node_of run.configs
-      (modelled_from 1 run.events run.choices)) disks) sims
+  -- each of these nodes that is up has these limits
+  abbrev pub HaveLimits : List (SimNode D g) → Limits → Type 0
+  HaveLimits sims limits = All (λ sim. StateHasLimits sim.state limits) sims
 
--- each of these nodes refines the machine of its id
-abbrev pub NodesRefine : (ℕ → Machine) → List SimNode → Type 0
-NodesRefine machines sims =
-    All (λ sim. StateRefines is_honest state sim.state sim.id (machines sim.id)) sims
+  -- these nodes were just created with this configuration and these limits, in this order
+  pub record AreCreated (config ids : List ℕ) (given : Limits)
+      (sims : List (SimNode D g)) : Type 0 where
+    pub nodes : map (λ sim. sim.id) sims ≡ ids
+    pub each : All (IsCreated config) sims
+    pub limits : HaveLimits sims given
 
--- What the events from place i on leave of these nodes, one event after another, from a state of
--- the model on. Behind each of them those that are up have these limits, and all refine their
--- machines.
-abbrev pub AllNodesFollow : Configurations → Limits → ℕ → List Event → List Choice
-    → model_frame.SystemState BatchContent → List SimNode → List SimNode → Type 0
-AllNodesFollow cs limits i [] choices w old new = new ≡ old
-AllNodesFollow cs limits i (event ∷ events) [] w old new = ⊥
-AllNodesFollow cs limits i (event ∷ events) (choice ∷ choices) w old new =
-    let o = model_frame.outcome w cs (modelled i event.kind choice) in
-    (next : List SimNode) × NodesFollow o.acted_on event choice o old next
-    × HaveLimits next limits
-    × NodesRefine (model_frame.after w o).nodes next
-    × AllNodesFollow cs limits (suc i) events choices (model_frame.after w o) next new
+  -- the node is up, and the numbers say how many tables each level of its store has
+  abbrev pub HasTablesIn : NodeState D g → Numbers → Type 0
+  HasTablesIn (Up node) numbers = (level : ℕ) → level < 7 →
+      slice_index numbers.tables level ≡ table_count (engine_of node) level
+  HasTablesIn (Down disk) numbers = ⊥
 
--- The nodes that a run leaves: they were created with the first configuration and these limits, and
--- each event left nodes that follow from those before it.
-pub record AreNodesAfter (cs : Configurations) (limits : Limits) (events : List Event)
-    (choices : List Choice) (sims : List SimNode) : Type 0 where
-  pub first : List SimNode
-  pub created : AreCreated (at_epoch cs 0) (at_epoch cs 0) limits first
-  pub follow : AllNodesFollow cs limits 1 events choices (model_frame.first_state cs) first sims
+  -- the numbers are those of node x, which is up: they say how many tables it has
+  pub record ShowsTables (sims : List (SimNode D g)) (x : ℕ) (numbers : Numbers) : Type 0 where
+    pub index : ℕ
+    pub at : IsIndexOf sims index x
+    pub tables : HoldsAt (λ sim. HasTablesIn sim.state numbers) sims index
+
+  -- Node x took this input with this fault, and these limits if it was started: its new state and
+  -- its outcome. Every other node is as it was.
+  pub record HasMoved (sims : List (SimNode D g)) (x : ℕ) (node_input : NodeInput) (fault : Fault)
+      (given : Limits) (did : StepOutcome) (now : List (SimNode D g)) : Type 0 where
+    pub index : ℕ
+    pub at : IsIndexOf sims index x
+    pub sim : SimNode D g
+    pub others : now ≡ slice_set sims index sim
+    pub id : sim.id ≡ x
+    pub dispatched : HasDispatched g given fault node_input (get_or sims index sim).state sim.state
+        did
+
+  -- .. for this event: the frames that it sent are posted, and these are its lines
+  pub record HasStepped (sims : List (SimNode D g)) (posted : List Posted) (x : ℕ)
+      (node_input : NodeInput)
+      (event : Event) (given : Limits) (lines : List Line) (now : List (SimNode D g))
+      (more : List Posted)
+      : Type 0 where
+    pub did : StepOutcome
+    pub took : HasMoved sims x node_input event.fault given did now
+    pub sent : HasPosted posted (sent_by did) more
+    pub traced : lines ≡ outcome_lines x (epoch_in event.kind) (length posted) did
+
+  -- a node that tended, and runs on, did and raised what was chosen
+  pub record TendsAsChosen (choice : Choice) (was now : Node D g) : Type 0
+    where
+      pub did : IsTendAnswer (engine_of was) (engine_of now) choice.tended
+      pub rises : choice.rises ≡ has_risen (facts_of (engine_of was)) (facts_of (engine_of now))
+
+  -- An event acted on node x, which is machine n after it, and the disk that the node has follows
+  -- from the one that it had. Every other node is as it was.
+  pub record HasActedOn (event : Event) (choice : Choice) (o : model_frame.Outcome BatchContent)
+      (x : ℕ) (n : Machine) (old new : List (SimNode D g)) : Type 0 where
+    pub index : ℕ
+    pub at : IsIndexOf old index x
+    pub sim : SimNode D g
+    pub others : new ≡ slice_set old index sim
+    pub id : sim.id ≡ x
+    pub disk : DiskFollows g event choice o n
+        (disk_in (get_or old index sim).state) (disk_in sim.state)
+    -- a stop of a running node leaves a crash of its disk with the junk
+    pub stops : (junk : Junk) → event.kind ≡ Stop x junk → (was : Node D g) →
+        (get_or old index sim).state ≡ Up was →
+        IsCrashOf g.state g.failures g.past junk (disk_of was) (disk_in sim.state)
+    -- a tend of a running node that did not stop tells what it did, and what has risen
+    pub tends : event.kind ≡ Tend x → (was now : Node D g) →
+        (get_or old index sim).state ≡ Up was → sim.state ≡ Up now → TendsAsChosen choice was now
+
+  -- the nodes follow from those before, by the node that the event acted on
+  abbrev pub NodesFollow : Option (ℕ × Machine) → Event → Choice → model_frame.Outcome BatchContent
+      → List (SimNode D g) → List (SimNode D g) → Type 0
+  NodesFollow None event choice o old new = new ≡ old
+  NodesFollow (Some at) event choice o old new = HasActedOn event choice o at.0 at.1 old new
+
+  -- these nodes follow by the outcome of the event in the model, behind a run
+  abbrev pub FollowRun : WorldRun → Event → Choice → List (SimNode D g) → List (SimNode D g) →
+      Type 0
+  FollowRun run event choice old new =
+      let o = model_frame.outcome
+      (model_frame.reached run.configs (modelled_from 1 run.events run.choices)) run.configs
+      (modelled (suc (length run.events)) event.kind choice) in
+      NodesFollow o.acted_on event choice o old new
+
+  -- Nodes, posted frames and lines refine the model's run: how each step went was chosen so, and
+  -- then nodes, disks, frames and lines are those of that run.
+  pub record RunRefines (sims : List (SimNode D g)) (posted : List Posted)
+      (run : WorldRun) : Type 0 where
+    pub lawful : Lawful run.configs
+    pub trace : IsTrace run.configs run.events run.choices run.steps
+    pub frames : AllZip PostedRefines posted (model_frame.reached run.configs
+        (modelled_from 1 run.events run.choices)).frames
+    pub sent : frames_in_steps run.steps ≡ length posted
+    pub nodes : map (λ sim. sim.id) sims ≡ at_epoch run.configs 0
+    pub disks : ℕ → D
+    pub after : AreDisksAfter g run.configs run.events run.choices
+        disks
+    -- no disk failed more often than there are events
+    pub few : (x : ℕ) → g.failures (disks x) ≤ length run.events
+    pub unarmed : (x : ℕ) → IsUnarmed g (disks x)
+    pub each : All (SimNodeRefines (model_frame.node_of run.configs
+        (modelled_from 1 run.events run.choices)) disks) sims
+
+  -- each of these nodes refines the machine of its id
+  abbrev pub NodesRefine : (ℕ → Machine) → List (SimNode D g) → Type 0
+  NodesRefine machines sims =
+      All (λ sim. StateRefines g.is_honest g.state sim.state sim.id (machines sim.id)) sims
+
+  -- What the events from place i on leave of these nodes, one event after another, from a state of
+  -- the model on. Behind each of them those that are up have these limits, and all refine their
+  -- machines.
+  abbrev pub AllNodesFollow : Configurations → Limits → ℕ → List Event → List Choice
+      → model_frame.SystemState BatchContent → List (SimNode D g) → List (SimNode D g) → Type 0
+  AllNodesFollow cs limits i [] choices w old new = new ≡ old
+  AllNodesFollow cs limits i (event ∷ events) [] w old new = ⊥
+  AllNodesFollow cs limits i (event ∷ events) (choice ∷ choices) w old new =
+      let o = model_frame.outcome w cs (modelled i event.kind choice) in
+      (next : List (SimNode D g)) × NodesFollow o.acted_on event choice o old next
+      × HaveLimits next limits
+      × NodesRefine (model_frame.after w o).nodes next
+      × AllNodesFollow cs limits (suc i) events choices (model_frame.after w o) next new
+
+  -- The nodes that a run leaves: they were created with the first configuration and these limits,
+  -- and each event left nodes that follow from those before it.
+  pub record AreNodesAfter (cs : Configurations) (limits : Limits) (events : List Event)
+      (choices : List Choice) (sims : List (SimNode D g)) : Type 0 where
+    pub first : List (SimNode D g)
+    pub created : AreCreated (at_epoch cs 0) (at_epoch cs 0) limits first
+    pub follow : AllNodesFollow cs limits 1 events choices (model_frame.first_state cs) first sims
+
+  -- The world has run so, and keeps its configurations, its events and the lines of each; its nodes
+  -- came of them, with its limits.
+  pub record HasRun (world : World D g) (run : WorldRun) : Type 0 where
+    pub configs : world.configs ≡ run.configs
+    pub kept : world.steps.items ≡ run.steps
+    pub taken : world.events.items ≡ run.events
+    pub made : RunRefines world.nodes.items world.frames.items run
+    pub came : AreNodesAfter run.configs world.limits run.events run.choices world.nodes.items
+
+  -- the world kept an event with its lines, and goes on; it is as it was otherwise
+  pub record HasKept (old new : World D g) (event : Event) (lines : List Line) : Type 0 where
+    pub taken : new.events.items ≡ old.events.items ++ event ∷ []
+    pub kept : new.steps.items ≡ old.steps.items ++ lines ∷ []
+    pub others : new ≡ record old { events = new.events; steps = new.steps; ended = false }
+
+  -- the world starts nodes with these limits, and each of its nodes that is up has them
+  pub record WorldHasLimits (world : World D g) (limits : Limits) : Type 0 where
+    pub given : world.limits ≡ limits
+    pub nodes : HaveLimits world.nodes.items limits
+
+  -- the world keeps the limits that it had
+  abbrev pub WorldKeepsLimits : World D g → World D g → Type 0
+  WorldKeepsLimits old new =
+      (limits : Limits) → WorldHasLimits old limits → WorldHasLimits new limits
+
+  -- The world has run one event more, with its lines, and its very nodes follow, as was chosen.
+  pub record HasFollowed (old new : World D g) (past : WorldRun) (event : Event) : Type 0 where
+    pub choice : Choice
+    pub lines : List Line
+    pub run : HasRun new (extended past event choice lines)
+    pub nodes : FollowRun past event choice old.nodes.items new.nodes.items
+
+  -- the run is as it was, and so is each node
+  pub record HasStayed (old new : World D g) (past : WorldRun) : Type 0 where
+    pub run : HasRun new past
+    pub nodes : new.nodes.items ≡ old.nodes.items
+
+  -- An event was applied if it names a node of the world, or none. Where it names another node, all
+  -- stays.
+  pub record HasApplied (old new : World D g) (past : WorldRun) (event : Event) : Type 0 where
+    pub follows : NamesNode past.configs event.kind → HasFollowed old new past event
+    pub nothing : (NamesNode past.configs event.kind → ⊥) → HasStayed old new past
+
+  -- a step was refused, and so is every later one
+  abbrev pub WorldHasEnded : World D g → Type 0
+  WorldHasEnded world = world.ended ≡ true
+
+  -- the lines of the run are those of the model over these events, and each node has the disk that
+  -- they left, which represents its machine's whole list, and which has no fault; reads at the last
+  -- tail are fresh, and no node gives up what another one may lack
+  pub record IsRunSoFar (world : World D g) (run : WorldRun) : Type 0 where
+    pub trace : IsTrace run.configs run.events run.choices run.steps
+    pub disks : HaveDisks g (λ (sim : SimNode D g). sim.id)
+        (λ (sim : SimNode D g). disk_in sim.state) run.configs run.events run.choices
+        world.nodes.items
+    pub unarmed : All (λ sim. IsUnarmed g (disk_in sim.state)) world.nodes.items
+    pub fresh : ReadsAreFresh run.configs run.events run.choices run.steps
+    pub enough : NodesKeepEnough run.configs run.events run.choices
+
+  -- .. and there is one history of them
+  abbrev pub HasHistory : World D g → WorldRun → Type 0
+  HasHistory world run = IsHistory g.state (λ (sim : SimNode D g). sim.id)
+      (λ (sim : SimNode D g). disk_in sim.state) run.configs run.events run.steps world.nodes.items
+
+-- ---- over disks in memory
+
+-- a node on a disk in memory
+abbrev pub MemNode : Type 0
+MemNode = SimNode Slots in_memory
+
+-- a world of them
+abbrev pub MemWorld : Type 0
+MemWorld = World Slots in_memory
+
+-- the report of a node that is this machine and has this disk, at the end of a run
+pub record IsLeft (n : Machine) (own : Slots) (left : NodeReport) : Type 0 where
+  pub disk : IsDiskOf state left.id n left.disk own
+  pub numbers : RunningRefines left.running n
+
+-- the report of this node has its id and its very disk, and numbers where it is up: they say how
+-- many tables its store has
+pub record IsReportOf (sim : MemNode) (report : NodeReport) : Type 0 where
+  pub id : report.id ≡ sim.id
+  pub disk : report.disk ≡ disk_in sim.state
+  pub running : MatchOption report.running (IsDown sim.state) (HasTablesIn sim.state)
+
+-- these reports are of these nodes, one of each in order, at the end of a run
+pub record AreLeft (sims : List MemNode) (nodes : List NodeReport) : Type 0 where
+  pub own : AllZip IsReportOf sims nodes
+  pub each : (machines : ℕ → Machine) (disks : ℕ → Slots) → All
+      (SimNodeRefines machines disks) sims →
+      All (λ node. IsLeft (machines node.id) (disks node.id) node) nodes
 
 -- the reports are of the nodes that a run leaves, one of each in order
 pub record AreReportsAfter (cs : Configurations) (limits : Limits) (events : List Event)
     (choices : List Choice) (reports : List NodeReport) : Type 0 where
-  pub sims : List SimNode
+  pub sims : List MemNode
   pub after : AreNodesAfter cs limits events choices sims
   pub own : AllZip IsReportOf sims reports
-
--- The world has run so, and keeps its configurations, its events and the lines of each; its nodes
--- came of them, with its limits.
-pub record HasRun (world : World) (run : WorldRun) : Type 0 where
-  pub configs : world.configs ≡ run.configs
-  pub kept : world.steps.items ≡ run.steps
-  pub taken : world.events.items ≡ run.events
-  pub made : RunRefines world.nodes.items world.frames.items run
-  pub came : AreNodesAfter run.configs world.limits run.events run.choices world.nodes.items
-
--- the world kept an event with its lines, and goes on; it is as it was otherwise
-pub record HasKept (old new : World) (event : Event) (lines : List Line) : Type 0 where
-  pub taken : new.events.items ≡ old.events.items ++ event ∷ []
-  pub kept : new.steps.items ≡ old.steps.items ++ lines ∷ []
-  pub others : new ≡ record old { events = new.events; steps = new.steps; ended = false }
-
--- the world starts nodes with these limits, and each of its nodes that is up has them
-pub record WorldHasLimits (world : World) (limits : Limits) : Type 0 where
-  pub given : world.limits ≡ limits
-  pub nodes : HaveLimits world.nodes.items limits
-
--- the world keeps the limits that it had
-abbrev pub WorldKeepsLimits : World → World → Type 0
-WorldKeepsLimits old new =
-    (limits : Limits) → WorldHasLimits old limits → WorldHasLimits new limits
-
--- The world has run one event more, with its lines, and its very nodes follow, as was chosen.
-pub record HasFollowed (old new : World) (past : WorldRun) (event : Event) : Type 0 where
-  pub choice : Choice
-  pub lines : List Line
-  pub run : HasRun new (extended past event choice lines)
-  pub nodes : FollowRun past event choice old.nodes.items new.nodes.items
-
--- the run is as it was, and so is each node
-pub record HasStayed (old new : World) (past : WorldRun) : Type 0 where
-  pub run : HasRun new past
-  pub nodes : new.nodes.items ≡ old.nodes.items
-
--- An event was applied if it names a node of the world, or none. Where it names another node, all
--- stays.
-pub record HasApplied (old new : World) (past : WorldRun) (event : Event) : Type 0 where
-  pub follows : NamesNode past.configs event.kind → HasFollowed old new past event
-  pub nothing : (NamesNode past.configs event.kind → ⊥) → HasStayed old new past
-
--- a step was refused, and so is every later one
-abbrev pub WorldHasEnded : World → Type 0
-WorldHasEnded world = world.ended ≡ true
-
--- the lines of the run are those of the model over these events, and each node has the disk that
--- they left, which represents its machine's whole list, and which has no fault; reads at the last
--- tail are fresh, and no node gives up what another one may lack
-pub record IsRunSoFar (world : World) (run : WorldRun) : Type 0 where
-  pub trace : IsTrace run.configs run.events run.choices run.steps
-  pub disks : HaveDisks state failures past_states marks (λ (sim : SimNode). sim.id)
-      (λ (sim : SimNode). disk_in sim.state) run.configs run.events run.choices world.nodes.items
-  pub unarmed : All (λ sim. IsUnarmed (disk_in sim.state)) world.nodes.items
-  pub fresh : ReadsAreFresh run.configs run.events run.choices run.steps
-  pub enough : NodesKeepEnough run.configs run.events run.choices
-
--- .. and there is one history of them
-abbrev pub HasHistory : World → WorldRun → Type 0
-HasHistory world run = IsHistory state (λ (sim : SimNode). sim.id)
-    (λ (sim : SimNode). disk_in sim.state) run.configs run.events run.steps world.nodes.items

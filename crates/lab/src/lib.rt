@@ -26,4 +26,5 @@ pub use link_messages::Refusal;
 pub use node::{DropReason, Numbers, Reply, Stop};
 pub use report::{Line, Lines, NodeReport, Report};
 pub use runs::run;
+pub use sim_node::SimNode;
 pub use world::World;

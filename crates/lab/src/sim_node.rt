@@ -1,14 +1,30 @@
 // A simulated node: its id, and its state.
+ghost use Rattle.std.specs.Prelude.{◌≡◌};
+ghost use Rattle.node.specs.{IsReady};
+ghost use Rattle.lab.specs.declared.node_state.NodeState.TheVariants.{Up};
 ghost use Rattle.lab.specs.SimNodes.{StateIsReady};
 
 use crate::node_state::NodeState;
 use configurations::NodeId;
-use disk::MemDisk;
+use disk::Disk;
+use node::Node;
 
-/// A node of the world. If it is up, a step of it may follow.
+/// A node of a world. If it is up, a step of it may follow.
 #[derive(Drop)]
-pub struct SimNode {
-    pub id: NodeId,
-    pub state: NodeState<MemDisk>,
+pub struct SimNode<D: Disk + Drop> {
+    pub(crate) id: NodeId,
+    pub(crate) state: NodeState<D>,
     ghost ready: { StateIsReady state },
+}
+
+impl<D: Disk + Drop> SimNode<D> {
+    /// A node that is up, with this id.
+    pub fn up(id: NodeId, node: Node<D>) -> SimNode<D>
+        requires { IsReady node }
+        ensures id { result.id ≡ id }
+        ensures state { result.state ≡ Up node }
+    {
+        let state = NodeState::Up(node);
+        SimNode { id, state }
+    }
 }

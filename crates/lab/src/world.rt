@@ -2,14 +2,14 @@
 ghost use Rattle.std.specs.Prelude.{◌≡◌, ℕ, IfOk, IfSome, IsErr, MatchOption, MatchResult};
 ghost use Rattle.std.specs.Prelude.{OnErr, OnOk, true};
 ghost use Rattle.std.specs.List.{AllZip};
-ghost use Rattle.chain_model.specs.{at_epoch, has};
+ghost use Rattle.chain_model.specs.{Lawful, at_epoch, has};
 ghost use Rattle.chain_core.specs.{Machine};
 ghost use Rattle.disk.specs.{Slots};
-ghost use Rattle.lab.specs.SimNodes.{StateHasLimits, StateRefines, disk_in, is_honest, state};
+ghost use Rattle.lab.specs.SimNodes.{StateHasLimits, StateRefines, disk_in, in_memory};
 ghost use Rattle.lab.specs.Runs.{AreNumbersOf, IsRun};
 ghost use Rattle.lab.specs.History.{OneHistory};
 ghost use Rattle.lab.specs.Worlds.{AreCreated, AreLeft, HasApplied, HasHistory, HasKept, HasNoNode};
-ghost use Rattle.lab.specs.Worlds.{HasRun, HasStepped, IsCreated, IsIndexOf, IsLeft};
+ghost use Rattle.lab.specs.Worlds.{HasRun, HasStepped, HaveLimits, IsCreated, IsIndexOf, IsLeft};
 ghost use Rattle.lab.specs.Worlds.{IsReportOf, IsRunSoFar, ShowsTables, WorldHasEnded};
 ghost use Rattle.lab.specs.Worlds.{WorldHasLimits, WorldKeepsLimits, WorldRun, empty_run};
 ghost use Rattle.lab.specs.Worlds.{frames_in_steps};
@@ -24,21 +24,20 @@ use crate::trace::{one_line, trace_of};
 use crate::{Event, LabError};
 use chain_model::{in_order, keeps_enough, one_history, reads_fresh, run_is_outcomes};
 use configurations::{Config, Configs, NodeId};
-use disk::{Fault, MemDisk};
+use disk::{Crash, Disk, Fault, MemDisk};
 use kv_types::laws::pages_agree;
 use kv_types::{Batch, Limits, Number};
 use node::laws::disks_represent;
 use node::{Node, Numbers, Stop};
 use std::alloc::{AllocError, Global};
-use std::mem;
 
-/// The nodes of a chain on disks in memory, every frame that they ever sent, and the trace so far.
-/// An event is one step of one of them.
+/// The nodes of a chain on disks of one type, every frame that they ever sent, and the trace so
+/// far. An event is one step of one of them.
 #[derive(Drop)]
-pub struct World {
+pub struct World<D: Disk + Drop> {
     configs: Configs,
     limits: Limits,
-    nodes: Vec<SimNode>,
+    nodes: Vec<SimNode<D>>,
     frames: Vec<Posted>,
     events: Vec<Event>,
     steps: Vec<Lines>,
@@ -52,7 +51,7 @@ fn created_node(
     id: NodeId,
     config: &Config,
     limits: &Limits,
-) -> Result<SimNode, LabError>
+) -> Result<SimNode<MemDisk>, LabError>
     ensures id { IfOk result (λ node. node.id ≡ id) }
     ensures created { IfOk result (IsCreated config.now) }
     ensures limits { IfOk result (λ node. StateHasLimits node.state limits.now) }
@@ -76,7 +75,11 @@ fn created_node(
 }
 
 // All nodes of a configuration, in order.
-fn created_nodes(alloc: Global, config: &Config, limits: &Limits) -> Result<Vec<SimNode>, LabError>
+fn created_nodes(
+    alloc: Global,
+    config: &Config,
+    limits: &Limits,
+) -> Result<Vec<SimNode<MemDisk>>, LabError>
     ensures { IfOk result
         (λ nodes. AreCreated config.now config.now limits.now nodes.items) }
 {
@@ -88,9 +91,9 @@ fn created_nodes(alloc: Global, config: &Config, limits: &Limits) -> Result<Vec<
 }
 
 // The report of a node, at the end of a run.
-fn left_of(node: SimNode) -> NodeReport
+fn left_of(node: SimNode<MemDisk>) -> NodeReport
     ensures left { (n : Machine) (disk : Slots) →
-        StateRefines is_honest state node.state node.id n →
+        StateRefines in_memory.is_honest in_memory.state node.state node.id n →
         disk_in node.state ≡ disk → IsLeft n disk result }
     ensures own { IsReportOf node result }
 {
@@ -110,7 +113,7 @@ fn left_of(node: SimNode) -> NodeReport
 }
 
 // The reports of all nodes, in order.
-fn left_of_all(alloc: Global, nodes: Vec<SimNode>) -> Result<Vec<NodeReport>, AllocError>
+fn left_of_all(alloc: Global, nodes: Vec<SimNode<MemDisk>>) -> Result<Vec<NodeReport>, AllocError>
     ensures { IfOk result (λ reports. AreLeft nodes.items reports.items) }
 {
     let mut reports = Vec::new(alloc);
@@ -121,27 +124,32 @@ fn left_of_all(alloc: Global, nodes: Vec<SimNode>) -> Result<Vec<NodeReport>, Al
 }
 
 // Where the node with this id is.
-fn index_of(nodes: &[SimNode], id: NodeId) -> Option<usize>
+fn index_of<D: Disk + Drop>(nodes: &[SimNode<D>], id: NodeId) -> Option<usize>
     ensures { MatchOption result (HasNoNode nodes.now id)
         (λ index. IsIndexOf nodes.now index id) }
 {
-    nodes.iter().position(|node| node.id == id)
+    for index in 0..nodes.len() {
+        if nodes[index].id == id {
+            return Some(index);
+        }
+    }
+    None
 }
 
 // Dispatches what an event delivers to the node at this index, with the event's fault, and posts
 // the frames that it sends: the lines of that. Where memory is short the node is lost.
-fn deliver(
+fn deliver<D: Crash + Drop>(
     alloc: Global,
-    nodes: &mut [SimNode],
+    nodes: &mut Vec<SimNode<D>>,
     frames: &mut Vec<Posted>,
     event: &Event,
     index: usize,
     delivery: (NodeId, NodeInput),
     limits: &Limits,
 ) -> Result<Lines, AllocError>
-    requires { IsIndexOf nodes.old index delivery.0 }
-    ensures { IfOk result (λ lines. HasStepped nodes.old frames.old.items delivery.0 delivery.1
-        event.now limits.now lines nodes.new frames.new.items) }
+    requires { IsIndexOf nodes.old.items index delivery.0 }
+    ensures { IfOk result (λ lines. HasStepped nodes.old.items frames.old.items delivery.0
+        delivery.1 event.now limits.now lines nodes.new.items frames.new.items) }
 {
     let (id, input) = delivery;
     let fault = match event.fault.clone() {
@@ -151,29 +159,90 @@ fn deliver(
             return Err(e);
         }
     };
-    let state = NodeState::Down(MemDisk::new(alloc));
-    let node = mem::replace(&mut nodes[index], SimNode { id, state });
+    let node = nodes.remove(index);
     let (state, outcome) = node.state.dispatch(alloc, input, fault, limits)?;
-    drop(mem::replace(&mut nodes[index], SimNode { id, state }));
+    nodes.insert(index, SimNode { id, state })?;
     trace_of(alloc, frames, id, event.kind.epoch(), outcome)
 }
 
-impl World {
-    /// Creates the nodes of the first configuration.
-    pub fn new(alloc: Global, configs: &Configs, limits: &Limits) -> Result<World, LabError>
+impl World<MemDisk> {
+    /// Creates the nodes of the first configuration, on new disks.
+    pub fn new(
+        alloc: Global,
+        configs: &Configs,
+        limits: &Limits,
+    ) -> Result<World<MemDisk>, LabError>
         ensures ran { IfOk result (λ world. HasRun world (empty_run configs.now)) }
         ensures goes_on { IfOk result (λ world. WorldHasEnded world → ⊥) }
         ensures limits { IfOk result (λ world. WorldHasLimits world limits.now) }
     {
-        Ok(World {
-            configs: configs.clone(alloc)?,
+        let configs = configs.clone(alloc)?;
+        let nodes = created_nodes(alloc, configs.first(), limits)?;
+        Ok(World::over(alloc, configs, nodes, limits))
+    }
+
+    /// The report of the run: its lines, and each node at the end.
+    pub fn finish(self, alloc: Global) -> Result<Report, LabError>
+        ensures steps { (run : WorldRun) → HasRun self run →
+            IfOk result (λ report. report.steps.items ≡ run.steps) }
+        ensures run { (run : WorldRun) → HasRun self run →
+            IfOk result (IsRun run.configs run.events run.choices) }
+        ensures history { (run : WorldRun) → HasRun self run →
+            IfOk result (OneHistory run.configs run.events) }
+        ensures own { IfOk result
+            (λ report. AllZip IsReportOf self.nodes.items report.nodes.items) }
+        ensures ended { WorldHasEnded self → IsErr result }
+    {
+        let World {
+            nodes,
+            steps,
+            configs: _configs,
+            limits: _limits,
+            frames: _frames,
+            events: _events,
+            ended,
+        } = self;
+        if ended {
+            return Err(LabError::Memory);
+        }
+        let nodes = left_of_all(alloc, nodes)?;
+        // laws: reads at the last tail are fresh, and nothing is given up that may be needed
+        reads_fresh::<Batch>();
+        keeps_enough::<Batch>();
+        // laws: a run of the model has one history, and is made of its outcomes
+        one_history::<Batch>();
+        run_is_outcomes::<Batch>();
+        // law: the page as a function is the page of a map
+        pages_agree();
+        Ok(Report { steps, nodes })
+    }
+}
+
+impl<D: Disk + Drop> World<D> {
+    /// A world of these nodes, which has run no event. If they were just created, the world has run
+    /// so (`ran`). Of nodes that were started on what an earlier run left of their disks nothing of
+    /// one history is claimed: no event of this run submitted what they hold.
+    pub fn over(
+        alloc: Global,
+        configs: Configs,
+        nodes: Vec<SimNode<D>>,
+        limits: &Limits,
+    ) -> World<D>
+        ensures ran { Lawful configs →
+            AreCreated (at_epoch configs 0) (at_epoch configs 0) limits.now nodes.items →
+            HasRun result (empty_run configs) }
+        ensures goes_on { WorldHasEnded result → ⊥ }
+        ensures limits { HaveLimits nodes.items limits.now → WorldHasLimits result limits.now }
+    {
+        World {
+            configs,
             limits: *limits,
-            nodes: created_nodes(alloc, configs.first(), limits)?,
+            nodes,
             frames: Vec::new(alloc),
             events: Vec::new(alloc),
             steps: Vec::new(alloc),
             ended: false,
-        })
+        }
     }
 
     // Keeps an event with its lines, and goes on.
@@ -187,6 +256,64 @@ impl World {
         Ok(())
     }
 
+    /// How many frames were sent so far.
+    pub fn sent(&self) -> u64
+        ensures { (run : WorldRun) → HasRun self.now run → result ≡ frames_in_steps run.steps }
+    {
+        self.frames.len() as u64
+    }
+
+    /// The numbers of a node as it is now: none of one that is down, or that the world does not
+    /// have.
+    pub fn numbers(&self, id: NodeId) -> Option<Numbers>
+        ensures run { (run : WorldRun) → HasRun self.now run →
+            has (at_epoch run.configs 0) id ≡ true →
+            AreNumbersOf run.configs run.events run.choices id result }
+        ensures tables { IfSome result (ShowsTables self.now.nodes.items id) }
+    {
+        let Some(index) = index_of(&self.nodes, id) else {
+            return None;
+        };
+        match &self.nodes[index].state {
+            NodeState::Up(node) => Some(node.numbers()),
+            NodeState::Down(_) => None,
+        }
+    }
+
+    /// The lines of each event so far. The world keeps the disks.
+    pub fn report(&self) -> &[Lines]
+        ensures steps { (run : WorldRun) → HasRun self.now run → result.now ≡ run.steps }
+        ensures run { (run : WorldRun) → HasRun self.now run → IsRunSoFar self.now run }
+        ensures history { (run : WorldRun) → HasRun self.now run → HasHistory self.now run }
+    {
+        // laws: reads at the last tail are fresh, and nothing is given up that may be needed
+        reads_fresh::<Batch>();
+        keeps_enough::<Batch>();
+        // laws: a run of the model has one history, and is made of its outcomes
+        one_history::<Batch>();
+        run_is_outcomes::<Batch>();
+        // law: the page as a function is the page of a map
+        pages_agree();
+        // law: the disk of a running node represents it
+        disks_represent::<D>();
+        &self.steps
+    }
+
+    /// The events that were applied so far.
+    pub fn events(&self) -> &[Event]
+        ensures { (run : WorldRun) → HasRun self.now run → result.now ≡ run.events }
+    {
+        &self.events
+    }
+
+    /// Lets the world go, with its nodes. No report is made. A crate that ends a world by this call
+    /// need not prove the drop of all that it holds.
+    pub fn close(self) {
+        drop(self);
+    }
+}
+
+impl<D: Crash + Drop> World<D> {
     /// Applies an event to the node that it is for. One that names a node which the world does not
     /// have does nothing. After an error the world is at its end: every later step is refused, and
     /// what `sent`, `numbers`, `report` and `events` say of it is left open.
@@ -230,97 +357,5 @@ impl World {
             &self.limits,
         )?;
         self.keep(event, lines)
-    }
-
-    /// How many frames were sent so far.
-    pub fn sent(&self) -> u64
-        ensures { (run : WorldRun) → HasRun self.now run → result ≡ frames_in_steps run.steps }
-    {
-        self.frames.len() as u64
-    }
-
-    /// The numbers of a node as it is now: none of one that is down, or that the world does not
-    /// have.
-    pub fn numbers(&self, id: NodeId) -> Option<Numbers>
-        ensures run { (run : WorldRun) → HasRun self.now run →
-            has (at_epoch run.configs 0) id ≡ true →
-            AreNumbersOf run.configs run.events run.choices id result }
-        ensures tables { IfSome result (ShowsTables self.now.nodes.items id) }
-    {
-        let Some(index) = index_of(&self.nodes, id) else {
-            return None;
-        };
-        match &self.nodes[index].state {
-            NodeState::Up(node) => Some(node.numbers()),
-            NodeState::Down(_) => None,
-        }
-    }
-
-    /// The lines of each event so far. The world keeps the disks.
-    pub fn report(&self) -> &[Lines]
-        ensures steps { (run : WorldRun) → HasRun self.now run → result.now ≡ run.steps }
-        ensures run { (run : WorldRun) → HasRun self.now run → IsRunSoFar self.now run }
-        ensures history { (run : WorldRun) → HasRun self.now run → HasHistory self.now run }
-    {
-        // laws: reads at the last tail are fresh, and nothing is given up that may be needed
-        reads_fresh::<Batch>();
-        keeps_enough::<Batch>();
-        // laws: a run of the model has one history, and is made of its outcomes
-        one_history::<Batch>();
-        run_is_outcomes::<Batch>();
-        // law: the page as a function is the page of a map
-        pages_agree();
-        // law: the disk of a running node represents it
-        disks_represent::<MemDisk>();
-        &self.steps
-    }
-
-    /// The events that were applied so far.
-    pub fn events(&self) -> &[Event]
-        ensures { (run : WorldRun) → HasRun self.now run → result.now ≡ run.events }
-    {
-        &self.events
-    }
-
-    /// The report of the run: its lines, and each node at the end.
-    pub fn finish(self, alloc: Global) -> Result<Report, LabError>
-        ensures steps { (run : WorldRun) → HasRun self run →
-            IfOk result (λ report. report.steps.items ≡ run.steps) }
-        ensures run { (run : WorldRun) → HasRun self run →
-            IfOk result (IsRun run.configs run.events run.choices) }
-        ensures history { (run : WorldRun) → HasRun self run →
-            IfOk result (OneHistory run.configs run.events) }
-        ensures own { IfOk result
-            (λ report. AllZip IsReportOf self.nodes.items report.nodes.items) }
-        ensures ended { WorldHasEnded self → IsErr result }
-    {
-        let World {
-            nodes,
-            steps,
-            configs: _configs,
-            limits: _limits,
-            frames: _frames,
-            events: _events,
-            ended,
-        } = self;
-        if ended {
-            return Err(LabError::Memory);
-        }
-        let nodes = left_of_all(alloc, nodes)?;
-        // laws: reads at the last tail are fresh, and nothing is given up that may be needed
-        reads_fresh::<Batch>();
-        keeps_enough::<Batch>();
-        // laws: a run of the model has one history, and is made of its outcomes
-        one_history::<Batch>();
-        run_is_outcomes::<Batch>();
-        // law: the page as a function is the page of a map
-        pages_agree();
-        Ok(Report { steps, nodes })
-    }
-
-    /// Lets the world go, with its nodes. No report is made. A crate that ends a world by this call
-    /// need not prove the drop of all that it holds.
-    pub fn close(self) {
-        drop(self);
     }
 }

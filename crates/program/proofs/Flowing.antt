@@ -4,7 +4,7 @@ use Rattle.std.proofs.Common.{take, drop, refl, sym, ap, ap₂, subst, ◌∙◌
 use Rattle.std.proofs.Common.{append-nil, length-append}
 use Rattle.lab.specs.declared.Event as lab
 use Rattle.lab.specs.declared.Line.{Line}
-use Rattle.lab.specs.declared.World.{World}
+use Rattle.lab.specs.{MemWorld as World}
 use Rattle.lab.specs.{Choice, frames_in_steps, frames_of_step}
 use Rattle.program.specs.declared.script.setup.Setup.{Setup}
 use Rattle.program.specs.ScriptRuns.{places_after, delivery, deliveries, HasRunTo, Stretch}

@@ -8,7 +8,7 @@ use Rattle.std.proofs.lemmas.Bool.{false≢true}
 use Rattle.std.proofs.lemmas.List.Elements.{All-cons, All-head, All-nil, All-push, All-tail}
 use Rattle.lab.specs.declared.Event as lab
 use Rattle.lab.specs.declared.Line.{Line}
-use Rattle.lab.specs.declared.World.{World}
+use Rattle.lab.specs.{MemWorld as World}
 use Rattle.lab.specs.{Choice, frames_in_steps, frames_of_step}
 use Rattle.program.specs.declared.script.setup.Setup.{Setup}
 use Rattle.program.specs.ScriptRuns.{places_after, HasRunTo, HasSettled, Stretch, has_worked}

@@ -10,7 +10,7 @@ use Rattle.lab.specs.declared.EventKind.{EventKind}
 use Rattle.lab.specs.declared.EventKind.TheVariants.{Submit, Get, Deliver, Tick, Tend, Start, Stop}
 use Rattle.lab.specs.declared.EventKind.TheVariants.{Rows, Open, Close, Notice}
 use Rattle.lab.specs.declared.Line.{Line}
-use Rattle.lab.specs.declared.World.{World}
+use Rattle.lab.specs.{MemWorld as World}
 use Rattle.lab.specs.Numbers.{Numbers}
 use Rattle.lab.specs.{AreNumbersOf, Choice, ShowsTables, frames_in_steps, frames_of_step}
 use Rattle.program.specs.declared.script.setup.Setup.{Setup}

@@ -4,7 +4,7 @@ use Rattle.std.proofs.Common.{drop, refl, sym, ap, subst, ◌∙◌, arith, appe
 use Rattle.std.proofs.Common.{length-append, get_or}
 use Rattle.std.specs.List.{AllZip}
 use Rattle.kv_types.specs.declared.Limits.{Limits}
-use Rattle.lab.specs.declared.World.{World}
+use Rattle.lab.specs.{MemWorld as World}
 use Rattle.lab.specs.declared.Report.{Report}
 use Rattle.lab.specs.{AreNodesAfter, IsReportOf, IsRun, OneHistory, frames_in_steps}
 use Rattle.std.proofs.Math.Seq.{drop-cons}

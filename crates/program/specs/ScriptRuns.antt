@@ -13,7 +13,7 @@ use Rattle.lab.specs.declared.EventKind.TheVariants.{Rows, Open, Close, Notice}
 use Rattle.lab.specs.declared.Line.{Line}
 use Rattle.lab.specs.declared.Line.TheVariants as line
 use Rattle.lab.specs.Numbers.{Numbers}
-use Rattle.lab.specs.declared.World.{World}
+use Rattle.lab.specs.{MemWorld as World}
 use Rattle.lab.specs.Tended.TheVariants as tended
 use Rattle.lab.specs.{AreNumbersOf, Choice, HasRun, ShowsTables, WorldHasLimits, WorldRun}
 use Rattle.lab.specs.{frames_in_steps}

@@ -19,7 +19,7 @@ ghost use Rattle.program.specs.declared.statement_result.StatementResult.{Statem
 
 use crate::script::{Action, Setup, Statement};
 use crate::statement_result::{Note, StatementResult};
-use lab::{Event, EventKind, Fault, LabError, Line, NodeId, Numbers, Tended, World};
+use lab::{Event, EventKind, Fault, LabError, Line, MemDisk, NodeId, Numbers, Tended, World};
 use std::alloc::{AllocError, Global};
 use std::collections::VecDeque;
 
@@ -30,7 +30,7 @@ const MOST: usize = 10000;
 /// delivered yet.
 #[derive(Drop)]
 pub struct ScriptRun {
-    pub world: World,
+    pub world: World<MemDisk>,
     pub left: VecDeque<u64>,
 }
 

@@ -1,14 +1,15 @@
 use Rattle.std.proofs.Common.{refl, sym, ap, subst, ◌∙◌}
 use Rattle.disk.specs.{Slots}
 use Rattle.lab.specs.declared.node_state.NodeState.{NodeState}
-use Rattle.lab.specs.SimNodes.{StateRefines, disk_in, is_honest, state}
+use Rattle.lab.specs.SimNodes.{StateRefines, disk_in, in_memory}
 use Rattle.lab.specs.Worlds.{HasTablesIn}
 use Rattle.lab.proofs.world.left_of.Goals as goal
 
 pub returns-in-Up-clause-left : goal.returns-in-Up-clause-left
 returns-in-Up-clause-left c = λ n disk is own.
     let x = c.args.node.id in
-    let r = subst (λ (m : NodeState Slots _). StateRefines is_honest state m x n) c.in-Up.is is in
+    let r = subst (λ (m : NodeState Slots _). StateRefines in_memory.is_honest in_memory.state m x
+    n) c.in-Up.is is in
     record {
       disk = record {
         same = c.into_disk-disk.ensures.disk

@@ -1,17 +1,62 @@
-use Rattle.std.proofs.Common.{◌≡◌, List, ℕ, subst, sym, true}
+use Rattle.std.proofs.Common.{◌≡◌, ◌∙◌, List, ℕ, subst, sym, true}
+use Rattle.std.proofs.lemmas.List.{get_or_default}
 use Rattle.std.proofs.lemmas.Option.{MatchOption-at_none}
-use Rattle.chain_model.specs.{has}
+use Rattle.chain_model.specs.{has, node_of}
+use Rattle.lab.specs.declared.node_state.NodeState.{NodeState}
 use Rattle.lab.specs.declared.sim_node.SimNode.{SimNode}
-use Rattle.lab.specs.Worlds.{HasNoNode, IsIndexOf}
-use Rattle.lab.proofs.SimNodes.{has_one}
+use Rattle.lab.specs.SimNodes.{StateRefines}
+use Rattle.lab.specs.Traces.{modelled_from}
+use Rattle.lab.specs.Worlds.{HasNoNode, HasTablesIn, IsIndexOf}
+use Rattle.lab.proofs.SimNodes.{has_one, refined_of}
 use Rattle.lab.proofs.world.World.numbers.Goals as goal
 
 -- the world has a node of the first configuration
 pub returns-in_default-clause-run : goal.returns-in_default-clause-run
-returns-in_default-clause-run c = λ past run there.
+returns-in_default-clause-run g c = λ past run there.
     let sims = c.args.self.now.nodes.items in
     let x = c.args.id in
     absurd (has_one sims x (subst (λ (ids : List ℕ). has ids x ≡ true) (sym run.made.nodes) there)
-    (subst (λ (l : List SimNode). HasNoNode l x) c.deref.ensures.value
+    (subst (λ (l : List (SimNode g.row.D.Denot g.D.Disk)). HasNoNode l x) c.deref.ensures.value
     (MatchOption-at_none (HasNoNode c.deref.result.now x)
     (λ index. IsIndexOf c.deref.result.now index x) c.in_default.is c.index_of.ensures)))
+
+-- the node that was found is that of its id
+pub returns-in-Up-clause-run : goal.returns-in-Up-clause-run
+returns-in-Up-clause-run g c = λ past run there.
+    let x = c.args.id in
+    let machines = node_of past.configs (modelled_from 1 past.events past.choices) in
+    let up = subst (λ (m : NodeState g.row.D.Denot g.D.Disk).
+    StateRefines g.D.Disk.is_honest g.D.Disk.state m x (machines x)) c.in-Up.is
+    (refined_of machines run.made.disks c.args.self.now.nodes.items c.in-Some.index x
+    c.index.result.now (subst (λ (l : List (SimNode g.row.D.Denot g.D.Disk)).
+    IsIndexOf l c.in-Some.index x) c.deref.ensures.value c.in-Some.ensures) c.index.ensures
+    run.made.each) in
+    (up.core.running, c.numbers.ensures.refines x (machines x) up)
+
+pub returns-in-Up-clause-tables : goal.returns-in-Up-clause-tables
+returns-in-Up-clause-tables g c =
+    let sims = c.args.self.now.nodes.items in
+    let i = c.in-Some.index in
+    let sim = c.index.result.now in
+    let at = subst (λ (l : List (SimNode g.row.D.Denot g.D.Disk)). IsIndexOf l i c.args.id)
+    c.deref.ensures.value c.in-Some.ensures in
+    record {
+      index = i;
+      at = at;
+      tables = λ other. subst (λ (s : SimNode g.row.D.Denot g.D.Disk).
+          HasTablesIn s.state c.numbers.result)
+          (c.index.ensures ∙ get_or_default sims i sim other at.within)
+          (subst (λ (m : NodeState g.row.D.Denot g.D.Disk). HasTablesIn m c.numbers.result)
+          (sym c.in-Up.is) c.numbers.ensures.tables);
+    }
+
+pub returns-in-Down-clause-run : goal.returns-in-Down-clause-run
+returns-in-Down-clause-run g c = λ past run there.
+    let x = c.args.id in
+    let machines = node_of past.configs (modelled_from 1 past.events past.choices) in
+    (subst (λ (m : NodeState g.row.D.Denot g.D.Disk).
+    StateRefines g.D.Disk.is_honest g.D.Disk.state m x (machines x)) c.in-Down.is
+    (refined_of machines run.made.disks c.args.self.now.nodes.items c.in-Some.index x
+    c.index.result.now (subst (λ (l : List (SimNode g.row.D.Denot g.D.Disk)).
+    IsIndexOf l c.in-Some.index x) c.deref.ensures.value c.in-Some.ensures) c.index.ensures
+    run.made.each)).2

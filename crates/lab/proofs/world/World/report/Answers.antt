@@ -1,13 +1,12 @@
-use Rattle.disk.specs.{past_states}
 use Rattle.lab.specs.declared.sim_node.SimNode.{SimNode}
-use Rattle.lab.specs.SimNodes.{disk_in, state, failures, marks}
+use Rattle.lab.specs.SimNodes.{disk_in}
 use Rattle.lab.specs.Traces.{modelled_from}
 use Rattle.lab.proofs.Freshness.{keep_needed, reads_are_fresh}
 use Rattle.lab.proofs.Reports.{disk_represents, disks_so_far, one_of, unarmed_so_far}
 use Rattle.lab.proofs.world.World.report.Goals as goal
 
 pub returns-clause-run : goal.returns-clause-run
-returns-clause-run c = λ past run.
+returns-clause-run g c = λ past run.
     let self = c.args.self.now in
     let made = run.made in
     record {
@@ -22,12 +21,12 @@ returns-clause-run c = λ past run.
     }
 
 pub returns-clause-history : goal.returns-clause-history
-returns-clause-history c = λ past run.
+returns-clause-history g c = λ past run.
     let self = c.args.self.now in
     let made = run.made in
     let es = modelled_from 1 past.events past.choices in
-    one_of state failures past_states marks (λ (sim : SimNode). sim.id)
-    (λ (sim : SimNode). disk_in sim.state)
+    one_of g.D.Disk (λ (sim : SimNode g.row.D.Denot g.D.Disk). sim.id)
+    (λ (sim : SimNode g.row.D.Denot g.D.Disk). disk_in sim.state)
     past.configs past.events past.choices past.steps self.nodes.items made.trace
     (disks_so_far self.nodes.items self.frames.items past made
     (λ sim. disk_represents c.disks_represent.ensures sim.state))

@@ -1,11 +1,10 @@
-use Rattle.disk.specs.{past_states}
 use Rattle.lab.specs.declared.report.NodeReport.{NodeReport}
 use Rattle.lab.specs.declared.report.Report.{Report}
-use Rattle.lab.specs.SimNodes.{state, failures, marks}
+use Rattle.lab.specs.SimNodes.{in_memory}
 use Rattle.lab.specs.Traces.{modelled_from}
 use Rattle.lab.proofs.Freshness.{keep_needed, reads_are_fresh}
 use Rattle.lab.proofs.Reports.{one_of, run_left}
-use Rattle.lab.proofs.world.World.finish.Goals as goal
+use Rattle.lab.proofs.world.World+MemDisk.finish.Goals as goal
 
 pub returns-clause-run : goal.returns-clause-run
 returns-clause-run c = λ past run.
@@ -27,7 +26,7 @@ returns-clause-history c = λ past run.
     (reads_are_fresh past.configs past.events past.choices past.steps c.reads_fresh.ensures
     made.lawful made.trace)
     (keep_needed past.configs past.events past.choices c.keeps_enough.ensures made.lawful) in
-    one_of state failures past_states marks (λ (node : NodeReport). node.id)
+    one_of in_memory (λ (node : NodeReport). node.id)
     (λ (node : NodeReport). node.disk)
     past.configs past.events past.choices report.steps.items report.nodes.items is.trace is.disks
     (c.one_history.ensures past.configs es made.lawful)
