@@ -1,6 +1,6 @@
 -- A notice: its words, its epoch, and the node that it is for.
 use Rattle.std.proofs.Common.{◌≡◌, ◌∙◌, ◌<◌, ◌^◌, ℕ, List, [], ◌∷◌, length, ap, arith, codes, refl}
-use Rattle.std.proofs.Common.{Err, None, Ok, Option, Some, inr, sym, true}
+use Rattle.std.proofs.Common.{Err, None, Ok, Option, Some, inr, subst, sym, true}
 use Rattle.std.specs.Prelude.{nat_lt}
 use Rattle.std.specs.Fmt.{decimal}
 use Rattle.std.specs.Option.{option_map_or}
@@ -49,9 +49,10 @@ pub notices : (before : ParserState) (args : List (List ℕ)) (node epoch : ℕ)
     → Places before (codes "notice") args (Ok (Event (noticing node epoch fault)))
 notices before args node epoch fault r has_epoch free =
     let found = stands before.configs node free in
-    let same : Some found.0 ≡ Some has_epoch.0 = sym found.1 ∙ has_epoch.1 in
+    let both : Some has_epoch.0 ≡ Some found.0 = sym has_epoch.1 ∙ found.1 in
+    let same : has_epoch.0 ≡ found.0 = ap (λ o. option_map_or (λ x. x) o []) both in
     let within : epoch < length found.0 =
-    rw (sym (ap (λ o. option_map_or length o 0) same)) has_epoch.2 in (
+    subst (λ (cs : Configurations). epoch < length cs) same has_epoch.2 in (
       is_of_place before (codes "notice") args (Notice node epoch) r.good r.said r.spelled
           ∙ (of_known before.configs epoch (Some node) has_epoch ∙ free),
       (

@@ -11,8 +11,9 @@ use Rattle.std.proofs.lemmas.Bool.Decides.{nat_tests}
 use Rattle.std.proofs.lemmas.List.Elements.{All-head, All-tail}
 use Rattle.lab.specs.declared.Event as lab
 use Rattle.lab.specs.declared.EventKind.{EventKind}
+use Rattle.lab.specs.Events.{epoch_in}
 use Rattle.lab.specs.{node_in, NamesNode}
-use Rattle.lab.specs.Configuration.{Configurations, has, at_epoch}
+use Rattle.lab.specs.Configuration.{Configurations, IsId, at_epoch, has}
 use Rattle.lab.specs.Configs.{IsConfig, TestDecidesConfig}
 use Rattle.program.specs.declared.script.statement.Action.{Action}
 use Rattle.program.specs.declared.script.statement.Action.TheVariants.{Settle, Show}
@@ -25,6 +26,7 @@ use Rattle.program.specs.declared.script.statement.ParserState.{ParserState}
 use Rattle.program.specs.declared.script.statement.Statement.{Statement}
 use Rattle.program.specs.Words.{before_fault, begins_fault}
 use Rattle.program.specs.Events.{SpellsEvent}
+use Rattle.program.specs.Actions.{action_of}
 use Rattle.program.specs.Limits.{SetsLimit, default_limits, limit_word, limits_with}
 use Rattle.program.specs.Scripts.{IsBody, IsScript, IsScriptWith, IsStatement, MayFollow}
 use Rattle.program.specs.Scripts.{NamesEpoch, begins, is_skipped, up_to, words_of}

@@ -131,7 +131,6 @@ const CONFIGURATIONS: &[Fault] = &[
         "line 1: bad configuration\n",
     ),
     ("config 1 2 x\n", "line 1: bad number\n"),
-    ("config 1 2\nconfig 2\n", "line 2: bad configuration\n"),
     ("config 1 2\nget 3 a\n", "line 2: unknown node\n"),
     ("config 1 2\ntick 3\n", "line 2: unknown node\n"),
     ("tick 1\nconfig 1\n", "line 1: out of place\n"),
