@@ -153,9 +153,12 @@ impl Course {
         self.step(rt, alloc, 0, Step::Deliver(place), Brings::Frame(place));
     }
 
-    // A read of a key or of rows.
+    // A read of a key or of rows. The last tail has to answer many.
     fn read(&mut self, rt: &impl Abort, alloc: Global) {
-        let node = self.chance.node();
+        let mut node = self.chance.node();
+        if self.chance.below(3) == 0 {
+            node = self.known.last.0;
+        }
         let count = self.known.known(rt, node).list.len() as u64;
         let at = self.chance.at(count);
         let fault = self.fault(rt, alloc);
@@ -267,9 +270,9 @@ impl Course {
         }
     }
 
-    // Fails the test unless disks and answers are of one list, which is that of the last tail. It
-    // has so many batches, and there are so many answers.
-    fn end(self, rt: &impl Abort, alloc: Global, least: (usize, usize)) {
+    // Fails the test unless disks and answers are of one list, which is that of the last tail, and
+    // there is enough of both.
+    fn end(self, rt: &impl Abort, alloc: Global, least: Least) {
         let (lists, known) = (self.lists, self.known);
         let report = self.world.finish(alloc).expect(rt, "a report");
         let on_disks = lists_on_disks(rt, alloc, report.nodes, &known, lists);
@@ -285,8 +288,10 @@ impl Course {
             asked: &known.asked,
         };
         is_so(rt, history.holds(&known.said), "answers of the one list");
-        let is_long = one.len() >= least.0 && known.said.len() >= least.1;
+        let is_long = one.len() >= least.batches && known.said.len() >= least.answers;
         is_so(rt, is_long, "batches and answers");
+        let last = known.said.iter().filter(|it| it.at_last_tail).count();
+        is_so(rt, last >= least.last, "answers of the last tail");
     }
 }
 
@@ -313,17 +318,37 @@ fn of_node<'a>(rt: &impl Abort, lists: &'a [Vec<u64>], id: u16) -> &'a [u64] {
     lists.get(index).expect(rt, "a node").as_slice()
 }
 
-// Configurations, where chance begins, and how many batches the one list has at least, and how many
-// answers there are.
-type Run = (&'static [&'static [u16]], u64, (usize, usize));
+// How many batches the one list has at least, how many answers there are, and how many of them the
+// last tail gave at its epoch.
+#[derive(Clone, Copy)]
+struct Least {
+    batches: usize,
+    answers: usize,
+    last: usize,
+}
+
+// Configurations, and where chance begins.
+type Run = (&'static [&'static [u16]], u64, Least);
 
 static RUNS: [Run; 2] = [
     (
         &[&[1, 2, 3, 4, 5], &[1, 2, 4, 5], &[2, 4, 5], &[2, 4], &[4]],
         1,
-        (100, 150),
+        Least {
+            batches: 100,
+            answers: 150,
+            last: 20,
+        },
     ),
-    (&[&[1, 2, 3, 4, 5], &[1, 2, 3, 5], &[2, 3, 5]], 2, (40, 80)),
+    (
+        &[&[1, 2, 3, 4, 5], &[1, 2, 3, 5], &[2, 3, 5]],
+        5,
+        Least {
+            batches: 40,
+            answers: 80,
+            last: 10,
+        },
+    ),
 ];
 
 #[test]

@@ -31,7 +31,7 @@ pub struct Lists {
     pub asked: Vec<Asked>,
     pub said: Vec<Said>,
     /// The last configuration's tail, and its epoch.
-    last: (u16, u32),
+    pub last: (u16, u32),
 }
 
 /// What an event may append: a submit's own batch, or that of a frame in this place.
