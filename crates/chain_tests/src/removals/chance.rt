@@ -21,21 +21,27 @@ impl Chance {
         self.0.wrapping_shr(33).checked_rem(bound).unwrap_or(0)
     }
 
+    /// The next one, below a small bound.
+    pub fn small(&mut self, bound: u8) -> u8 {
+        let [.., last] = self.below(u64::from(bound)).to_be_bytes();
+        last
+    }
+
     /// A node of 1 to 5.
     pub fn node(&mut self) -> u16 {
-        (self.below(5) as u16).wrapping_add(1)
+        u16::from(self.small(5)).wrapping_add(1)
     }
 
     pub fn edit(&mut self) -> Edit {
-        (self.below(u64::from(KEYS)) as u8, self.below(4) > 0)
+        (self.small(KEYS), self.below(4) > 0)
     }
 
     pub fn span(&mut self) -> Span {
         Span {
-            low: self.below(4) as u8,
-            bound: (self.below(5) as u8).wrapping_add(4),
+            low: self.small(4),
+            bound: self.small(5).wrapping_add(4),
             backward: self.below(2) == 0,
-            limit: (self.below(8) as usize).wrapping_add(1),
+            limit: self.small(8).wrapping_add(1),
         }
     }
 

@@ -29,17 +29,14 @@ struct Course {
     // The place of the next frame in order, the epochs that nodes may be told of, and the snapshots
     // that are open.
     next: u64,
-    told: u32,
+    told: u8,
     open: Vec<(u16, u64)>,
 }
 
 impl Course {
     fn new(rt: &impl Abort, alloc: Global, lists: &'static [&'static [u16]], seed: u64) -> Course {
         let last = lists.last().copied().unwrap_or(&[]);
-        let tail = (
-            last.last().copied().unwrap_or(0),
-            (lists.len() as u32).wrapping_sub(1),
-        );
+        let tail = (last.last().copied().unwrap_or(0), lists.len());
         let configs = configs_of(rt, alloc, lists);
         Course {
             lists,
@@ -163,7 +160,7 @@ impl Course {
         let at = self.chance.at(count);
         let fault = self.fault(rt, alloc);
         if self.chance.below(2) == 0 {
-            let key = self.chance.below(u64::from(KEYS)) as u8;
+            let key = self.chance.small(KEYS);
             let kind = EventKind::Get {
                 node: id_of(rt, node),
                 key: key_at(rt, alloc, key),
@@ -182,7 +179,7 @@ impl Course {
         let span = self.chance.span();
         let low = NAMES.get(span.low as usize).copied().unwrap_or("a");
         let bound = NAMES.get(span.bound as usize).copied();
-        let walk = (low, bound, span.backward, span.limit as u32);
+        let walk = (low, bound, span.backward, u32::from(span.limit));
         let event = event(rt, alloc, &Step::Rows(node, walk, at), fault);
         self.take(
             rt,
@@ -212,12 +209,11 @@ impl Course {
     }
 
     fn notice(&mut self, rt: &impl Abort, alloc: Global, node: u16) {
-        let epoch = self.chance.below(u64::from(self.told).saturating_add(1)) as u32;
-        let epoch = if self.chance.below(2) == 0 {
-            self.told
-        } else {
-            epoch
-        };
+        let mut epoch = self.told;
+        if self.chance.below(2) == 0 {
+            epoch = self.chance.small(epoch.saturating_add(1));
+        }
+        let epoch = u32::from(epoch);
         self.step(rt, alloc, node, Step::Notice(node, epoch), Brings::Nothing);
     }
 
@@ -257,8 +253,7 @@ impl Course {
 
     // All submits, and other events between.
     fn run(&mut self, rt: &impl Abort, alloc: Global) {
-        for epoch in 0..self.lists.len() {
-            self.told = epoch as u32;
+        for _ in self.lists {
             for _ in 0..SUBMITS {
                 self.submit(rt, alloc);
                 for _ in 0..self.chance.below(24) {
@@ -267,6 +262,7 @@ impl Course {
             }
             let are_in_order = self.known.are_in_order(rt, self.lists);
             is_so(rt, are_in_order, "lists along the chain");
+            self.told = self.told.saturating_add(1);
         }
     }
 

@@ -52,10 +52,11 @@ fn has_batch(
     history: History,
     count: u64,
 ) -> bool {
-    if count <= engine.kept().get() || count > engine.count().get() {
+    let place = number(count);
+    if place <= engine.kept() || engine.count() < place {
         return true;
     }
-    let batch = engine.batch(alloc, number(count)).expect(rt, "a batch");
+    let batch = engine.batch(alloc, place).expect(rt, "a batch");
     let event = at(history.list, count).unwrap_or(0);
     match at(history.asked, event) {
         Some(Asked::Submit(edits)) => is_batch(&batch, &edits, event),

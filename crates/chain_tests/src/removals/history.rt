@@ -19,7 +19,7 @@ pub struct Span {
     pub low: u8,
     pub bound: u8,
     pub backward: bool,
-    pub limit: usize,
+    pub limit: u8,
 }
 
 /// What an event asks of a node.
@@ -111,7 +111,7 @@ impl History<'_> {
                 continue;
             };
             let row = rows.get(taken).copied().unwrap_or(None);
-            if taken == span.limit {
+            if taken == usize::from(span.limit) {
                 return more && row.is_none();
             }
             if row != Some((key, value)) {
@@ -179,19 +179,6 @@ impl History<'_> {
     }
 }
 
-// Three batches of four, a read of key 0, one of it at number 1, a page, and a snapshot.
-const ASKED: &[Asked] = &[
-    Asked::Submit([(0, true), (1, true), (2, true)]),
-    Asked::Submit([(0, true), (1, true), (1, false)]),
-    Asked::Submit([(0, true), (0, true), (0, true)]),
-    Asked::Submit([(2, true), (0, true), (0, false)]),
-    Asked::Get(0, None),
-    Asked::Get(0, Some(1)),
-    Asked::Rows(ALL, None),
-    Asked::Rows(BACK, None),
-    Asked::Other,
-];
-
 const ALL: Span = Span {
     low: 0,
     bound: KEYS,
@@ -206,84 +193,115 @@ const BACK: Span = Span {
     limit: 1,
 };
 
+// Three batches of four, a read of key 0, one of it at number 1, two pages, and a snapshot.
+fn asked(rt: &impl Abort, alloc: Global) -> Vec<Asked> {
+    let asked = vec![in alloc;
+        Asked::Submit([(0, true), (1, true), (2, true)]),
+        Asked::Submit([(0, true), (1, true), (1, false)]),
+        Asked::Submit([(0, true), (0, true), (0, true)]),
+        Asked::Submit([(2, true), (0, true), (0, false)]),
+        Asked::Get(0, None),
+        Asked::Get(0, Some(1)),
+        Asked::Rows(ALL, None),
+        Asked::Rows(BACK, None),
+        Asked::Other,
+    ];
+    asked.expect(rt, "memory")
+}
+
 const LIST: &[u64] = &[1, 2, 4];
 
+// An answer as it is written down.
+#[derive(Clone, Copy)]
+enum Words {
+    Committed,
+    Value(Option<u64>),
+    Rows(&'static [(u8, u64)], bool),
+    Opened,
+}
+
 // The page at 2, one that lacks its last row, and the row of key 1 at 1.
-const TWO: Rows = [
-    Some((0, 2)),
-    Some((2, 1)),
-    None,
-    None,
-    None,
-    None,
-    None,
-    None,
-];
+const TWO: &[(u8, u64)] = &[(0, 2), (2, 1)];
 
-const SHORT: Rows = [Some((0, 2)), None, None, None, None, None, None, None];
+const SHORT: &[(u8, u64)] = &[(0, 2)];
 
-const LAST: Rows = [Some((1, 1)), None, None, None, None, None, None, None];
+const LAST: &[(u8, u64)] = &[(1, 1)];
 
 // The request and the number of an answer.
-type Line = (u64, u64, Answer);
+type Line = (u64, u64, Words);
 
 // A list, what is said of it by the last tail, and whether that is so.
 type Case = (&'static [u64], &'static [Line], bool);
 
 static CASES: [Case; 24] = [
-    (LIST, &[(4, 3, Answer::Committed)], true),
+    (LIST, &[(4, 3, Words::Committed)], true),
     // Another place, one behind the list, and a batch that the list lacks.
-    (LIST, &[(4, 2, Answer::Committed)], false),
-    (LIST, &[(4, 4, Answer::Committed)], false),
-    (LIST, &[(3, 3, Answer::Committed)], false),
+    (LIST, &[(4, 2, Words::Committed)], false),
+    (LIST, &[(4, 4, Words::Committed)], false),
+    (LIST, &[(3, 3, Words::Committed)], false),
     // Two acknowledgements that were swapped, and an answer to no submit.
     (
         LIST,
-        &[(2, 1, Answer::Committed), (1, 2, Answer::Committed)],
+        &[(2, 1, Words::Committed), (1, 2, Words::Committed)],
         false,
     ),
-    (LIST, &[(5, 3, Answer::Committed)], false),
+    (LIST, &[(5, 3, Words::Committed)], false),
     // Lists in another order, with a batch twice, and with what is no batch.
     (&[2, 1], &[], false),
     (&[1, 1], &[], false),
     (&[1, 5], &[], false),
     // Values of the right batch, of another number, and behind the list.
-    (LIST, &[(5, 2, Answer::Value(Some(2)))], true),
-    (LIST, &[(5, 3, Answer::Value(None))], true),
-    (LIST, &[(5, 2, Answer::Value(Some(1)))], false),
-    (LIST, &[(5, 3, Answer::Value(Some(2)))], false),
-    (LIST, &[(5, 4, Answer::Value(None))], false),
+    (LIST, &[(5, 2, Words::Value(Some(2)))], true),
+    (LIST, &[(5, 3, Words::Value(None))], true),
+    (LIST, &[(5, 2, Words::Value(Some(1)))], false),
+    (LIST, &[(5, 3, Words::Value(Some(2)))], false),
+    (LIST, &[(5, 4, Words::Value(None))], false),
     // A read at another number than the one that was asked for.
-    (LIST, &[(6, 1, Answer::Value(Some(1)))], true),
-    (LIST, &[(6, 2, Answer::Value(Some(2)))], false),
+    (LIST, &[(6, 1, Words::Value(Some(1)))], true),
+    (LIST, &[(6, 2, Words::Value(Some(2)))], false),
     // Pages with a row less, of another number, and with more behind them or not.
-    (LIST, &[(7, 2, Answer::Rows(TWO, false))], true),
-    (LIST, &[(7, 2, Answer::Rows(SHORT, false))], false),
-    (LIST, &[(7, 3, Answer::Rows(TWO, false))], false),
-    (LIST, &[(8, 1, Answer::Rows(LAST, true))], true),
-    (LIST, &[(8, 1, Answer::Rows(LAST, false))], false),
+    (LIST, &[(7, 2, Words::Rows(TWO, false))], true),
+    (LIST, &[(7, 2, Words::Rows(SHORT, false))], false),
+    (LIST, &[(7, 3, Words::Rows(TWO, false))], false),
+    (LIST, &[(8, 1, Words::Rows(LAST, true))], true),
+    (LIST, &[(8, 1, Words::Rows(LAST, false))], false),
     // A read that is fresh, one that is not, and one with a number, which need not be.
     (
         LIST,
-        &[(4, 3, Answer::Committed), (5, 3, Answer::Value(None))],
+        &[(4, 3, Words::Committed), (5, 3, Words::Value(None))],
         true,
     ),
     (
         LIST,
-        &[(9, 3, Answer::Opened), (5, 2, Answer::Value(Some(2)))],
+        &[(9, 3, Words::Opened), (5, 2, Words::Value(Some(2)))],
         false,
     ),
     (
         LIST,
-        &[(9, 3, Answer::Opened), (6, 1, Answer::Value(Some(1)))],
+        &[(9, 3, Words::Opened), (6, 1, Words::Value(Some(1)))],
         true,
     ),
 ];
 
+fn answer_of(words: Words) -> Answer {
+    match words {
+        Words::Committed => Answer::Committed,
+        Words::Value(value) => Answer::Value(value),
+        Words::Opened => Answer::Opened,
+        Words::Rows(rows, more) => {
+            let mut page: Rows = [None; 8];
+            for (into, row) in page.iter_mut().zip(rows) {
+                *into = Some(*row);
+            }
+            Answer::Rows(page, more)
+        }
+    }
+}
+
 fn said_by_last_tail(rt: &impl Abort, alloc: Global, lines: &[Line]) -> Vec<Said> {
     let mut said = Vec::new(alloc);
-    for (request, number, answer) in lines {
-        let (request, number, answer) = (*request, *number, *answer);
+    for (request, number, words) in lines {
+        let (request, number, answer) = (*request, *number, answer_of(*words));
         let it = Said {
             request,
             number,
@@ -297,10 +315,13 @@ fn said_by_last_tail(rt: &impl Abort, alloc: Global, lines: &[Line]) -> Vec<Said
 
 #[test]
 fn what_is_wrong_is_refused(rt: HostRuntime) {
+    let asked = asked(&rt, rt.alloc());
     for (index, (list, lines, want)) in CASES.iter().enumerate() {
-        let (list, asked) = (*list, ASKED);
         let said = said_by_last_tail(&rt, rt.alloc(), *lines);
-        let history = History { list, asked };
+        let history = History {
+            list: *list,
+            asked: &asked,
+        };
         holds_at(&rt, index, history.holds(&said) == *want);
     }
 }

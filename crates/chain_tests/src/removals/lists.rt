@@ -30,8 +30,8 @@ pub struct Lists {
     frames: Vec<Frame>,
     pub asked: Vec<Asked>,
     pub said: Vec<Said>,
-    /// The last configuration's tail, and its epoch.
-    pub last: (u16, u32),
+    /// The last configuration's tail, and how many configurations there are.
+    pub last: (u16, usize),
 }
 
 /// What an event may append: a submit's own batch, or that of a frame in this place.
@@ -104,7 +104,7 @@ fn answer_of(reply: &Reply) -> Option<(u64, u64, Answer)> {
 }
 
 impl Lists {
-    pub fn new(rt: &impl Abort, alloc: Global, last: (u16, u32)) -> Lists {
+    pub fn new(rt: &impl Abort, alloc: Global, last: (u16, usize)) -> Lists {
         let mut nodes = Vec::new(alloc);
         for _ in 0..5u8 {
             let node = Known {
@@ -176,8 +176,9 @@ impl Lists {
         let Some((request, number, answer)) = answer_of(reply) else {
             return;
         };
-        let (tail, epoch) = self.last;
-        let at_last_tail = node == tail && self.known(rt, node).epoch == epoch;
+        let (tail, configs) = self.last;
+        let epoch = self.known(rt, node).epoch as usize;
+        let at_last_tail = node == tail && epoch.saturating_add(1) == configs;
         let said = Said {
             request,
             number,
