@@ -194,7 +194,7 @@ const BACK: Span = Span {
 };
 
 // Three batches of four, a read of key 0, one of it at number 1, two pages, and a snapshot.
-fn asked(rt: &impl Abort, alloc: Global) -> Vec<Asked> {
+fn questions(rt: &impl Abort, alloc: Global) -> Vec<Asked> {
     let asked = vec![in alloc;
         Asked::Submit([(0, true), (1, true), (2, true)]),
         Asked::Submit([(0, true), (1, true), (1, false)]),
@@ -315,7 +315,7 @@ fn said_by_last_tail(rt: &impl Abort, alloc: Global, lines: &[Line]) -> Vec<Said
 
 #[test]
 fn what_is_wrong_is_refused(rt: HostRuntime) {
-    let asked = asked(&rt, rt.alloc());
+    let asked = questions(&rt, rt.alloc());
     for (index, (list, lines, want)) in CASES.iter().enumerate() {
         let said = said_by_last_tail(&rt, rt.alloc(), *lines);
         let history = History {
