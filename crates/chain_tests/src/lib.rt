@@ -29,8 +29,6 @@ mod openings;
 #[cfg(test)]
 mod pages;
 #[cfg(test)]
-mod removals;
-#[cfg(test)]
 mod resends;
 #[cfg(test)]
 mod rewrites;
