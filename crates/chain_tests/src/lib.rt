@@ -29,6 +29,8 @@ mod openings;
 #[cfg(test)]
 mod pages;
 #[cfg(test)]
+mod removals;
+#[cfg(test)]
 mod resends;
 #[cfg(test)]
 mod rewrites;
