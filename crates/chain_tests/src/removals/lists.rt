@@ -177,7 +177,7 @@ impl Lists {
             return;
         };
         let (tail, configs) = self.last;
-        let epoch = self.known(rt, node).epoch as usize;
+        let epoch = self.known(rt, tail).epoch as usize;
         let at_last_tail = node == tail && epoch.saturating_add(1) == configs;
         let said = Said {
             request,
