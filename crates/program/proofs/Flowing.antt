@@ -2,9 +2,10 @@
 use Rattle.std.proofs.Common.{◌≡◌, ◌≤◌, ◌+◌, ◌-◌, ℕ, zero, suc, List, [], ◌∷◌, ◌++◌, length, map}
 use Rattle.std.proofs.Common.{take, drop, refl, sym, ap, ap₂, subst, ◌∙◌, arith, append_assoc}
 use Rattle.std.proofs.Common.{append-nil, length-append}
+use Rattle.disk.specs.declared.disk.Disk.{Ghosts}
 use Rattle.lab.specs.declared.Event as lab
 use Rattle.lab.specs.declared.Line.{Line}
-use Rattle.lab.specs.{MemWorld as World}
+use Rattle.lab.specs.declared.world.World.{World}
 use Rattle.lab.specs.{Choice, frames_in_steps, frames_of_step}
 use Rattle.program.specs.declared.script.setup.Setup.{Setup}
 use Rattle.program.specs.ScriptRuns.{places_after, delivery, deliveries, HasRunTo, Stretch}
@@ -70,7 +71,8 @@ pub joined_nothing : (a : Stretch) → followed_by a no_stretch ≡ a
 joined_nothing a = rw (append-nil a.events, append-nil a.choices, append-nil a.steps) refl
 
 -- so many of them were delivered
-pub record Flows (world : World) (setup : Setup) (past : Stretch) (old left : List ℕ)
+pub record Flows {D : Type 0} {g : Ghosts D}
+    (world : World D g) (setup : Setup) (past : Stretch) (old left : List ℕ)
     (count : ℕ) : Type 0 where
   pub own : Stretch
   pub run : HasRunTo world setup (followed_by past own)
@@ -80,7 +82,8 @@ pub record Flows (world : World) (setup : Setup) (past : Stretch) (old left : Li
   pub within : count ≤ length (all_left old past.steps own.steps)
   pub few : count ≤ most
 
-pub flows_none : (world : World) (setup : Setup) (past : Stretch) (old : List ℕ) →
+pub flows_none : {D : Type 0} {g : Ghosts D}
+    (world : World D g) (setup : Setup) (past : Stretch) (old : List ℕ) →
     HasRunTo world setup past → Flows world setup past old old 0
 flows_none world setup past old run = record {
   own = no_stretch;
@@ -135,7 +138,8 @@ module _ (setup : Setup) (past : Stretch) (old : List ℕ) where
       ∙ sym (append_assoc old (places_after (frames_in_steps past.steps) (frames_in_steps own))
       (places_after (frames_in_steps (past.steps ++ own)) (frames_of_step lines)))
 
-  pub flows_on : (world after : World) (left rest next : List ℕ) (count p : ℕ)
+  pub flows_on : {D : Type 0} {g : Ghosts D}
+      (world after : World D g) (left rest next : List ℕ) (count p : ℕ)
       (f : Flows world setup past old left count) → left ≡ p ∷ rest → suc count ≤ most →
       (choice : Choice) (lines : List Line) →
       HasRunTo after setup (followed_by (followed_by past f.own)
@@ -194,7 +198,8 @@ length-take (x ∷ xs) zero le = refl
 length-take (x ∷ xs) (suc k) le = ap suc (length-take xs k (omega (arith, le)))
 
 -- what a flow promises
-abbrev pub HasFlowed : World → Setup → Stretch → List ℕ → List ℕ → ℕ → Type 0
+abbrev pub HasFlowed : {D : Type 0} {g : Ghosts D}
+    → World D g → Setup → Stretch → List ℕ → List ℕ → ℕ → Type 0
 HasFlowed world setup past old left count =
     (own : Stretch) × HasRunTo world setup (followed_by past own)
     × (own.events ≡ deliveries (all_left old past.steps own.steps))
@@ -208,7 +213,8 @@ counted xs events count is within = sym (length-take xs count within)
     ∙ (sym (length-map (take count xs)) ∙ ap length (sym is))
 
 -- no frame is left
-pub flowed_all : (world : World) (setup : Setup) (past : Stretch) (old left : List ℕ)
+pub flowed_all : {D : Type 0} {g : Ghosts D}
+    (world : World D g) (setup : Setup) (past : Stretch) (old left : List ℕ)
     (count : ℕ) → Flows world setup past old left count → left ≡ [] →
     HasFlowed world setup past old left count
 flowed_all world setup past old left count f empty =
@@ -223,7 +229,8 @@ flowed_all world setup past old left count f empty =
     )
 
 -- the bound is reached
-pub flowed_most : (world : World) (setup : Setup) (past : Stretch) (old left : List ℕ)
+pub flowed_most : {D : Type 0} {g : Ghosts D}
+    (world : World D g) (setup : Setup) (past : Stretch) (old left : List ℕ)
     (count : ℕ) → Flows world setup past old left count → most ≤ count →
     HasFlowed world setup past old left count
 flowed_most world setup past old left count f reached =

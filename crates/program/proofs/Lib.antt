@@ -19,6 +19,7 @@ pub mod Flowing
 pub mod Settling
 pub mod StatementResults
 pub mod StatementRuns
+pub mod PrintedRuns
 pub mod Items
 pub mod Wholes
 pub mod OneText

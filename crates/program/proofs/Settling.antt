@@ -6,9 +6,10 @@ use Rattle.std.specs.Prelude.{slice_get}
 use Rattle.std.specs.Option.{option_map_or}
 use Rattle.std.proofs.lemmas.Bool.{false≢true}
 use Rattle.std.proofs.lemmas.List.Elements.{All-cons, All-head, All-nil, All-push, All-tail}
+use Rattle.disk.specs.declared.disk.Disk.{Ghosts}
 use Rattle.lab.specs.declared.Event as lab
 use Rattle.lab.specs.declared.Line.{Line}
-use Rattle.lab.specs.{MemWorld as World}
+use Rattle.lab.specs.declared.world.World.{World}
 use Rattle.lab.specs.{Choice, frames_in_steps, frames_of_step}
 use Rattle.program.specs.declared.script.setup.Setup.{Setup}
 use Rattle.program.specs.ScriptRuns.{places_after, HasRunTo, HasSettled, Stretch, has_worked}
@@ -16,7 +17,8 @@ use Rattle.program.specs.ScriptRuns.{followed_by, no_stretch, one_step, most, te
 use Rattle.program.proofs.Flowing.{all_left, joined_assoc, joined_nothing, grown}
 
 -- a node tended so often, and each tend worked
-pub record Settles (world : World) (setup : Setup) (past : Stretch) (node : ℕ)
+pub record Settles {D : Type 0} {g : Ghosts D}
+    (world : World D g) (setup : Setup) (past : Stretch) (node : ℕ)
     (old left : List ℕ) (count : ℕ) : Type 0 where
   pub own : Stretch
   pub run : HasRunTo world setup (followed_by past own)
@@ -26,7 +28,8 @@ pub record Settles (world : World) (setup : Setup) (past : Stretch) (node : ℕ)
   pub behind : left ≡ all_left old past.steps own.steps
   pub few : count ≤ most
 
-pub settles_none : (world : World) (setup : Setup) (past : Stretch) (node : ℕ)
+pub settles_none : {D : Type 0} {g : Ghosts D}
+    (world : World D g) (setup : Setup) (past : Stretch) (node : ℕ)
     (old : List ℕ) → HasRunTo world setup past → Settles world setup past node old old 0
 settles_none world setup past node old run = record {
   own = no_stretch;
@@ -37,11 +40,6 @@ settles_none world setup past node old run = record {
   behind = sym (append-nil old);
   few = omega arith;
 }
-
--- so many copies have this length
-pub replicate-length : {A : Type 0} (k : ℕ) (x : A) → length (replicate k x) ≡ k
-replicate-length zero x = refl
-replicate-length (suc k) x = ap suc (replicate-length k x)
 
 replicate-more : {A : Type 0} (k : ℕ) (x : A) → replicate k x ++ x ∷ [] ≡ replicate (suc k) x
 replicate-more zero x = refl
@@ -66,13 +64,15 @@ pub same_step : (one other : List Line) → Some one ≡ Some other → one ≡ 
 same_step one other e = ap (λ o. option_map_or (λ l. l) o []) e
 
 -- what a settle promises
-abbrev pub HasSettledSo : World → Setup → Stretch → ℕ → List ℕ → List ℕ → ℕ → Type 0
+abbrev pub HasSettledSo : {D : Type 0} {g : Ghosts D}
+    → World D g → Setup → Stretch → ℕ → List ℕ → List ℕ → ℕ → Type 0
 HasSettledSo world setup past node old left count = (own : Stretch)
     × HasRunTo world setup (followed_by past own)
     × (own.events ≡ replicate count (tending node)) × (count ≡ length own.steps)
     × HasSettled own.steps × (left ≡ all_left old past.steps own.steps)
 
-module _ (setup : Setup) (past : Stretch) (node : ℕ) (old : List ℕ) (world after : World)
+module _ {D : Type 0} {g : Ghosts D}
+    (setup : Setup) (past : Stretch) (node : ℕ) (old : List ℕ) (world after : World D g)
     (left next : List ℕ) (count : ℕ) (s : Settles world setup past node old left count)
     (few : suc count ≤ most) (choice : Choice) (lines : List Line)
     (run : HasRunTo after setup (followed_by (followed_by past s.own)
@@ -160,7 +160,8 @@ all_worked steps many worked = record {
   bound = λ _. many;
 }
 
-pub settled_most : (world : World) (setup : Setup) (past : Stretch) (node : ℕ)
+pub settled_most : {D : Type 0} {g : Ghosts D}
+    (world : World D g) (setup : Setup) (past : Stretch) (node : ℕ)
     (old left : List ℕ) (count : ℕ) → Settles world setup past node old left count → most ≤ count →
     HasSettledSo world setup past node old left count
 settled_most world setup past node old left count s reached = (

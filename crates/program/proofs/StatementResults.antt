@@ -2,19 +2,18 @@
 use Rattle.std.proofs.Common.{◌≡◌, ◌+◌, ◌-◌, ℕ, List, [], ◌∷◌, ◌++◌, length, refl, sym, ap, ap₂}
 use Rattle.std.proofs.Common.{subst, ◌∙◌, arith, append-nil, Option, Some, None, Bool, true, false}
 use Rattle.std.proofs.Common.{if◌then◌else◌, replicate}
-use Rattle.std.proofs.lemmas.Result.{on_ok_weaker}
-use Rattle.std.specs.Prelude.{IfSome, OnOk, Result}
+use Rattle.std.specs.Prelude.{IfSome}
 use Rattle.lab.specs.Machine.{without}
+use Rattle.disk.specs.declared.disk.Disk.{Ghosts}
 use Rattle.lab.specs.declared.Event as lab
 use Rattle.lab.specs.declared.EventKind.{EventKind}
 use Rattle.lab.specs.declared.EventKind.TheVariants.{Submit, Get, Deliver, Tick, Tend, Start, Stop}
 use Rattle.lab.specs.declared.EventKind.TheVariants.{Rows, Open, Close, Notice}
 use Rattle.lab.specs.declared.Line.{Line}
-use Rattle.lab.specs.{MemWorld as World}
+use Rattle.lab.specs.declared.world.World.{World}
 use Rattle.lab.specs.Numbers.{Numbers}
 use Rattle.lab.specs.{AreNumbersOf, Choice, ShowsTables, frames_in_steps, frames_of_step}
 use Rattle.program.specs.declared.script.setup.Setup.{Setup}
-use Rattle.program.specs.declared.script_run.ScriptRun.{ScriptRun}
 use Rattle.program.specs.declared.script.statement.Statement.{Statement}
 use Rattle.program.specs.declared.script.statement.Action.TheVariants.{Event, Flow, Settle, Show}
 use Rattle.program.specs.declared.statement_result.StatementResult.{StatementResult}
@@ -25,7 +24,8 @@ use Rattle.program.specs.ScriptRuns.{HasTurned, HasShownNumbers, IsResultOfActio
 use Rattle.program.specs.ScriptRuns.{has_worked, followed_by, no_stretch, one_step, busy, shown}
 use Rattle.program.specs.ScriptRuns.{tending}
 use Rattle.program.proofs.Flowing.{HasFlowed, joined_nothing}
-use Rattle.program.proofs.Settling.{HasSettledSo, replicate-length}
+use Rattle.program.proofs.Printed.{replicate-length}
+use Rattle.program.proofs.Settling.{HasSettledSo}
 
 -- an event that delivers no frame leaves all
 leaves_all : (what : EventKind) (left : List ℕ) → ((place : ℕ) → what ≡ Deliver place → ⊥) →
@@ -54,7 +54,8 @@ left_delivered what place left mid new is same cut = cut
     ∙ ap (λ (w : EventKind). left_after_event w left) (sym is))
 
 -- a look tells the numbers
-is_shown : (world : World) (setup : Setup) (past : Stretch) (node : ℕ)
+is_shown : {D : Type 0} {g : Ghosts D}
+    (world : World D g) (setup : Setup) (past : Stretch) (node : ℕ)
     (numbers : Option Numbers) → AreNumbersOf setup.configs past.events past.choices node numbers →
     IfSome numbers (ShowsTables world.nodes.items node) →
     HasShownNumbers world setup.configs past (shown node numbers)
@@ -62,75 +63,41 @@ is_shown world setup past node None told tables = told
 is_shown world setup past node (Some numbers) told tables = (told, tables)
 
 -- a flow shows no node
-never_shown : (world : World) (setup : Setup) (past : Stretch) (left : List ℕ) →
+never_shown : {D : Type 0} {g : Ghosts D}
+    (world : World D g) (setup : Setup) (past : Stretch) (left : List ℕ) →
     HasShownNumbers world setup.configs past (busy left)
 never_shown world setup past [] = tt
 never_shown world setup past (place ∷ places) = tt
 
--- what a statement did is kept behind the results of those before it
-pub kept : {T E : Type 0} (r : Result T E) (setup : Setup) (past : Stretch) (it : Statement)
-    (old new : ScriptRun) (before after : List StatementResult) (turn : StatementResult) →
-    HasTurned setup past it turn old new → OnOk r (after ≡ before ++ turn ∷ []) →
-    OnOk r ((own : StatementResult) × (after ≡ before ++ own ∷ [])
-    × HasTurned setup past it own old new)
-kept r setup past it old new before after turn turned is =
-    on_ok_weaker r (λ e. (turn, e, turned)) is
-
--- what statements have done, by their results
-module _ (setup : Setup) (past : Stretch) (it : Statement) (old new : ScriptRun) where
+-- what statements have done, by their events
+module _ {D : Type 0} {g : Ghosts D} (setup : Setup) (past : Stretch) (it : Statement)
+    (old new : World D g) (left behind : List ℕ) where
   pub turned_by_event : (event : lab.Event) (choice : Choice) (lines : List Line) →
-      it.action ≡ Event event → HasRunTo new.world setup
+      it.action ≡ Event event → HasRunTo new setup
       (followed_by past (one_step event choice lines)) →
-      new.left.items ≡ left_after_event event.kind (old.left.items
+      behind ≡ left_after_event event.kind (left
       ++ places_after (frames_in_steps past.steps) (frames_of_step lines)) →
       HasTurned setup past it
-      (record { line = it.line; events = 1; silent = 0; note = note.Nothing }) old new
-  turned_by_event event choice lines is run left = record {
+      (record { line = it.line; events = 1; silent = 0; note = note.Nothing }) old new left behind
+  turned_by_event event choice lines is run leaves = record {
     own = one_step event choice lines;
     did = record { line = refl; count = refl; each = refl; did = rw is (refl, refl, refl) };
     shown = tt;
     run = run;
     left =
         let same : frames_of_step lines ≡ frames_of_step lines + 0 = omega arith in
-        rw is (subst (λ (k : ℕ). new.left.items ≡ left_after_event event.kind
-        (old.left.items ++ places_after (frames_in_steps past.steps) k)) same left);
+        rw is (subst (λ (k : ℕ). behind ≡ left_after_event event.kind
+        (left ++ places_after (frames_in_steps past.steps) k)) same leaves);
   }
-
-  -- nothing happened
-  pub turned_without : (said : Note) → new ≡ old → HasRunTo old.world setup past →
-      IsResultOfAction it.action (old.left.items ++ []) [] [] 0 said →
-      HasShownNumbers old.world setup.configs past said →
-      left_after it.action old.left.items ≡ old.left.items →
-      HasTurned setup past it
-      (record { line = it.line; events = 0; silent = 0; note = said }) old new
-  turned_without said same run did told leaves = record {
-    own = no_stretch;
-    did = record { line = refl; count = refl; each = refl; did = did };
-    shown = told;
-    run = rw same (subst (λ (s : Stretch). HasRunTo old.world setup s)
-        (sym (joined_nothing past)) run);
-    left = rw (same, append-nil old.left.items) (sym leaves);
-  }
-
-  pub turned_by_show : (node : ℕ) (numbers : Option Numbers) (said : Note) →
-      it.action ≡ Show node → said ≡ shown node numbers → new ≡ old →
-      HasRunTo old.world setup past → AreNumbersOf setup.configs past.events past.choices node
-      numbers →
-      IfSome numbers (ShowsTables old.world.nodes.items node) → HasTurned setup past it
-      (record { line = it.line; events = 0; silent = 0; note = said }) old new
-  turned_by_show node numbers said is same stays run told tables =
-      turned_without said stays run (rw is (refl, refl, (numbers, same)))
-      (subst (λ (n : Note). HasShownNumbers old.world setup.configs past n) (sym same)
-      (is_shown old.world setup past node numbers told tables)) (rw is refl)
 
   pub turned_by_flow : (count : ℕ) → it.action ≡ Flow →
-      (flowed : HasFlowed new.world setup past old.left.items new.left.items count) →
+      (flowed : HasFlowed new setup past left behind count) →
       HasTurned setup past it (record {
         line = it.line;
         events = count;
         silent = 0;
-        note = busy new.left.items;
-      }) old new
+        note = busy behind;
+      }) old new left behind
   turned_by_flow count is flowed = record {
     own = flowed.0;
     did = record {
@@ -139,20 +106,20 @@ module _ (setup : Setup) (past : Stretch) (it : Statement) (old new : ScriptRun)
       each = sym flowed.3 ∙ flowed.4;
       did = rw is (flowed.2, refl, ap busy flowed.5);
     };
-    shown = never_shown old.world setup past new.left.items;
+    shown = never_shown old setup past behind;
     run = flowed.1;
     left = rw is flowed.5;
   }
 
   pub turned_by_settle : (node count : ℕ) (turn : StatementResult) (goes_on : Bool) →
       it.action ≡ Settle node →
-      (settles : HasSettledSo new.world setup past node old.left.items new.left.items count) →
+      (settles : HasSettledSo new setup past node left behind count) →
       goes_on ≡ has_worked settles.4.last → turn ≡ (record {
         line = it.line;
         events = count;
         silent = (if goes_on then count else count - 1);
         note = (if goes_on then note.Busy else note.Nothing);
-      }) → HasTurned setup past it turn old new
+      }) → HasTurned setup past it turn old new left behind
   turned_by_settle node count turn goes_on is settles same told =
       let tends : length settles.0.events ≡ count = ap (λ (l : List lab.Event). length l) settles.2
       ∙ replicate-length count (tending node) in
@@ -180,7 +147,34 @@ module _ (setup : Setup) (past : Stretch) (it : Statement) (old new : ScriptRun)
         left = rw is settles.5;
       }
     where
-      quiet : (b : Bool) → HasShownNumbers old.world setup.configs past
+      quiet : (b : Bool) → HasShownNumbers old setup.configs past
           (if b then note.Busy else note.Nothing)
       quiet true = tt
       quiet false = tt
+
+-- statements without an event
+module _ {D : Type 0} {g : Ghosts D} (setup : Setup) (past : Stretch) (it : Statement)
+    (world : World D g) (left : List ℕ) where
+  -- nothing happened
+  pub turned_without : (said : Note) → HasRunTo world setup past →
+      IsResultOfAction it.action (left ++ []) [] [] 0 said →
+      HasShownNumbers world setup.configs past said → left_after it.action left ≡ left →
+      HasTurned setup past it (record { line = it.line; events = 0; silent = 0; note = said }) world
+      world left left
+  turned_without said run did shows leaves = record {
+    own = no_stretch;
+    did = record { line = refl; count = refl; each = refl; did = did };
+    shown = shows;
+    run = subst (λ (s : Stretch). HasRunTo world setup s) (sym (joined_nothing past)) run;
+    left = rw (append-nil left) (sym leaves);
+  }
+
+  pub turned_by_show : (node : ℕ) (numbers : Option Numbers) (said : Note) →
+      it.action ≡ Show node → said ≡ shown node numbers → HasRunTo world setup past →
+      AreNumbersOf setup.configs past.events past.choices node numbers →
+      IfSome numbers (ShowsTables world.nodes.items node) → HasTurned setup past it
+      (record { line = it.line; events = 0; silent = 0; note = said }) world world left left
+  turned_by_show node numbers said is same run shows tables =
+      turned_without said run (rw is (refl, refl, (numbers, same)))
+      (subst (λ (n : Note). HasShownNumbers world setup.configs past n) (sym same)
+      (is_shown world setup past node numbers shows tables)) (rw is refl)

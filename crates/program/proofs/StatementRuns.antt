@@ -1,138 +1,124 @@
 -- Statements that ran one after another, and one more of them.
-use Rattle.std.proofs.Common.{◌≡◌, ◌≤◌, ◌<◌, ℕ, zero, suc, List, [], ◌∷◌, ◌++◌, length}
-use Rattle.std.proofs.Common.{drop, refl, sym, ap, subst, ◌∙◌, arith, append_assoc, append-nil}
-use Rattle.std.proofs.Common.{length-append, get_or}
-use Rattle.std.specs.List.{AllZip}
-use Rattle.kv_types.specs.declared.Limits.{Limits}
-use Rattle.lab.specs.{MemWorld as World}
-use Rattle.lab.specs.declared.Report.{Report}
-use Rattle.lab.specs.{AreNodesAfter, IsReportOf, IsRun, OneHistory, frames_in_steps}
-use Rattle.std.proofs.Math.Seq.{drop-cons}
+use Rattle.std.proofs.Common.{◌≡◌, ◌<◌, ℕ, suc, List, [], ◌∷◌, ◌++◌, length, take, get_or}
+use Rattle.std.proofs.Common.{refl, sym, ap, subst, ◌∙◌, arith, append_assoc, append-nil}
+use Rattle.std.proofs.Common.{length-append}
+use Rattle.std.proofs.Math.Seq.{take-suc}
+use Rattle.std.proofs.lemmas.Grind.{flat_map-append}
+use Rattle.std.proofs.Common.{replicate}
+use Rattle.disk.specs.declared.disk.Disk.{Ghosts}
+use Rattle.lab.specs.declared.world.World.{World}
+use Rattle.lab.specs.{frames_in_steps}
+use Rattle.lab.specs.Worlds.{HasHistory, IsRunSoFar}
 use Rattle.program.specs.declared.script.setup.Setup.{Setup}
-use Rattle.program.specs.declared.script_run.ScriptRun.{ScriptRun}
 use Rattle.program.specs.declared.script.statement.Statement.{Statement}
 use Rattle.program.specs.declared.statement_result.StatementResult.{StatementResult}
-use Rattle.program.specs.Runs.{HasRunStatements}
+use Rattle.program.specs.PrintedRuns.{HasRunStatements}
 use Rattle.program.specs.ScriptRuns.{HasRunTo, HasTurned, Stretch, followed_by, no_stretch}
-use Rattle.program.specs.ScriptRuns.{IsRising, AreResults}
+use Rattle.program.specs.ScriptRuns.{IsRising, AreResults, run_of}
+use Rattle.program.specs.Text.{event_lines}
 use Rattle.program.proofs.Leaving.{left_rises}
 use Rattle.program.proofs.Flowing.{joined_assoc, joined_nothing, frames_in_steps-more}
+use Rattle.program.proofs.Printed.{replicate-length}
 
--- statements ran so far, and with those that are left make the whole
-pub record Goes (world : World) (setup : Setup) (left : List ℕ) (behind all : List Statement)
-    (turns : List StatementResult) : Type 0 where
-  pub past : Stretch
-  pub run : HasRunTo world setup past
-  pub rising : IsRising 0 (frames_in_steps past.steps) left
-  pub whole : (ts : List StatementResult) (rest : Stretch) →
-      AreResults setup past left behind ts rest →
-      AreResults setup no_stretch [] all (turns ++ ts) (followed_by past rest)
+module _ {D : Type 0} {g : Ghosts D} where
+  -- the first statements ran so far, and with those that follow they make a whole
+  pub record Goes (world : World D g) (setup : Setup) (left : List ℕ) (done : List Statement)
+      (turns : List StatementResult) : Type 0 where
+    pub past : Stretch
+    pub run : HasRunTo world setup past
+    pub rising : IsRising 0 (frames_in_steps past.steps) left
+    pub whole : (behind : List Statement) (ts : List StatementResult) (rest : Stretch) →
+        AreResults g setup past left behind ts rest →
+        AreResults g setup no_stretch [] (done ++ behind) (turns ++ ts) (followed_by past rest)
+    pub each : length (event_lines turns) ≡ length past.steps
 
-pub goes_nowhere : (world : World) (setup : Setup) (left : List ℕ) (all : List Statement) →
-    HasRunTo world setup no_stretch → left ≡ [] → Goes world setup left all all []
-goes_nowhere world setup left all run none = record {
-  past = no_stretch;
-  run = run;
-  rising = rw none (omega arith);
-  whole = λ ts rest c. subst (λ (l : List ℕ). AreResults setup no_stretch l all ts rest) none c;
-}
+  pub goes_nowhere : (world : World D g) (setup : Setup) → HasRunTo world setup no_stretch →
+      Goes world setup [] [] []
+  goes_nowhere world setup run = record {
+    past = no_stretch;
+    run = run;
+    rising = omega arith;
+    whole = λ behind ts rest c. c;
+    each = refl;
+  }
 
--- in a stretch between two worlds something was chosen in each event
-chosen_each : (old new : World) (setup : Setup) (past own : Stretch) →
-    HasRunTo old setup past → HasRunTo new setup (followed_by past own) →
-    length own.choices ≡ length own.events
-chosen_each old new setup past own before after = omega (
-  arith,
-  before.run.made.trace.one_each,
-  after.run.made.trace.one_each,
-  length-append past.choices own.choices,
-  length-append past.events own.events,
-)
+  -- in a stretch between two worlds something was chosen in each event
+  chosen_each : (old new : World D g) (setup : Setup) (past own : Stretch) →
+      HasRunTo old setup past → HasRunTo new setup (followed_by past own) →
+      length own.choices ≡ length own.events
+  chosen_each old new setup past own before after = omega (
+    arith,
+    before.run.made.trace.one_each,
+    after.run.made.trace.one_each,
+    length-append past.choices own.choices,
+    length-append past.events own.events,
+  )
 
--- one statement more
-pub goes_on : (old new : ScriptRun) (setup : Setup) (it : Statement)
-    (behind all : List Statement) (turns : List StatementResult) (turn : StatementResult)
-    (g : Goes old.world setup old.left.items (it ∷ behind) all turns) →
-    HasTurned setup g.past it turn old new →
-    Goes new.world setup new.left.items behind all (turns ++ turn ∷ [])
-goes_on old new setup it behind all turns turn g t = record {
-  past = followed_by g.past t.own;
-  run = t.run;
-  rising = rw (t.left, frames_in_steps-more g.past.steps t.own.steps)
-      (left_rises it.action old.left.items (frames_in_steps g.past.steps)
-      (frames_in_steps t.own.steps) g.rising);
-  whole = λ ts rest c.
-      let one = g.whole (turn ∷ ts) (followed_by t.own rest) (
-        turn,
-        t.own,
-        ts,
-        rest,
-        t.did,
-        chosen_each old.world new.world setup g.past t.own g.run t.run,
-        record { world = old.world; run = g.run; numbers = t.shown },
-        refl,
-        refl,
-        subst (λ (l : List ℕ). AreResults setup (followed_by g.past t.own) l behind ts rest) t.left
-            c,
-      ) in
-      subst (λ (l : List StatementResult). AreResults setup no_stretch [] all l
-      (followed_by (followed_by g.past t.own) rest)) (sym (append_assoc turns (turn ∷ []) ts))
-      (subst (λ (s : Stretch). AreResults setup no_stretch [] all (turns ++ turn ∷ ts) s)
-      (sym (joined_assoc g.past t.own rest)) one);
-}
+  -- one statement more
+  pub goes_on : (old new : World D g) (setup : Setup) (left next : List ℕ) (it : Statement)
+      (done : List Statement) (turns : List StatementResult) (turn : StatementResult)
+      (s : Goes old setup left done turns) → HasTurned setup s.past it turn old new left next →
+      Goes new setup next (done ++ it ∷ []) (turns ++ turn ∷ [])
+  goes_on old new setup left next it done turns turn s t = record {
+    past = followed_by s.past t.own;
+    run = t.run;
+    rising = rw (t.left, frames_in_steps-more s.past.steps t.own.steps)
+        (left_rises it.action left (frames_in_steps s.past.steps)
+        (frames_in_steps t.own.steps) s.rising);
+    whole = λ behind ts rest c.
+        let one = s.whole (it ∷ behind) (turn ∷ ts) (followed_by t.own rest) (
+          turn,
+          t.own,
+          ts,
+          rest,
+          t.did,
+          chosen_each old new setup s.past t.own s.run t.run,
+          record { world = old; run = s.run; numbers = t.shown },
+          refl,
+          refl,
+          subst (λ (l : List ℕ). AreResults g setup (followed_by s.past t.own) l behind ts rest)
+              t.left c,
+        ) in
+        rw (
+          append_assoc done (it ∷ []) behind,
+          append_assoc turns (turn ∷ []) ts,
+          joined_assoc s.past t.own rest,
+        ) one;
+    each = omega (
+      arith,
+      s.each,
+      t.did.count,
+      t.did.each,
+      ap length (flat_map-append (λ (r : StatementResult). replicate r.events r.line) turns
+          (turn ∷ [])),
+      length-append (event_lines turns) (event_lines (turn ∷ [])),
+      length-append (replicate turn.events turn.line) [],
+      replicate-length turn.events turn.line,
+      length-append s.past.steps t.own.steps,
+    );
+  }
 
--- the next statement of all
-pub goes_next : (old new : ScriptRun) (setup : Setup) (all : List Statement) (i : ℕ)
-    (d it : Statement) (turns : List StatementResult) (turn : StatementResult) →
-    i < length all → it ≡ get_or all i d →
-    (g : Goes old.world setup old.left.items (drop i all) all turns) →
-    HasTurned setup g.past it turn old new →
-    Goes new.world setup new.left.items (drop (suc i) all) all (turns ++ turn ∷ [])
-goes_next old new setup all i d it turns turn within at g t =
-    let parts : drop i all ≡ it ∷ drop (suc i) all = drop-cons all i d within
-    ∙ ap (λ (x : Statement). x ∷ drop (suc i) all) (sym at) in
-    goes_on old new setup it (drop (suc i) all) all turns turn (record {
-      past = g.past;
-      run = g.run;
-      rising = g.rising;
-      whole = subst (λ (b : List Statement). (ts : List StatementResult) (rest : Stretch) →
-          AreResults setup g.past old.left.items b ts rest →
-          AreResults setup no_stretch [] all (turns ++ ts) (followed_by g.past rest)) parts g.whole;
-    }) t
+  -- the next statement of all
+  pub goes_next : (old new : World D g) (setup : Setup) (left next : List ℕ)
+      (all : List Statement) (i : ℕ) (d it : Statement) (turns : List StatementResult)
+      (turn : StatementResult) → i < length all → it ≡ get_or all i d →
+      (s : Goes old setup left (take i all) turns) →
+      HasTurned setup s.past it turn old new left next →
+      Goes new setup next (take (suc i) all) (turns ++ turn ∷ [])
+  goes_next old new setup left next all i d it turns turn within at s t =
+      let more : take (suc i) all ≡ take i all ++ it ∷ [] = take-suc all i d within
+      ∙ ap (λ (x : Statement). take i all ++ x ∷ []) (sym at) in
+      rw more (goes_on old new setup left next it (take i all) turns turn s t)
 
--- all statements ran
-pub gone : (world : World) (setup : Setup) (left : List ℕ) (all behind : List Statement)
-    (turns : List StatementResult) (report : Report)
-    (g : Goes world setup left behind all turns) →
-    behind ≡ [] → report.steps.items ≡ g.past.steps →
-    IsRun setup.configs g.past.events g.past.choices report →
-    OneHistory setup.configs g.past.events report →
-    AllZip IsReportOf world.nodes.items report.nodes.items →
-    HasRunStatements setup all turns report
-gone world setup left all behind turns report g none steps run history own =
-    let last : AreResults setup g.past left behind [] no_stretch =
-    subst (λ (b : List Statement). AreResults setup g.past left b [] no_stretch) (sym none)
-    (refl, refl)
-    in
-    record {
-      all = g.past;
-      course = subst (λ (t : List StatementResult). AreResults setup no_stretch [] all t g.past)
-          (append-nil turns)
-          (subst (λ (s : Stretch). AreResults setup no_stretch [] all (turns ++ []) s)
-          (joined_nothing g.past) (g.whole [] no_stretch last));
-      lines = steps;
-      ran = run;
-      nodes = record {
-        sims = world.nodes.items;
-        after = subst (λ (own : Limits). AreNodesAfter setup.configs own g.past.events
-            g.past.choices world.nodes.items) g.run.limits.given g.run.run.came;
-        own = own;
-      };
-      history = history;
-    }
-
-pub drop_past : (all : List Statement) (i : ℕ) → length all ≤ i → drop i all ≡ []
-drop_past [] zero few = refl
-drop_past [] (suc i) few = refl
-drop_past (it ∷ all) zero few = absurd (omega (arith, few))
-drop_past (it ∷ all) (suc i) few = drop_past all i (omega (arith, few))
+  -- these statements ran, and no other
+  pub gone : (world : World D g) (setup : Setup) (left : List ℕ) (done : List Statement)
+      (turns : List StatementResult) (s : Goes world setup left done turns) →
+      IsRunSoFar world (run_of setup s.past) → HasHistory world (run_of setup s.past) →
+      HasRunStatements world setup done turns s.past
+  gone world setup left done turns s so_far history = record {
+    results = rw (append-nil done, append-nil turns, joined_nothing s.past)
+        at (s.whole [] [] no_stretch (refl, refl));
+    run = s.run;
+    so_far = so_far;
+    history = history;
+  }

@@ -4,6 +4,8 @@ use Rattle.std.specs.Fmt.{decimal}
 use Rattle.program.specs.declared.failure.Failure.{Failure}
 use Rattle.program.specs.declared.failure.Failure.TheVariants.{Unreadable, Script, Output}
 use Rattle.program.specs.declared.failure.Failure.TheVariants.{Memory}
+use Rattle.program.specs.declared.run_error.RunError.{RunError}
+use Rattle.program.specs.declared.run_error.RunError.TheVariants as run
 use Rattle.program.specs.Scripts.{script_lines}
 use Rattle.program.specs.Faults.{IsReported}
 use Rattle.program.specs.Text.{fault_text}
@@ -14,6 +16,11 @@ failure_text Unreadable = codes "script: unreadable"
 failure_text (Script f) = codes "line " ++ (decimal f.line ++ (codes ": " ++ fault_text f.error))
 failure_text Output = codes "output: write"
 failure_text Memory = codes "run: memory"
+
+-- the failure that is reported of a run of a script that ended early
+abbrev pub failure_of : RunError → Failure
+failure_of run.Write = Output
+failure_of run.Memory = Memory
 
 -- the line that tells of a failure
 abbrev pub failure_line : Failure → List ℕ

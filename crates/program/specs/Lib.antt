@@ -9,6 +9,7 @@ pub mod Edits
 pub mod Reading
 pub mod ScriptRuns
 pub mod Text
+pub mod PrintedRuns
 pub mod Failures
 pub mod Invocations
 pub mod Runs

@@ -3,6 +3,7 @@ use Rattle.std.specs.Prelude.{◌≡◌, ◌<◌, ◌≤◌, ℕ, zero, suc}
 use Rattle.std.specs.Prelude.{List, [], ◌∷◌, ◌++◌, length, map, take, drop}
 use Rattle.std.specs.Prelude.{◌-◌, Bool, true, false, if◌then◌else◌, All, replicate}
 use Rattle.std.specs.Prelude.{Option, Some, None}
+use Rattle.disk.specs.declared.disk.Disk.{Ghosts}
 use Rattle.lab.specs.Configuration.{Configurations}
 use Rattle.lab.specs.Machine.{without}
 use Rattle.lab.specs.Fault.TheVariants as fault
@@ -13,7 +14,7 @@ use Rattle.lab.specs.declared.EventKind.TheVariants.{Rows, Open, Close, Notice}
 use Rattle.lab.specs.declared.Line.{Line}
 use Rattle.lab.specs.declared.Line.TheVariants as line
 use Rattle.lab.specs.Numbers.{Numbers}
-use Rattle.lab.specs.{MemWorld as World}
+use Rattle.lab.specs.declared.world.World.{World}
 use Rattle.lab.specs.Tended.TheVariants as tended
 use Rattle.lab.specs.{AreNumbersOf, Choice, HasRun, ShowsTables, WorldHasLimits, WorldRun}
 use Rattle.lab.specs.{frames_in_steps}
@@ -22,7 +23,6 @@ use Rattle.program.specs.declared.script.statement.Action.{Action}
 use Rattle.program.specs.declared.script.statement.Action.TheVariants.{Event, Invalid, Flow}
 use Rattle.program.specs.declared.script.statement.Action.TheVariants.{Settle, Show}
 use Rattle.program.specs.declared.script.statement.Statement.{Statement}
-use Rattle.program.specs.declared.script_run.ScriptRun.{ScriptRun}
 use Rattle.program.specs.declared.statement_result.StatementResult.{StatementResult}
 use Rattle.program.specs.declared.statement_result.Note.{Note}
 use Rattle.program.specs.declared.statement_result.Note.TheVariants as note
@@ -168,51 +168,53 @@ run_of setup past = record {
   steps = past.steps;
 }
 
--- the world has run this far, at the nodes that were set up, with their limits
-pub record HasRunTo (world : World) (setup : Setup) (past : Stretch) : Type 0 where
-  pub run : HasRun world (run_of setup past)
-  pub limits : WorldHasLimits world setup.limits
+module _ {D : Type 0} {g : Ghosts D} where
+  -- the world has run this far, at the nodes that were set up, with their limits
+  pub record HasRunTo (world : World D g) (setup : Setup) (past : Stretch) : Type 0 where
+    pub run : HasRun world (run_of setup past)
+    pub limits : WorldHasLimits world setup.limits
 
--- what is shown of a node are its numbers after all that happened, and how many tables its store
--- has in this world
-abbrev pub HasShownNumbers : World → Configurations → Stretch → Note → Type 0
-HasShownNumbers world cs past note.Nothing = Unit {0}
-HasShownNumbers world cs past (note.Invalid e) = Unit {0}
-HasShownNumbers world cs past note.Busy = Unit {0}
-HasShownNumbers world cs past (note.Running node numbers) =
-    AreNumbersOf cs past.events past.choices node (Some numbers)
-    × ShowsTables world.nodes.items node numbers
-HasShownNumbers world cs past (note.Down node) =
-    AreNumbersOf cs past.events past.choices node None
+  -- what is shown of a node are its numbers after all that happened, and how many tables its store
+  -- has in this world
+  abbrev pub HasShownNumbers : World D g → Configurations → Stretch → Note → Type 0
+  HasShownNumbers world cs past note.Nothing = Unit {0}
+  HasShownNumbers world cs past (note.Invalid e) = Unit {0}
+  HasShownNumbers world cs past note.Busy = Unit {0}
+  HasShownNumbers world cs past (note.Running node numbers) =
+      AreNumbersOf cs past.events past.choices node (Some numbers)
+      × ShowsTables world.nodes.items node numbers
+  HasShownNumbers world cs past (note.Down node) =
+      AreNumbersOf cs past.events past.choices node None
+
+  -- a statement was run behind what had happened: the world and the frames that are left are those
+  -- behind its events
+  pub record HasTurned (setup : Setup) (past : Stretch) (it : Statement) (turn : StatementResult)
+      (old new : World D g) (left behind : List ℕ) : Type 0 where
+    pub own : Stretch
+    pub did : IsResult (frames_in_steps past.steps) left it turn own.events own.steps
+    pub shown : HasShownNumbers old setup.configs past turn.note
+    pub run : HasRunTo new setup (followed_by past own)
+    pub left : behind ≡ left_after it.action (left
+        ++ places_after (frames_in_steps past.steps) (frames_in_steps own.steps))
 
 -- what is shown of a node is so in a world that has run this far
-pub record HasShown (setup : Setup) (past : Stretch) (said : Note) : Type 0 where
-  pub world : World
+pub record HasShown {D : Type 0} (g : Ghosts D) (setup : Setup) (past : Stretch) (said : Note)
+    : Type 0 where
+  pub world : World D g
   pub run : HasRunTo world setup past
   pub numbers : HasShownNumbers world setup.configs past said
 
--- a statement was run behind what had happened: the world and the frames that are left are those
--- behind its events
-pub record HasTurned (setup : Setup) (past : Stretch) (it : Statement)
-    (turn : StatementResult) (old new : ScriptRun) : Type 0 where
-  pub own : Stretch
-  pub did : IsResult (frames_in_steps past.steps) old.left.items it turn own.events own.steps
-  pub shown : HasShownNumbers old.world setup.configs past turn.note
-  pub run : HasRunTo new.world setup (followed_by past own)
-  pub left : new.left.items ≡ left_after it.action (old.left.items
-      ++ places_after (frames_in_steps past.steps) (frames_in_steps own.steps))
-
 -- statements were run, one after another, behind what had happened; something was chosen in each
 -- event
-abbrev pub AreResults : Setup → Stretch → List ℕ → List Statement → List StatementResult
-    → Stretch → Type 0
-AreResults setup past left [] turns all = (turns ≡ []) × (all ≡ no_stretch)
-AreResults setup past left (it ∷ statements) turns all =
+abbrev pub AreResults : {D : Type 0} → Ghosts D → Setup → Stretch → List ℕ → List Statement
+    → List StatementResult → Stretch → Type 0
+AreResults g setup past left [] turns all = (turns ≡ []) × (all ≡ no_stretch)
+AreResults g setup past left (it ∷ statements) turns all =
     (turn : StatementResult) × (own : Stretch)
     × (turns_behind : List StatementResult) × (behind : Stretch)
     × IsResult (frames_in_steps past.steps) left it turn own.events own.steps
-    × (length own.choices ≡ length own.events) × HasShown setup past turn.note
+    × (length own.choices ≡ length own.events) × HasShown g setup past turn.note
     × (turns ≡ turn ∷ turns_behind) × (all ≡ followed_by own behind)
-    × AreResults setup (followed_by past own) (left_after it.action
+    × AreResults g setup (followed_by past own) (left_after it.action
     (left ++ places_after (frames_in_steps past.steps) (frames_in_steps own.steps)))
     statements turns_behind behind

@@ -260,15 +260,18 @@ result_text places turn steps =
     flat_map (step_text places turn.line) (drop turn.silent (take turn.events steps))
     ++ note_text turn.line turn.note
 
--- what is printed for statements in order, of which each takes the steps of its events
+-- what is printed for statements in order, behind others whose events stand at these lines: each
+-- takes the steps of its events, and a reply is told at the line of its request, of an event so far
 abbrev pub results_text : List ℕ → List StatementResult → List (List Line) → List ℕ
 results_text places [] steps = []
 results_text places (turn ∷ turns) steps =
-    result_text places turn steps ++ results_text places turns (drop turn.events steps)
+    let own = places ++ replicate turn.events turn.line in
+    result_text own turn steps ++ results_text own turns (drop turn.events steps)
 
--- the text of a run of statements, each event of which had a step
+-- the text of a run of statements, each event of which had a step: the texts of its statements, one
+-- after another
 abbrev pub run_text : List StatementResult → List (List Line) → List ℕ
-run_text turns steps = results_text (event_lines turns) turns steps
+run_text turns steps = results_text [] turns steps
 
 -- the text of what is wrong with a script's line
 abbrev pub fault_text : ScriptError → List ℕ

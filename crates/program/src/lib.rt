@@ -5,7 +5,9 @@ mod failure;
 mod invocation;
 mod plain;
 mod reading;
+mod run_error;
 mod run_input;
+mod run_script;
 mod script;
 mod script_run;
 mod service;
@@ -14,6 +16,8 @@ mod text;
 mod writing;
 
 pub use failure::Failure;
+pub use run_error::RunError;
+pub use run_script::run_script;
 pub use script::laws::{scripts_are_read, spellings_differ};
 pub use script::{ScriptError, ScriptFault};
 pub use service::{refuse, report, serve, serve_script};

@@ -1,4 +1,4 @@
-//! A run of statements: the events of each, one after another.
+//! Statements are run in a world: the events of each, one after another.
 ghost use Rattle.std.specs.Prelude.{◌≡◌, ℕ, List, [], ◌∷◌, ◌++◌, length, map, take, drop};
 ghost use Rattle.std.specs.Prelude.{OnOk, IfOk, ◌+◌, ◌-◌, if◌then◌else◌, Some, None, replicate};
 ghost use Rattle.std.specs.Prelude.{true};
@@ -9,30 +9,22 @@ ghost use Rattle.lab.specs.{Choice, NamesNode, frames_in_steps, frames_of_step};
 ghost use Rattle.program.specs.ScriptRuns.{HasRunTo, HasSettled, HasTurned, IsRising, faultless};
 ghost use Rattle.program.specs.ScriptRuns.{Stretch, busy, deliveries, delivery, followed_by};
 ghost use Rattle.program.specs.ScriptRuns.{has_worked};
-ghost use Rattle.program.specs.ScriptRuns.{left_after, left_after_event, most, no_stretch};
+ghost use Rattle.program.specs.ScriptRuns.{left_after, left_after_event, most};
 ghost use Rattle.program.specs.ScriptRuns.{one_step};
 ghost use Rattle.program.specs.ScriptRuns.{places_after, shown, tending};
 ghost use Rattle.program.specs.Scripts.{Names};
 ghost use Rattle.program.specs.declared.script.setup.Setup.{Setup};
 ghost use Rattle.program.specs.declared.statement_result.Note.TheVariants as note;
-ghost use Rattle.program.specs.declared.statement_result.StatementResult.{StatementResult};
 
-use crate::script::{Action, Setup, Statement};
+use crate::script::{Action, Statement};
 use crate::statement_result::{Note, StatementResult};
-use lab::{Event, EventKind, Fault, LabError, Line, MemDisk, NodeId, Numbers, Tended, World};
+use disk::{Crash, Disk};
+use lab::{Event, EventKind, Fault, LabError, Line, NodeId, Numbers, Tended, World};
 use std::alloc::{AllocError, Global};
 use std::collections::VecDeque;
 
 /// The most frames that one flow delivers, and the most tends of one settle.
 const MOST: usize = 10000;
-
-/// A run of statements so far: the world, and the places of the frames that no statement has
-/// delivered yet.
-#[derive(Drop)]
-pub struct ScriptRun {
-    pub world: World<MemDisk>,
-    pub left: VecDeque<u64>,
-}
 
 // The places of the frames that were sent between.
 fn add_places(left: &mut VecDeque<u64>, before: u64, now: u64) -> Result<(), AllocError>
@@ -88,179 +80,173 @@ fn shown(node: NodeId, numbers: Option<Numbers>) -> Note
     }
 }
 
-// Keeps what a statement did behind the results of those before it.
-fn keep(
-    results: &mut Vec<StatementResult>,
-    line: u32,
-    events: usize,
-    silent: usize,
-    note: Note,
-) -> Result<(), LabError>
-    ensures { OnOk result (results.new.items ≡ results.old.items
-        ++ record { line = line; events = events; silent = silent; note = note } ∷ []) }
+// What a statement did.
+fn result_of(line: u32, events: usize, silent: usize, note: Note) -> StatementResult
+    ensures { result ≡ record { line = line; events = events; silent = silent; note = note } }
 {
-    results.push(StatementResult {
+    StatementResult {
         line,
         events,
         silent,
         note,
-    })?;
-    Ok(())
+    }
 }
 
-// Keeps what a settle did. It prints its last tend, or that there is more to do.
-fn keep_settled(
-    results: &mut Vec<StatementResult>,
-    line: u32,
-    tends: usize,
-    more: bool,
-) -> Result<(), LabError>
-    ensures { OnOk result (results.new.items ≡ results.old.items ++ record {
+// What a settle did. It prints its last tend, or that there is more to do.
+fn settled_result(line: u32, tends: usize, more: bool) -> StatementResult
+    ensures { result ≡ record {
       line = line;
       events = tends;
       silent = (if more then tends else tends - 1);
       note = (if more then note.Busy else note.Nothing);
-    } ∷ []) }
+    } }
 {
     if more {
-        keep(results, line, tends, tends, Note::Busy)
+        result_of(line, tends, tends, Note::Busy)
     } else {
-        keep(results, line, tends, tends.saturating_sub(1), Note::Nothing)
+        result_of(line, tends, tends.saturating_sub(1), Note::Nothing)
     }
 }
 
-impl ScriptRun {
-    pub fn new(alloc: Global, setup: &Setup) -> Result<ScriptRun, LabError>
-        ensures run { IfOk result (λ script_run. HasRunTo script_run.world setup.now no_stretch) }
-        ensures left { IfOk result (λ script_run. script_run.left.items ≡ []) }
-    {
-        Ok(ScriptRun {
-            world: World::new(alloc, &setup.configs, &setup.limits)?,
-            left: VecDeque::new(alloc),
-        })
-    }
+// An event happens in the world, and the frames that it sends are left to be delivered.
+fn step<D: Crash + Drop>(
+    alloc: Global,
+    world: &mut World<D>,
+    left: &mut VecDeque<u64>,
+    event: &Event,
+) -> Result<(), LabError>
+    ensures { (setup : Setup) (past : Stretch) → HasRunTo world.old setup past →
+        NamesNode setup.configs event.now.kind →
+        OnOk result ((choice : Choice) × (lines : List Line)
+        × HasRunTo world.new setup (followed_by past (one_step event.now choice lines))
+        × (left.new.items ≡ left.old.items
+        ++ places_after (frames_in_steps past.steps) (frames_of_step lines))) }
+{
+    let before = world.sent();
+    world.step(alloc, event)?;
+    add_places(left, before, world.sent())?;
+    Ok(())
+}
 
-    // An event happens, and the frames that it sends are left to be delivered.
-    fn step(&mut self, alloc: Global, event: &Event) -> Result<(), LabError>
-        ensures { (setup : Setup) (past : Stretch) → HasRunTo self.old.world setup past →
-            NamesNode setup.configs event.now.kind →
-            OnOk result ((choice : Choice) × (lines : List Line)
-            × HasRunTo self.new.world setup (followed_by past (one_step event.now choice lines))
-            × (self.new.left.items ≡ self.old.left.items
-            ++ places_after (frames_in_steps past.steps) (frames_of_step lines))) }
-    {
-        let before = self.world.sent();
-        self.world.step(alloc, event)?;
-        add_places(&mut self.left, before, self.world.sent())?;
-        Ok(())
-    }
+// Something happens, without a fault of the disk.
+fn happen<D: Crash + Drop>(
+    alloc: Global,
+    world: &mut World<D>,
+    left: &mut VecDeque<u64>,
+    kind: EventKind,
+) -> Result<(), LabError>
+    ensures { (setup : Setup) (past : Stretch) → HasRunTo world.old setup past →
+        NamesNode setup.configs kind → OnOk result ((choice : Choice) × (lines : List Line)
+        × HasRunTo world.new setup
+        (followed_by past (one_step (faultless kind) choice lines))
+        × (left.new.items ≡ left.old.items
+        ++ places_after (frames_in_steps past.steps) (frames_of_step lines))) }
+{
+    let fault = Fault::None;
+    let event = Event { kind, fault };
+    let done = step(alloc, world, left, &event);
+    drop(event);
+    done
+}
 
-    // Something happens, without a fault of the disk.
-    fn happen(&mut self, alloc: Global, kind: EventKind) -> Result<(), LabError>
-        ensures { (setup : Setup) (past : Stretch) → HasRunTo self.old.world setup past →
-            NamesNode setup.configs kind → OnOk result ((choice : Choice) × (lines : List Line)
-            × HasRunTo self.new.world setup
-            (followed_by past (one_step (faultless kind) choice lines))
-            × (self.new.left.items ≡ self.old.left.items
-            ++ places_after (frames_in_steps past.steps) (frames_of_step lines))) }
-    {
-        let fault = Fault::None;
-        let event = Event { kind, fault };
-        let done = self.step(alloc, &event);
-        drop(event);
-        done
+// The frames that are left are delivered, up to the bound. It answers how many.
+fn flow<D: Crash + Drop>(
+    alloc: Global,
+    world: &mut World<D>,
+    left: &mut VecDeque<u64>,
+) -> Result<usize, LabError>
+    ensures { (setup : Setup) (past : Stretch) → HasRunTo world.old setup past →
+        IfOk result (λ count. (own : Stretch)
+        × HasRunTo world.new setup (followed_by past own)
+        × (own.events ≡ deliveries (left.old.items
+        ++ places_after (frames_in_steps past.steps) (frames_in_steps own.steps)))
+        × (count ≡ length own.steps) × (count ≡ length own.events)
+        × (left.new.items ≡ drop most (left.old.items
+        ++ places_after (frames_in_steps past.steps) (frames_in_steps own.steps)))) }
+{
+    let mut count = 0;
+    while count < MOST {
+        let Some(place) = left.pop_front() else {
+            return Ok(count);
+        };
+        happen(alloc, world, left, EventKind::Deliver { place })?;
+        count += 1;
     }
+    Ok(count)
+}
 
-    // The frames that are left are delivered, up to the bound. It answers how many.
-    fn flow(&mut self, alloc: Global) -> Result<usize, LabError>
-        ensures { (setup : Setup) (past : Stretch) → HasRunTo self.old.world setup past →
-            IfOk result (λ count. (own : Stretch)
-            × HasRunTo self.new.world setup (followed_by past own)
-            × (own.events ≡ deliveries (self.old.left.items
-            ++ places_after (frames_in_steps past.steps) (frames_in_steps own.steps)))
-            × (count ≡ length own.steps) × (count ≡ length own.events)
-            × (self.new.left.items ≡ drop most (self.old.left.items
-            ++ places_after (frames_in_steps past.steps) (frames_in_steps own.steps)))) }
-    {
-        let mut count = 0;
-        while count < MOST {
-            let Some(place) = self.left.pop_front() else {
-                return Ok(count);
-            };
-            self.happen(alloc, EventKind::Deliver { place })?;
-            count += 1;
+// Whether the last event was a tend that worked.
+fn tend_has_worked<D: Disk + Drop>(world: &World<D>) -> bool
+    ensures { (setup : Setup) (past : Stretch) (before : List (List Line))
+        (last : List Line) → HasRunTo world.now setup past →
+        past.steps ≡ before ++ last ∷ [] → result ≡ has_worked last }
+{
+    match world.report().last() {
+        Some(lines) => is_work(lines.as_slice()),
+        None => false,
+    }
+}
+
+// The node tends until a tend does not work, up to the bound. It answers how often.
+fn settle<D: Crash + Drop>(
+    alloc: Global,
+    world: &mut World<D>,
+    left: &mut VecDeque<u64>,
+    node: NodeId,
+) -> Result<usize, LabError>
+    ensures { (setup : Setup) (past : Stretch) → HasRunTo world.old setup past →
+        has (at_epoch setup.configs 0) node ≡ true →
+        IfOk result (λ count. (own : Stretch)
+        × HasRunTo world.new setup (followed_by past own)
+        × (own.events ≡ replicate count (tending node)) × (count ≡ length own.steps)
+        × HasSettled own.steps
+        × (left.new.items ≡ left.old.items
+        ++ places_after (frames_in_steps past.steps) (frames_in_steps own.steps))) }
+{
+    let mut count = 0;
+    while count < MOST {
+        happen(alloc, world, left, EventKind::Tend { node })?;
+        count += 1;
+        if !tend_has_worked(world) {
+            return Ok(count);
         }
-        Ok(count)
     }
+    Ok(count)
+}
 
-    // Whether the last event was a tend that worked.
-    fn has_worked(&self) -> bool
-        ensures { (setup : Setup) (past : Stretch) (before : List (List Line))
-            (last : List Line) → HasRunTo self.now.world setup past →
-            past.steps ≡ before ++ last ∷ [] → result ≡ has_worked last }
-    {
-        match self.world.report().last() {
-            Some(lines) => is_work(lines.as_slice()),
-            None => false,
+/// Runs a statement in the world, and answers what it did. `left` has the places of the frames that
+/// no statement has delivered yet.
+pub fn run_statement<D: Crash + Drop>(
+    alloc: Global,
+    world: &mut World<D>,
+    left: &mut VecDeque<u64>,
+    statement: &Statement,
+) -> Result<StatementResult, LabError>
+    ensures { (setup : Setup) (past : Stretch) → HasRunTo world.old setup past →
+        Names setup.configs statement.now.action →
+        IsRising 0 (frames_in_steps past.steps) left.old.items →
+        IfOk result (λ turn. HasTurned setup past statement.now turn world.old world.new
+        left.old.items left.new.items) }
+{
+    let line = statement.line;
+    match &statement.action {
+        Action::Event(event) => {
+            step(alloc, world, left, event)?;
+            remove_delivered(left, &event.kind);
+            Ok(result_of(line, 1, 0, Note::Nothing))
         }
-    }
-
-    // The node tends until a tend does not work, up to the bound. It answers how often.
-    fn settle(&mut self, alloc: Global, node: NodeId) -> Result<usize, LabError>
-        ensures { (setup : Setup) (past : Stretch) → HasRunTo self.old.world setup past →
-            has (at_epoch setup.configs 0) node ≡ true →
-            IfOk result (λ count. (own : Stretch)
-            × HasRunTo self.new.world setup (followed_by past own)
-            × (own.events ≡ replicate count (tending node)) × (count ≡ length own.steps)
-            × HasSettled own.steps
-            × (self.new.left.items ≡ self.old.left.items
-            ++ places_after (frames_in_steps past.steps) (frames_in_steps own.steps))) }
-    {
-        let mut count = 0;
-        while count < MOST {
-            self.happen(alloc, EventKind::Tend { node })?;
-            count += 1;
-            if !self.has_worked() {
-                return Ok(count);
-            }
+        Action::Invalid(error) => Ok(result_of(line, 0, 0, Note::Invalid(*error))),
+        Action::Flow => {
+            let events = flow(alloc, world, left)?;
+            Ok(result_of(line, events, 0, busy(left)))
         }
-        Ok(count)
-    }
-
-    /// Runs a statement, and keeps what it did behind the results of those before it.
-    pub fn run(
-        &mut self,
-        alloc: Global,
-        statement: &Statement,
-        results: &mut Vec<StatementResult>,
-    ) -> Result<(), LabError>
-        ensures { (setup : Setup) (past : Stretch) → HasRunTo self.old.world setup past →
-            Names setup.configs statement.now.action →
-            IsRising 0 (frames_in_steps past.steps) self.old.left.items →
-            OnOk result ((turn : StatementResult)
-            × (results.new.items ≡ results.old.items ++ turn ∷ [])
-            × HasTurned setup past statement.now turn self.old self.new) }
-    {
-        let line = statement.line;
-        match &statement.action {
-            Action::Event(event) => {
-                self.step(alloc, event)?;
-                remove_delivered(&mut self.left, &event.kind);
-                keep(results, line, 1, 0, Note::Nothing)
-            }
-            Action::Invalid(error) => keep(results, line, 0, 0, Note::Invalid(*error)),
-            Action::Flow => {
-                let events = self.flow(alloc)?;
-                keep(results, line, events, 0, busy(&self.left))
-            }
-            Action::Settle(node) => {
-                let tends = self.settle(alloc, *node)?;
-                keep_settled(results, line, tends, self.has_worked())
-            }
-            Action::Show(node) => {
-                let note = shown(*node, self.world.numbers(*node));
-                keep(results, line, 0, 0, note)
-            }
+        Action::Settle(node) => {
+            let tends = settle(alloc, world, left, *node)?;
+            Ok(settled_result(line, tends, tend_has_worked(world)))
+        }
+        Action::Show(node) => {
+            let note = shown(*node, world.numbers(*node));
+            Ok(result_of(line, 0, 0, note))
         }
     }
 }

@@ -4,7 +4,8 @@ ghost use Rattle.std.specs.Prelude.{IfOk, OnOk, OnErr, MatchResult};
 ghost use Rattle.std.specs.Io.KnownBytes.{Appends};
 ghost use Rattle.program.specs.Failures.{failure_line};
 ghost use Rattle.program.specs.Invocations.{has_option, lab_script, usage_line};
-ghost use Rattle.program.specs.Runs.{AppendsPart, FailureIsReported, ProgramEnds};
+ghost use Rattle.program.specs.PrintedRuns.{AppendsPart};
+ghost use Rattle.program.specs.Runs.{FailureIsReported, ProgramEnds};
 ghost use Rattle.program.specs.Runs.{RunEnds, RunEndsAs, UsageIsReported};
 
 use crate::failure::Failure;

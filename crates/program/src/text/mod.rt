@@ -8,4 +8,4 @@ mod shown;
 mod spelled;
 
 pub use names::fault_name;
-pub use printing::{event_places, print_run};
+pub use printing::{add_places, print_result};

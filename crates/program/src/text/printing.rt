@@ -1,9 +1,9 @@
-//! The text of a whole run.
-ghost use Rattle.std.specs.Prelude.{◌≡◌, ◌++◌, drop, map, replicate, OnOk, IfOk};
+//! The text of what a statement did.
+ghost use Rattle.std.specs.Prelude.{◌≡◌, ◌++◌, map, replicate, OnOk};
 ghost use Rattle.std.specs.List.{flat_map};
 ghost use Rattle.std.specs.Io.KnownBytes.{Appends};
-ghost use Rattle.program.specs.Text.{event_lines, line_of_request, reply_place, line_output};
-ghost use Rattle.program.specs.Text.{step_text, note_text, result_text, run_text, request_of};
+ghost use Rattle.program.specs.Text.{line_of_request, reply_place, line_output};
+ghost use Rattle.program.specs.Text.{step_text, note_text, result_text, request_of};
 ghost use Rattle.program.specs.Text.{line_text, numbered_line, printed_row, rows_of_line};
 
 use super::line::{LineText, StoppedText};
@@ -13,21 +13,11 @@ use super::shown::NumbersText;
 use crate::statement_result::{Note, StatementResult};
 use kv_types::Row;
 use lab::{Line, Lines, Reply};
-use std::alloc::{AllocError, Global};
+use std::alloc::AllocError;
 use std::io::{self, Write};
 
-/// The lines of the script where the events stand.
-pub fn event_places(alloc: Global, turns: &[StatementResult]) -> Result<Vec<u32>, AllocError>
-    ensures { IfOk result (λ places. places.items ≡ event_lines turns.now) }
-{
-    let mut places = Vec::new(alloc);
-    for turn in turns {
-        add_places(&mut places, turn.line, turn.events)?;
-    }
-    Ok(places)
-}
-
-fn add_places(places: &mut Vec<u32>, line: u32, count: usize) -> Result<(), AllocError>
+/// Adds the places of a statement's events, which stand at its line.
+pub fn add_places(places: &mut Vec<u32>, line: u32, count: usize) -> Result<(), AllocError>
     ensures { OnOk result (places.new.items ≡ places.old.items ++ replicate count line) }
 {
     for _ in 0..count {
@@ -152,38 +142,19 @@ fn print_note<W: Write>(here: u32, note: &Note, out: &mut W) -> io::Result<()>
     }
 }
 
-/// Prints a statement's turn, and answers the steps of those behind it.
-fn print_result<'a, W: Write>(
+/// Prints what a statement did: the lines of its steps, but of the silent first ones, and what is
+/// said of it besides. `places` are the lines of the events so far.
+pub fn print_result<W: Write>(
     places: &[u32],
     turn: &StatementResult,
-    steps: &'a [Lines],
-    out: &mut W,
-) -> io::Result<&'a [Lines]>
-    ensures text { OnOk result (Appends (W.contents out.old) (W.contents out.new)
-        (result_text places.now turn.now steps.now)) }
-    ensures behind { IfOk result (λ left. left.now ≡ drop turn.now.events steps.now) }
-{
-    let (own, behind) = steps.split_at(turn.events.min(steps.len()));
-    let (_silent, printed) = own.split_at(turn.silent.min(own.len()));
-    print_steps(places, turn.line, printed, out)?;
-    print_note(turn.line, &turn.note, out)?;
-    Ok(behind)
-}
-
-/// Prints the run of statements, one turn after another. `places` are the lines of the events.
-pub fn print_run<W: Write>(
-    places: &[u32],
-    turns: &[StatementResult],
     steps: &[Lines],
     out: &mut W,
 ) -> io::Result<()>
-    requires { places.now ≡ event_lines turns.now }
     ensures { OnOk result (Appends (W.contents out.old) (W.contents out.new)
-        (run_text turns.now steps.now)) }
+        (result_text places.now turn.now steps.now)) }
 {
-    let mut left = steps;
-    for turn in turns {
-        left = print_result(places, turn, left, out)?;
-    }
-    Ok(())
+    let (own, _behind) = steps.split_at(turn.events.min(steps.len()));
+    let (_silent, printed) = own.split_at(turn.silent.min(own.len()));
+    print_steps(places, turn.line, printed, out)?;
+    print_note(turn.line, &turn.note, out)
 }

@@ -2,13 +2,13 @@ use Rattle.std.proofs.Common.{◌-◌}
 use Rattle.program.specs.declared.script.setup.Setup.{Setup}
 use Rattle.program.specs.ScriptRuns.{HasRunTo, Stretch, most}
 use Rattle.program.proofs.Flowing.{Flows}
-use Rattle.program.proofs.script_run.ScriptRun.flow.Given as goal
+use Rattle.program.proofs.script_run.flow.Given as goal
 
 -- so many frames were delivered
 abbrev pub invariant-loop-count : goal.invariant-loop-count
-invariant-loop-count l = (setup : Setup) (past : Stretch) →
-    HasRunTo l.fn.self.world setup past →
-    Flows l.self.world setup past l.fn.self.left.items l.self.left.items l.count
+invariant-loop-count g l = (setup : Setup) (past : Stretch) →
+    HasRunTo l.fn.world setup past →
+    Flows l.world setup past l.fn.left.items l.left.items l.count
 
 abbrev pub decreases-loop-count : goal.decreases-loop-count
-decreases-loop-count l = most - l.count
+decreases-loop-count g l = most - l.count

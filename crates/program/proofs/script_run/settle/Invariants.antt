@@ -3,13 +3,13 @@ use Rattle.lab.specs.Configuration.{at_epoch, has}
 use Rattle.program.specs.declared.script.setup.Setup.{Setup}
 use Rattle.program.specs.ScriptRuns.{HasRunTo, Stretch, most}
 use Rattle.program.proofs.Settling.{Settles}
-use Rattle.program.proofs.script_run.ScriptRun.settle.Given as goal
+use Rattle.program.proofs.script_run.settle.Given as goal
 
 -- so many tends worked
 abbrev pub invariant-loop-count : goal.invariant-loop-count
-invariant-loop-count l = (setup : Setup) (past : Stretch) →
-    HasRunTo l.fn.self.world setup past → has (at_epoch setup.configs 0) l.fn.node ≡ true →
-    Settles l.self.world setup past l.fn.node l.fn.self.left.items l.self.left.items l.count
+invariant-loop-count g l = (setup : Setup) (past : Stretch) →
+    HasRunTo l.fn.world setup past → has (at_epoch setup.configs 0) l.fn.node ≡ true →
+    Settles l.world setup past l.fn.node l.fn.left.items l.left.items l.count
 
 abbrev pub decreases-loop-count : goal.decreases-loop-count
-decreases-loop-count l = most - l.count
+decreases-loop-count g l = most - l.count

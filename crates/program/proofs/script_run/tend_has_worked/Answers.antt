@@ -3,17 +3,17 @@ use Rattle.std.specs.Option.{option_copied}
 use Rattle.std.proofs.lemmas.Grind.{common_steps}
 use Rattle.program.specs.ScriptRuns.{has_worked, run_of}
 use Rattle.program.proofs.Settling.{last_got, same_step}
-use Rattle.program.proofs.script_run.ScriptRun.has_worked.Goals as goal
+use Rattle.program.proofs.script_run.tend_has_worked.Goals as goal
 
 pub returns-in-Some : goal.returns-in-Some
-returns-in-Some c = λ setup past before last run is.
+returns-in-Some g c = λ setup past before last run is.
     let got = c.last.ensures.value ∙ last_got past.steps c.report.result.now before last _
     (c.report.ensures.steps (run_of setup past) run.run) is refl in
     c.is_work.ensures ∙ ap has_worked (c.as_slice.ensures
     ∙ same_step c.in-Some.lines.now last (sym (ap option_copied c.in-Some.is) ∙ got))
 
 pub returns-in-None : goal.returns-in-None
-returns-in-None c = λ setup past before last run is.
+returns-in-None g c = λ setup past before last run is.
     let got = c.last.ensures.value ∙ last_got past.steps c.report.result.now before last _
     (c.report.ensures.steps (run_of setup past) run.run) is refl in
     let none : None ≡ Some last = sym (ap option_copied c.in-None.is) ∙ got in

@@ -1,0 +1,11 @@
+use Rattle.std.proofs.Common.{take}
+use Rattle.program.specs.PrintedRuns.{IsReadyToRun}
+use Rattle.program.proofs.PrintedRuns.{Prints}
+use Rattle.program.proofs.run_script.run_script.Given as goal
+
+-- the statements so far were run and printed
+abbrev pub invariant-loop-statement : goal.invariant-loop-statement
+invariant-loop-statement g l =
+    IsReadyToRun l.fn.world l.script.setup l.script.statements.items →
+    Prints l.world l.script.setup l.left.items (take l.statement-index l.script.statements.items)
+    l.places.items l.before (g.W.Write.contents l.fn.out) (g.W.Write.contents l.out)
