@@ -1,10 +1,12 @@
 -- What of a run is printed so far, and how it ends.
 use Rattle.std.proofs.Common.{◌≡◌, ◌<◌, ℕ, suc, List, [], ◌∷◌, ◌++◌, Option, length, take, drop}
-use Rattle.std.proofs.Common.{refl, sym, ap, subst, ◌∙◌, append-nil, append_assoc, get_or}
+use Rattle.std.proofs.Common.{replicate, refl, sym, ap, ap₂, subst, ◌∙◌, append-nil, get_or}
+use Rattle.std.proofs.lemmas.Grind.{flat_map-append}
 use Rattle.std.specs.Io.KnownBytes.{Appends}
 use Rattle.disk.specs.declared.disk.Disk.{Ghosts}
 use Rattle.lab.specs.declared.Line.{Line}
 use Rattle.lab.specs.declared.world.World.{World}
+use Rattle.lab.specs.{HasRun, WorldRun}
 use Rattle.lab.specs.Worlds.{HasHistory, IsRunSoFar}
 use Rattle.program.specs.declared.run_error.RunError.TheVariants.{Memory, Write}
 use Rattle.program.specs.declared.script.setup.Setup.{Setup}
@@ -75,26 +77,52 @@ drop_past [] own = refl
 drop_past (s ∷ steps) own = drop_past steps own
 
 -- the steps behind so many of a world's are a statement's own
-pub own_steps : (own past steps found : List (List Line)) (before : ℕ) → before ≡ length past →
+own_steps : (own past steps found : List (List Line)) (before : ℕ) → before ≡ length past →
     steps ≡ past ++ own → found ≡ drop before steps → found ≡ own
 own_steps own past steps found before count is behind =
     behind ∙ (ap (λ (l : List (List Line)). drop before l) is
     ∙ (ap (λ (n : ℕ). drop n (past ++ own)) count ∙ drop_past past own))
 
--- the next statement was run
+-- the places of the events of one statement more
+places_more : (turns : List StatementResult) (turn : StatementResult) (old new : List ℕ) →
+    old ≡ event_lines turns → new ≡ old ++ replicate turn.events turn.line →
+    new ≡ event_lines (turns ++ turn ∷ [])
+places_more turns turn old new was is = is
+    ∙ (ap (λ (l : List ℕ). l ++ replicate turn.events turn.line) was
+    ∙ (ap (λ (l : List ℕ). event_lines turns ++ l)
+    (sym (append-nil (replicate turn.events turn.line)))
+    ∙ sym (flat_map-append (λ (r : StatementResult). replicate r.events r.line) turns
+    (turn ∷ []))))
+
+-- the next statement was run, and its text made of its own steps
 module _ {D : Type 0} {g : Ghosts D} (world now : World D g) (setup : Setup) (left next : List ℕ)
     (all : List Statement) (i : ℕ) (d it : Statement) (turn : StatementResult)
-    (places : List ℕ) (before : ℕ) (old mid : Option (List ℕ)) (within : i < length all)
-    (at : it ≡ get_or all i d) (p : Prints world setup left (take i all) places before old mid)
+    (places more_places : List ℕ) (before : ℕ) (steps found : List (List Line)) (text : List ℕ)
+    (old mid : Option (List ℕ)) (within : i < length all) (at : it ≡ get_or all i d)
+    (p : Prints world setup left (take i all) places before old mid)
     (t : HasTurned setup p.goes.past it turn world now left next)
-    (so_far : IsRunSoFar now (run_of setup (followed_by p.goes.past t.own)))
-    (history : HasHistory now (run_of setup (followed_by p.goes.past t.own))) where
-  more : Goes now setup next (take (suc i) all) (p.turns ++ turn ∷ [])
-  more = goes_next world now setup left next all i d it p.turns turn within at p.goes t
+    (reports : (run : WorldRun) → HasRun now run → steps ≡ run.steps)
+    (so_far : (run : WorldRun) → HasRun now run → IsRunSoFar now run)
+    (history : (run : WorldRun) → HasRun now run → HasHistory now run)
+    (behind : found ≡ drop before steps)
+    (added : more_places ≡ places ++ replicate turn.events turn.line)
+    (made : text ≡ result_text more_places turn found) where
+  abbrev run_now : WorldRun
+  run_now = run_of setup (followed_by p.goes.past t.own)
 
-  -- .. and the output took a beginning of its text
-  pub ended_in_write : (new : Option (List ℕ)) → AppendsPart mid new
-      (result_text (event_lines (p.turns ++ turn ∷ [])) turn t.own.steps) →
+  goes_more : Goes now setup next (take (suc i) all) (p.turns ++ turn ∷ [])
+  goes_more = goes_next world now setup left next all i d it p.turns turn within at p.goes t
+
+  at_more : more_places ≡ event_lines (p.turns ++ turn ∷ [])
+  at_more = places_more p.turns turn places more_places p.at added
+
+  own_text : text ≡ result_text (event_lines (p.turns ++ turn ∷ [])) turn t.own.steps
+  own_text = made ∙ ap₂ (λ (l : List ℕ) (s : List (List Line)). result_text l turn s) at_more
+      (own_steps t.own.steps p.goes.past.steps steps found before p.count
+      (reports run_now t.run.run) behind)
+
+  -- .. of which the output took a beginning
+  pub ended_in_write : (new : Option (List ℕ)) → AppendsPart mid new text →
       HasEndedEarly Write now setup all old new
   ended_in_write new part = record {
     done = i;
@@ -103,32 +131,31 @@ module _ {D : Type 0} {g : Ghosts D} (world now : World D g) (setup : Setup) (le
     all = p.goes.past;
     behind = world;
     run = gone world setup left (take i all) p.turns p.goes p.so_far p.history;
-    part = take part.count
-        (result_text (event_lines (p.turns ++ turn ∷ [])) turn t.own.steps);
+    part = take part.count text;
     next = record {
       turn = turn;
       own = t.own;
-      run = gone now setup next (take (suc i) all) (p.turns ++ turn ∷ []) more so_far history;
+      run = gone now setup next (take (suc i) all) (p.turns ++ turn ∷ []) goes_more
+          (so_far run_now t.run.run) (history run_now t.run.run);
       count = part.count;
-      beginning = refl;
+      beginning = ap (λ (l : List ℕ). take part.count l) own_text;
     };
-    wrote = appends_more old mid new (run_text p.turns p.goes.past.steps) _ p.wrote part.wrote;
+    wrote = appends_more old mid new (run_text p.turns p.goes.past.steps) (take part.count text)
+        p.wrote part.wrote;
   }
 
-  -- .. and its text was written
-  pub prints_more : (now_places : List ℕ) (count : ℕ) (new : Option (List ℕ)) →
-      now_places ≡ event_lines (p.turns ++ turn ∷ []) →
-      count ≡ length (p.goes.past.steps ++ t.own.steps) → Appends mid new
-      (result_text (event_lines (p.turns ++ turn ∷ [])) turn t.own.steps) →
-      Prints now setup next (take (suc i) all) now_places count old new
-  prints_more now_places count new are same wrote = record {
+  -- .. which was written
+  pub prints_more : (new : Option (List ℕ)) → Appends mid new text →
+      Prints now setup next (take (suc i) all) more_places (length steps) old new
+  prints_more new wrote = record {
     turns = p.turns ++ turn ∷ [];
-    goes = more;
-    at = are;
-    count = same;
-    so_far = so_far;
-    history = history;
+    goes = goes_more;
+    at = at_more;
+    count = ap length (reports run_now t.run.run);
+    so_far = so_far run_now t.run.run;
+    history = history run_now t.run.run;
     wrote = subst (λ (l : List ℕ). Appends old new l)
         (sym (texts_more [] p.turns turn p.goes.past.steps t.own.steps p.goes.each))
-        (appends_more old mid new (run_text p.turns p.goes.past.steps) _ p.wrote wrote);
+        (appends_more old mid new (run_text p.turns p.goes.past.steps) _ p.wrote
+        (subst (λ (l : List ℕ). Appends mid new l) own_text wrote));
   }

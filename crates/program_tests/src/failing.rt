@@ -14,7 +14,7 @@ const SCRIPT: &[u8] = b"config 1\nsubmit 1 a=1\nget 1 a\n";
 const TEXT: &[u8] = b"2: committed 1\n3: value 1 at 1\n";
 
 // A script of statements of several lines, of one and of none, and a reply at an earlier line.
-const CHAIN: &[u8] = b"config 1 2\nsubmit 1 a=1\nflow\nget 2 a\nflow\nrows 2 * * 9\n";
+const CHAIN: &[u8] = b"config 1 2\nsubmit 1 a=1\nflow\nget 2 a\nflow\nrows 2 @ * 9\n";
 
 const CHAIN_TEXT: &[u8] = b"2: #1 1>2 forward 0 1
 3: #2 2>1 ack 0 1 1
