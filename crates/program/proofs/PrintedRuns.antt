@@ -23,18 +23,20 @@ module _ {D : Type 0} {g : Ghosts D} where
   pub record Prints (world : World D g) (setup : Setup) (left : List ℕ) (done : List Statement)
       (places : List ℕ) (before : ℕ) (old new : Option (List ℕ)) : Type 0 where
     pub turns : List StatementResult
-    pub goes : Goes world setup left done turns
+    pub past : Stretch
+    pub goes : Goes world setup left done turns past
     pub at : places ≡ event_lines turns
-    pub count : before ≡ length goes.past.steps
-    pub so_far : IsRunSoFar world (run_of setup goes.past)
-    pub history : HasHistory world (run_of setup goes.past)
-    pub wrote : Appends old new (run_text turns goes.past.steps)
+    pub count : before ≡ length past.steps
+    pub so_far : IsRunSoFar world (run_of setup past)
+    pub history : HasHistory world (run_of setup past)
+    pub wrote : Appends old new (run_text turns past.steps)
 
   pub prints_none : (world : World D g) (setup : Setup) (before : ℕ) (out : Option (List ℕ)) →
       HasRunTo world setup no_stretch → before ≡ 0 → IsRunSoFar world (run_of setup no_stretch) →
       HasHistory world (run_of setup no_stretch) → Prints world setup [] [] [] before out out
   prints_none world setup before out run none so_far history = record {
     turns = [];
+    past = no_stretch;
     goes = goes_nowhere world setup run;
     at = refl;
     count = none;
@@ -49,8 +51,8 @@ module _ {D : Type 0} {g : Ghosts D} where
       Prints world setup left done places before old new → IsPrintedRun world setup all old new
   printed world setup left done all places before old new is p = record {
     turns = p.turns;
-    all = p.goes.past;
-    run = rw is at (gone world setup left done p.turns p.goes p.so_far p.history);
+    all = p.past;
+    run = rw is at (gone world setup left done p.turns p.past p.goes p.so_far p.history);
     wrote = p.wrote;
   }
 
@@ -63,13 +65,13 @@ module _ {D : Type 0} {g : Ghosts D} where
     done = i;
     within = within;
     turns = p.turns;
-    all = p.goes.past;
+    all = p.past;
     behind = world;
-    run = gone world setup left (take i all) p.turns p.goes p.so_far p.history;
+    run = gone world setup left (take i all) p.turns p.past p.goes p.so_far p.history;
     part = [];
     next = refl;
     wrote = subst (λ (l : List ℕ). Appends old new l)
-        (sym (append-nil (run_text p.turns p.goes.past.steps))) p.wrote;
+        (sym (append-nil (run_text p.turns p.past.steps))) p.wrote;
   }
 
 drop_past : (steps own : List (List Line)) → drop (length steps) (steps ++ own) ≡ own
@@ -100,7 +102,7 @@ module _ {D : Type 0} {g : Ghosts D} (world now : World D g) (setup : Setup) (le
     (places more_places : List ℕ) (before : ℕ) (steps found : List (List Line)) (text : List ℕ)
     (old mid : Option (List ℕ)) (within : i < length all) (at : it ≡ get_or all i d)
     (p : Prints world setup left (take i all) places before old mid)
-    (t : HasTurned setup p.goes.past it turn world now left next)
+    (t : HasTurned setup p.past it turn world now left next)
     (reports : (run : WorldRun) → HasRun now run → steps ≡ run.steps)
     (so_far : (run : WorldRun) → HasRun now run → IsRunSoFar now run)
     (history : (run : WorldRun) → HasRun now run → HasHistory now run)
@@ -108,17 +110,18 @@ module _ {D : Type 0} {g : Ghosts D} (world now : World D g) (setup : Setup) (le
     (added : more_places ≡ places ++ replicate turn.events turn.line)
     (made : text ≡ result_text more_places turn found) where
   abbrev run_now : WorldRun
-  run_now = run_of setup (followed_by p.goes.past t.own)
+  run_now = run_of setup (followed_by p.past t.own)
 
   goes_more : Goes now setup next (take (suc i) all) (p.turns ++ turn ∷ [])
-  goes_more = goes_next world now setup left next all i d it p.turns turn within at p.goes t
+      (followed_by p.past t.own)
+  goes_more = goes_next world now setup left next all i d it p.turns turn p.past within at p.goes t
 
   at_more : more_places ≡ event_lines (p.turns ++ turn ∷ [])
   at_more = places_more p.turns turn places more_places p.at added
 
   own_text : text ≡ result_text (event_lines (p.turns ++ turn ∷ [])) turn t.own.steps
   own_text = made ∙ ap₂ (λ (l : List ℕ) (s : List (List Line)). result_text l turn s) at_more
-      (own_steps t.own.steps p.goes.past.steps steps found before p.count
+      (own_steps t.own.steps p.past.steps steps found before p.count
       (reports run_now t.run.run) behind)
 
   -- .. of which the output took a beginning
@@ -128,19 +131,20 @@ module _ {D : Type 0} {g : Ghosts D} (world now : World D g) (setup : Setup) (le
     done = i;
     within = within;
     turns = p.turns;
-    all = p.goes.past;
+    all = p.past;
     behind = world;
-    run = gone world setup left (take i all) p.turns p.goes p.so_far p.history;
+    run = gone world setup left (take i all) p.turns p.past p.goes p.so_far p.history;
     part = take part.count text;
     next = record {
       turn = turn;
       own = t.own;
-      run = gone now setup next (take (suc i) all) (p.turns ++ turn ∷ []) goes_more
+      run = gone now setup next (take (suc i) all) (p.turns ++ turn ∷ []) (followed_by p.past t.own)
+          goes_more
           (so_far run_now t.run.run) (history run_now t.run.run);
       count = part.count;
       beginning = ap (λ (l : List ℕ). take part.count l) own_text;
     };
-    wrote = appends_more old mid new (run_text p.turns p.goes.past.steps) (take part.count text)
+    wrote = appends_more old mid new (run_text p.turns p.past.steps) (take part.count text)
         p.wrote part.wrote;
   }
 
@@ -149,13 +153,14 @@ module _ {D : Type 0} {g : Ghosts D} (world now : World D g) (setup : Setup) (le
       Prints now setup next (take (suc i) all) more_places (length steps) old new
   prints_more new wrote = record {
     turns = p.turns ++ turn ∷ [];
+    past = followed_by p.past t.own;
     goes = goes_more;
     at = at_more;
     count = ap length (reports run_now t.run.run);
     so_far = so_far run_now t.run.run;
     history = history run_now t.run.run;
     wrote = subst (λ (l : List ℕ). Appends old new l)
-        (sym (texts_more [] p.turns turn p.goes.past.steps t.own.steps p.goes.each))
-        (appends_more old mid new (run_text p.turns p.goes.past.steps) _ p.wrote
+        (sym (texts_more [] p.turns turn p.past.steps t.own.steps p.goes.each))
+        (appends_more old mid new (run_text p.turns p.past.steps) _ p.wrote
         (subst (λ (l : List ℕ). Appends mid new l) own_text wrote));
   }

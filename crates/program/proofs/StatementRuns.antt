@@ -23,8 +23,7 @@ use Rattle.program.proofs.Printed.{replicate-length}
 module _ {D : Type 0} {g : Ghosts D} where
   -- the first statements ran so far, and with those that follow they make a whole
   pub record Goes (world : World D g) (setup : Setup) (left : List ℕ) (done : List Statement)
-      (turns : List StatementResult) : Type 0 where
-    pub past : Stretch
+      (turns : List StatementResult) (past : Stretch) : Type 0 where
     pub run : HasRunTo world setup past
     pub rising : IsRising 0 (frames_in_steps past.steps) left
     pub whole : (behind : List Statement) (ts : List StatementResult) (rest : Stretch) →
@@ -33,9 +32,8 @@ module _ {D : Type 0} {g : Ghosts D} where
     pub each : length (event_lines turns) ≡ length past.steps
 
   pub goes_nowhere : (world : World D g) (setup : Setup) → HasRunTo world setup no_stretch →
-      Goes world setup [] [] []
+      Goes world setup [] [] [] no_stretch
   goes_nowhere world setup run = record {
-    past = no_stretch;
     run = run;
     rising = omega arith;
     whole = λ behind ts rest c. c;
@@ -57,13 +55,13 @@ module _ {D : Type 0} {g : Ghosts D} where
   -- one statement more
   pub goes_on : (old new : World D g) (setup : Setup) (left next : List ℕ) (it : Statement)
       (done : List Statement) (turns : List StatementResult) (turn : StatementResult)
-      (s : Goes old setup left done turns) → HasTurned setup s.past it turn old new left next →
-      Goes new setup next (done ++ it ∷ []) (turns ++ turn ∷ [])
-  goes_on old new setup left next it done turns turn s t = record {
-    past = followed_by s.past t.own;
+      (past : Stretch) → Goes old setup left done turns past →
+      (t : HasTurned setup past it turn old new left next) →
+      Goes new setup next (done ++ it ∷ []) (turns ++ turn ∷ []) (followed_by past t.own)
+  goes_on old new setup left next it done turns turn past s t = record {
     run = t.run;
-    rising = rw (t.left, frames_in_steps-more s.past.steps t.own.steps)
-        (left_rises it.action left (frames_in_steps s.past.steps)
+    rising = rw (t.left, frames_in_steps-more past.steps t.own.steps)
+        (left_rises it.action left (frames_in_steps past.steps)
         (frames_in_steps t.own.steps) s.rising);
     whole = λ behind ts rest c.
         let one = s.whole (it ∷ behind) (turn ∷ ts) (followed_by t.own rest) (
@@ -72,17 +70,17 @@ module _ {D : Type 0} {g : Ghosts D} where
           ts,
           rest,
           t.did,
-          chosen_each old new setup s.past t.own s.run t.run,
+          chosen_each old new setup past t.own s.run t.run,
           record { world = old; run = s.run; numbers = t.shown },
           refl,
           refl,
-          subst (λ (l : List ℕ). AreResults g setup (followed_by s.past t.own) l behind ts rest)
+          subst (λ (l : List ℕ). AreResults g setup (followed_by past t.own) l behind ts rest)
               t.left c,
         ) in
         rw (
           append_assoc done (it ∷ []) behind,
           append_assoc turns (turn ∷ []) ts,
-          joined_assoc s.past t.own rest,
+          joined_assoc past t.own rest,
         ) one;
     each = omega (
       arith,
@@ -94,29 +92,29 @@ module _ {D : Type 0} {g : Ghosts D} where
       length-append (event_lines turns) (event_lines (turn ∷ [])),
       length-append (replicate turn.events turn.line) [],
       replicate-length turn.events turn.line,
-      length-append s.past.steps t.own.steps,
+      length-append past.steps t.own.steps,
     );
   }
 
   -- the next statement of all
   pub goes_next : (old new : World D g) (setup : Setup) (left next : List ℕ)
       (all : List Statement) (i : ℕ) (d it : Statement) (turns : List StatementResult)
-      (turn : StatementResult) → i < length all → it ≡ get_or all i d →
-      (s : Goes old setup left (take i all) turns) →
-      HasTurned setup s.past it turn old new left next →
-      Goes new setup next (take (suc i) all) (turns ++ turn ∷ [])
-  goes_next old new setup left next all i d it turns turn within at s t =
+      (turn : StatementResult) (past : Stretch) → i < length all → it ≡ get_or all i d →
+      Goes old setup left (take i all) turns past →
+      (t : HasTurned setup past it turn old new left next) →
+      Goes new setup next (take (suc i) all) (turns ++ turn ∷ []) (followed_by past t.own)
+  goes_next old new setup left next all i d it turns turn past within at s t =
       let more : take (suc i) all ≡ take i all ++ it ∷ [] = take-suc all i d within
       ∙ ap (λ (x : Statement). take i all ++ x ∷ []) (sym at) in
-      rw more (goes_on old new setup left next it (take i all) turns turn s t)
+      rw more (goes_on old new setup left next it (take i all) turns turn past s t)
 
   -- these statements ran, and no other
   pub gone : (world : World D g) (setup : Setup) (left : List ℕ) (done : List Statement)
-      (turns : List StatementResult) (s : Goes world setup left done turns) →
-      IsRunSoFar world (run_of setup s.past) → HasHistory world (run_of setup s.past) →
-      HasRunStatements world setup done turns s.past
-  gone world setup left done turns s so_far history = record {
-    results = rw (append-nil done, append-nil turns, joined_nothing s.past)
+      (turns : List StatementResult) (past : Stretch) → Goes world setup left done turns past →
+      IsRunSoFar world (run_of setup past) → HasHistory world (run_of setup past) →
+      HasRunStatements world setup done turns past
+  gone world setup left done turns past s so_far history = record {
+    results = rw (append-nil done, append-nil turns, joined_nothing past)
         at (s.whole [] [] no_stretch (refl, refl));
     run = s.run;
     so_far = so_far;

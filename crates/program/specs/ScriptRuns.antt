@@ -189,12 +189,12 @@ module _ {D : Type 0} {g : Ghosts D} where
   -- a statement was run behind what had happened: the world and the frames that are left are those
   -- behind its events
   pub record HasTurned (setup : Setup) (past : Stretch) (it : Statement) (turn : StatementResult)
-      (old new : World D g) (left behind : List ℕ) : Type 0 where
+      (old new : World D g) (old_left new_left : List ℕ) : Type 0 where
     pub own : Stretch
-    pub did : IsResult (frames_in_steps past.steps) left it turn own.events own.steps
+    pub did : IsResult (frames_in_steps past.steps) old_left it turn own.events own.steps
     pub shown : HasShownNumbers old setup.configs past turn.note
     pub run : HasRunTo new setup (followed_by past own)
-    pub left : behind ≡ left_after it.action (left
+    pub left : new_left ≡ left_after it.action (old_left
         ++ places_after (frames_in_steps past.steps) (frames_in_steps own.steps))
 
 -- what is shown of a node is so in a world that has run this far

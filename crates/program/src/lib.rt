@@ -4,10 +4,10 @@
 mod failure;
 mod invocation;
 mod plain;
+mod printed_run;
 mod reading;
 mod run_error;
 mod run_input;
-mod run_script;
 mod script;
 mod script_run;
 mod service;
@@ -16,8 +16,8 @@ mod text;
 mod writing;
 
 pub use failure::Failure;
+pub use printed_run::run_script;
 pub use run_error::RunError;
-pub use run_script::run_script;
 pub use script::laws::{scripts_are_read, spellings_differ};
 pub use script::{ScriptError, ScriptFault};
 pub use service::{refuse, report, serve, serve_script};

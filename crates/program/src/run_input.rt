@@ -7,8 +7,8 @@ ghost use Rattle.program.specs.Failures.{IsOfReading, IsFailureOf};
 ghost use Rattle.program.specs.Runs.{IsRunOf, IsRunOfText, RunFailsSo, RunHasFailed};
 
 use crate::failure::Failure;
+use crate::printed_run::run_script;
 use crate::reading;
-use crate::run_script::run_script;
 use crate::script::{Script, read_script};
 use lab::World;
 use std::alloc::Global;

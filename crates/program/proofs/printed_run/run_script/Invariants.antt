@@ -1,7 +1,7 @@
 use Rattle.std.proofs.Common.{take}
 use Rattle.program.specs.PrintedRuns.{IsReadyToRun}
 use Rattle.program.proofs.PrintedRuns.{Prints}
-use Rattle.program.proofs.run_script.run_script.Given as goal
+use Rattle.program.proofs.printed_run.run_script.Given as goal
 
 -- the statements so far were run and printed
 abbrev pub invariant-loop-statement : goal.invariant-loop-statement
