@@ -2,7 +2,8 @@
 use Rattle.std.proofs.Common.{◌≡◌, ℕ, List, [], ◌∷◌, Option, None, Some, refl, sym, ap, subst, inl}
 use Rattle.std.proofs.Common.{inr}
 use Rattle.std.proofs.Common.{length, take}
-use Rattle.std.specs.Prelude.{◌⊎◌, Result, Ok, Err, OnErr, IfOk, IfSome, MatchResult}
+use Rattle.std.specs.Prelude.{◌⊎◌, Result, Ok, Err, OnErr, IfErr, IfOk}
+use Rattle.std.specs.Prelude.{IfSome, MatchResult}
 use Rattle.std.specs.Io.KnownBytes.{Appends}
 use Rattle.lab.specs.{MemWorld}
 use Rattle.program.specs.declared.failure.Failure.{Failure}
@@ -24,15 +25,26 @@ any_text : (text : Option (List ℕ)) → IfSome text (λ t. Unit {0})
 any_text None = tt
 any_text (Some t) = tt
 
+-- no world was made
+pub no_world : (setup : Setup) (statements : List Statement) (out : Option (List ℕ))
+    → RunFailsSo setup statements out out failure.Memory
+no_world setup statements out = inr (refl, inl refl)
+
 -- a run in a world in memory that ended early
 pub fails_so : (world : MemWorld) (setup : Setup) (statements : List Statement)
-    (old new : Option (List ℕ)) (error : RunError) (f : Failure) → f ≡ failure_of error
+    (old new : Option (List ℕ)) (error : RunError)
     → HasEndedEarly error world setup statements old new
-    → RunFailsSo setup statements old new f
-fails_so world setup statements old new run.Write f is ended =
-    inl (is, record { world = world; ended = ended })
-fails_so world setup statements old new run.Memory f is ended =
-    inr (is, inr (record { world = world; ended = ended }))
+    → RunFailsSo setup statements old new (failure_of error)
+fails_so world setup statements old new run.Write ended =
+    inl (refl, record { world = world; ended = ended })
+fails_so world setup statements old new run.Memory ended =
+    inr (refl, inr (record { world = world; ended = ended }))
+
+-- what is known of an error gives more
+pub if_err_weaker : {T E : Type 0} {P Q : E → Type 0} (r : Result T E)
+    → ((e : E) → P e → Q e) → IfErr r P → IfErr r Q
+if_err_weaker (Ok x) gives is = tt
+if_err_weaker (Err e) gives is = gives e is
 
 -- a run of a script that failed
 pub failed_run : (text old new : Option (List ℕ)) (setup : Setup) (statements : List Statement)

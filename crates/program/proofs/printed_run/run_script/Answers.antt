@@ -13,7 +13,8 @@ loop-statement-init g c = λ ready.
     let past = run_of c.args.script.now.setup no_stretch in
     let run = ready.none.run in
     rw (c.new-left.ensures.items, c.new-places.ensures.items) (prints_none c.args.world.now
-    c.args.script.now.setup _ (g.W.Write.contents c.args.out.now) ready.none (ap length (c.report-before.ensures.steps past run))
+    c.args.script.now.setup _ (g.W.Write.contents c.args.out.now) ready.none
+    (ap length (c.report-before.ensures.steps past run))
     (c.report-before.ensures.run past run) (c.report-before.ensures.history past run))
 
 -- a step wanted memory
@@ -89,4 +90,5 @@ returns-clause-printed g c = λ ready.
     c.args.script.now.statements.items c.loop-statement.places.items c.loop-statement.before
     (g.W.Write.contents c.args.out.now) (g.W.Write.contents c.loop-statement.out)
     (take_all c.loop-statement.statement-index c.args.script.now.statements.items
-    (rw c.deref-statement-items.ensures.value at c.loop-statement-test.false)) (c.loop-statement.invariant ready)
+    (rw c.deref-statement-items.ensures.value at c.loop-statement-test.false))
+    (c.loop-statement.invariant ready)
