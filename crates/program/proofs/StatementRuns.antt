@@ -8,9 +8,9 @@ use Rattle.lab.specs.{MemWorld as World}
 use Rattle.lab.specs.declared.Report.{Report}
 use Rattle.lab.specs.{AreNodesAfter, IsReportOf, IsRun, OneHistory, frames_in_steps}
 use Rattle.std.proofs.Math.Seq.{drop-cons}
-use Rattle.program.specs.declared.script.setup.Setup.{Setup}
+use Rattle.scripts.specs.declared.setup.Setup.{Setup}
 use Rattle.program.specs.declared.script_run.ScriptRun.{ScriptRun}
-use Rattle.program.specs.declared.script.statement.Statement.{Statement}
+use Rattle.scripts.specs.declared.statement.Statement.{Statement}
 use Rattle.program.specs.declared.statement_result.StatementResult.{StatementResult}
 use Rattle.program.specs.Runs.{HasRunStatements}
 use Rattle.program.specs.ScriptRuns.{HasRunTo, HasTurned, Stretch, followed_by, no_stretch}

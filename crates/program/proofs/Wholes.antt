@@ -7,10 +7,11 @@ use Rattle.std.specs.Io.KnownBytes.{Appends}
 use Rattle.program.specs.declared.failure.Failure.{Failure}
 use Rattle.program.specs.declared.failure.Failure.TheVariants.{Unreadable, Script, Output}
 use Rattle.program.specs.declared.failure.Failure.TheVariants as failure
-use Rattle.program.specs.declared.script.setup.Setup.{Setup}
-use Rattle.program.specs.declared.script.statement.Statement.{Statement}
-use Rattle.program.specs.Scripts.{script_lines, IsScript}
-use Rattle.program.specs.Faults.{script_fault, start}
+use Rattle.scripts.specs.declared.setup.Setup.{Setup}
+use Rattle.scripts.specs.declared.statement.Statement.{Statement}
+use Rattle.script_words.specs.Lines.{script_lines}
+use Rattle.scripts.specs.Scripts.{IsScript}
+use Rattle.scripts.specs.Faults.{script_fault, start}
 use Rattle.program.specs.Failures.{failure_line, IsFailureOf, IsOfReading}
 use Rattle.program.specs.Runs.{IsRunOf, IsRunOfText, AppendsPart, FailureIsReported, RunHasFailed}
 use Rattle.program.specs.Runs.{RunEnds, RunEndsAs}
@@ -23,7 +24,7 @@ any_text (Some t) = tt
 -- a run of which the output took a beginning of the text
 pub failed_output : (text old new : Option (List ℕ)) (setup : Setup) (statements : List Statement)
     → IfSome text (λ t. IsScript 1 (script_lines t) setup statements)
-    → IfSome text (λ t. script_fault start 1 (script_lines t) ≡ None)
+    → IfSome text (λ t. script_fault (start true) 1 (script_lines t) ≡ None)
     → IsRunOf setup statements (AppendsPart old new) → RunHasFailed text old new Output
 failed_output text old new setup statements spelled fault part = record {
   cause = any_text text;

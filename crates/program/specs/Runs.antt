@@ -5,12 +5,13 @@ use Rattle.lab.specs.declared.Report.{Report}
 use Rattle.lab.specs.{AreReportsAfter, IsRun, OneHistory}
 use Rattle.program.specs.declared.failure.Failure.{Failure}
 use Rattle.program.specs.declared.failure.Failure.TheVariants.{Output}
-use Rattle.program.specs.declared.script.setup.Setup.{Setup}
-use Rattle.program.specs.declared.script.statement.Statement.{Statement}
+use Rattle.scripts.specs.declared.setup.Setup.{Setup}
+use Rattle.scripts.specs.declared.statement.Statement.{Statement}
 use Rattle.program.specs.declared.statement_result.StatementResult.{StatementResult}
 use Rattle.program.specs.ScriptRuns.{AreResults, Stretch, no_stretch}
-use Rattle.program.specs.Scripts.{script_lines, IsScript}
-use Rattle.program.specs.Faults.{script_fault, start}
+use Rattle.script_words.specs.Lines.{script_lines}
+use Rattle.scripts.specs.Scripts.{IsScript}
+use Rattle.scripts.specs.Faults.{script_fault, start}
 use Rattle.program.specs.Failures.{IsFailureOf, failure_line}
 use Rattle.program.specs.Invocations.{usage_line}
 use Rattle.program.specs.Text.{run_text}
@@ -42,7 +43,7 @@ pub record IsRunOfText (text : Option (List ℕ)) (done : List ℕ → Type 0) :
   pub setup : Setup
   pub statements : List Statement
   pub spelled : IfSome text (λ t. IsScript 1 (script_lines t) setup statements)
-  pub fault : IfSome text (λ t. script_fault start 1 (script_lines t) ≡ None)
+  pub fault : IfSome text (λ t. script_fault (start true) 1 (script_lines t) ≡ None)
   pub run : IsRunOf setup statements done
 
 -- a beginning of a text was written

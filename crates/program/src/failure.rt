@@ -3,9 +3,9 @@ ghost use Rattle.std.specs.Prelude.{◌≡◌, Some};
 ghost use Rattle.program.specs.Failures.{failure_text};
 ghost use Rattle.program.specs.declared.failure.Failure.TheVariants.{Memory};
 
-use crate::script::ScriptFault;
 use crate::text::fault_name;
 use lab::LabError;
+use scripts::ScriptFault;
 use std::alloc::AllocError;
 use std::fmt;
 

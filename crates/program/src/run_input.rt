@@ -2,20 +2,21 @@
 ghost use Rattle.std.specs.Prelude.{◌≡◌, All, IfOk, IfErr, IfSome, OnOk};
 ghost use Rattle.std.specs.Prelude.{None};
 ghost use Rattle.std.specs.Io.KnownBytes.{Appends};
-ghost use Rattle.program.specs.Scripts.{script_lines, IsScript, Names};
-ghost use Rattle.program.specs.Faults.{script_fault, start};
+ghost use Rattle.script_words.specs.Lines.{script_lines};
+ghost use Rattle.scripts.specs.Scripts.{IsScript, Names};
+ghost use Rattle.scripts.specs.Faults.{script_fault, start};
 ghost use Rattle.program.specs.Text.{event_lines, run_text};
 ghost use Rattle.program.specs.Failures.{IsOfReading, IsFailureOf};
 ghost use Rattle.program.specs.Runs.{HasRunStatements, IsRunOfText, RunHasFailed};
 
 use crate::failure::Failure;
 use crate::reading;
-use crate::script::{Script, Setup, Statement, read_script};
 use crate::script_run::ScriptRun;
 use crate::statement_result::StatementResult;
 use crate::text::{event_places, print_run};
 use crate::writing::print;
 use lab::{LabError, Lines, Report};
+use scripts::{Script, Setup, Statement, read_script};
 use std::alloc::{AllocError, Global};
 use std::io::{Read, Write};
 
@@ -65,7 +66,7 @@ fn input_script<R: Read>(alloc: Global, input: &mut R) -> Result<Script, Failure
     ensures found { IfOk result (λ script. IfSome (R.remaining input.old) (λ text.
         IsScript 1 (script_lines text) script.setup script.statements.items)) }
     ensures lawful { OnOk result (IfSome (R.remaining input.old) (λ text.
-        script_fault start 1 (script_lines text) ≡ None)) }
+        script_fault (start true) 1 (script_lines text) ≡ None)) }
     ensures fault { IfErr result (λ failure. IfSome (R.remaining input.old) (λ text.
         IsFailureOf text failure)) }
     ensures cause { IfErr result IsOfReading }
@@ -73,7 +74,7 @@ fn input_script<R: Read>(alloc: Global, input: &mut R) -> Result<Script, Failure
         All (λ it. Names script.setup.configs it.action) script.statements.items) }
 {
     let text = reading::script_text(alloc, input)?;
-    match read_script(alloc, &text) {
+    match read_script(alloc, &text, true) {
         Ok(script) => Ok(script),
         Err(fault) => Err(Failure::Script(fault)),
     }

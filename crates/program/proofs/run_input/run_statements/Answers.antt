@@ -1,7 +1,7 @@
 use Rattle.std.proofs.Common.{subst, sym, arith, add-one, drop}
-use Rattle.program.specs.declared.script.statement.Statement.{Statement}
+use Rattle.scripts.specs.declared.statement.Statement.{Statement}
 use Rattle.program.specs.ScriptRuns.{run_of}
-use Rattle.program.specs.Scripts.{Names}
+use Rattle.scripts.specs.Scripts.{Names}
 use Rattle.program.proofs.StatementRuns.{drop_past, goes_next, goes_nowhere, gone}
 use Rattle.program.proofs.run_input.run_statements.Goals as goal
 
