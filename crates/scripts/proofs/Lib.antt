@@ -1,5 +1,3 @@
-use Rattle.kv_types.specs.declared.Limits.{Limits}
-use Rattle.scripts.specs.Reading.{Places}
 pub mod FirstWords
 pub mod Places
 pub mod OneEvent
@@ -7,7 +5,7 @@ pub mod ReadBack
 pub mod Placing
 pub mod Notices
 pub mod NextConfig
-pub mod Limits
+pub mod LimitLines
 pub mod Ids
 pub mod Going
 pub mod Items

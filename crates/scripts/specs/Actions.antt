@@ -15,7 +15,6 @@ use Rattle.lab.specs.declared.EventKind.TheVariants.{Submit, Get, Deliver, Tick,
 use Rattle.lab.specs.declared.EventKind.TheVariants.{Rows, Open, Close, Notice}
 use Rattle.scripts.specs.declared.statement.Action.{Action}
 use Rattle.scripts.specs.declared.statement.Action.TheVariants.{Event, Invalid}
-use Rattle.scripts.specs.Statements.Kind.{edit}
 use Rattle.lab.specs.declared.Event as lab
 
 -- what is wrong with a key, if anything is

@@ -1,7 +1,7 @@
 use Rattle.std.proofs.Common.{[], rules, codes, get_or, map, refl, take, drop, length, ◌-◌, arith}
 use Rattle.std.proofs.lemmas.Grind.{common_steps}
 use Rattle.scripts.proofs.Places.{named_word}
-use Rattle.scripts.proofs.Limits.{is_limit_line}
+use Rattle.scripts.proofs.LimitLines.{is_limit_line}
 use Rattle.scripts.proofs.Placing.{is_config}
 use Rattle.scripts.proofs.Items.{asks}
 use Rattle.scripts.proofs.reader.item_of_words.Goals as goal

@@ -2,7 +2,7 @@ use Rattle.std.proofs.Common.{◌≡◌, ◌∙◌, arith, false, map, refl, rul
 use Rattle.std.proofs.lemmas.Bool.Decides.{nat_tests}
 use Rattle.script_words.specs.Words.{has_fault}
 use Rattle.script_words.specs.FaultWordsLemmas.{faultless_before}
-use Rattle.scripts.proofs.Limits.{sets_one, two_words}
+use Rattle.scripts.proofs.LimitLines.{sets_one, two_words}
 use Rattle.scripts.proofs.reader.limit.Goals as goal
 
 -- two words, and none behind them

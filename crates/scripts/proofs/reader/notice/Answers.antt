@@ -1,5 +1,5 @@
 use Rattle.std.proofs.Common.{arith, map}
-use Rattle.scripts.proofs.Limits.{two_words}
+use Rattle.scripts.proofs.LimitLines.{two_words}
 use Rattle.scripts.proofs.Notices.{notices, read_notice}
 use Rattle.scripts.proofs.reader.notice.Goals as goal
 

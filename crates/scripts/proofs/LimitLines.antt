@@ -8,13 +8,8 @@ use Rattle.scripts.specs.declared.statement.ParserState.{ParserState}
 use Rattle.script_words.specs.Words.{before_fault, has_fault}
 use Rattle.script_words.specs.Limits.{SetsLimit, is_allowed, limit_named, limit_word, limits_with}
 use Rattle.scripts.specs.Faults.{after_words, limit_fault, limits_after, words_fault}
+use Rattle.script_words.specs.LimitsLemmas.{word_of_limit}
 use Rattle.script_words.specs.WordsLemmas.{number_back, number_word}
-
--- ---- words and numbers
-
--- ---- the limits that are set
-
--- ---- the line
 
 -- the only two words
 pub two_words : (words : List (Bor (List ℕ))) (d : Bor (List ℕ)) (v w : List ℕ)
@@ -40,7 +35,7 @@ pub sets_one : (before : ParserState) (args : List (List ℕ)) (word : List ℕ)
 sets_one before args word name number e front none small named allowed free =
     let back = number_back number small in
     let parts : args ≡ limit_word name ∷ decimal number ∷ [] =
-    e ∙ ap (λ w. w ∷ decimal number ∷ []) (word_of word name named) in (
+    e ∙ ap (λ w. w ∷ decimal number ∷ []) (word_of_limit word name named) in (
       rw (front, none, e, number_word number small, free, back, named, allowed) refl,
       (ap (λ (ws : List (List ℕ)). codes "limit" ∷ ws) parts, allowed),
       rw (e, back, named) refl,
