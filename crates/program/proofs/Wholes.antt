@@ -1,6 +1,6 @@
 -- How a whole run ends.
 use Rattle.std.proofs.Common.{◌≡◌, ℕ, List, [], ◌∷◌, Option, None, Some, refl, sym, ap, subst, inl}
-use Rattle.std.proofs.Common.{inr}
+use Rattle.std.proofs.Common.{inr, true}
 use Rattle.std.proofs.Common.{length, take}
 use Rattle.std.specs.Prelude.{Result, Ok, Err, OnErr, IfOk, IfSome, MatchResult}
 use Rattle.std.specs.Io.KnownBytes.{Appends}

@@ -1,5 +1,5 @@
 -- A whole run: from the bytes of a script to the bytes that are printed, and how it can end.
-use Rattle.std.specs.Prelude.{◌≡◌, ◌≢◌, ◌⊎◌, ℕ, List, [], take, Option, None, IfSome}
+use Rattle.std.specs.Prelude.{◌≡◌, ◌≢◌, ◌⊎◌, ℕ, List, [], take, true, Option, None, IfSome}
 use Rattle.std.specs.Io.KnownBytes.{Appends}
 use Rattle.lab.specs.declared.Report.{Report}
 use Rattle.lab.specs.{AreReportsAfter, IsRun, OneHistory}

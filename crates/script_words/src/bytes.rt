@@ -18,12 +18,14 @@ impl Model for Bytes {
 }
 
 impl Bytes {
+    /// These bytes.
     pub fn new(bytes: Vec<u8>) -> Bytes
         ensures { result ≡ bytes.items }
     {
         Bytes { bytes }
     }
 
+    /// The bytes, in the vector that they came in.
     pub fn into_vec(self) -> Vec<u8>
         ensures { result.items ≡ self }
     {

@@ -33,6 +33,7 @@ impl Model for RawEdits {
 }
 
 impl RawEdits {
+    /// No edits.
     pub fn new(alloc: Global) -> RawEdits
         ensures { result ≡ [] }
     {
@@ -41,6 +42,7 @@ impl RawEdits {
         }
     }
 
+    /// Adds an edit behind the others.
     pub fn push(&mut self, change: RawEdit) -> Result<(), AllocError>
         ensures { OnOk result (self.new ≡ self.old ++ edit_of change ∷ []) }
     {
@@ -48,6 +50,7 @@ impl RawEdits {
         Ok(())
     }
 
+    /// The edits in order.
     pub fn into_vec(self) -> Vec<RawEdit>
         ensures { map edit_of result.items ≡ self }
     {

@@ -46,7 +46,7 @@ impl LimitName {
     }
 }
 
-/// The limits that a script may set.
+/// The limits that a script may set. The cache of a store is no such limit.
 #[derive(Clone, Copy)]
 pub struct ScriptLimits {
     pub log: u64,
@@ -83,7 +83,7 @@ impl ScriptLimits {
         self
     }
 
-    /// The limits of a store.
+    /// The limits of a store, with the default cache.
     pub fn of_store(self) -> Limits
         requires { IsInRange self.log self.l0 self.table self.level 256 }
         ensures { AreLimits self result }

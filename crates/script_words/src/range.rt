@@ -31,6 +31,7 @@ impl Model for RawRange {
 }
 
 impl RawRange {
+    /// The range from the least key up to the bound, walked in this direction, with this limit.
     pub fn new(from: Bytes, to: Option<Bytes>, backward: bool, limit: u64) -> RawRange
         ensures { result ≡ record { from = from; to = to; backward = backward; limit = limit } }
     {
@@ -42,6 +43,7 @@ impl RawRange {
         }
     }
 
+    /// The least key, the bound, whether it is walked backward, and the limit.
     pub fn into_parts(self) -> (Bytes, Option<Bytes>, bool, u64)
         ensures { self ≡ record {
           from = result.0;

@@ -31,7 +31,7 @@ pub fn number(word: &[u8]) -> Option<u64>
     }
 }
 
-/// .. as that of a batch.
+/// The number of a batch that a word spells.
 pub fn batch_number(word: &[u8]) -> Option<Number>
     ensures { MatchOption result (is_number word.now ≡ false) (λ n. (is_number word.now ≡ true)
         × (n < 2 ^ 63) × (word.now ≡ decimal n) × (digits_value 10 word.now ≡ n)) }

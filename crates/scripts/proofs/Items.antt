@@ -20,7 +20,6 @@ use Rattle.script_words.specs.Lines.{words_of}
 use Rattle.scripts.proofs.EventWords.{opens}
 use Rattle.scripts.proofs.FirstWords.{first_word}
 use Rattle.scripts.proofs.OneEvent.{name_of, of_name}
-use Rattle.scripts.specs.Faults.{start}
 use Rattle.lab.specs.declared.Event as lab
 
 never_shows : (what : EventKind) → bytes_eq (name_of what) (codes "show") ≡ false

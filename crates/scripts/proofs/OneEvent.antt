@@ -21,7 +21,6 @@ use Rattle.scripts.proofs.FirstWords.{first_word, head, words_behind}
 use Rattle.script_words.specs.EditsLemmas.{no_star, one_edit, one_text}
 use Rattle.script_words.specs.JunksLemmas.{one_junk}
 use Rattle.script_words.specs.WordsLemmas.{one_number}
-use Rattle.scripts.specs.Faults.{start}
 
 records_are_unique : (a b : List Edit) → All AreBytesIn a → All AreBytesIn b
     → map edit_word a ≡ map edit_word b → a ≡ b

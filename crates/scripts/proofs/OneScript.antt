@@ -10,11 +10,11 @@ use Rattle.script_words.specs.declared.limits.LimitName.{LimitName}
 use Rattle.script_words.specs.declared.limits.ScriptLimits.{ScriptLimits}
 use Rattle.scripts.specs.declared.setup.Setup.{Setup}
 use Rattle.scripts.specs.declared.statement.Action.{Action}
-use Rattle.scripts.specs.declared.statement.Action.TheVariants.{Settle, Show, Event}
+use Rattle.scripts.specs.declared.statement.Action.TheVariants.{Settle, Show}
 use Rattle.scripts.specs.declared.statement.Statement.{Statement}
 use Rattle.scripts.specs.Actions.{action_of}
 use Rattle.scripts.specs.Events.{SpellsEvent}
-use Rattle.scripts.specs.Faults.{numbers_of, start}
+use Rattle.scripts.specs.Faults.{numbers_of}
 use Rattle.scripts.specs.Laws.{AreAlike, ScriptsDiffer}
 use Rattle.script_words.specs.Limits.{SetsLimit, default_limits, limit_named, limit_word}
 use Rattle.script_words.specs.Limits.{limits_with}
@@ -28,7 +28,6 @@ use Rattle.scripts.proofs.Ids.{ids_read}
 use Rattle.script_words.specs.LimitsLemmas.{is_small, named_by, one_name}
 use Rattle.scripts.proofs.ReadScripts.{each_id, statement_letter}
 use Rattle.scripts.proofs.FirstBytes.{first_byte, not_skipped}
-use Rattle.scripts.proofs.Placing.{settles, shows}
 use Rattle.lab.specs.declared.Event as lab
 
 -- ---- what kind of line words are, by their first one

@@ -13,7 +13,7 @@ use Rattle.lab.specs.{node_in, NamesNode}
 use Rattle.lab.specs.Configuration.{Configurations, IsId, at_epoch, has}
 use Rattle.lab.specs.Configs.{TestDecidesConfig}
 use Rattle.scripts.specs.declared.statement.Action.{Action}
-use Rattle.scripts.specs.declared.statement.Action.TheVariants.{Settle, Show, Event}
+use Rattle.scripts.specs.declared.statement.Action.TheVariants.{Settle, Show}
 use Rattle.scripts.specs.Reading.{IsOfOneNode}
 use Rattle.script_words.specs.declared.limits.LimitName.{LimitName}
 use Rattle.script_words.specs.declared.limits.LimitName.TheVariants.{Log, L0, Table, Level}
@@ -29,7 +29,7 @@ use Rattle.scripts.specs.Scripts.{IsBody, IsScriptWith, IsStatement, MayFollow, 
 use Rattle.scripts.specs.Scripts.{is_skipped, up_to}
 use Rattle.script_words.specs.Lines.{words_of}
 use Rattle.scripts.specs.Faults.{statement_fault, words_fault, line_fault, after_words, after_line}
-use Rattle.scripts.specs.Faults.{epoch_fault, may_follow, node_fault, script_fault, start}
+use Rattle.scripts.specs.Faults.{epoch_fault, may_follow, node_fault, script_fault}
 use Rattle.script_words.specs.FaultWordsLemmas.{faultless_before}
 use Rattle.scripts.proofs.Items.{begins_by_name}
 use Rattle.scripts.proofs.Notices.{known_epoch}

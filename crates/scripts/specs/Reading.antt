@@ -23,7 +23,6 @@ use Rattle.script_words.specs.Lines.{words_of}
 use Rattle.scripts.specs.Faults.{statement_fault, words_fault, after_words, line_fault, after_line}
 use Rattle.scripts.specs.Faults.{numbered_fault, junk_fault}
 use Rattle.std.specs.Option.{option_or}
-use Rattle.lab.specs.Fault.TheVariants as disk
 use Rattle.lab.specs.declared.EventKind.TheVariants as what
 
 -- the event that a command asks for
