@@ -2,7 +2,7 @@
 use Rattle.std.proofs.Common.{◌≡◌, ◌<◌, ℕ, [], ◌∷◌, false, refl, ◌^◌, ◌-◌}
 use Rattle.std.specs.Fmt.{padded_integral, format_spec, digits}
 use Rattle.std.proofs.lemmas.Fmt.{hex_byte}
-use Rattle.program.specs.Words.{is_plain, byte_text}
+use Rattle.script_words.specs.Words.{is_plain, byte_text}
 
 pub escape_text : (b : ℕ) → b < 256 → is_plain b ≡ false
     → 37 ∷ padded_integral (format_spec 32 0 4 2 (2 ^ 64 - 1)) false []

@@ -7,7 +7,7 @@ use Rattle.lab.specs.declared.Event as lab
 use Rattle.lab.specs.declared.Line.{Line}
 use Rattle.lab.specs.declared.world.World.{World}
 use Rattle.lab.specs.{Choice, frames_in_steps, frames_of_step}
-use Rattle.program.specs.declared.script.setup.Setup.{Setup}
+use Rattle.scripts.specs.declared.setup.Setup.{Setup}
 use Rattle.program.specs.ScriptRuns.{places_after, delivery, deliveries, HasRunTo, Stretch}
 use Rattle.program.specs.ScriptRuns.{followed_by, no_stretch, one_step, most}
 

@@ -9,9 +9,9 @@ use Rattle.lab.specs.Machine.{without}
 use Rattle.lab.specs.declared.EventKind.{EventKind}
 use Rattle.lab.specs.declared.EventKind.TheVariants.{Submit, Get, Deliver, Tick, Tend, Start, Stop}
 use Rattle.lab.specs.declared.EventKind.TheVariants.{Rows, Open, Close, Notice}
-use Rattle.program.specs.declared.script.statement.Action.{Action}
-use Rattle.program.specs.declared.script.statement.Action.TheVariants.{Event, Invalid, Flow}
-use Rattle.program.specs.declared.script.statement.Action.TheVariants.{Settle, Show}
+use Rattle.scripts.specs.declared.statement.Action.{Action}
+use Rattle.scripts.specs.declared.statement.Action.TheVariants.{Event, Invalid, Flow}
+use Rattle.scripts.specs.declared.statement.Action.TheVariants.{Settle, Show}
 use Rattle.program.specs.ScriptRuns.{IsRising, places_after, left_after, left_after_event, most}
 
 apart : (x place : ℕ) → (x ≡ place → ⊥) → (place == x) ≡ false

@@ -13,9 +13,9 @@ use Rattle.lab.specs.declared.Line.{Line}
 use Rattle.lab.specs.declared.world.World.{World}
 use Rattle.lab.specs.Numbers.{Numbers}
 use Rattle.lab.specs.{AreNumbersOf, Choice, ShowsTables, frames_in_steps, frames_of_step}
-use Rattle.program.specs.declared.script.setup.Setup.{Setup}
-use Rattle.program.specs.declared.script.statement.Statement.{Statement}
-use Rattle.program.specs.declared.script.statement.Action.TheVariants.{Event, Flow, Settle, Show}
+use Rattle.scripts.specs.declared.setup.Setup.{Setup}
+use Rattle.scripts.specs.declared.statement.Statement.{Statement}
+use Rattle.scripts.specs.declared.statement.Action.TheVariants.{Event, Flow, Settle, Show}
 use Rattle.program.specs.declared.statement_result.StatementResult.{StatementResult}
 use Rattle.program.specs.declared.statement_result.Note.{Note}
 use Rattle.program.specs.declared.statement_result.Note.TheVariants as note

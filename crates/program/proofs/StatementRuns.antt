@@ -9,8 +9,8 @@ use Rattle.disk.specs.declared.disk.Disk.{Ghosts}
 use Rattle.lab.specs.declared.world.World.{World}
 use Rattle.lab.specs.{frames_in_steps}
 use Rattle.lab.specs.Worlds.{HasHistory, IsRunSoFar}
-use Rattle.program.specs.declared.script.setup.Setup.{Setup}
-use Rattle.program.specs.declared.script.statement.Statement.{Statement}
+use Rattle.scripts.specs.declared.setup.Setup.{Setup}
+use Rattle.scripts.specs.declared.statement.Statement.{Statement}
 use Rattle.program.specs.declared.statement_result.StatementResult.{StatementResult}
 use Rattle.program.specs.PrintedRuns.{HasRunStatements}
 use Rattle.program.specs.ScriptRuns.{HasRunTo, HasTurned, Stretch, followed_by, no_stretch}

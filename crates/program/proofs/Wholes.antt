@@ -1,8 +1,8 @@
 -- How a whole run ends.
 use Rattle.std.proofs.Common.{◌≡◌, ℕ, List, [], ◌∷◌, Option, None, Some, refl, sym, ap, subst, inl}
-use Rattle.std.proofs.Common.{inr}
+use Rattle.std.proofs.Common.{inr, true}
 use Rattle.std.proofs.Common.{length, take}
-use Rattle.std.specs.Prelude.{◌⊎◌, Result, Ok, Err, OnErr, IfErr, IfOk}
+use Rattle.std.specs.Prelude.{true, ◌⊎◌, Result, Ok, Err, OnErr, IfErr, IfOk}
 use Rattle.std.specs.Prelude.{IfSome, MatchResult}
 use Rattle.std.specs.Io.KnownBytes.{Appends}
 use Rattle.lab.specs.{MemWorld}
@@ -11,10 +11,11 @@ use Rattle.program.specs.declared.failure.Failure.TheVariants.{Unreadable, Scrip
 use Rattle.program.specs.declared.failure.Failure.TheVariants as failure
 use Rattle.program.specs.declared.run_error.RunError.{RunError}
 use Rattle.program.specs.declared.run_error.RunError.TheVariants as run
-use Rattle.program.specs.declared.script.setup.Setup.{Setup}
-use Rattle.program.specs.declared.script.statement.Statement.{Statement}
-use Rattle.program.specs.Scripts.{script_lines, IsScript}
-use Rattle.program.specs.Faults.{script_fault, start}
+use Rattle.scripts.specs.declared.setup.Setup.{Setup}
+use Rattle.scripts.specs.declared.statement.Statement.{Statement}
+use Rattle.script_words.specs.Lines.{script_lines}
+use Rattle.scripts.specs.Scripts.{IsScript}
+use Rattle.scripts.specs.Faults.{script_fault, start}
 use Rattle.program.specs.Failures.{failure_line, failure_of, IsFailureOf, IsOfReading}
 use Rattle.program.specs.PrintedRuns.{AppendsPart, HasEndedEarly}
 use Rattle.program.specs.Runs.{FailureIsReported, IsCutShort, IsCutShortText, IsRunOf, IsRunOfText}
@@ -49,7 +50,7 @@ if_err_weaker (Err e) gives is = gives e is
 -- a run of a script that failed
 pub failed_run : (text old new : Option (List ℕ)) (setup : Setup) (statements : List Statement)
     (f : Failure) → IfSome text (λ t. IsScript 1 (script_lines t) setup statements)
-    → IfSome text (λ t. script_fault start 1 (script_lines t) ≡ None)
+    → IfSome text (λ t. script_fault (start true) 1 (script_lines t) ≡ None)
     → RunFailsSo setup statements old new f → RunHasFailed text old new f
 failed_run text old new setup statements f spelled fault (inl (is, cut)) =
     subst (λ (x : Failure). RunHasFailed text old new x) (sym is) (record {

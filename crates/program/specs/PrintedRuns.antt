@@ -6,11 +6,11 @@ use Rattle.lab.specs.declared.world.World.{World}
 use Rattle.lab.specs.Worlds.{HasHistory, IsRunSoFar}
 use Rattle.program.specs.declared.run_error.RunError.{RunError}
 use Rattle.program.specs.declared.run_error.RunError.TheVariants.{Memory, Write}
-use Rattle.program.specs.declared.script.setup.Setup.{Setup}
-use Rattle.program.specs.declared.script.statement.Statement.{Statement}
+use Rattle.scripts.specs.declared.setup.Setup.{Setup}
+use Rattle.scripts.specs.declared.statement.Statement.{Statement}
 use Rattle.program.specs.declared.statement_result.StatementResult.{StatementResult}
 use Rattle.program.specs.ScriptRuns.{AreResults, HasRunTo, Stretch, followed_by, no_stretch, run_of}
-use Rattle.program.specs.Scripts.{Names}
+use Rattle.scripts.specs.Scripts.{Names}
 use Rattle.program.specs.Text.{event_lines, result_text, run_text}
 
 -- a beginning of a text was written

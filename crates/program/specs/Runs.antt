@@ -1,15 +1,16 @@
 -- A whole run: from the bytes of a script to the bytes that are printed, and how it can end.
-use Rattle.std.specs.Prelude.{◌≡◌, ◌≢◌, ◌⊎◌, ℕ, List, Option, None, IfSome}
+use Rattle.std.specs.Prelude.{◌≡◌, ◌≢◌, ◌⊎◌, ℕ, List, Option, None, IfSome, true}
 use Rattle.std.specs.Io.KnownBytes.{Appends}
 use Rattle.lab.specs.{MemWorld}
 use Rattle.program.specs.declared.failure.Failure.{Failure}
 use Rattle.program.specs.declared.failure.Failure.TheVariants.{Memory, Output}
 use Rattle.program.specs.declared.run_error.RunError.{RunError}
 use Rattle.program.specs.declared.run_error.RunError.TheVariants as run
-use Rattle.program.specs.declared.script.setup.Setup.{Setup}
-use Rattle.program.specs.declared.script.statement.Statement.{Statement}
-use Rattle.program.specs.Scripts.{script_lines, IsScript}
-use Rattle.program.specs.Faults.{script_fault, start}
+use Rattle.scripts.specs.declared.setup.Setup.{Setup}
+use Rattle.scripts.specs.declared.statement.Statement.{Statement}
+use Rattle.script_words.specs.Lines.{script_lines}
+use Rattle.scripts.specs.Scripts.{IsScript}
+use Rattle.scripts.specs.Faults.{script_fault, start}
 use Rattle.program.specs.Failures.{IsFailureOf, failure_line}
 use Rattle.program.specs.Invocations.{usage_line}
 use Rattle.program.specs.PrintedRuns.{AppendsPart, HasEndedEarly, IsPrintedRun}
@@ -41,7 +42,7 @@ pub record IsScriptThat (text : Option (List ℕ)) (is_so : Setup → List State
   pub setup : Setup
   pub statements : List Statement
   pub spelled : IfSome text (λ t. IsScript 1 (script_lines t) setup statements)
-  pub fault : IfSome text (λ t. script_fault start 1 (script_lines t) ≡ None)
+  pub fault : IfSome text (λ t. script_fault (start true) 1 (script_lines t) ≡ None)
   pub run : is_so setup statements
 
 -- what was read, where that is known, is a script without a fault, and the text of its run was

@@ -18,11 +18,11 @@ use Rattle.lab.specs.declared.world.World.{World}
 use Rattle.lab.specs.Tended.TheVariants as tended
 use Rattle.lab.specs.{AreNumbersOf, Choice, HasRun, ShowsTables, WorldHasLimits, WorldRun}
 use Rattle.lab.specs.{frames_in_steps}
-use Rattle.program.specs.declared.script.setup.Setup.{Setup}
-use Rattle.program.specs.declared.script.statement.Action.{Action}
-use Rattle.program.specs.declared.script.statement.Action.TheVariants.{Event, Invalid, Flow}
-use Rattle.program.specs.declared.script.statement.Action.TheVariants.{Settle, Show}
-use Rattle.program.specs.declared.script.statement.Statement.{Statement}
+use Rattle.scripts.specs.declared.setup.Setup.{Setup}
+use Rattle.scripts.specs.declared.statement.Action.{Action}
+use Rattle.scripts.specs.declared.statement.Action.TheVariants.{Event, Invalid, Flow}
+use Rattle.scripts.specs.declared.statement.Action.TheVariants.{Settle, Show}
+use Rattle.scripts.specs.declared.statement.Statement.{Statement}
 use Rattle.program.specs.declared.statement_result.StatementResult.{StatementResult}
 use Rattle.program.specs.declared.statement_result.Note.{Note}
 use Rattle.program.specs.declared.statement_result.Note.TheVariants as note

@@ -25,9 +25,9 @@ use Rattle.lab.specs.declared.Line.TheVariants as line
 use Rattle.program.specs.declared.statement_result.StatementResult.{StatementResult}
 use Rattle.program.specs.declared.statement_result.Note.{Note}
 use Rattle.program.specs.declared.statement_result.Note.TheVariants as note
-use Rattle.program.specs.declared.script.error.ScriptError.{ScriptError}
-use Rattle.program.specs.declared.script.error.ScriptError.TheVariants as fault
-use Rattle.program.specs.Words.{bytes_text}
+use Rattle.script_words.specs.declared.error.ScriptError.{ScriptError}
+use Rattle.script_words.specs.declared.error.ScriptError.TheVariants as fault
+use Rattle.script_words.specs.Words.{bytes_text}
 
 -- a refusal's number and name
 abbrev pub refusal_text : Refusal → List ℕ

@@ -4,9 +4,9 @@ ghost use Rattle.program.specs.Failures.{failure_of, failure_text};
 ghost use Rattle.program.specs.declared.failure.Failure.TheVariants.{Memory};
 
 use crate::run_error::RunError;
-use crate::script::ScriptFault;
 use crate::text::fault_name;
 use lab::LabError;
+use scripts::ScriptFault;
 use std::alloc::AllocError;
 use std::fmt;
 

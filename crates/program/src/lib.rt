@@ -3,12 +3,10 @@
 
 mod failure;
 mod invocation;
-mod plain;
 mod printed_run;
 mod reading;
 mod run_error;
 mod run_input;
-mod script;
 mod script_run;
 mod service;
 mod statement_result;
@@ -18,6 +16,5 @@ mod writing;
 pub use failure::Failure;
 pub use printed_run::run_script;
 pub use run_error::RunError;
-pub use script::laws::{scripts_are_read, spellings_differ};
-pub use script::{ScriptError, ScriptFault};
+pub use scripts::{ScriptError, ScriptFault};
 pub use service::{refuse, report, serve, serve_script};

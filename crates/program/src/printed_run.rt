@@ -4,13 +4,13 @@ ghost use Rattle.program.specs.PrintedRuns.{HasEndedEarly, IsPrintedRun, IsReady
 ghost use Rattle.program.specs.Text.{result_text};
 
 use crate::run_error::RunError;
-use crate::script::Script;
 use crate::script_run::run_statement;
 use crate::statement_result::StatementResult;
 use crate::text::{add_places, print_result};
 use crate::writing::print;
 use disk::Crash;
 use lab::{Lines, World};
+use scripts::Script;
 use std::alloc::{AllocError, Global};
 use std::collections::VecDeque;
 use std::io::Write;

@@ -1,16 +1,17 @@
 //! From a script's bytes to the bytes that are printed.
 ghost use Rattle.std.specs.Prelude.{◌≡◌, All, IfOk, IfErr, IfSome, OnOk, OnErr};
-ghost use Rattle.std.specs.Prelude.{None};
-ghost use Rattle.program.specs.Scripts.{script_lines, IsScript, Names};
-ghost use Rattle.program.specs.Faults.{script_fault, start};
+ghost use Rattle.std.specs.Prelude.{None, true};
+ghost use Rattle.script_words.specs.Lines.{script_lines};
+ghost use Rattle.scripts.specs.Scripts.{IsScript, Names};
+ghost use Rattle.scripts.specs.Faults.{script_fault, start};
 ghost use Rattle.program.specs.Failures.{IsOfReading, IsFailureOf};
 ghost use Rattle.program.specs.Runs.{IsRunOf, IsRunOfText, RunFailsSo, RunHasFailed};
 
 use crate::failure::Failure;
 use crate::printed_run::run_script;
 use crate::reading;
-use crate::script::{Script, read_script};
 use lab::World;
+use scripts::{Script, read_script};
 use std::alloc::Global;
 use std::io::{Read, Write};
 
@@ -19,7 +20,7 @@ fn input_script<R: Read>(alloc: Global, input: &mut R) -> Result<Script, Failure
     ensures found { IfOk result (λ script. IfSome (R.remaining input.old) (λ text.
         IsScript 1 (script_lines text) script.setup script.statements.items)) }
     ensures lawful { OnOk result (IfSome (R.remaining input.old) (λ text.
-        script_fault start 1 (script_lines text) ≡ None)) }
+        script_fault (start true) 1 (script_lines text) ≡ None)) }
     ensures fault { IfErr result (λ failure. IfSome (R.remaining input.old) (λ text.
         IsFailureOf text failure)) }
     ensures cause { IfErr result IsOfReading }
@@ -27,7 +28,7 @@ fn input_script<R: Read>(alloc: Global, input: &mut R) -> Result<Script, Failure
         All (λ it. Names script.setup.configs it.action) script.statements.items) }
 {
     let text = reading::script_text(alloc, input)?;
-    match read_script(alloc, &text) {
+    match read_script(alloc, &text, true) {
         Ok(script) => Ok(script),
         Err(fault) => Err(Failure::Script(fault)),
     }

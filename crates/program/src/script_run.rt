@@ -12,14 +12,14 @@ ghost use Rattle.program.specs.ScriptRuns.{has_worked};
 ghost use Rattle.program.specs.ScriptRuns.{left_after, left_after_event, most};
 ghost use Rattle.program.specs.ScriptRuns.{one_step};
 ghost use Rattle.program.specs.ScriptRuns.{places_after, shown, tending};
-ghost use Rattle.program.specs.Scripts.{Names};
-ghost use Rattle.program.specs.declared.script.setup.Setup.{Setup};
+ghost use Rattle.scripts.specs.Scripts.{Names};
+ghost use Rattle.scripts.specs.declared.setup.Setup.{Setup};
 ghost use Rattle.program.specs.declared.statement_result.Note.TheVariants as note;
 
-use crate::script::{Action, Statement};
 use crate::statement_result::{Note, StatementResult};
 use disk::{Crash, Disk};
 use lab::{Event, EventKind, Fault, LabError, Line, NodeId, Numbers, Tended, World};
+use scripts::{Action, Statement};
 use std::alloc::{AllocError, Global};
 use std::collections::VecDeque;
 

@@ -3,9 +3,9 @@ ghost use Rattle.std.specs.Prelude.{◌≡◌};
 ghost use Rattle.program.specs.Text.{refusal_text, error_text, reason_text, cause_text};
 ghost use Rattle.program.specs.Text.{fault_text, tended_text};
 
-use crate::script::ScriptError;
 use kv_types::KvError;
 use lab::{DropReason, Refusal, Stop, Tended};
+use scripts::ScriptError;
 
 /// A refusal's number and name.
 pub fn refusal_name(refusal: Refusal) -> &'static str

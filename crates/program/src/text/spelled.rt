@@ -1,8 +1,8 @@
 //! Byte strings, as scripts spell them.
 ghost use Rattle.std.specs.Prelude.{Some};
-ghost use Rattle.program.specs.Words.{bytes_text, HasPlainFront};
+ghost use Rattle.script_words.specs.Words.{bytes_text, HasPlainFront};
 
-use crate::plain::split_plain;
+use script_words::split_plain;
 use std::fmt;
 
 /// The bytes at the front that stand for themselves, as text, and what follows them.

@@ -1,8 +1,8 @@
 use Rattle.std.proofs.Common.{add-one, ap, length, rules, subst, sym}
 use Rattle.std.proofs.lemmas.List.{take_all}
-use Rattle.program.specs.declared.script.statement.Statement.{Statement}
+use Rattle.scripts.specs.declared.statement.Statement.{Statement}
 use Rattle.program.specs.ScriptRuns.{no_stretch, run_of}
-use Rattle.program.specs.Scripts.{Names}
+use Rattle.scripts.specs.Scripts.{Names}
 use Rattle.program.proofs.PrintedRuns.{ended_in_memory, ended_in_write, printed, prints_more}
 use Rattle.program.proofs.PrintedRuns.{prints_none}
 use Rattle.program.proofs.printed_run.run_script.Goals as goal

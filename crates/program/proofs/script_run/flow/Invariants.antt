@@ -1,5 +1,5 @@
 use Rattle.std.proofs.Common.{◌-◌}
-use Rattle.program.specs.declared.script.setup.Setup.{Setup}
+use Rattle.scripts.specs.declared.setup.Setup.{Setup}
 use Rattle.program.specs.ScriptRuns.{HasRunTo, Stretch, most}
 use Rattle.program.proofs.Flowing.{Flows}
 use Rattle.program.proofs.script_run.flow.Given as goal

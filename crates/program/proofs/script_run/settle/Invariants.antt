@@ -1,6 +1,6 @@
 use Rattle.std.proofs.Common.{◌≡◌, ◌-◌, true}
 use Rattle.lab.specs.Configuration.{at_epoch, has}
-use Rattle.program.specs.declared.script.setup.Setup.{Setup}
+use Rattle.scripts.specs.declared.setup.Setup.{Setup}
 use Rattle.program.specs.ScriptRuns.{HasRunTo, Stretch, most}
 use Rattle.program.proofs.Settling.{Settles}
 use Rattle.program.proofs.script_run.settle.Given as goal

@@ -1,6 +1,6 @@
 use Rattle.std.proofs.Common.{◌≡◌, ◌++◌, false, get_or, rules}
 use Rattle.std.proofs.Output.{has_written_of_eq, has_written_append}
-use Rattle.program.specs.Words.{is_plain, byte_text}
+use Rattle.script_words.specs.Words.{is_plain, byte_text}
 use Rattle.program.proofs.Escape.{escape_text}
 use Rattle.program.proofs.Fronts.{wrote_front, wrote_byte, first_other}
 use Rattle.program.proofs.text.spelled.SpelledDisplay.fmt.Goals as goal
