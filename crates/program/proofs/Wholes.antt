@@ -9,15 +9,15 @@ use Rattle.lab.specs.{MemWorld}
 use Rattle.program.specs.declared.failure.Failure.{Failure}
 use Rattle.program.specs.declared.failure.Failure.TheVariants.{Unreadable, Script, Output}
 use Rattle.program.specs.declared.failure.Failure.TheVariants as failure
-use Rattle.program.specs.declared.run_error.RunError.{RunError}
-use Rattle.program.specs.declared.run_error.RunError.TheVariants as run
+use Rattle.client.specs.declared.run_error.RunError.{RunError}
+use Rattle.client.specs.declared.run_error.RunError.TheVariants as run
 use Rattle.scripts.specs.declared.setup.Setup.{Setup}
 use Rattle.scripts.specs.declared.statement.Statement.{Statement}
 use Rattle.script_words.specs.Lines.{script_lines}
 use Rattle.scripts.specs.Scripts.{IsScript}
 use Rattle.scripts.specs.Faults.{script_fault, start}
 use Rattle.program.specs.Failures.{failure_line, failure_of, IsFailureOf, IsOfReading}
-use Rattle.program.specs.PrintedRuns.{AppendsPart, HasEndedEarly}
+use Rattle.client.specs.PrintedRuns.{AppendsPart, HasEndedEarly}
 use Rattle.program.specs.Runs.{FailureIsReported, IsCutShort, IsCutShortText, IsRunOf, IsRunOfText}
 use Rattle.program.specs.Runs.{IsScriptThat, RunEnds, RunEndsAs, RunFailsSo, RunHasFailed}
 

@@ -4,11 +4,11 @@ use Rattle.std.specs.Fmt.{decimal}
 use Rattle.program.specs.declared.failure.Failure.{Failure}
 use Rattle.program.specs.declared.failure.Failure.TheVariants.{Unreadable, Script, Output}
 use Rattle.program.specs.declared.failure.Failure.TheVariants.{Memory}
-use Rattle.program.specs.declared.run_error.RunError.{RunError}
-use Rattle.program.specs.declared.run_error.RunError.TheVariants as run
+use Rattle.client.specs.declared.run_error.RunError.{RunError}
+use Rattle.client.specs.declared.run_error.RunError.TheVariants as run
 use Rattle.script_words.specs.Lines.{script_lines}
 use Rattle.scripts.specs.Faults.{IsReported}
-use Rattle.program.specs.Text.{fault_text}
+use Rattle.client.specs.Text.{fault_text}
 
 -- why a run ended early
 abbrev pub failure_text : Failure → List ℕ

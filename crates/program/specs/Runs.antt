@@ -4,8 +4,8 @@ use Rattle.std.specs.Io.KnownBytes.{Appends}
 use Rattle.lab.specs.{MemWorld}
 use Rattle.program.specs.declared.failure.Failure.{Failure}
 use Rattle.program.specs.declared.failure.Failure.TheVariants.{Memory, Output}
-use Rattle.program.specs.declared.run_error.RunError.{RunError}
-use Rattle.program.specs.declared.run_error.RunError.TheVariants as run
+use Rattle.client.specs.declared.run_error.RunError.{RunError}
+use Rattle.client.specs.declared.run_error.RunError.TheVariants as run
 use Rattle.scripts.specs.declared.setup.Setup.{Setup}
 use Rattle.scripts.specs.declared.statement.Statement.{Statement}
 use Rattle.script_words.specs.Lines.{script_lines}
@@ -13,7 +13,7 @@ use Rattle.scripts.specs.Scripts.{IsScript}
 use Rattle.scripts.specs.Faults.{script_fault, start}
 use Rattle.program.specs.Failures.{IsFailureOf, failure_line}
 use Rattle.program.specs.Invocations.{usage_line}
-use Rattle.program.specs.PrintedRuns.{AppendsPart, HasEndedEarly, IsPrintedRun}
+use Rattle.client.specs.PrintedRuns.{AppendsPart, HasEndedEarly, IsPrintedRun}
 
 -- a world over disks in memory has run the statements, and exactly their text was written
 pub record IsRunOf (setup : Setup) (statements : List Statement) (old new : Option (List ℕ))

@@ -3,8 +3,7 @@ ghost use Rattle.std.specs.Prelude.{◌≡◌, Some};
 ghost use Rattle.program.specs.Failures.{failure_of, failure_text};
 ghost use Rattle.program.specs.declared.failure.Failure.TheVariants.{Memory};
 
-use crate::run_error::RunError;
-use crate::text::fault_name;
+use client::{RunError, fault_name};
 use lab::LabError;
 use scripts::ScriptFault;
 use std::alloc::AllocError;

@@ -8,8 +8,8 @@ ghost use Rattle.program.specs.Failures.{IsOfReading, IsFailureOf};
 ghost use Rattle.program.specs.Runs.{IsRunOf, IsRunOfText, RunFailsSo, RunHasFailed};
 
 use crate::failure::Failure;
-use crate::printed_run::run_script;
 use crate::reading;
+use client::run_script;
 use lab::World;
 use scripts::{Script, read_script};
 use std::alloc::Global;
