@@ -3,7 +3,6 @@ mod Faults
 mod Dispatching
 mod Disks
 mod Posting
-mod Reading
 mod Places
 mod Rises
 mod AnswerLines
