@@ -79,7 +79,9 @@ fn request_input(frame: Frame) -> NodeInput
 }
 
 // What is delivered where bytes arrived that are no frame.
-fn unreadable(node: NodeId) -> Delivery {
+fn unreadable(node: NodeId) -> Delivery
+    ensures { result ≡ Delivery.To node (NodeInput.BadFrame DropReason.Unreadable) }
+{
     Delivery::To(node, NodeInput::BadFrame(DropReason::Unreadable))
 }
 

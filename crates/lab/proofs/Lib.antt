@@ -9,6 +9,7 @@ mod AnswerLines
 mod Outcomes
 mod Tends
 mod Deliveries
+mod Found
 mod SimNodes
 mod Growing
 mod Addressees
@@ -16,6 +17,7 @@ mod Moves
 mod Worlds
 mod WorldSteps
 mod Nodes
+mod Arrivals
 mod TraceLines
 mod Submits
 mod Histories

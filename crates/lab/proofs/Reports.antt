@@ -13,7 +13,6 @@ use Rattle.chain_model.specs.{SystemEvent as ModelEvent}
 use Rattle.chain_model.specs.{outcomes, first_state, reached, node_of}
 use Rattle.chain_core.specs.{Machine}
 use Rattle.disk.specs.declared.Disk.{Ghosts}
-use Rattle.carriers.specs.declared.Carrier.{Ghosts as Carriers}
 use Rattle.node.specs.declared.Node.{Node}
 use Rattle.node.specs.{NodeRefines, DiskAlwaysRefines, disk_of}
 use Rattle.lab.specs.declared.event.Event.{Event}
@@ -29,11 +28,11 @@ use Rattle.lab.specs.Freshness.{NodesKeepEnough, ReadsAreFresh}
 use Rattle.lab.specs.History.{HasAll, IsHistory, LineAgrees, Placed}
 use Rattle.lab.specs.SimNodes.{Arrives, Choice, IsUnarmed, StateRefines, disk_in, in_memory}
 use Rattle.lab.specs.SimNodes.{state}
-use Rattle.lab.specs.Runs.{IsRunOver, RunningRefines}
+use Rattle.lab.specs.Runs.{IsRun, IsRunOver, RunningRefines}
 use Rattle.lab.specs.Traces.{modelled_from, IsTrace}
 use Rattle.lab.specs.Worlds.{AreLeft, AreNodesAfter, AreReportsAfter, HasRun, IsLeft, IsReportOf}
 use Rattle.lab.specs.Worlds.{MemNode, MemWorld, RunRefines, SimNodeRefines, WorldHasLimits}
-use Rattle.lab.specs.Worlds.{WorldRun}
+use Rattle.lab.specs.Worlds.{WorldRun, direct_carrier}
 use Rattle.lab.proofs.Histories.{numbered_same, submitted_part, all_agree}
 use Rattle.lab.proofs.Submits.{all_ordered, all_submitted, part_of_part, submitted_from}
 use Rattle.lab.proofs.Nodes.{reported_ids}
@@ -177,14 +176,13 @@ module _ (sims : List MemNode) (posted : List Posted) (past : WorldRun)
       }
 
 -- a report of a world that has run these events is of the nodes that they left, with its limits
-pub reported_run : {C E : Type 0} (h : Carriers C) (world : MemWorld C) (limits : Limits)
-    (past : WorldRun) → HasRun h world past → WorldHasLimits world limits → (result : Result Report E) →
-    IfOk result (IsRunOver h.loses past.configs past.events past.choices) →
+pub reported_run : {E : Type 0} (world : MemWorld) (limits : Limits) (past : WorldRun) →
+    HasRun direct_carrier world past → WorldHasLimits world limits → (result : Result Report E) →
+    IfOk result (IsRun past.configs past.events past.choices) →
     IfOk result (λ report. AllZip IsReportOf world.nodes.items report.nodes.items) →
-    IfOk result (λ report. (choices : List Choice)
-    × IsRunOver h.loses past.configs past.events choices report
+    IfOk result (λ report. (choices : List Choice) × IsRun past.configs past.events choices report
     × AreReportsAfter past.configs limits past.events choices report.nodes.items)
-reported_run h world limits past run has (Ok report) is own = (
+reported_run world limits past run has (Ok report) is own = (
   past.choices,
   is,
   record {
@@ -194,4 +192,4 @@ reported_run h world limits past run has (Ok report) is own = (
     own = own;
   },
 )
-reported_run h world limits past run has (Err e) is own = tt
+reported_run world limits past run has (Err e) is own = tt

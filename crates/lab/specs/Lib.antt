@@ -28,5 +28,5 @@ pub use Rattle.lab.specs.History.{ClientHistory, DisksHold, OneHistory}
 pub use Rattle.lab.specs.Runs.{AreNumbersOf, IsRun, IsRunOver}
 pub use Rattle.lab.specs.SimNodes.{Arrives, Choice}
 pub use Rattle.lab.specs.Worlds.{AreNodesAfter, AreReportsAfter, HasRun, WorldHasLimits, WorldRun}
-pub use Rattle.lab.specs.Worlds.{IsReportOf, MemWorld, ShowsTables}
+pub use Rattle.lab.specs.Worlds.{IsReportOf, MemWorld, ShowsTables, direct_carrier}
 pub use Rattle.lab.specs.Worlds.{frames_of_step, frames_in_steps}

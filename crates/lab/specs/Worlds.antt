@@ -18,6 +18,7 @@ use Rattle.link_messages.specs.declared.Frame.{Frame}
 use Rattle.link_messages.specs.{IsFrame, HasBounds, frame_bytes}
 use Rattle.chain_core.specs.{frame_as, Machine}
 use Rattle.carriers.specs.declared.Carrier.{Ghosts as Carriers}
+use Rattle.carriers.specs.declared.Direct.{Direct}
 use Rattle.chain_core.specs.declared.Sent.{Sent}
 use Rattle.carriers.specs.declared.NodeInput.{NodeInput}
 use Rattle.lab.specs.declared.input.StepOutcome.{StepOutcome}
@@ -354,9 +355,13 @@ module _ {D C : Type 0} {g : Ghosts D} where
 abbrev pub MemNode : Type 0
 MemNode = SimNode Slots in_memory
 
--- a world of them, over carriers of a type
-abbrev pub MemWorld : Type 0 → Type 0
-MemWorld C = World Slots C in_memory
+-- what the carrier in memory is: it loses nothing
+abbrev pub direct_carrier : Carriers Direct
+direct_carrier = record { is_faithful = λ carrier. Unit {0}; loses = ⊥ }
+
+-- a world of them, of which nothing is lost
+abbrev pub MemWorld : Type 0
+MemWorld = World Slots Direct in_memory
 
 -- the report of a node that is this machine and has this disk, at the end of a run
 pub record IsLeft (n : Machine) (own : Slots) (left : NodeReport) : Type 0 where

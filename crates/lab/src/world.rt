@@ -12,7 +12,7 @@ ghost use Rattle.lab.specs.Worlds.{AreCreated, AreLeft, HasApplied, HasBegun, Ha
 ghost use Rattle.lab.specs.Worlds.{HasKept, HasNoNode, HasRun, HasStepped, HaveLimits, IsCreated};
 ghost use Rattle.lab.specs.Worlds.{IsIndexOf, IsLeft, IsReportOf, IsRunSoFar, ShowsTables};
 ghost use Rattle.lab.specs.Worlds.{WorldHasEnded, WorldHasLimits, WorldKeepsLimits, WorldRun};
-ghost use Rattle.lab.specs.Worlds.{empty_run, event_records, frames_in_steps};
+ghost use Rattle.lab.specs.Worlds.{direct_carrier, empty_run, event_records, frames_in_steps};
 
 use crate::delivery::{Posted, delivery_of};
 use crate::event::names_node;
@@ -175,7 +175,7 @@ impl World<MemDisk, Direct> {
         limits: &Limits,
     ) -> Result<World<MemDisk, Direct>, LabError>
         ensures ran { IfOk result
-            (λ world. HasRun ⟦<Direct as Carrier>⟧ world (empty_run configs.now)) }
+            (λ world. HasRun direct_carrier world (empty_run configs.now)) }
         ensures goes_on { IfOk result (λ world. WorldHasEnded world → ⊥) }
         ensures limits { IfOk result (λ world. WorldHasLimits world limits.now) }
     {
