@@ -3,6 +3,7 @@ use Rattle.std.proofs.Common.{◌≡◌, ◌≤◌, ◌+◌, ◌-◌, ℕ, zero,
 use Rattle.std.proofs.Common.{take, drop, refl, sym, ap, ap₂, subst, ◌∙◌, arith, append_assoc}
 use Rattle.std.proofs.Common.{append-nil, length-append}
 use Rattle.disk.specs.declared.disk.Disk.{Ghosts}
+use Rattle.carriers.specs.declared.Carrier.{Ghosts as Carriers}
 use Rattle.lab.specs.declared.Event as lab
 use Rattle.lab.specs.declared.Line.{Line}
 use Rattle.lab.specs.declared.world.World.{World}
@@ -71,23 +72,23 @@ pub joined_nothing : (a : Stretch) → followed_by a no_stretch ≡ a
 joined_nothing a = rw (append-nil a.events, append-nil a.choices, append-nil a.steps) refl
 
 -- so many of them were delivered
-pub record Flows {D : Type 0} {g : Ghosts D}
-    (world : World D g) (setup : Setup) (past : Stretch) (old left : List ℕ)
+pub record Flows {D C : Type 0} {g : Ghosts D} (h : Carriers C)
+    (world : World D C g) (setup : Setup) (past : Stretch) (old left : List ℕ)
     (count : ℕ) : Type 0 where
   pub own : Stretch
-  pub run : HasRunTo world setup (followed_by past own)
+  pub run : HasRunTo h world setup (followed_by past own)
   pub events : own.events ≡ map delivery (take count (all_left old past.steps own.steps))
   pub each : count ≡ length own.steps
   pub behind : left ≡ drop count (all_left old past.steps own.steps)
   pub within : count ≤ length (all_left old past.steps own.steps)
   pub few : count ≤ most
 
-pub flows_none : {D : Type 0} {g : Ghosts D}
-    (world : World D g) (setup : Setup) (past : Stretch) (old : List ℕ) →
-    HasRunTo world setup past → Flows world setup past old old 0
+pub flows_none : {D C : Type 0} {g : Ghosts D} {h : Carriers C}
+    (world : World D C g) (setup : Setup) (past : Stretch) (old : List ℕ) →
+    HasRunTo h world setup past → Flows h world setup past old old 0
 flows_none world setup past old run = record {
   own = no_stretch;
-  run = subst (λ (s : Stretch). HasRunTo world setup s) (sym (joined_nothing past)) run;
+  run = subst (λ (s : Stretch). HasRunTo h world setup s) (sym (joined_nothing past)) run;
   events = refl;
   each = refl;
   behind = sym (append-nil old);
@@ -138,14 +139,14 @@ module _ (setup : Setup) (past : Stretch) (old : List ℕ) where
       ∙ sym (append_assoc old (places_after (frames_in_steps past.steps) (frames_in_steps own))
       (places_after (frames_in_steps (past.steps ++ own)) (frames_of_step lines)))
 
-  pub flows_on : {D : Type 0} {g : Ghosts D}
-      (world after : World D g) (left rest next : List ℕ) (count p : ℕ)
-      (f : Flows world setup past old left count) → left ≡ p ∷ rest → suc count ≤ most →
+  pub flows_on : {D C : Type 0} {g : Ghosts D} {h : Carriers C}
+      (world after : World D C g) (left rest next : List ℕ) (count p : ℕ)
+      (f : Flows h world setup past old left count) → left ≡ p ∷ rest → suc count ≤ most →
       (choice : Choice) (lines : List Line) →
-      HasRunTo after setup (followed_by (followed_by past f.own)
+      HasRunTo h after setup (followed_by (followed_by past f.own)
       (one_step (delivery p) choice lines)) →
       next ≡ rest ++ places_after (frames_in_steps (past.steps ++ f.own.steps))
-      (frames_of_step lines) → Flows after setup past old next (suc count)
+      (frames_of_step lines) → Flows h after setup past old next (suc count)
   flows_on world after left rest next count p f first few choice lines run is =
       let all = all_left old past.steps f.own.steps in
       let new = places_after (frames_in_steps (past.steps ++ f.own.steps)) (frames_of_step lines)
@@ -157,7 +158,7 @@ module _ (setup : Setup) (past : Stretch) (old : List ℕ) where
       ap (λ (l : List ℕ). take (suc count) l) more ∙ take_more all new rest count p front in
       record {
         own = followed_by f.own (one_step (delivery p) choice lines);
-        run = subst (λ (s : Stretch). HasRunTo after setup s)
+        run = subst (λ (s : Stretch). HasRunTo h after setup s)
             (joined_assoc past f.own (one_step (delivery p) choice lines)) run;
         events = ap (λ (l : List lab.Event). l ++ delivery p ∷ []) f.events
             ∙ (sym (map-more (take count all) p) ∙ ap (λ (l : List ℕ). map delivery l) (sym taken));
@@ -198,10 +199,10 @@ length-take (x ∷ xs) zero le = refl
 length-take (x ∷ xs) (suc k) le = ap suc (length-take xs k (omega (arith, le)))
 
 -- what a flow promises
-abbrev pub HasFlowed : {D : Type 0} {g : Ghosts D}
-    → World D g → Setup → Stretch → List ℕ → List ℕ → ℕ → Type 0
-HasFlowed world setup past old left count =
-    (own : Stretch) × HasRunTo world setup (followed_by past own)
+abbrev pub HasFlowed : {D C : Type 0} {g : Ghosts D} → Carriers C
+    → World D C g → Setup → Stretch → List ℕ → List ℕ → ℕ → Type 0
+HasFlowed h world setup past old left count =
+    (own : Stretch) × HasRunTo h world setup (followed_by past own)
     × (own.events ≡ deliveries (all_left old past.steps own.steps))
     × (count ≡ length own.steps) × (count ≡ length own.events)
     × (left ≡ drop most (all_left old past.steps own.steps))
@@ -213,10 +214,10 @@ counted xs events count is within = sym (length-take xs count within)
     ∙ (sym (length-map (take count xs)) ∙ ap length (sym is))
 
 -- no frame is left
-pub flowed_all : {D : Type 0} {g : Ghosts D}
-    (world : World D g) (setup : Setup) (past : Stretch) (old left : List ℕ)
-    (count : ℕ) → Flows world setup past old left count → left ≡ [] →
-    HasFlowed world setup past old left count
+pub flowed_all : {D C : Type 0} {g : Ghosts D} {h : Carriers C}
+    (world : World D C g) (setup : Setup) (past : Stretch) (old left : List ℕ)
+    (count : ℕ) → Flows h world setup past old left count → left ≡ [] →
+    HasFlowed h world setup past old left count
 flowed_all world setup past old left count f empty =
     let all = all_left old past.steps f.own.steps in
     let u = used_up all count most (sym empty ∙ f.behind) f.few in (
@@ -229,10 +230,10 @@ flowed_all world setup past old left count f empty =
     )
 
 -- the bound is reached
-pub flowed_most : {D : Type 0} {g : Ghosts D}
-    (world : World D g) (setup : Setup) (past : Stretch) (old left : List ℕ)
-    (count : ℕ) → Flows world setup past old left count → most ≤ count →
-    HasFlowed world setup past old left count
+pub flowed_most : {D C : Type 0} {g : Ghosts D} {h : Carriers C}
+    (world : World D C g) (setup : Setup) (past : Stretch) (old left : List ℕ)
+    (count : ℕ) → Flows h world setup past old left count → most ≤ count →
+    HasFlowed h world setup past old left count
 flowed_most world setup past old left count f reached =
     let same : count ≡ most = omega (arith, reached, f.few) in
     let all = all_left old past.steps f.own.steps in (

@@ -4,6 +4,7 @@ use Rattle.std.proofs.Common.{replicate, refl, sym, ap, ap₂, subst, ◌∙◌,
 use Rattle.std.proofs.lemmas.Grind.{flat_map-append}
 use Rattle.std.specs.Io.KnownBytes.{Appends}
 use Rattle.disk.specs.declared.disk.Disk.{Ghosts}
+use Rattle.carriers.specs.declared.Carrier.{Ghosts as Carriers}
 use Rattle.lab.specs.declared.Line.{Line}
 use Rattle.lab.specs.declared.world.World.{World}
 use Rattle.lab.specs.{HasRun, WorldRun}
@@ -18,22 +19,23 @@ use Rattle.client.specs.Text.{event_lines, result_text, run_text}
 use Rattle.client.proofs.Printed.{appends_more, appends_none, texts_more}
 use Rattle.client.proofs.StatementRuns.{Goes, goes_next, goes_nowhere, gone}
 
-module _ {D : Type 0} {g : Ghosts D} where
+module _ {D C : Type 0} {g : Ghosts D} where
   -- the first statements ran, and their text is written
-  pub record Prints (world : World D g) (setup : Setup) (left : List ℕ) (done : List Statement)
-      (places : List ℕ) (before : ℕ) (old new : Option (List ℕ)) : Type 0 where
+  pub record Prints (h : Carriers C) (world : World D C g) (setup : Setup) (left : List ℕ)
+      (done : List Statement) (places : List ℕ) (before : ℕ) (old new : Option (List ℕ)) : Type 0 where
     pub turns : List StatementResult
     pub past : Stretch
-    pub goes : Goes world setup left done turns past
+    pub goes : Goes h world setup left done turns past
     pub at : places ≡ event_lines turns
     pub count : before ≡ length past.steps
-    pub so_far : IsRunSoFar world (run_of setup past)
+    pub so_far : IsRunSoFar h world (run_of setup past)
     pub history : HasHistory world (run_of setup past)
     pub wrote : Appends old new (run_text turns past.steps)
 
-  pub prints_none : (world : World D g) (setup : Setup) (before : ℕ) (out : Option (List ℕ)) →
-      HasRunTo world setup no_stretch → before ≡ 0 → IsRunSoFar world (run_of setup no_stretch) →
-      HasHistory world (run_of setup no_stretch) → Prints world setup [] [] [] before out out
+module _ {D C : Type 0} {g : Ghosts D} {h : Carriers C} where
+  pub prints_none : (world : World D C g) (setup : Setup) (before : ℕ) (out : Option (List ℕ)) →
+      HasRunTo h world setup no_stretch → before ≡ 0 → IsRunSoFar h world (run_of setup no_stretch) →
+      HasHistory world (run_of setup no_stretch) → Prints h world setup [] [] [] before out out
   prints_none world setup before out run none so_far history = record {
     turns = [];
     past = no_stretch;
@@ -46,9 +48,9 @@ module _ {D : Type 0} {g : Ghosts D} where
   }
 
   -- all statements ran
-  pub printed : (world : World D g) (setup : Setup) (left : List ℕ) (done all : List Statement)
+  pub printed : (world : World D C g) (setup : Setup) (left : List ℕ) (done all : List Statement)
       (places : List ℕ) (before : ℕ) (old new : Option (List ℕ)) → done ≡ all →
-      Prints world setup left done places before old new → IsPrintedRun world setup all old new
+      Prints h world setup left done places before old new → IsPrintedRun h world setup all old new
   printed world setup left done all places before old new is p = record {
     turns = p.turns;
     all = p.past;
@@ -57,10 +59,10 @@ module _ {D : Type 0} {g : Ghosts D} where
   }
 
   -- memory was short at the next statement
-  pub ended_in_memory : (world now : World D g) (setup : Setup) (left : List ℕ)
+  pub ended_in_memory : (world now : World D C g) (setup : Setup) (left : List ℕ)
       (all : List Statement) (i : ℕ) (places : List ℕ) (before : ℕ) (old new : Option (List ℕ)) →
-      i < length all → Prints world setup left (take i all) places before old new →
-      HasEndedEarly Memory now setup all old new
+      i < length all → Prints h world setup left (take i all) places before old new →
+      HasEndedEarly h Memory now setup all old new
   ended_in_memory world now setup left all i places before old new within p = record {
     done = i;
     within = within;
@@ -97,22 +99,23 @@ places_more turns turn old new was is = is
     (turn ∷ []))))
 
 -- the next statement was run, and its text made of its own steps
-module _ {D : Type 0} {g : Ghosts D} (world now : World D g) (setup : Setup) (left next : List ℕ)
+module _ {D C : Type 0} {g : Ghosts D} {h : Carriers C} (world now : World D C g) (setup : Setup)
+    (left next : List ℕ)
     (all : List Statement) (i : ℕ) (d it : Statement) (turn : StatementResult)
     (places more_places : List ℕ) (before : ℕ) (steps found : List (List Line)) (text : List ℕ)
     (old mid : Option (List ℕ)) (within : i < length all) (at : it ≡ get_or all i d)
-    (p : Prints world setup left (take i all) places before old mid)
-    (t : HasTurned setup p.past it turn world now left next)
-    (reports : (run : WorldRun) → HasRun now run → steps ≡ run.steps)
-    (so_far : (run : WorldRun) → HasRun now run → IsRunSoFar now run)
-    (history : (run : WorldRun) → HasRun now run → HasHistory now run)
+    (p : Prints h world setup left (take i all) places before old mid)
+    (t : HasTurned h setup p.past it turn world now left next)
+    (reports : (run : WorldRun) → HasRun h now run → steps ≡ run.steps)
+    (so_far : (run : WorldRun) → HasRun h now run → IsRunSoFar h now run)
+    (history : (run : WorldRun) → HasRun h now run → HasHistory now run)
     (behind : found ≡ drop before steps)
     (added : more_places ≡ places ++ replicate turn.events turn.line)
     (made : text ≡ result_text more_places turn found) where
   abbrev run_now : WorldRun
   run_now = run_of setup (followed_by p.past t.own)
 
-  goes_more : Goes now setup next (take (suc i) all) (p.turns ++ turn ∷ [])
+  goes_more : Goes h now setup next (take (suc i) all) (p.turns ++ turn ∷ [])
       (followed_by p.past t.own)
   goes_more = goes_next world now setup left next all i d it p.turns turn p.past within at p.goes t
 
@@ -126,7 +129,7 @@ module _ {D : Type 0} {g : Ghosts D} (world now : World D g) (setup : Setup) (le
 
   -- .. of which the output took a beginning
   pub ended_in_write : (new : Option (List ℕ)) → AppendsPart mid new text →
-      HasEndedEarly Write now setup all old new
+      HasEndedEarly h Write now setup all old new
   ended_in_write new part = record {
     done = i;
     within = within;
@@ -150,7 +153,7 @@ module _ {D : Type 0} {g : Ghosts D} (world now : World D g) (setup : Setup) (le
 
   -- .. which was written
   pub prints_more : (new : Option (List ℕ)) → Appends mid new text →
-      Prints now setup next (take (suc i) all) more_places (length steps) old new
+      Prints h now setup next (take (suc i) all) more_places (length steps) old new
   prints_more new wrote = record {
     turns = p.turns ++ turn ∷ [];
     past = followed_by p.past t.own;

@@ -7,6 +7,7 @@ use Rattle.std.specs.Option.{option_map_or}
 use Rattle.std.proofs.lemmas.Bool.{false≢true}
 use Rattle.std.proofs.lemmas.List.Elements.{All-cons, All-head, All-nil, All-push, All-tail}
 use Rattle.disk.specs.declared.disk.Disk.{Ghosts}
+use Rattle.carriers.specs.declared.Carrier.{Ghosts as Carriers}
 use Rattle.lab.specs.declared.Event as lab
 use Rattle.lab.specs.declared.Line.{Line}
 use Rattle.lab.specs.declared.world.World.{World}
@@ -17,23 +18,23 @@ use Rattle.client.specs.ScriptRuns.{followed_by, no_stretch, one_step, most, ten
 use Rattle.client.proofs.Flowing.{all_left, joined_assoc, joined_nothing, grown}
 
 -- a node tended so often, and each tend worked
-pub record Settles {D : Type 0} {g : Ghosts D}
-    (world : World D g) (setup : Setup) (past : Stretch) (node : ℕ)
+pub record Settles {D C : Type 0} {g : Ghosts D} (h : Carriers C)
+    (world : World D C g) (setup : Setup) (past : Stretch) (node : ℕ)
     (old left : List ℕ) (count : ℕ) : Type 0 where
   pub own : Stretch
-  pub run : HasRunTo world setup (followed_by past own)
+  pub run : HasRunTo h world setup (followed_by past own)
   pub events : own.events ≡ replicate count (tending node)
   pub each : count ≡ length own.steps
   pub worked : All (λ step. has_worked step ≡ true) own.steps
   pub behind : left ≡ all_left old past.steps own.steps
   pub few : count ≤ most
 
-pub settles_none : {D : Type 0} {g : Ghosts D}
-    (world : World D g) (setup : Setup) (past : Stretch) (node : ℕ)
-    (old : List ℕ) → HasRunTo world setup past → Settles world setup past node old old 0
+pub settles_none : {D C : Type 0} {g : Ghosts D} {h : Carriers C}
+    (world : World D C g) (setup : Setup) (past : Stretch) (node : ℕ)
+    (old : List ℕ) → HasRunTo h world setup past → Settles h world setup past node old old 0
 settles_none world setup past node old run = record {
   own = no_stretch;
-  run = subst (λ (s : Stretch). HasRunTo world setup s) (sym (joined_nothing past)) run;
+  run = subst (λ (s : Stretch). HasRunTo h world setup s) (sym (joined_nothing past)) run;
   events = refl;
   each = refl;
   worked = All-nil (λ step. has_worked step ≡ true);
@@ -64,26 +65,26 @@ pub same_step : (one other : List Line) → Some one ≡ Some other → one ≡ 
 same_step one other e = ap (λ o. option_map_or (λ l. l) o []) e
 
 -- what a settle promises
-abbrev pub HasSettledSo : {D : Type 0} {g : Ghosts D}
-    → World D g → Setup → Stretch → ℕ → List ℕ → List ℕ → ℕ → Type 0
-HasSettledSo world setup past node old left count = (own : Stretch)
-    × HasRunTo world setup (followed_by past own)
+abbrev pub HasSettledSo : {D C : Type 0} {g : Ghosts D} → Carriers C
+    → World D C g → Setup → Stretch → ℕ → List ℕ → List ℕ → ℕ → Type 0
+HasSettledSo h world setup past node old left count = (own : Stretch)
+    × HasRunTo h world setup (followed_by past own)
     × (own.events ≡ replicate count (tending node)) × (count ≡ length own.steps)
     × HasSettled own.steps × (left ≡ all_left old past.steps own.steps)
 
-module _ {D : Type 0} {g : Ghosts D}
-    (setup : Setup) (past : Stretch) (node : ℕ) (old : List ℕ) (world after : World D g)
-    (left next : List ℕ) (count : ℕ) (s : Settles world setup past node old left count)
+module _ {D C : Type 0} {g : Ghosts D} {h : Carriers C}
+    (setup : Setup) (past : Stretch) (node : ℕ) (old : List ℕ) (world after : World D C g)
+    (left next : List ℕ) (count : ℕ) (s : Settles h world setup past node old left count)
     (few : suc count ≤ most) (choice : Choice) (lines : List Line)
-    (run : HasRunTo after setup (followed_by (followed_by past s.own)
+    (run : HasRunTo h after setup (followed_by (followed_by past s.own)
     (one_step (tending node) choice lines)))
     (is : next ≡ left ++ places_after (frames_in_steps (past.steps ++ s.own.steps))
     (frames_of_step lines)) where
   abbrev more : Stretch
   more = followed_by s.own (one_step (tending node) choice lines)
 
-  happened : HasRunTo after setup (followed_by past more)
-  happened = subst (λ (it : Stretch). HasRunTo after setup it)
+  happened : HasRunTo h after setup (followed_by past more)
+  happened = subst (λ (it : Stretch). HasRunTo h after setup it)
       (joined_assoc past s.own (one_step (tending node) choice lines)) run
 
   tended : more.events ≡ replicate (suc count) (tending node)
@@ -96,7 +97,7 @@ module _ {D : Type 0} {g : Ghosts D}
       ∙ sym (grown setup past old s.own.steps lines))
 
   -- a tend worked
-  pub settles_on : has_worked lines ≡ true → Settles after setup past node old next (suc count)
+  pub settles_on : has_worked lines ≡ true → Settles h after setup past node old next (suc count)
   settles_on worked = record {
     own = more;
     run = happened;
@@ -108,7 +109,7 @@ module _ {D : Type 0} {g : Ghosts D}
   }
 
   -- a tend did not work
-  pub settled : has_worked lines ≡ false → HasSettledSo after setup past node old next (suc count)
+  pub settled : has_worked lines ≡ false → HasSettledSo h after setup past node old next (suc count)
   settled idle = (
     more,
     happened,
@@ -160,10 +161,10 @@ all_worked steps many worked = record {
   bound = λ _. many;
 }
 
-pub settled_most : {D : Type 0} {g : Ghosts D}
-    (world : World D g) (setup : Setup) (past : Stretch) (node : ℕ)
-    (old left : List ℕ) (count : ℕ) → Settles world setup past node old left count → most ≤ count →
-    HasSettledSo world setup past node old left count
+pub settled_most : {D C : Type 0} {g : Ghosts D} {h : Carriers C}
+    (world : World D C g) (setup : Setup) (past : Stretch) (node : ℕ)
+    (old left : List ℕ) (count : ℕ) → Settles h world setup past node old left count → most ≤ count →
+    HasSettledSo h world setup past node old left count
 settled_most world setup past node old left count s reached = (
   s.own,
   s.run,

@@ -5,6 +5,7 @@ use Rattle.std.proofs.Common.{if◌then◌else◌, replicate}
 use Rattle.std.specs.Prelude.{IfSome}
 use Rattle.lab.specs.Machine.{without}
 use Rattle.disk.specs.declared.disk.Disk.{Ghosts}
+use Rattle.carriers.specs.declared.Carrier.{Ghosts as Carriers}
 use Rattle.lab.specs.declared.Event as lab
 use Rattle.lab.specs.declared.EventKind.{EventKind}
 use Rattle.lab.specs.declared.EventKind.TheVariants.{Submit, Get, Deliver, Tick, Tend, Start, Stop}
@@ -54,8 +55,8 @@ left_delivered what place left mid new is same cut = cut
     ∙ ap (λ (w : EventKind). left_after_event w left) (sym is))
 
 -- a look tells the numbers
-is_shown : {D : Type 0} {g : Ghosts D}
-    (world : World D g) (setup : Setup) (past : Stretch) (node : ℕ)
+is_shown : {D C : Type 0} {g : Ghosts D}
+    (world : World D C g) (setup : Setup) (past : Stretch) (node : ℕ)
     (numbers : Option Numbers) → AreNumbersOf setup.configs past.events past.choices node numbers →
     IfSome numbers (ShowsTables world.nodes.items node) →
     HasShownNumbers world setup.configs past (shown node numbers)
@@ -63,21 +64,21 @@ is_shown world setup past node None told tables = told
 is_shown world setup past node (Some numbers) told tables = (told, tables)
 
 -- a flow shows no node
-never_shown : {D : Type 0} {g : Ghosts D}
-    (world : World D g) (setup : Setup) (past : Stretch) (left : List ℕ) →
+never_shown : {D C : Type 0} {g : Ghosts D}
+    (world : World D C g) (setup : Setup) (past : Stretch) (left : List ℕ) →
     HasShownNumbers world setup.configs past (busy left)
 never_shown world setup past [] = tt
 never_shown world setup past (place ∷ places) = tt
 
 -- what statements have done, by their events
-module _ {D : Type 0} {g : Ghosts D} (setup : Setup) (past : Stretch) (it : Statement)
-    (old new : World D g) (left behind : List ℕ) where
+module _ {D C : Type 0} {g : Ghosts D} {h : Carriers C} (setup : Setup) (past : Stretch) (it : Statement)
+    (old new : World D C g) (left behind : List ℕ) where
   pub turned_by_event : (event : lab.Event) (choice : Choice) (lines : List Line) →
-      it.action ≡ Event event → HasRunTo new setup
+      it.action ≡ Event event → HasRunTo h new setup
       (followed_by past (one_step event choice lines)) →
       behind ≡ left_after_event event.kind (left
       ++ places_after (frames_in_steps past.steps) (frames_of_step lines)) →
-      HasTurned setup past it
+      HasTurned h setup past it
       (record { line = it.line; events = 1; silent = 0; note = note.Nothing }) old new left behind
   turned_by_event event choice lines is run leaves = record {
     own = one_step event choice lines;
@@ -92,7 +93,7 @@ module _ {D : Type 0} {g : Ghosts D} (setup : Setup) (past : Stretch) (it : Stat
 
   pub turned_by_flow : (count : ℕ) → it.action ≡ Flow →
       (flowed : HasFlowed new setup past left behind count) →
-      HasTurned setup past it (record {
+      HasTurned h setup past it (record {
         line = it.line;
         events = count;
         silent = 0;
@@ -119,7 +120,7 @@ module _ {D : Type 0} {g : Ghosts D} (setup : Setup) (past : Stretch) (it : Stat
         events = count;
         silent = (if goes_on then count else count - 1);
         note = (if goes_on then note.Busy else note.Nothing);
-      }) → HasTurned setup past it turn old new left behind
+      }) → HasTurned h setup past it turn old new left behind
   turned_by_settle node count turn goes_on is settles same told =
       let tends : length settles.0.events ≡ count = ap (λ (l : List lab.Event). length l) settles.2
       ∙ replicate-length count (tending node) in
@@ -153,26 +154,26 @@ module _ {D : Type 0} {g : Ghosts D} (setup : Setup) (past : Stretch) (it : Stat
       quiet false = tt
 
 -- statements without an event
-module _ {D : Type 0} {g : Ghosts D} (setup : Setup) (past : Stretch) (it : Statement)
-    (world : World D g) (left : List ℕ) where
+module _ {D C : Type 0} {g : Ghosts D} {h : Carriers C} (setup : Setup) (past : Stretch) (it : Statement)
+    (world : World D C g) (left : List ℕ) where
   -- nothing happened
-  pub turned_without : (said : Note) → HasRunTo world setup past →
+  pub turned_without : (said : Note) → HasRunTo h world setup past →
       IsResultOfAction it.action (left ++ []) [] [] 0 said →
       HasShownNumbers world setup.configs past said → left_after it.action left ≡ left →
-      HasTurned setup past it (record { line = it.line; events = 0; silent = 0; note = said }) world
+      HasTurned h setup past it (record { line = it.line; events = 0; silent = 0; note = said }) world
       world left left
   turned_without said run did shows leaves = record {
     own = no_stretch;
     did = record { line = refl; count = refl; each = refl; did = did };
     shown = shows;
-    run = subst (λ (s : Stretch). HasRunTo world setup s) (sym (joined_nothing past)) run;
+    run = subst (λ (s : Stretch). HasRunTo h world setup s) (sym (joined_nothing past)) run;
     left = rw (append-nil left) (sym leaves);
   }
 
   pub turned_by_show : (node : ℕ) (numbers : Option Numbers) (said : Note) →
-      it.action ≡ Show node → said ≡ shown node numbers → HasRunTo world setup past →
+      it.action ≡ Show node → said ≡ shown node numbers → HasRunTo h world setup past →
       AreNumbersOf setup.configs past.events past.choices node numbers →
-      IfSome numbers (ShowsTables world.nodes.items node) → HasTurned setup past it
+      IfSome numbers (ShowsTables world.nodes.items node) → HasTurned h setup past it
       (record { line = it.line; events = 0; silent = 0; note = said }) world world left left
   turned_by_show node numbers said is same run shows tables =
       turned_without said run (rw is (refl, refl, (numbers, same)))

@@ -6,6 +6,7 @@ use Rattle.std.proofs.Math.Seq.{take-suc}
 use Rattle.std.proofs.lemmas.Grind.{flat_map-append}
 use Rattle.std.proofs.Common.{replicate}
 use Rattle.disk.specs.declared.disk.Disk.{Ghosts}
+use Rattle.carriers.specs.declared.Carrier.{Ghosts as Carriers}
 use Rattle.lab.specs.declared.world.World.{World}
 use Rattle.lab.specs.{frames_in_steps}
 use Rattle.lab.specs.Worlds.{HasHistory, IsRunSoFar}
@@ -20,19 +21,20 @@ use Rattle.client.proofs.Leaving.{left_rises}
 use Rattle.client.proofs.Flowing.{joined_assoc, joined_nothing, frames_in_steps-more}
 use Rattle.client.proofs.Printed.{replicate-length}
 
-module _ {D : Type 0} {g : Ghosts D} where
+module _ {D C : Type 0} {g : Ghosts D} where
   -- the first statements ran so far, and with those that follow they make a whole
-  pub record Goes (world : World D g) (setup : Setup) (left : List ℕ) (done : List Statement)
-      (turns : List StatementResult) (past : Stretch) : Type 0 where
-    pub run : HasRunTo world setup past
+  pub record Goes (h : Carriers C) (world : World D C g) (setup : Setup) (left : List ℕ)
+      (done : List Statement) (turns : List StatementResult) (past : Stretch) : Type 0 where
+    pub run : HasRunTo h world setup past
     pub rising : IsRising 0 (frames_in_steps past.steps) left
     pub whole : (behind : List Statement) (ts : List StatementResult) (rest : Stretch) →
-        AreResults g setup past left behind ts rest →
-        AreResults g setup no_stretch [] (done ++ behind) (turns ++ ts) (followed_by past rest)
+        AreResults g h setup past left behind ts rest →
+        AreResults g h setup no_stretch [] (done ++ behind) (turns ++ ts) (followed_by past rest)
     pub each : length (event_lines turns) ≡ length past.steps
 
-  pub goes_nowhere : (world : World D g) (setup : Setup) → HasRunTo world setup no_stretch →
-      Goes world setup [] [] [] no_stretch
+module _ {D C : Type 0} {g : Ghosts D} {h : Carriers C} where
+  pub goes_nowhere : (world : World D C g) (setup : Setup) → HasRunTo h world setup no_stretch →
+      Goes h world setup [] [] [] no_stretch
   goes_nowhere world setup run = record {
     run = run;
     rising = omega arith;
@@ -41,8 +43,8 @@ module _ {D : Type 0} {g : Ghosts D} where
   }
 
   -- in a stretch between two worlds something was chosen in each event
-  chosen_each : (old new : World D g) (setup : Setup) (past own : Stretch) →
-      HasRunTo old setup past → HasRunTo new setup (followed_by past own) →
+  chosen_each : (old new : World D C g) (setup : Setup) (past own : Stretch) →
+      HasRunTo h old setup past → HasRunTo h new setup (followed_by past own) →
       length own.choices ≡ length own.events
   chosen_each old new setup past own before after = omega (
     arith,
@@ -53,11 +55,11 @@ module _ {D : Type 0} {g : Ghosts D} where
   )
 
   -- one statement more
-  pub goes_on : (old new : World D g) (setup : Setup) (left next : List ℕ) (it : Statement)
+  pub goes_on : (old new : World D C g) (setup : Setup) (left next : List ℕ) (it : Statement)
       (done : List Statement) (turns : List StatementResult) (turn : StatementResult)
-      (past : Stretch) → Goes old setup left done turns past →
-      (t : HasTurned setup past it turn old new left next) →
-      Goes new setup next (done ++ it ∷ []) (turns ++ turn ∷ []) (followed_by past t.own)
+      (past : Stretch) → Goes h old setup left done turns past →
+      (t : HasTurned h setup past it turn old new left next) →
+      Goes h new setup next (done ++ it ∷ []) (turns ++ turn ∷ []) (followed_by past t.own)
   goes_on old new setup left next it done turns turn past s t = record {
     run = t.run;
     rising = rw (t.left, frames_in_steps-more past.steps t.own.steps)
@@ -74,7 +76,7 @@ module _ {D : Type 0} {g : Ghosts D} where
           record { world = old; run = s.run; numbers = t.shown },
           refl,
           refl,
-          subst (λ (l : List ℕ). AreResults g setup (followed_by past t.own) l behind ts rest)
+          subst (λ (l : List ℕ). AreResults g h setup (followed_by past t.own) l behind ts rest)
               t.left c,
         ) in
         rw (
@@ -97,22 +99,22 @@ module _ {D : Type 0} {g : Ghosts D} where
   }
 
   -- the next statement of all
-  pub goes_next : (old new : World D g) (setup : Setup) (left next : List ℕ)
+  pub goes_next : (old new : World D C g) (setup : Setup) (left next : List ℕ)
       (all : List Statement) (i : ℕ) (d it : Statement) (turns : List StatementResult)
       (turn : StatementResult) (past : Stretch) → i < length all → it ≡ get_or all i d →
-      Goes old setup left (take i all) turns past →
-      (t : HasTurned setup past it turn old new left next) →
-      Goes new setup next (take (suc i) all) (turns ++ turn ∷ []) (followed_by past t.own)
+      Goes h old setup left (take i all) turns past →
+      (t : HasTurned h setup past it turn old new left next) →
+      Goes h new setup next (take (suc i) all) (turns ++ turn ∷ []) (followed_by past t.own)
   goes_next old new setup left next all i d it turns turn past within at s t =
       let more : take (suc i) all ≡ take i all ++ it ∷ [] = take-suc all i d within
       ∙ ap (λ (x : Statement). take i all ++ x ∷ []) (sym at) in
       rw more (goes_on old new setup left next it (take i all) turns turn past s t)
 
   -- these statements ran, and no other
-  pub gone : (world : World D g) (setup : Setup) (left : List ℕ) (done : List Statement)
-      (turns : List StatementResult) (past : Stretch) → Goes world setup left done turns past →
-      IsRunSoFar world (run_of setup past) → HasHistory world (run_of setup past) →
-      HasRunStatements world setup done turns past
+  pub gone : (world : World D C g) (setup : Setup) (left : List ℕ) (done : List Statement)
+      (turns : List StatementResult) (past : Stretch) → Goes h world setup left done turns past →
+      IsRunSoFar h world (run_of setup past) → HasHistory world (run_of setup past) →
+      HasRunStatements h world setup done turns past
   gone world setup left done turns past s so_far history = record {
     results = rw (append-nil done, append-nil turns, joined_nothing past)
         at (s.whole [] [] no_stretch (refl, refl));

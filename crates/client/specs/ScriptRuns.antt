@@ -4,6 +4,7 @@ use Rattle.std.specs.Prelude.{List, [], ◌∷◌, ◌++◌, length, map, take, 
 use Rattle.std.specs.Prelude.{◌-◌, Bool, true, false, if◌then◌else◌, All, replicate}
 use Rattle.std.specs.Prelude.{Option, Some, None}
 use Rattle.disk.specs.declared.disk.Disk.{Ghosts}
+use Rattle.carriers.specs.declared.Carrier.{Ghosts as Carriers}
 use Rattle.lab.specs.Configuration.{Configurations}
 use Rattle.lab.specs.Machine.{without}
 use Rattle.lab.specs.Fault.TheVariants as fault
@@ -168,15 +169,16 @@ run_of setup past = record {
   steps = past.steps;
 }
 
-module _ {D : Type 0} {g : Ghosts D} where
+module _ {D C : Type 0} {g : Ghosts D} where
   -- the world has run this far, at the nodes that were set up, with their limits
-  pub record HasRunTo (world : World D g) (setup : Setup) (past : Stretch) : Type 0 where
-    pub run : HasRun world (run_of setup past)
+  pub record HasRunTo (h : Carriers C) (world : World D C g) (setup : Setup) (past : Stretch)
+      : Type 0 where
+    pub run : HasRun h world (run_of setup past)
     pub limits : WorldHasLimits world setup.limits
 
   -- what is shown of a node are its numbers after all that happened, and how many tables its store
   -- has in this world
-  abbrev pub HasShownNumbers : World D g → Configurations → Stretch → Note → Type 0
+  abbrev pub HasShownNumbers : World D C g → Configurations → Stretch → Note → Type 0
   HasShownNumbers world cs past note.Nothing = Unit {0}
   HasShownNumbers world cs past (note.Invalid e) = Unit {0}
   HasShownNumbers world cs past note.Busy = Unit {0}
@@ -188,33 +190,33 @@ module _ {D : Type 0} {g : Ghosts D} where
 
   -- a statement was run behind what had happened: the world and the frames that are left are those
   -- behind its events
-  pub record HasTurned (setup : Setup) (past : Stretch) (it : Statement) (turn : StatementResult)
-      (old new : World D g) (old_left new_left : List ℕ) : Type 0 where
+  pub record HasTurned (h : Carriers C) (setup : Setup) (past : Stretch) (it : Statement)
+      (turn : StatementResult) (old new : World D C g) (old_left new_left : List ℕ) : Type 0 where
     pub own : Stretch
     pub did : IsResult (frames_in_steps past.steps) old_left it turn own.events own.steps
     pub shown : HasShownNumbers old setup.configs past turn.note
-    pub run : HasRunTo new setup (followed_by past own)
+    pub run : HasRunTo h new setup (followed_by past own)
     pub left : new_left ≡ left_after it.action (old_left
         ++ places_after (frames_in_steps past.steps) (frames_in_steps own.steps))
 
 -- what is shown of a node is so in a world that has run this far
-pub record HasShown {D : Type 0} (g : Ghosts D) (setup : Setup) (past : Stretch) (said : Note)
-    : Type 0 where
-  pub world : World D g
-  pub run : HasRunTo world setup past
+pub record HasShown {D C : Type 0} (g : Ghosts D) (h : Carriers C) (setup : Setup) (past : Stretch)
+    (said : Note) : Type 0 where
+  pub world : World D C g
+  pub run : HasRunTo h world setup past
   pub numbers : HasShownNumbers world setup.configs past said
 
 -- statements were run, one after another, behind what had happened; something was chosen in each
 -- event
-abbrev pub AreResults : {D : Type 0} → Ghosts D → Setup → Stretch → List ℕ → List Statement
-    → List StatementResult → Stretch → Type 0
-AreResults g setup past left [] turns all = (turns ≡ []) × (all ≡ no_stretch)
-AreResults g setup past left (it ∷ statements) turns all =
+abbrev pub AreResults : {D C : Type 0} → Ghosts D → Carriers C → Setup → Stretch → List ℕ
+    → List Statement → List StatementResult → Stretch → Type 0
+AreResults g h setup past left [] turns all = (turns ≡ []) × (all ≡ no_stretch)
+AreResults g h setup past left (it ∷ statements) turns all =
     (turn : StatementResult) × (own : Stretch)
     × (turns_behind : List StatementResult) × (behind : Stretch)
     × IsResult (frames_in_steps past.steps) left it turn own.events own.steps
-    × (length own.choices ≡ length own.events) × HasShown g setup past turn.note
+    × (length own.choices ≡ length own.events) × HasShown g h setup past turn.note
     × (turns ≡ turn ∷ turns_behind) × (all ≡ followed_by own behind)
-    × AreResults g setup (followed_by past own) (left_after it.action
+    × AreResults g h setup (followed_by past own) (left_after it.action
     (left ++ places_after (frames_in_steps past.steps) (frames_in_steps own.steps)))
     statements turns_behind behind

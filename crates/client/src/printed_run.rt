@@ -9,7 +9,7 @@ use crate::statement_result::StatementResult;
 use crate::text::{add_places, print_result};
 use crate::writing::print;
 use disk::Crash;
-use lab::{Lines, World};
+use lab::{Carrier, Lines, World};
 use scripts::Script;
 use std::alloc::{AllocError, Global};
 use std::collections::VecDeque;
@@ -55,17 +55,17 @@ fn make_text(
 /// Nothing is promised of a world that has run events before, or whose nodes were started on what
 /// an earlier run left. The statements are run there as in any, but a flow does not deliver frames
 /// that were sent before, and a reply to an event before may stand at any line of the script.
-pub fn run_script<D: Crash + Drop, W: Write>(
+pub fn run_script<D: Crash + Drop, C: Carrier + Drop, W: Write>(
     alloc: Global,
     script: &Script,
-    world: &mut World<D>,
+    world: &mut World<D, C>,
     out: &mut W,
 ) -> Result<(), RunError>
-    ensures printed { IsReadyToRun world.old script.now.setup script.now.statements.items →
-        OnOk result (IsPrintedRun world.new script.now.setup script.now.statements.items
-        (W.contents out.old) (W.contents out.new)) }
-    ensures ended { IsReadyToRun world.old script.now.setup script.now.statements.items →
-        IfErr result (λ error. HasEndedEarly error world.new script.now.setup
+    ensures printed { IsReadyToRun C.Carrier world.old script.now.setup
+        script.now.statements.items → OnOk result (IsPrintedRun C.Carrier world.new
+        script.now.setup script.now.statements.items (W.contents out.old) (W.contents out.new)) }
+    ensures ended { IsReadyToRun C.Carrier world.old script.now.setup
+        script.now.statements.items → IfErr result (λ error. HasEndedEarly C.Carrier error world.new script.now.setup
         script.now.statements.items (W.contents out.old) (W.contents out.new)) }
 {
     let mut left = VecDeque::new(alloc);

@@ -18,7 +18,7 @@ ghost use Rattle.client.specs.declared.statement_result.Note.TheVariants as note
 
 use crate::statement_result::{Note, StatementResult};
 use disk::{Crash, Disk};
-use lab::{Event, EventKind, Fault, LabError, Line, NodeId, Numbers, Tended, World};
+use lab::{Carrier, Event, EventKind, Fault, LabError, Line, NodeId, Numbers, Tended, World};
 use scripts::{Action, Statement};
 use std::alloc::{AllocError, Global};
 use std::collections::VecDeque;
@@ -109,16 +109,16 @@ fn settled_result(line: u32, tends: usize, more: bool) -> StatementResult
 }
 
 // An event happens in the world, and the frames that it sends are left to be delivered.
-fn step<D: Crash + Drop>(
+fn step<D: Crash + Drop, C: Carrier + Drop>(
     alloc: Global,
-    world: &mut World<D>,
+    world: &mut World<D, C>,
     left: &mut VecDeque<u64>,
     event: &Event,
 ) -> Result<(), LabError>
-    ensures { (setup : Setup) (past : Stretch) → HasRunTo world.old setup past →
+    ensures { (setup : Setup) (past : Stretch) → HasRunTo C.Carrier world.old setup past →
         NamesNode setup.configs event.now.kind →
         OnOk result ((choice : Choice) × (lines : List Line)
-        × HasRunTo world.new setup (followed_by past (one_step event.now choice lines))
+        × HasRunTo C.Carrier world.new setup (followed_by past (one_step event.now choice lines))
         × (left.new.items ≡ left.old.items
         ++ places_after (frames_in_steps past.steps) (frames_of_step lines))) }
 {
@@ -129,15 +129,15 @@ fn step<D: Crash + Drop>(
 }
 
 // Something happens, without a fault of the disk.
-fn happen<D: Crash + Drop>(
+fn happen<D: Crash + Drop, C: Carrier + Drop>(
     alloc: Global,
-    world: &mut World<D>,
+    world: &mut World<D, C>,
     left: &mut VecDeque<u64>,
     kind: EventKind,
 ) -> Result<(), LabError>
-    ensures { (setup : Setup) (past : Stretch) → HasRunTo world.old setup past →
+    ensures { (setup : Setup) (past : Stretch) → HasRunTo C.Carrier world.old setup past →
         NamesNode setup.configs kind → OnOk result ((choice : Choice) × (lines : List Line)
-        × HasRunTo world.new setup
+        × HasRunTo C.Carrier world.new setup
         (followed_by past (one_step (faultless kind) choice lines))
         × (left.new.items ≡ left.old.items
         ++ places_after (frames_in_steps past.steps) (frames_of_step lines))) }
@@ -150,14 +150,14 @@ fn happen<D: Crash + Drop>(
 }
 
 // The frames that are left are delivered, up to the bound. It answers how many.
-fn flow<D: Crash + Drop>(
+fn flow<D: Crash + Drop, C: Carrier + Drop>(
     alloc: Global,
-    world: &mut World<D>,
+    world: &mut World<D, C>,
     left: &mut VecDeque<u64>,
 ) -> Result<usize, LabError>
-    ensures { (setup : Setup) (past : Stretch) → HasRunTo world.old setup past →
+    ensures { (setup : Setup) (past : Stretch) → HasRunTo C.Carrier world.old setup past →
         IfOk result (λ count. (own : Stretch)
-        × HasRunTo world.new setup (followed_by past own)
+        × HasRunTo C.Carrier world.new setup (followed_by past own)
         × (own.events ≡ deliveries (left.old.items
         ++ places_after (frames_in_steps past.steps) (frames_in_steps own.steps)))
         × (count ≡ length own.steps) × (count ≡ length own.events)
@@ -176,9 +176,9 @@ fn flow<D: Crash + Drop>(
 }
 
 // Whether the last event was a tend that worked.
-fn tend_has_worked<D: Disk + Drop>(world: &World<D>) -> bool
+fn tend_has_worked<D: Disk + Drop, C: Carrier + Drop>(world: &World<D, C>) -> bool
     ensures { (setup : Setup) (past : Stretch) (before : List (List Line))
-        (last : List Line) → HasRunTo world.now setup past →
+        (last : List Line) → HasRunTo C.Carrier world.now setup past →
         past.steps ≡ before ++ last ∷ [] → result ≡ has_worked last }
 {
     match world.report().last() {
@@ -188,16 +188,16 @@ fn tend_has_worked<D: Disk + Drop>(world: &World<D>) -> bool
 }
 
 // The node tends until a tend does not work, up to the bound. It answers how often.
-fn settle<D: Crash + Drop>(
+fn settle<D: Crash + Drop, C: Carrier + Drop>(
     alloc: Global,
-    world: &mut World<D>,
+    world: &mut World<D, C>,
     left: &mut VecDeque<u64>,
     node: NodeId,
 ) -> Result<usize, LabError>
-    ensures { (setup : Setup) (past : Stretch) → HasRunTo world.old setup past →
+    ensures { (setup : Setup) (past : Stretch) → HasRunTo C.Carrier world.old setup past →
         has (at_epoch setup.configs 0) node ≡ true →
         IfOk result (λ count. (own : Stretch)
-        × HasRunTo world.new setup (followed_by past own)
+        × HasRunTo C.Carrier world.new setup (followed_by past own)
         × (own.events ≡ replicate count (tending node)) × (count ≡ length own.steps)
         × HasSettled own.steps
         × (left.new.items ≡ left.old.items
@@ -216,16 +216,16 @@ fn settle<D: Crash + Drop>(
 
 /// Runs a statement in the world, and answers what it did. `left` has the places of the frames that
 /// no statement has delivered yet.
-pub fn run_statement<D: Crash + Drop>(
+pub fn run_statement<D: Crash + Drop, C: Carrier + Drop>(
     alloc: Global,
-    world: &mut World<D>,
+    world: &mut World<D, C>,
     left: &mut VecDeque<u64>,
     statement: &Statement,
 ) -> Result<StatementResult, LabError>
-    ensures { (setup : Setup) (past : Stretch) → HasRunTo world.old setup past →
+    ensures { (setup : Setup) (past : Stretch) → HasRunTo C.Carrier world.old setup past →
         Names setup.configs statement.now.action →
         IsRising 0 (frames_in_steps past.steps) left.old.items →
-        IfOk result (λ turn. HasTurned setup past statement.now turn world.old world.new
+        IfOk result (λ turn. HasTurned C.Carrier setup past statement.now turn world.old world.new
         left.old.items left.new.items) }
 {
     let line = statement.line;

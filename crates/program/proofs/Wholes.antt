@@ -5,7 +5,7 @@ use Rattle.std.proofs.Common.{length, take}
 use Rattle.std.specs.Prelude.{true, ◌⊎◌, Result, Ok, Err, OnErr, IfErr, IfOk}
 use Rattle.std.specs.Prelude.{IfSome, MatchResult}
 use Rattle.std.specs.Io.KnownBytes.{Appends}
-use Rattle.lab.specs.{MemWorld}
+use Rattle.lab.specs.{MemWorld, direct_carrier}
 use Rattle.program.specs.declared.failure.Failure.{Failure}
 use Rattle.program.specs.declared.failure.Failure.TheVariants.{Unreadable, Script, Output}
 use Rattle.program.specs.declared.failure.Failure.TheVariants as failure
@@ -34,7 +34,7 @@ no_world setup statements out = inr (refl, inl refl)
 -- a run in a world in memory that ended early
 pub fails_so : (world : MemWorld) (setup : Setup) (statements : List Statement)
     (old new : Option (List ℕ)) (error : RunError)
-    → HasEndedEarly error world setup statements old new
+    → HasEndedEarly direct_carrier error world setup statements old new
     → RunFailsSo setup statements old new (failure_of error)
 fails_so world setup statements old new run.Write ended =
     inl (refl, record { world = world; ended = ended })

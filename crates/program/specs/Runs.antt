@@ -1,7 +1,7 @@
 -- A whole run: from the bytes of a script to the bytes that are printed, and how it can end.
 use Rattle.std.specs.Prelude.{◌≡◌, ◌≢◌, ◌⊎◌, ℕ, List, Option, None, IfSome, true}
 use Rattle.std.specs.Io.KnownBytes.{Appends}
-use Rattle.lab.specs.{MemWorld}
+use Rattle.lab.specs.{MemWorld, direct_carrier}
 use Rattle.program.specs.declared.failure.Failure.{Failure}
 use Rattle.program.specs.declared.failure.Failure.TheVariants.{Memory, Output}
 use Rattle.client.specs.declared.run_error.RunError.{RunError}
@@ -19,13 +19,13 @@ use Rattle.client.specs.PrintedRuns.{AppendsPart, HasEndedEarly, IsPrintedRun}
 pub record IsRunOf (setup : Setup) (statements : List Statement) (old new : Option (List ℕ))
     : Type 0 where
   pub world : MemWorld
-  pub printed : IsPrintedRun world setup statements old new
+  pub printed : IsPrintedRun direct_carrier world setup statements old new
 
 -- a run of the statements in such a world ended early for this
 pub record IsCutShort (error : RunError) (setup : Setup) (statements : List Statement)
     (old new : Option (List ℕ)) : Type 0 where
   pub world : MemWorld
-  pub ended : HasEndedEarly error world setup statements old new
+  pub ended : HasEndedEarly direct_carrier error world setup statements old new
 
 -- how a run of a script fails: where the output takes no more, within the text of a statement;
 -- where memory is wanted, behind the text of some first statements, or before there is a world

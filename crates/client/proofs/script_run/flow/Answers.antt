@@ -14,7 +14,7 @@ returns-in_default g c = λ setup past run.
     let old = c.args.left.now.items in
     let new = c.pop_front.new.self.items in
     let count = c.loop-count.count in
-    let f = subst (λ (l : List ℕ). Flows world setup past old l count)
+    let f = subst (λ (l : List ℕ). Flows g.C.Carrier world setup past old l count)
     c.in_default.ensures.items (c.loop-count.invariant setup past run) in
     flowed_all world setup past old new count f
     (emptied c.loop-count.left.items new c.in_default.ensures.items

@@ -7,8 +7,8 @@ use Rattle.client.proofs.script_run.flow.Given as goal
 -- so many frames were delivered
 abbrev pub invariant-loop-count : goal.invariant-loop-count
 invariant-loop-count g l = (setup : Setup) (past : Stretch) →
-    HasRunTo l.fn.world setup past →
-    Flows l.world setup past l.fn.left.items l.left.items l.count
+    HasRunTo g.C.Carrier l.fn.world setup past →
+    Flows g.C.Carrier l.world setup past l.fn.left.items l.left.items l.count
 
 abbrev pub decreases-loop-count : goal.decreases-loop-count
 decreases-loop-count g l = most - l.count

@@ -8,8 +8,8 @@ use Rattle.client.proofs.script_run.settle.Given as goal
 -- so many tends worked
 abbrev pub invariant-loop-count : goal.invariant-loop-count
 invariant-loop-count g l = (setup : Setup) (past : Stretch) →
-    HasRunTo l.fn.world setup past → has (at_epoch setup.configs 0) l.fn.node ≡ true →
-    Settles l.world setup past l.fn.node l.fn.left.items l.left.items l.count
+    HasRunTo g.C.Carrier l.fn.world setup past → has (at_epoch setup.configs 0) l.fn.node ≡ true →
+    Settles g.C.Carrier l.world setup past l.fn.node l.fn.left.items l.left.items l.count
 
 abbrev pub decreases-loop-count : goal.decreases-loop-count
 decreases-loop-count g l = most - l.count
