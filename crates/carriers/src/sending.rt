@@ -30,7 +30,7 @@ fn unread(e: FrameError) -> Result<Received, LabError>
 }
 
 // What the bytes are: a frame, if they are exactly one.
-fn read_whole(alloc: Global, bytes: &[u8]) -> Result<Received, LabError>
+fn read_frame(alloc: Global, bytes: &[u8]) -> Result<Received, LabError>
     ensures { IfOk result (IsReadFrom bytes.now) }
 {
     one_answer(); // law: the same bytes have one answer
@@ -61,7 +61,7 @@ pub fn send_bytes<C: Carrier>(
     one_spelling(); // law: no two frames have one spelling
     match carrier.carry(alloc, from, to, bytes)? {
         Carried::Lost => Ok(Received::Lost),
-        Carried::Bytes(got) => read_whole(alloc, &got),
+        Carried::Bytes(got) => read_frame(alloc, &got),
     }
 }
 
@@ -85,5 +85,5 @@ pub fn send<C: Carrier>(
     if got.as_slice() == bytes.as_slice() {
         return Ok(Received::Frame(frame));
     }
-    read_whole(alloc, &got)
+    read_frame(alloc, &got)
 }

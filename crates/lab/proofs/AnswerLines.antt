@@ -1,5 +1,6 @@
 -- The lines of an answer: those of the model's, their frames, and the line of an adoption.
-use Rattle.std.proofs.Common.{◌≡◌, ℕ, suc, ◌+◌, Bool, List, [], ◌∷◌, ◌++◌, length, map, Option, Some}
+use Rattle.std.proofs.Common.{◌≡◌, ℕ, suc, ◌+◌, Bool, List, [], ◌∷◌, ◌++◌, length, map, Option}
+use Rattle.std.proofs.Common.{Some}
 use Rattle.std.proofs.Common.{None, cond, refl, ap, ap₂, subst, arith}
 use Rattle.std.specs.Prelude.{not, nat_lt}
 use Rattle.std.proofs.lemmas.Bool.{cond_both}
@@ -19,8 +20,9 @@ use Rattle.lab.specs.declared.event.EventKind.{EventKind}
 use Rattle.lab.specs.declared.event.EventKind.TheVariants.{Notice}
 use Rattle.lab.specs.declared.report.Line.{Line}
 use Rattle.lab.specs.declared.report.Line.TheVariants as line
-use Rattle.lab.specs.Events.{arrived, dropped_lines, epoch_in, first_told, frame_line, frame_lines}
-use Rattle.lab.specs.Events.{others_told, turn_trace}
+use Rattle.lab.specs.Events.{arrived, dropped_lines, epoch_in, first_arrives, frame_line}
+use Rattle.lab.specs.Events.{frame_lines}
+use Rattle.lab.specs.Events.{later_arrivals, turn_trace}
 use Rattle.lab.specs.SimNodes.{Choice}
 use Rattle.lab.specs.Outcomes.{adopted_lines, sent_as, sent_lines}
 use Rattle.lab.specs.Worlds.{frames_in, frames_of_step}
@@ -120,9 +122,9 @@ pub counts_arrived : (told : List Bool) (lines : List Line) →
     frames_of_step (arrived told lines) ≡ frames_of_step lines
 counts_arrived told [] = refl
 counts_arrived told (line.Replied reply ∷ lines) =
-    let later = counts_arrived (others_told told) lines in
-    cond_both (first_told told) (line.Replied reply ∷ arrived (others_told told) lines)
-    (arrived (others_told told) lines)
+    let later = counts_arrived (later_arrivals told) lines in
+    cond_both (first_arrives told) (line.Replied reply ∷ arrived (later_arrivals told) lines)
+    (arrived (later_arrivals told) lines)
     (λ (l : List Line). frames_of_step l ≡ frames_of_step (line.Replied reply ∷ lines))
     (λ _. ap (λ n. 0 + n) later) (λ _. omega (arith, later))
 counts_arrived told (other ∷ lines) =

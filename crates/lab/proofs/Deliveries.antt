@@ -170,7 +170,10 @@ module _ {D : Type 0} {g : Ghosts D} (cs : Configurations) (w : SystemState Batc
           told = tt;
         }))
     start (Fails off by is) =
-        as_plain cs w i x (Start x) it new did (chosen heard StoppedBefore struck by.cause) (refl, refl) refl
+        as_plain cs w i x (Start x) it new did (chosen heard StoppedBefore struck by.cause) (
+          refl,
+          refl,
+        ) refl
         (no_stop by.told) (stops x (w.nodes x)) (stopped (w.nodes x)) (cond-false _ _ _ off) refl is
         (subst (λ (d : StepOutcome). IsTraced x (with_fault (Start x) it)
         (chosen heard StoppedBefore struck by.cause) d (stops x (w.nodes x))) (sym by.told)
@@ -179,7 +182,8 @@ module _ {D : Type 0} {g : Ghosts D} (cs : Configurations) (w : SystemState Batc
         (told_fits it struck by.cause by.environmental)))
     start (RunsOn up is traced) =
         let o = answers x (dropped_for (w.nodes x) reason.Running) in
-        as_plain cs w i x (Start x) it new did plain (refl, refl) refl (no_answer traced.1) o (w.nodes x)
+        as_plain cs w i x (Start x) it new did plain (refl, refl) refl (no_answer traced.1) o
+        (w.nodes x)
         (cond-true _ _ _ up) refl is
         (subst (λ (d : StepOutcome). IsTraced x (with_fault (Start x) it) plain d o) (sym traced.1)
         (drop_traced x (with_fault (Start x) it) plain (w.nodes x) reason.Running traced.0
@@ -211,7 +215,8 @@ module _ {D : Type 0} {g : Ghosts D} (cs : Configurations) (w : SystemState Batc
         IsOutcome cs w i x kind it struck heard new did
     refined (Submit node batch) node_input brings was =
         subst (λ (y : ℕ). IsOutcome cs w i x (Submit y batch) it struck heard new did) brings.0
-        (given cs w i x (Submit x batch) it struck heard (input.Submit i batch) new did (λ choice. refl)
+        (given cs w i x (Submit x batch) it struck heard (input.Submit i batch) new did (λ choice.
+        refl)
         (λ choice. refl) (λ choice. (refl, refl)) (submit_replies x i batch)
         (subst (λ (k : NodeInput). OutcomeRefines g.is_honest g.state it struck x
         (w.nodes x) k old new did) brings.1 was))
@@ -235,7 +240,8 @@ module _ {D : Type 0} {g : Ghosts D} (cs : Configurations) (w : SystemState Batc
         (w.nodes x) k old new did) brings.1 was))
     refined (Close node number) node_input brings was =
         subst (λ (y : ℕ). IsOutcome cs w i x (Close y number) it struck heard new did) brings.0
-        (given cs w i x (Close x number) it struck heard (input.Close i number) new did (λ choice. refl)
+        (given cs w i x (Close x number) it struck heard (input.Close i number) new did (λ choice.
+        refl)
         (λ choice. refl) (λ choice. (refl, refl)) (close_replies x i number)
         (subst (λ (k : NodeInput). OutcomeRefines g.is_honest g.state it struck x
         (w.nodes x) k old new did) brings.1 was))

@@ -35,8 +35,8 @@ numbered_same i (event ∷ events) (ch ∷ chs) =
     (λ _. ap (λ (l : List (ModelEvent BatchContent)). Lost ∷ l) later) (λ _. one event.kind later)
   where
     Numbered : ModelEvent BatchContent → Type 0
-    Numbered e = numbered i (e ∷ modelled_from (suc i) events chs) ≡ e ∷ modelled_from (suc i) events
-        chs
+    Numbered e = numbered i (e ∷ modelled_from (suc i) events chs) ≡ e ∷ modelled_from (suc i)
+        events chs
 
     one : (kind : EventKind) →
         numbered (suc i) (modelled_from (suc i) events chs) ≡ modelled_from (suc i) events chs

@@ -130,7 +130,8 @@ module _ {D : Type 0} {g : Ghosts D} (cs : Configurations) (w : SystemState Batc
     (kind : EventKind) (it : Fault) (new : NodeState D g) (did : StepOutcome) where
   -- with this choice the outcome is this one
   pub as_chosen : (choice : Choice) → choice.lost ≡ false →
-      (o : Outcome BatchContent) (n : Machine) → RiseFits kind choice o → RaisesAsTold x (w.nodes x) new choice did →
+      (o : Outcome BatchContent) (n : Machine) → RiseFits kind choice o → RaisesAsTold x (w.nodes
+      x) new choice did →
       outcome w cs (modelled i kind choice) ≡ o → o.acted_on ≡ Some (x, n) →
       StateRefines g.is_honest g.state new x n → IsTraced x (with_fault kind it) choice did o →
       IsOutcome cs w i x kind it choice.struck choice.told new did
@@ -164,7 +165,8 @@ module _ {D : Type 0} {g : Ghosts D} (cs : Configurations) (w : SystemState Batc
       StateRefines g.is_honest g.state new x n → IsTraced x (with_fault kind it) choice did o →
       IsOutcome cs w i x kind it choice.struck choice.told new did
   as_plain choice none arrives other o n =
-      as_chosen choice arrives o n (no_rise kind choice o none) (λ answer is. absurd (other answer is))
+      as_chosen choice arrives o n (no_rise kind choice o none) (λ answer is. absurd (other answer
+      is))
 
 -- ---- answers and stops
 
@@ -274,7 +276,8 @@ module _ {D : Type 0} {g : Ghosts D} (cs : Configurations) (w : SystemState Batc
   tells a traced turn = subst (λ (d : StepOutcome). IsTraced x (with_fault kind it)
       (chosen heard Answered struck Disk) d (answers x a))
       (sym traced.1)
-      (answer_traced x (with_fault kind it) inp (chosen heard Answered struck Disk) a traced.0 traced.2
+      (answer_traced x (with_fault kind it) inp (chosen heard Answered struck Disk) a traced.0
+      traced.2
       turn (shows_so inp kind a.replies replies))
 
   -- .. or stops so
@@ -296,12 +299,14 @@ module _ {D : Type 0} {g : Ghosts D} (cs : Configurations) (w : SystemState Batc
       (runs (chosen heard Answered struck Disk) up) refl is
       (tells (answer_to x (w.nodes x) inp) traced (turns (chosen heard Answered struck Disk)).0)
   given (Ends up stop (inl before)) =
-      as_plain cs w i x kind it new did (chosen heard StoppedBefore struck stop.cause) (refl, refl) refl
+      as_plain cs w i x kind it new did (chosen heard StoppedBefore struck stop.cause) (refl, refl)
+      refl
       (no_stop stop.told) (stops x (w.nodes x)) (stopped (w.nodes x))
       (runs (chosen heard StoppedBefore struck stop.cause) up) refl before
       (ends StoppedBefore (w.nodes x) stop)
   given (Ends up stop (inr behind)) =
-      as_plain cs w i x kind it new did (chosen heard StoppedAfter struck stop.cause) (refl, refl) refl
+      as_plain cs w i x kind it new did (chosen heard StoppedAfter struck stop.cause) (refl, refl)
+      refl
       (no_stop stop.told) (stops x (answer_to x (w.nodes x) inp).node)
       (stopped (answer_to x (w.nodes x) inp).node)
       (runs (chosen heard StoppedAfter struck stop.cause) up) refl behind

@@ -175,7 +175,8 @@ module _ {D : Type 0} {g : Ghosts D} (cs : Configurations) (w : SystemState Batc
     tended (TendsNot off is traced) =
         let choice = chosen heard Answered struck Disk in
         let o = answers x (dropped_for machine reason.NotRunning) in
-        as_plain cs w i x (Tend x) it new did choice (refl, refl) refl (no_answer traced.1) o machine
+        as_plain cs w i x (Tend x) it new did choice (refl, refl) refl (no_answer traced.1) o
+        machine
         (cond-false _ _ _ off) refl is
         (subst (λ (d : StepOutcome). IsTraced x (with_fault (Tend x) it) choice d o)
         (sym traced.1)

@@ -14,7 +14,7 @@ use Rattle.lab.specs.declared.event.EventKind.TheVariants.{Notice, Tend, Start}
 use Rattle.lab.specs.declared.report.Line.{Line}
 use Rattle.lab.specs.declared.report.Line.TheVariants as line
 use Rattle.lab.specs.Events.{lines_at, lines_if, dropped_lines, if_adopted, if_started}
-use Rattle.lab.specs.Events.{arrived, first_told, if_tended, others_told, reported_lines}
+use Rattle.lab.specs.Events.{arrived, first_arrives, if_tended, later_arrivals, reported_lines}
 use Rattle.lab.specs.Events.{turn_trace, frame_lines, reply_lines, reported_cause}
 use Rattle.lab.specs.SimNodes.{Choice}
 
@@ -111,9 +111,9 @@ module _ (Of : Line → Type 0) (quiet : IsQuiet Of) where
   arrived_have : (told : List Bool) (lines : List Line) → Each lines → Each (arrived told lines)
   arrived_have told [] all = tt
   arrived_have told (line.Replied reply ∷ lines) all =
-      let later = arrived_have (others_told told) lines all.1 in
-      cond_both (first_told told) (line.Replied reply ∷ arrived (others_told told) lines)
-      (arrived (others_told told) lines) Each (λ _. (all.0, later)) (λ _. later)
+      let later = arrived_have (later_arrivals told) lines all.1 in
+      cond_both (first_arrives told) (line.Replied reply ∷ arrived (later_arrivals told) lines)
+      (arrived (later_arrivals told) lines) Each (λ _. (all.0, later)) (λ _. later)
   arrived_have told (other ∷ lines) all = (all.0, arrived_have told lines all.1)
 
   -- and those of an event that may be lost

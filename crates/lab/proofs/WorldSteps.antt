@@ -27,7 +27,7 @@ use Rattle.lab.specs.Events.{NamesNode}
 use Rattle.lab.specs.Arrivals.{RepliesArrive}
 use Rattle.lab.specs.SimNodes.{Choice, HasArrived, StateRefines}
 use Rattle.lab.specs.Traces.{modelled_from}
-use Rattle.lab.specs.Worlds.{FollowRun, HasApplied, HasBegun, HasFollowed, HasKept, HasNoNode}
+use Rattle.lab.specs.Worlds.{FollowRun, HasApplied, HasBegunEvent, HasFollowed, HasKept, HasNoNode}
 use Rattle.lab.specs.Worlds.{HasRun, HasStepped, HaveLimits, NodesRefine, RunRefines}
 use Rattle.lab.specs.Worlds.{SimNodeRefines, WorldHasEnded, WorldKeepsLimits, WorldRun}
 use Rattle.lab.specs.Worlds.{event_record, event_records, extended}
@@ -67,7 +67,7 @@ records-push (e ∷ events) (c ∷ choices) event choice same =
 -- A world began an event, which changed its nodes, its frames and its carrier, and then it kept the
 -- lines of that.
 module _ {D C : Type 0} {g : Ghosts D} (h : Carriers C) (old begun mid new : World D C g)
-    (event : Event) (begins : HasBegun old begun event) (lost : Bool) (lines : List Line)
+    (event : Event) (begins : HasBegunEvent old begun event) (lost : Bool) (lines : List Line)
     (moves : mid ≡ record begun { nodes = mid.nodes; frames = mid.frames; carrier = mid.carrier })
     (keeps : HasKept mid new lost lines)
     (stay : HaveLimits old.nodes.items old.limits → HaveLimits mid.nodes.items old.limits) where
@@ -182,7 +182,7 @@ IsFoundFor h world i kind found = h.is_faithful world.carrier →
 
 -- The next event of a world, which names a node of it or none, by what was found on its way.
 module _ {D C : Type 0} {g : Ghosts D} (h : Carriers C) (in_order : AlwaysInOrder)
-    (old begun : World D C g) (event : Event) (begins : HasBegun old begun event) (n i : ℕ)
+    (old begun : World D C g) (event : Event) (begins : HasBegunEvent old begun event) (n i : ℕ)
     (long : n ≡ begun.steps.len) (few : n + 1 ≤ MAX_NUMBER) (at : i ≡ n + 1) (found : Delivery)
     (here : IsFoundFor h begun i event.kind found) (may : DeliveryWasLost found → h.loses)
     (is_named : NamesNode old.configs event.kind) (past : WorldRun) (run : HasRun h old past) where
@@ -199,7 +199,8 @@ module _ {D C : Type 0} {g : Ghosts D} (h : Carriers C) (in_order : AlwaysInOrde
   -- it fits the configurations of the run, and so does the node that the event names
   fits : FitsDelivery past.configs posted i event.kind found
   fits = subst (λ (cs : Configurations). FitsDelivery cs posted i event.kind found) run.configs
-      (subst (λ (w : World D C g). IsFoundFor h w i event.kind found) begins.others here run.carrier)
+      (subst (λ (w : World D C g). IsFoundFor h w i event.kind found) begins.others here
+      run.carrier)
 
   -- its carrier is faithful
   carried : h.is_faithful begun.carrier
@@ -241,7 +242,8 @@ module _ {D C : Type 0} {g : Ghosts D} (h : Carriers C) (in_order : AlwaysInOrde
       moved_so : (w : World D C g) → w ≡ record begun { carrier = w.carrier } →
           w ≡ record begun { nodes = w.nodes; frames = w.frames; carrier = w.carrier }
       moved_so w is = subst (λ (v : World D C g).
-          v ≡ record begun { nodes = v.nodes; frames = v.frames; carrier = v.carrier }) (sym is) refl
+          v ≡ record begun { nodes = v.nodes; frames = v.frames; carrier = v.carrier }) (sym is)
+          refl
 
   -- so is one that has nothing to deliver
   pub nothing_applied : found ≡ delivery.Nothing → (mid new : World D C g) →

@@ -175,22 +175,22 @@ reply_count [] = 0
 reply_count (line.Replied reply ∷ lines) = suc (reply_count lines)
 reply_count (other ∷ lines) = reply_count lines
 
--- whether the client was told the first of some replies, by whether it was told each
-abbrev pub first_told : List Bool → Bool
-first_told [] = true
-first_told (b ∷ told) = b
+-- whether the first of some replies arrives, by whether each does
+abbrev pub first_arrives : List Bool → Bool
+first_arrives [] = true
+first_arrives (b ∷ told) = b
 
--- .. and the others
-abbrev pub others_told : List Bool → List Bool
-others_told [] = []
-others_told (b ∷ told) = told
+-- .. and whether the others do
+abbrev pub later_arrivals : List Bool → List Bool
+later_arrivals [] = []
+later_arrivals (b ∷ told) = told
 
 -- the lines without those replies that the client was not told
 abbrev pub arrived : List Bool → List Line → List Line
 arrived told [] = []
 arrived told (line.Replied reply ∷ lines) =
-    if first_told told then line.Replied reply ∷ arrived (others_told told) lines
-    else arrived (others_told told) lines
+    if first_arrives told then line.Replied reply ∷ arrived (later_arrivals told) lines
+    else arrived (later_arrivals told) lines
 arrived told (other ∷ lines) = other ∷ arrived told lines
 
 -- the lines of an event after so many frames: of one that was lost only that, and else those of the

@@ -272,8 +272,8 @@ module _ {D : Type 0} {g : Ghosts D} where
     pub follow : AllNodesFollow cs limits 1 events choices (model_frame.first_state cs) first sims
 
 module _ {D C : Type 0} {g : Ghosts D} where
-  -- The world has run so over a faithful carrier, and keeps its configurations, its events, which of
-  -- them were lost, and the lines of each; its nodes came of them, with its limits.
+  -- The world has run so over a faithful carrier, and keeps its configurations, its events, which
+  -- of them were lost, and the lines of each; its nodes came of them, with its limits.
   pub record HasRun (h : Carriers C) (world : World D C g) (run : WorldRun) : Type 0 where
     pub configs : world.configs ≡ run.configs
     pub kept : world.steps.items ≡ run.steps
@@ -284,7 +284,7 @@ module _ {D C : Type 0} {g : Ghosts D} where
     pub arrives : Arrives h.loses run.choices
 
   -- the world has begun an event, which is not known to be lost; it is as it was otherwise
-  pub record HasBegun (old new : World D C g) (event : Event) : Type 0 where
+  pub record HasBegunEvent (old new : World D C g) (event : Event) : Type 0 where
     pub taken : new.events.items ≡ old.events.items ++ event_record event false ∷ []
     pub others : new ≡ record old { events = new.events; ended = true }
 

@@ -5,6 +5,7 @@ mod delivery;
 mod event;
 mod input;
 pub mod laws;
+mod leaving;
 mod node_state;
 mod replies;
 mod report;

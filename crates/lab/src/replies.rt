@@ -37,8 +37,8 @@ fn keep_line(kept: &mut Vec<Line>, line: Option<Line>) -> Result<(), LabError>
     }
 }
 
-/// Carries the replies among the lines of a node to the client, one after another. Those that do not
-/// arrive are left out.
+/// Carries the replies among the lines of a node to the client, one after another. Those that do
+/// not arrive are left out.
 pub fn carry_replies<C: Carrier>(
     alloc: Global,
     carrier: &mut C,

@@ -3,23 +3,22 @@ ghost use Rattle.std.specs.Prelude.{◌≡◌, ℕ, IfOk, IfSome, IsErr, MatchOp
 ghost use Rattle.std.specs.Prelude.{◌∷◌, ◌++◌, [], List, OnErr, OnOk, false, true};
 ghost use Rattle.std.specs.List.{AllZip};
 ghost use Rattle.chain_model.specs.{Lawful, at_epoch, has};
-ghost use Rattle.chain_core.specs.{Machine};
-ghost use Rattle.disk.specs.{Slots};
-ghost use Rattle.lab.specs.SimNodes.{StateHasLimits, StateRefines, disk_in, in_memory};
+ghost use Rattle.lab.specs.SimNodes.{StateHasLimits};
 ghost use Rattle.lab.specs.Runs.{AreNumbersOf, IsRunOver};
 ghost use Rattle.lab.specs.History.{OneHistory};
-ghost use Rattle.lab.specs.Worlds.{AreCreated, AreLeft, HasApplied, HasBegun, HasHistory};
+ghost use Rattle.lab.specs.Worlds.{AreCreated, HasApplied, HasBegunEvent, HasHistory};
 ghost use Rattle.lab.specs.Worlds.{HasKept, HasNoNode, HasRun, HasStepped, HaveLimits, IsCreated};
-ghost use Rattle.lab.specs.Worlds.{IsIndexOf, IsLeft, IsReportOf, IsRunSoFar, ShowsTables};
+ghost use Rattle.lab.specs.Worlds.{IsIndexOf, IsReportOf, IsRunSoFar, ShowsTables};
 ghost use Rattle.lab.specs.Worlds.{WorldHasEnded, WorldHasLimits, WorldKeepsLimits, WorldRun};
 ghost use Rattle.lab.specs.Worlds.{direct_carrier, empty_run, event_record, event_records};
 ghost use Rattle.lab.specs.Worlds.{frames_in_steps};
 
 use crate::delivery::{Posted, delivery_of};
 use crate::event::names_node;
+use crate::leaving::left_of_all;
 use crate::node_state::NodeState;
 use crate::replies::carry_replies;
-use crate::report::{Line, Lines, NodeReport, Report};
+use crate::report::{Line, Lines, Report};
 use crate::sim_node::SimNode;
 use crate::trace::{one_line, trace_of};
 use crate::{Carrier, Direct, Event, EventRecord, LabError};
@@ -33,8 +32,8 @@ use node::laws::disks_represent;
 use node::{Node, Numbers, Stop};
 use std::alloc::{AllocError, Global};
 
-/// The nodes of a chain on disks of one type, what carries between them and their client, every frame
-/// that they ever sent, and the trace so far. An event is one step of one of them, or is lost.
+/// The nodes of a chain on disks of one type, what carries between them and their client, every
+/// frame that they ever sent, and the trace so far. An event is a step of one of them, or is lost.
 #[derive(Drop)]
 pub struct World<D: Disk + Drop, C: Carrier + Drop> {
     configs: Configs,
@@ -91,39 +90,6 @@ fn created_nodes(
         nodes.push(created_node(alloc, *id, config, limits)?)?;
     }
     Ok(nodes)
-}
-
-// The report of a node, at the end of a run.
-fn left_of(node: SimNode<MemDisk>) -> NodeReport
-    ensures left { (n : Machine) (disk : Slots) →
-        StateRefines in_memory.is_honest in_memory.state node.state node.id n →
-        disk_in node.state ≡ disk → IsLeft n disk result }
-    ensures own { IsReportOf node result }
-{
-    let SimNode { id, state } = node;
-    match state {
-        NodeState::Up(node) => {
-            let running = Some(node.numbers());
-            let disk = node.into_disk();
-            NodeReport { id, disk, running }
-        }
-        NodeState::Down(disk) => NodeReport {
-            id,
-            disk,
-            running: None,
-        },
-    }
-}
-
-// The reports of all nodes, in order.
-fn left_of_all(alloc: Global, nodes: Vec<SimNode<MemDisk>>) -> Result<Vec<NodeReport>, AllocError>
-    ensures { IfOk result (λ reports. AreLeft nodes.items reports.items) }
-{
-    let mut reports = Vec::new(alloc);
-    for node in nodes {
-        reports.push(left_of(node))?;
-    }
-    Ok(reports)
 }
 
 // Where the node with this id is.
@@ -282,7 +248,7 @@ impl<D: Disk + Drop, C: Carrier + Drop> World<D, C> {
 
     // Begins an event, which is in the list before anything is done for it.
     fn begin(&mut self, event: &Event) -> Result<(), LabError>
-        ensures begun { OnOk result (HasBegun self.old self.new event.now) }
+        ensures begun { OnOk result (HasBegunEvent self.old self.new event.now) }
         ensures ends { OnErr result (WorldHasEnded self.new) }
     {
         self.ended = true;
@@ -304,7 +270,8 @@ impl<D: Disk + Drop, C: Carrier + Drop> World<D, C> {
 
     /// How many frames were sent so far.
     pub fn sent(&self) -> u64
-        ensures { (run : WorldRun) → HasRun C.Carrier self.now run → result ≡ frames_in_steps run.steps }
+        ensures { (run : WorldRun) → HasRun C.Carrier self.now run →
+            result ≡ frames_in_steps run.steps }
     {
         self.frames.len() as u64
     }
@@ -329,8 +296,10 @@ impl<D: Disk + Drop, C: Carrier + Drop> World<D, C> {
     /// The lines of each event so far. The world keeps the disks.
     pub fn report(&self) -> &[Lines]
         ensures steps { (run : WorldRun) → HasRun C.Carrier self.now run → result.now ≡ run.steps }
-        ensures run { (run : WorldRun) → HasRun C.Carrier self.now run → IsRunSoFar C.Carrier self.now run }
-        ensures history { (run : WorldRun) → HasRun C.Carrier self.now run → HasHistory self.now run }
+        ensures run { (run : WorldRun) → HasRun C.Carrier self.now run →
+            IsRunSoFar C.Carrier self.now run }
+        ensures history { (run : WorldRun) → HasRun C.Carrier self.now run →
+            HasHistory self.now run }
     {
         // laws: reads at the last tail are fresh, and nothing is given up that may be needed
         reads_fresh::<Batch>();
@@ -363,8 +332,8 @@ impl<D: Disk + Drop, C: Carrier + Drop> World<D, C> {
 
 impl<D: Crash + Drop, C: Carrier + Drop> World<D, C> {
     /// Applies an event to the node that it is for, or loses it. One that names a node which the
-    /// world does not have does nothing. After an error the world is at its end: every later step is
-    /// refused, and what `sent`, `numbers`, `report` and `events` say of it is left open.
+    /// world does not have does nothing. After an error the world is at its end: every later step
+    /// is refused, and what `sent`, `numbers`, `report` and `events` say of it is left open.
     pub fn step(&mut self, alloc: Global, event: &Event) -> Result<(), LabError>
         ensures ran { (run : WorldRun) → HasRun C.Carrier self.old run →
             OnOk result (HasApplied C.Carrier self.old self.new run event.now) }
@@ -398,21 +367,13 @@ impl<D: Crash + Drop, C: Carrier + Drop> World<D, C> {
             Delivery::Lost => return self.keep(true, one_line(alloc, Line::Lost)?),
             Delivery::To(id, input) => (id, input),
         };
-        let Some(index) = index_of(&self.nodes, id) else {
+        let Some(at) = index_of(&self.nodes, id) else {
             drop(input);
             self.ended = false;
             return Ok(());
         };
         let (nodes, frames) = (&mut self.nodes, &mut self.frames);
-        let lines = deliver(
-            alloc,
-            nodes,
-            frames,
-            event,
-            index,
-            (id, input),
-            &self.limits,
-        )?;
+        let lines = deliver(alloc, nodes, frames, event, at, (id, input), &self.limits)?;
         let lines = carry_replies(alloc, &mut self.carrier, id, lines)?;
         self.keep(false, lines)
     }

@@ -10,6 +10,6 @@ pub returns-in-Bytes-clause-received : goal.returns-in-Bytes-clause-received
 returns-in-Bytes-clause-received g c = λ frame is spelled faithful.
     let got = subst (λ (it : Carried). IsCarried c.args.bytes.now it) c.in-Bytes.is
     (c.in_ok-carry.ensures.carried faithful) in
-    read_as c.one_spelling.ensures.one c.args.bytes.now frame (is, spelled) c.read_whole.result
-    (subst (λ (l : List ℕ). IfOk c.read_whole.result (IsReadFrom l)) (c.deref.ensures.value ∙ got)
-    c.read_whole.ensures)
+    read_as c.one_spelling.ensures.one c.args.bytes.now frame (is, spelled) c.read_frame.result
+    (subst (λ (l : List ℕ). IfOk c.read_frame.result (IsReadFrom l)) (c.deref.ensures.value ∙ got)
+    c.read_frame.ensures)

@@ -43,7 +43,9 @@ past_of c = record {
 
 has_run : (c : goal.After-finish) → HasRun direct_carrier c.loop-event.world (past_of c)
 has_run c =
-    subst (λ (es : List Event). HasRun direct_carrier c.loop-event.world (record (past_of c) { events = es }))
+    subst (λ (es : List Event). HasRun direct_carrier c.loop-event.world (record (past_of c) {
+      events = es;
+    }))
     (take_all c.loop-event.event-index c.args.events.now c.loop-event-test.false)
     c.loop-event.invariant.2
 

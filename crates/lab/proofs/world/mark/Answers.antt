@@ -17,6 +17,7 @@ returns-in-Some c = λ before event is.
     c.in-Some.ensures.value
     ∙ ap₂ (λ (l : List EventRecord) (k : ℕ). get_or l k last) is at
     ∙ get_or-append_seam before begun [] last in
-    ap₂ (λ (l : List EventRecord) (k : ℕ). slice_set l k (event_record last.event c.args.lost)) is at
+    ap₂ (λ (l : List EventRecord) (k : ℕ). slice_set l k (event_record last.event c.args.lost)) is
+    at
     ∙ set-append_seam before begun [] (event_record last.event c.args.lost)
     ∙ ap (λ (r : EventRecord). before ++ event_record r.event c.args.lost ∷ []) own

@@ -10,7 +10,8 @@ pub returns-clause-run : goal.returns-clause-run
 returns-clause-run g c = λ past run.
     let made = run.made in
     let report : Report = record { steps = c.args.self.steps; nodes = c.in_ok-nodes.nodes } in
-    run_left c.args.self.nodes.items c.args.self.frames.items past made g.C.Carrier.loses run.arrives
+    run_left c.args.self.nodes.items c.args.self.frames.items past made g.C.Carrier.loses
+    run.arrives
     report run.kept
     c.in_ok-nodes.ensures
     (reads_are_fresh past.configs past.events past.choices past.steps c.reads_fresh.ensures
@@ -22,7 +23,8 @@ returns-clause-history g c = λ past run.
     let made = run.made in
     let es = modelled_from 1 past.events past.choices in
     let report : Report = record { steps = c.args.self.steps; nodes = c.in_ok-nodes.nodes } in
-    let is = run_left c.args.self.nodes.items c.args.self.frames.items past made g.C.Carrier.loses run.arrives
+    let is = run_left c.args.self.nodes.items c.args.self.frames.items past made g.C.Carrier.loses
+    run.arrives
     report run.kept
     c.in_ok-nodes.ensures
     (reads_are_fresh past.configs past.events past.choices past.steps c.reads_fresh.ensures

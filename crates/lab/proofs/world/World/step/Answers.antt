@@ -46,12 +46,14 @@ returns-in-Lost-clause-ran g c = λ past run.
     λ faithful frames each. c.in_ok-delivery_of.ensures.found frames
     (subst (λ (l : List Posted). AllZip PostedRefines l frames) (sym c.deref.ensures.value) each)
     faithful in
-    on_ok_weaker c.keep-in-Lost.result (lost_applied g.C.Carrier c.in_order.ensures c.args.self.now begun
+    on_ok_weaker c.keep-in-Lost.result (lost_applied g.C.Carrier c.in_order.ensures c.args.self.now
+    begun
     event c.in_ok-begin.ensures.begun c.len.result c.in-Some.request c.len.ensures
     c.in-Some.ensures.0 c.in-Some.ensures.1 found here c.in_ok-delivery_of.ensures.lost
     (c.names_node.ensures.0 c.if-not-names_node.false) past run c.in-Lost.is mid
     c.keep-in-Lost.new.self refl c.in_ok-delivery_of.ensures.faithful.1)
-    (subst (λ (l : List Line). OnOk c.keep-in-Lost.result (HasKept mid c.keep-in-Lost.new.self true l))
+    (subst (λ (l : List Line). OnOk c.keep-in-Lost.result (HasKept mid c.keep-in-Lost.new.self true
+    l))
     c.in_ok-one_line-in-Lost.ensures c.keep-in-Lost.ensures.kept)
 
 -- the world does not have the node

@@ -1,5 +1,5 @@
 use Rattle.lab.specs.Worlds.{AreLeft}
-use Rattle.lab.proofs.world.left_of_all.Given as goal
+use Rattle.lab.proofs.leaving.left_of_all.Given as goal
 
 -- what is left of the nodes that were passed
 abbrev pub invariant-loop-node : goal.invariant-loop-node

@@ -1,5 +1,5 @@
 use Rattle.lab.proofs.Nodes.{left_next}
-use Rattle.lab.proofs.world.left_of_all.Goals as goal
+use Rattle.lab.proofs.leaving.left_of_all.Goals as goal
 
 pub loop-node-preserved : goal.loop-node-preserved
 loop-node-preserved c =

@@ -3,7 +3,7 @@ use Rattle.disk.specs.{Slots}
 use Rattle.lab.specs.declared.node_state.NodeState.{NodeState}
 use Rattle.lab.specs.SimNodes.{StateRefines, disk_in, in_memory}
 use Rattle.lab.specs.Worlds.{HasTablesIn}
-use Rattle.lab.proofs.world.left_of.Goals as goal
+use Rattle.lab.proofs.leaving.left_of.Goals as goal
 
 pub returns-in-Up-clause-left : goal.returns-in-Up-clause-left
 returns-in-Up-clause-left c = λ n disk is own.

@@ -2,7 +2,7 @@ use Rattle.std.proofs.Common.{List, ℕ, Some, Ok, ap, arith, drop, length}
 use Rattle.std.proofs.lemmas.List.{length-drop}
 use Rattle.link_messages.specs.{NextOutcome}
 use Rattle.carriers.proofs.Reading.{read_all, read_no}
-use Rattle.carriers.proofs.sending.read_whole.Goals as goal
+use Rattle.carriers.proofs.sending.read_frame.Goals as goal
 
 pub returns-in-Err : goal.returns-in-Err
 returns-in-Err c = read_no c.one_answer.ensures.one c.in-Err.e c.args.bytes.now c.args.bytes.now
