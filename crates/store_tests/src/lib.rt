@@ -22,6 +22,10 @@ mod edges;
 #[cfg(test)]
 mod faults;
 #[cfg(test)]
+mod folder_stores;
+#[cfg(test)]
+mod folders;
+#[cfg(test)]
 mod full_stores;
 #[cfg(test)]
 mod items;
