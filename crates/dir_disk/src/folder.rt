@@ -2,8 +2,9 @@
 // neither that it is honest nor that it is reliable.
 ghost use Rattle.std.specs.Prelude.{◌≡◌, ◌≤◌, ◌<◌, ◌^◌, ◌-◌, [], None, IfOk, IsErrOf, OnOk};
 ghost use Rattle.std.specs.Prelude.{vec_len};
-ghost use Rattle.disk.specs.{Absent, RisesByOne};
+ghost use Rattle.disk.specs.{Absent};
 
+use crate::failure_count::FailureCount;
 use crate::lock::{LockError, locked};
 use crate::names::{path_of, path_of_folder};
 use crate::open_file::{OpenFile, ends_out_of_range};
@@ -22,7 +23,7 @@ pub struct DirDisk<R> {
     files: OpenFiles,
     writes: bool,
     lock: Option<File>,
-    failures: u64,
+    failures: FailureCount,
 }
 
 impl<R: Files<File = File> + Alloc<A = Global> + Clone + Drop> DirDisk<R> {
@@ -42,7 +43,7 @@ impl<R: Files<File = File> + Alloc<A = Global> + Clone + Drop> DirDisk<R> {
     }
 
     fn over(rt: R, folder: &str, writes: bool) -> Result<DirDisk<R>, AllocError>
-        ensures { IfOk result (λ disk. disk.failures ≡ 0) }
+        ensures { IfOk result (λ disk. disk.failures.count ≡ 0) }
     {
         let alloc = rt.alloc();
         Ok(DirDisk {
@@ -51,7 +52,7 @@ impl<R: Files<File = File> + Alloc<A = Global> + Clone + Drop> DirDisk<R> {
             files: OpenFiles::new(alloc)?,
             writes,
             lock: None,
-            failures: 0,
+            failures: FailureCount::new(),
         })
     }
 
@@ -70,48 +71,24 @@ impl<R: Files<File = File> + Alloc<A = Global> + Clone + Drop> DirDisk<R> {
         Ok(())
     }
 
-    // Whether a call is made at all: the count of failures is below its last value.
-    fn works(&self) -> Result<(), DiskError>
-        ensures { 2 ^ 64 - 1 ≤ self.now.failures → IsErrOf result DiskError.Failed }
-    {
-        if self.failures == u64::MAX {
-            return Err(DiskError::Failed);
-        }
-        Ok(())
-    }
-
     // Whether a call is made that changes files.
     fn may_write(&self) -> Result<(), DiskError>
-        ensures { 2 ^ 64 - 1 ≤ self.now.failures → IsErrOf result DiskError.Failed }
+        ensures { 2 ^ 64 - 1 ≤ self.now.failures.count → IsErrOf result DiskError.Failed }
     {
         if !self.writes {
             return Err(DiskError::Failed);
         }
-        self.works()
-    }
-
-    // Counts a call that failed.
-    fn end<T>(&mut self, answer: Result<T, DiskError>) -> Result<T, DiskError>
-        ensures same { result ≡ answer }
-        ensures failed { IsErrOf answer DiskError.Failed →
-            RisesByOne self.old.failures self.new.failures }
-        ensures count { (IsErrOf answer DiskError.Failed → ⊥) →
-            self.new.failures ≡ self.old.failures }
-    {
-        if let Err(DiskError::Failed) = answer {
-            self.failures = self.failures.saturating_add(1);
-        }
-        answer
+        self.failures.works()
     }
 
     // Opens the file with this number, unless it is open, and makes it the latest. Where it is
     // absent, it is created if that is asked for.
     fn reach(&mut self, number: u64, creates: bool) -> Result<(), DiskError>
-        ensures count { self.new.failures ≡ self.old.failures }
-        ensures last { 2 ^ 64 - 1 ≤ self.old.failures → IsErrOf result DiskError.Failed }
+        ensures count { self.new.failures.count ≡ self.old.failures.count }
+        ensures last { 2 ^ 64 - 1 ≤ self.old.failures.count → IsErrOf result DiskError.Failed }
         ensures latest { OnOk result (0 < vec_len self.new.files.files) }
     {
-        self.works()?;
+        self.failures.works()?;
         if self.files.touch(number)? {
             return Ok(());
         }
@@ -128,15 +105,15 @@ impl<R: Files<File = File> + Alloc<A = Global> + Clone + Drop> DirDisk<R> {
     }
 
     fn list(&self) -> Result<Vec<u64>, DiskError>
-        ensures { 2 ^ 64 - 1 ≤ self.now.failures → IsErrOf result DiskError.Failed }
+        ensures { 2 ^ 64 - 1 ≤ self.now.failures.count → IsErrOf result DiskError.Failed }
     {
-        self.works()?;
+        self.failures.works()?;
         numbers_in(&self.rt, self.folder.as_str())
     }
 
     fn write_in(&mut self, file: u64, at: u64, bytes: &[u8]) -> Result<(), DiskError>
-        ensures count { self.new.failures ≡ self.old.failures }
-        ensures last { 2 ^ 64 - 1 ≤ self.old.failures → IsErrOf result DiskError.Failed }
+        ensures count { self.new.failures.count ≡ self.old.failures.count }
+        ensures last { 2 ^ 64 - 1 ≤ self.old.failures.count → IsErrOf result DiskError.Failed }
     {
         self.may_write()?;
         if ends_out_of_range(at, bytes.len()) {
@@ -147,8 +124,8 @@ impl<R: Files<File = File> + Alloc<A = Global> + Clone + Drop> DirDisk<R> {
     }
 
     fn cut_in(&mut self, file: u64, length: u64) -> Result<(), DiskError>
-        ensures count { self.new.failures ≡ self.old.failures }
-        ensures last { 2 ^ 64 - 1 ≤ self.old.failures → IsErrOf result DiskError.Failed }
+        ensures count { self.new.failures.count ≡ self.old.failures.count }
+        ensures last { 2 ^ 64 - 1 ≤ self.old.failures.count → IsErrOf result DiskError.Failed }
     {
         self.may_write()?;
         self.reach(file, false)?;
@@ -156,8 +133,8 @@ impl<R: Files<File = File> + Alloc<A = Global> + Clone + Drop> DirDisk<R> {
     }
 
     fn remove_in(&mut self, file: u64) -> Result<(), DiskError>
-        ensures count { self.new.failures ≡ self.old.failures }
-        ensures last { 2 ^ 64 - 1 ≤ self.old.failures → IsErrOf result DiskError.Failed }
+        ensures count { self.new.failures.count ≡ self.old.failures.count }
+        ensures last { 2 ^ 64 - 1 ≤ self.old.failures.count → IsErrOf result DiskError.Failed }
     {
         self.may_write()?;
         let path = path_of(self.rt.alloc(), self.folder.as_str(), file)?;
@@ -171,7 +148,7 @@ impl<R: Files<File = File> + Alloc<A = Global> + Clone + Drop> Disk for DirDisk<
 
     ghost state = { λ disk file. Absent None };
 
-    ghost failures = { λ disk. disk.failures };
+    ghost failures = { λ disk. disk.failures.count };
 
     ghost is_reliable = { λ disk. ⊥ };
 
@@ -183,7 +160,7 @@ impl<R: Files<File = File> + Alloc<A = Global> + Clone + Drop> Disk for DirDisk<
 
     fn files(&mut self) -> Result<Vec<u64>, DiskError> {
         let answer = self.list();
-        self.end(answer)
+        self.failures.end(answer)
     }
 
     fn length(&mut self, file: u64) -> Result<u64, DiskError> {
@@ -191,7 +168,7 @@ impl<R: Files<File = File> + Alloc<A = Global> + Clone + Drop> Disk for DirDisk<
             Ok(()) => self.files.latest().length(),
             Err(e) => Err(e),
         };
-        self.end(answer)
+        self.failures.end(answer)
     }
 
     fn read(&mut self, file: u64, at: u64, into: &mut [u8]) -> Result<(), DiskError> {
@@ -199,17 +176,17 @@ impl<R: Files<File = File> + Alloc<A = Global> + Clone + Drop> Disk for DirDisk<
             Ok(()) => self.files.latest().read(at, into),
             Err(e) => Err(e),
         };
-        self.end(answer)
+        self.failures.end(answer)
     }
 
     fn write_at(&mut self, file: u64, at: u64, bytes: &[u8]) -> Result<(), DiskError> {
         let answer = self.write_in(file, at, bytes);
-        self.end(answer)
+        self.failures.end(answer)
     }
 
     fn cut(&mut self, file: u64, length: u64) -> Result<(), DiskError> {
         let answer = self.cut_in(file, length);
-        self.end(answer)
+        self.failures.end(answer)
     }
 
     fn sync(&mut self, file: u64) -> Result<(), DiskError> {
@@ -217,12 +194,12 @@ impl<R: Files<File = File> + Alloc<A = Global> + Clone + Drop> Disk for DirDisk<
             Ok(()) => self.files.latest().sync(),
             Err(e) => Err(e),
         };
-        self.end(answer)
+        self.failures.end(answer)
     }
 
     fn remove(&mut self, file: u64) -> Result<(), DiskError> {
         let answer = self.remove_in(file);
-        self.end(answer)
+        self.failures.end(answer)
     }
 }
 

@@ -1,20 +1,23 @@
-//! A disk that is only looked at.
-ghost use Rattle.std.specs.Prelude.{◌≡◌, ◌↔◌, ◌^◌, ◌-◌, ◌<◌, [], None, IsErrOf, IsTrue};
-ghost use Rattle.disk.specs.{Absent, IsSame, RisesByOne};
+// A disk over another one, of which it changes nothing.
+ghost use Rattle.std.specs.Prelude.{◌≡◌, ◌≤◌, ◌^◌, ◌-◌, [], None, IsErrOf};
+ghost use Rattle.disk.specs.{Absent, IsSame};
 
+use crate::failure_count::FailureCount;
 use disk::{Disk, DiskError};
 use std::alloc::Global;
 
-/// A disk that no call changes. Every file counts as synced. A file that is removed is only left
-/// out from then on. What would write or cut fails. It promises nothing else of its answers.
+/// A disk of which no call changes anything. A file that is removed is only left out from then on,
+/// and one that is synced only has to be there. What would write or cut fails. It promises nothing
+/// else of its answers.
 #[derive(Drop)]
 pub struct Unchanged<D: Disk> {
     disk: D,
     removed: Vec<u64>,
-    failures: u64,
+    failures: FailureCount,
 }
 
 impl<D: Disk + Drop> Unchanged<D> {
+    /// A disk over this one, none of whose files is left out.
     pub fn new(alloc: Global, disk: D) -> Unchanged<D>
         ensures inner { result.disk ≡ disk }
         ensures count { ⟦<Unchanged<D> as Disk>⟧.failures result ≡ 0 }
@@ -22,7 +25,7 @@ impl<D: Disk + Drop> Unchanged<D> {
         Unchanged {
             disk,
             removed: Vec::new(alloc),
-            failures: 0,
+            failures: FailureCount::new(),
         }
     }
 
@@ -33,47 +36,24 @@ impl<D: Disk + Drop> Unchanged<D> {
         self.disk
     }
 
-    // Whether the next call is made at all: the count of failures is below its last value.
-    fn works(&self) -> bool
-        ensures { IsTrue result ↔ (self.now.failures < 2 ^ 64 - 1) }
+    // Whether a call is made of the file: it was not removed.
+    fn may_look(&self, file: u64) -> Result<(), DiskError>
+        ensures { 2 ^ 64 - 1 ≤ self.now.failures.count → IsErrOf result DiskError.Failed }
     {
-        self.failures < u64::MAX
-    }
-
-    // Counts a call that failed.
-    fn end<T>(&mut self, answer: Result<T, DiskError>) -> Result<T, DiskError>
-        requires { self.old.failures < 2 ^ 64 - 1 }
-        ensures same { result ≡ answer }
-        ensures disk { self.new.disk ≡ self.old.disk }
-        ensures failed { IsErrOf answer DiskError.Failed →
-            RisesByOne self.old.failures self.new.failures }
-        ensures count { (IsErrOf answer DiskError.Failed → ⊥) →
-            self.new.failures ≡ self.old.failures }
-    {
-        if let Err(DiskError::Failed) = answer {
-            self.failures = self.failures.saturating_add(1);
-        }
-        answer
-    }
-
-    // Whether the file is there, of those that were not removed.
-    fn is_there(&mut self, file: u64) -> Result<(), DiskError>
-        ensures same { D.is_honest self.old.disk →
-            IsSame (D.state self.old.disk) (D.state self.new.disk) }
-        ensures count { self.new.failures ≡ self.old.failures }
-    {
+        self.failures.works()?;
         if self.removed.contains(&file) {
             return Err(DiskError::NoFile);
         }
-        self.disk.length(file)?;
         Ok(())
     }
 
     fn numbers(&mut self) -> Result<Vec<u64>, DiskError>
         ensures same { D.is_honest self.old.disk →
             IsSame (D.state self.old.disk) (D.state self.new.disk) }
-        ensures count { self.new.failures ≡ self.old.failures }
+        ensures count { self.new.failures.count ≡ self.old.failures.count }
+        ensures last { 2 ^ 64 - 1 ≤ self.old.failures.count → IsErrOf result DiskError.Failed }
     {
+        self.failures.works()?;
         let mut numbers = self.disk.files()?;
         let removed = &self.removed;
         numbers.retain(|number| !removed.contains(&*number));
@@ -83,31 +63,41 @@ impl<D: Disk + Drop> Unchanged<D> {
     fn measure(&mut self, file: u64) -> Result<u64, DiskError>
         ensures same { D.is_honest self.old.disk →
             IsSame (D.state self.old.disk) (D.state self.new.disk) }
-        ensures count { self.new.failures ≡ self.old.failures }
+        ensures count { self.new.failures.count ≡ self.old.failures.count }
+        ensures last { 2 ^ 64 - 1 ≤ self.old.failures.count → IsErrOf result DiskError.Failed }
     {
-        if self.removed.contains(&file) {
-            return Err(DiskError::NoFile);
-        }
+        self.may_look(file)?;
         self.disk.length(file)
     }
 
     fn fill(&mut self, file: u64, at: u64, into: &mut [u8]) -> Result<(), DiskError>
         ensures same { D.is_honest self.old.disk →
             IsSame (D.state self.old.disk) (D.state self.new.disk) }
-        ensures count { self.new.failures ≡ self.old.failures }
+        ensures count { self.new.failures.count ≡ self.old.failures.count }
+        ensures last { 2 ^ 64 - 1 ≤ self.old.failures.count → IsErrOf result DiskError.Failed }
     {
-        if self.removed.contains(&file) {
-            return Err(DiskError::NoFile);
-        }
+        self.may_look(file)?;
         self.disk.read(file, at, into)
+    }
+
+    fn look_for(&mut self, file: u64) -> Result<(), DiskError>
+        ensures same { D.is_honest self.old.disk →
+            IsSame (D.state self.old.disk) (D.state self.new.disk) }
+        ensures count { self.new.failures.count ≡ self.old.failures.count }
+        ensures last { 2 ^ 64 - 1 ≤ self.old.failures.count → IsErrOf result DiskError.Failed }
+    {
+        self.may_look(file)?;
+        self.disk.length(file)?;
+        Ok(())
     }
 
     fn leave_out(&mut self, file: u64) -> Result<(), DiskError>
         ensures same { D.is_honest self.old.disk →
             IsSame (D.state self.old.disk) (D.state self.new.disk) }
-        ensures count { self.new.failures ≡ self.old.failures }
+        ensures count { self.new.failures.count ≡ self.old.failures.count }
+        ensures last { 2 ^ 64 - 1 ≤ self.old.failures.count → IsErrOf result DiskError.Failed }
     {
-        self.is_there(file)?;
+        self.look_for(file)?;
         self.removed.push(file)?;
         Ok(())
     }
@@ -118,7 +108,7 @@ impl<D: Disk + Drop> Disk for Unchanged<D> {
 
     ghost state = { λ disk file. Absent None };
 
-    ghost failures = { λ disk. disk.failures };
+    ghost failures = { λ disk. disk.failures.count };
 
     ghost is_reliable = { λ disk. ⊥ };
 
@@ -129,56 +119,35 @@ impl<D: Disk + Drop> Disk for Unchanged<D> {
     ghost allocates = { Unit {0} };
 
     fn files(&mut self) -> Result<Vec<u64>, DiskError> {
-        if !self.works() {
-            return Err(DiskError::Failed);
-        }
         let answer = self.numbers();
-        self.end(answer)
+        self.failures.end(answer)
     }
 
     fn length(&mut self, file: u64) -> Result<u64, DiskError> {
-        if !self.works() {
-            return Err(DiskError::Failed);
-        }
         let answer = self.measure(file);
-        self.end(answer)
+        self.failures.end(answer)
     }
 
     fn read(&mut self, file: u64, at: u64, into: &mut [u8]) -> Result<(), DiskError> {
-        if !self.works() {
-            return Err(DiskError::Failed);
-        }
         let answer = self.fill(file, at, into);
-        self.end(answer)
+        self.failures.end(answer)
     }
 
     fn write_at(&mut self, _file: u64, _at: u64, _bytes: &[u8]) -> Result<(), DiskError> {
-        if !self.works() {
-            return Err(DiskError::Failed);
-        }
-        self.end(Err(DiskError::Failed))
+        self.failures.end(Err(DiskError::Failed))
     }
 
     fn cut(&mut self, _file: u64, _length: u64) -> Result<(), DiskError> {
-        if !self.works() {
-            return Err(DiskError::Failed);
-        }
-        self.end(Err(DiskError::Failed))
+        self.failures.end(Err(DiskError::Failed))
     }
 
     fn sync(&mut self, file: u64) -> Result<(), DiskError> {
-        if !self.works() {
-            return Err(DiskError::Failed);
-        }
-        let answer = self.is_there(file);
-        self.end(answer)
+        let answer = self.look_for(file);
+        self.failures.end(answer)
     }
 
     fn remove(&mut self, file: u64) -> Result<(), DiskError> {
-        if !self.works() {
-            return Err(DiskError::Failed);
-        }
         let answer = self.leave_out(file);
-        self.end(answer)
+        self.failures.end(answer)
     }
 }

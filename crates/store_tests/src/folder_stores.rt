@@ -1,10 +1,9 @@
 // A store in a folder: the bytes of its files, what an opening finds, and an opening that leaves
 // each byte as it was.
 use crate::cases::{holds_at, is_so};
-use crate::folders::{disk_over, empty_folder, remove_folder};
+use crate::folder_rows::{disk_over, empty_folder, remove_folder};
 use crate::items::{filled, is_same, put};
-use crate::plain_store::{append, batch_at, created, get_agrees, opened, tends};
-use crate::plain_store::PlainStore;
+use crate::plain_store::{PlainStore, append, batch_at, created, get_agrees, opened, tends};
 use dir_disk::{DirDisk, Unchanged};
 use disk::{Disk, DiskError, MemDisk};
 use engine::Engine;
@@ -31,11 +30,20 @@ fn facts_of<D: Disk + Drop>(engine: &Engine<D>) -> Facts {
     (numbers, engine.tables())
 }
 
+// Tends until nothing is due.
+fn settle<D: Disk + Drop>(rt: &impl Abort, alloc: Global, engine: &mut Engine<D>) {
+    for _ in 0..10 {
+        if !tends(rt, alloc, engine) {
+            return;
+        }
+    }
+}
+
 // A store of 60 batches of one put each, whose last log is not flushed.
 fn filled_store<D: Disk + Drop>(rt: &impl Abort, alloc: Global, disk: D) -> Engine<D> {
     let mut engine = created(rt, alloc, disk, LOG);
     for place in 0..BATCHES {
-        tends(rt, alloc, &mut engine);
+        settle(rt, alloc, &mut engine);
         let batch = batch_at(rt, alloc, &[(place, Some(place))]);
         append(rt, alloc, &mut engine, &batch);
     }
@@ -111,11 +119,23 @@ fn is_as_in_memory(rt: &impl Abort, host: &HostRuntime, folder: &str) -> bool {
 fn a_store_in_a_folder_is_opened_again(rt: HostRuntime) {
     let folder = empty_folder(&rt, &rt, "store");
     let facts = store_in(&rt, &rt, folder.as_str());
-    is_so(&rt, facts.0[0] == BATCHES as u64 && facts.1[1] > 0, "batches and merged tables");
-    is_so(&rt, is_as_in_memory(&rt, &rt, folder.as_str()), "the bytes of each file");
+    is_so(
+        &rt,
+        facts.0[0] == BATCHES as u64 && facts.1[1] > 0,
+        "batches and merged tables",
+    );
+    is_so(
+        &rt,
+        is_as_in_memory(&rt, &rt, folder.as_str()),
+        "the bytes of each file",
+    );
     let mut engine = opened(&rt, rt.alloc(), disk_over(&rt, &rt, folder.as_str()), LOG);
     is_so(&rt, facts_of(&engine) == facts, "the same numbers");
-    is_so(&rt, has_all(&rt, rt.alloc(), &mut engine), "the value of each key");
+    is_so(
+        &rt,
+        has_all(&rt, rt.alloc(), &mut engine),
+        "the value of each key",
+    );
     drop(engine);
     remove_folder(&rt, &rt, folder.as_str());
 }
@@ -139,15 +159,28 @@ fn an_unchanged_store_keeps_each_byte(rt: HostRuntime) {
     let folder = empty_folder(&rt, &rt, "unchanged");
     let facts = store_in(&rt, &rt, folder.as_str());
     let mut disk = disk_over(&rt, &rt, folder.as_str());
-    disk.write_at(UNNAMED, 0, b"no version names it").expect(&rt, "a write");
+    disk.write_at(UNNAMED, 0, b"no version names it")
+        .expect(&rt, "a write");
     drop(disk);
     let before = folder_texts(&rt, &rt, folder.as_str());
-    is_so(&rt, look_at(&rt, &rt, folder.as_str()) == facts, "the same numbers");
-    is_so(&rt, are_same(&folder_texts(&rt, &rt, folder.as_str()), &before), "each byte");
+    is_so(
+        &rt,
+        look_at(&rt, &rt, folder.as_str()) == facts,
+        "the same numbers",
+    );
+    is_so(
+        &rt,
+        are_same(&folder_texts(&rt, &rt, folder.as_str()), &before),
+        "each byte",
+    );
     // Any other opening removes the file.
     drop(opened(&rt, rt.alloc(), disk_over(&rt, &rt, folder.as_str()), LOG));
     let after = folder_texts(&rt, &rt, folder.as_str());
-    is_so(&rt, after.len() + 1 == before.len(), "the file without a name is gone");
+    is_so(
+        &rt,
+        after.len() + 1 == before.len(),
+        "the file without a name is gone",
+    );
     remove_folder(&rt, &rt, folder.as_str());
 }
 
@@ -192,6 +225,14 @@ fn an_unchanged_disk_leaves_out_what_is_removed(rt: HostRuntime) {
         holds_at(&rt, index, answer == want);
     }
     is_so(&rt, disk.length(1) == Err(DiskError::NoFile), "no length");
-    is_so(&rt, disk.files().expect(&rt, "files").as_slice() == [2].as_slice(), "one file");
-    is_so(&rt, are_same(&texts(&rt, alloc, &mut disk.into_disk()), &before), "each byte");
+    is_so(
+        &rt,
+        disk.files().expect(&rt, "files").as_slice() == [2].as_slice(),
+        "one file",
+    );
+    is_so(
+        &rt,
+        are_same(&texts(&rt, alloc, &mut disk.into_disk()), &before),
+        "each byte",
+    );
 }

@@ -22,6 +22,8 @@ mod edges;
 #[cfg(test)]
 mod faults;
 #[cfg(test)]
+mod folder_rows;
+#[cfg(test)]
 mod folder_stores;
 #[cfg(test)]
 mod folders;
