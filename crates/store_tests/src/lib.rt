@@ -22,6 +22,12 @@ mod edges;
 #[cfg(test)]
 mod faults;
 #[cfg(test)]
+mod folder_rows;
+#[cfg(test)]
+mod folder_stores;
+#[cfg(test)]
+mod folders;
+#[cfg(test)]
 mod full_stores;
 #[cfg(test)]
 mod items;

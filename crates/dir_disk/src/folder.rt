@@ -1,0 +1,217 @@
+// A folder as a disk. No contract says what the system does with its files, so this disk claims
+// neither that it is honest nor that it is reliable.
+ghost use Rattle.std.specs.Prelude.{◌≡◌, ◌≤◌, ◌<◌, ◌^◌, ◌-◌, [], None, IfOk, IsErrOf, OnOk};
+ghost use Rattle.std.specs.Prelude.{vec_len};
+ghost use Rattle.disk.specs.{Absent};
+
+use crate::failure_count::FailureCount;
+use crate::lock::{LockError, locked};
+use crate::names::{path_of, path_of_folder};
+use crate::open_file::{OpenFile, ends_out_of_range};
+use crate::open_files::OpenFiles;
+use crate::system::{EntryKind, kind_at, numbers_in, opened, removed};
+use disk::{Crash, Disk, DiskError, Fault, Junk};
+use std::alloc::{AllocError, Global};
+use std::fs::File;
+use std::rt::Files;
+
+/// A folder whose files are named by their numbers in decimal. Other names in it are ignored.
+#[derive(Drop)]
+pub struct DirDisk<R> {
+    rt: R,
+    folder: String,
+    files: OpenFiles,
+    writes: bool,
+    lock: Option<File>,
+    failures: FailureCount,
+}
+
+impl<R: Files<File = File> + Alloc<A = Global> + Clone + Drop> DirDisk<R> {
+    /// The folder at this path. It need not be there, and is not made.
+    pub fn new(rt: R, folder: &str) -> Result<DirDisk<R>, AllocError>
+        ensures { IfOk result (λ disk. ⟦<DirDisk<R> as Disk>⟧.failures disk ≡ 0) }
+    {
+        DirDisk::over(rt, folder, true)
+    }
+
+    /// The folder at this path, whose files are opened to be read alone. What would change one
+    /// fails, before the system is called.
+    pub fn to_read(rt: R, folder: &str) -> Result<DirDisk<R>, AllocError>
+        ensures { IfOk result (λ disk. ⟦<DirDisk<R> as Disk>⟧.failures disk ≡ 0) }
+    {
+        DirDisk::over(rt, folder, false)
+    }
+
+    fn over(rt: R, folder: &str, writes: bool) -> Result<DirDisk<R>, AllocError>
+        ensures { IfOk result (λ disk. disk.failures.count ≡ 0) }
+    {
+        let alloc = rt.alloc();
+        Ok(DirDisk {
+            rt,
+            folder: String::from_str(alloc, folder)?,
+            files: OpenFiles::new(alloc)?,
+            writes,
+            lock: None,
+            failures: FailureCount::new(),
+        })
+    }
+
+    /// Locks the folder, which has to be there, against other users that lock it, of this process
+    /// and of others. The lock is held as long as this disk is there, and is free at the latest
+    /// when the process has ended. It is a lock of the system on the folder itself, so no file is
+    /// made for it. It is no call of the device.
+    pub fn lock(&mut self) -> Result<(), LockError>
+        ensures { ⟦<DirDisk<R> as Disk>⟧.failures self.new ≡
+            ⟦<DirDisk<R> as Disk>⟧.failures self.old }
+    {
+        if self.lock.is_none() {
+            let path = path_of_folder(self.rt.alloc(), self.folder.as_str())?;
+            self.lock = Some(locked(File::open(&self.rt, path.as_str()))?);
+        }
+        Ok(())
+    }
+
+    // Whether a call is made that changes files.
+    fn may_write(&self) -> Result<(), DiskError>
+        ensures { 2 ^ 64 - 1 ≤ self.now.failures.count → IsErrOf result DiskError.Failed }
+    {
+        if !self.writes {
+            return Err(DiskError::Failed);
+        }
+        self.failures.works()
+    }
+
+    // Opens the file with this number, unless it is open, and makes it the latest. Where it is
+    // absent, it is created if that is asked for.
+    fn reach(&mut self, number: u64, creates: bool) -> Result<(), DiskError>
+        ensures count { self.new.failures.count ≡ self.old.failures.count }
+        ensures last { 2 ^ 64 - 1 ≤ self.old.failures.count → IsErrOf result DiskError.Failed }
+        ensures latest { OnOk result (0 < vec_len self.new.files.files) }
+    {
+        self.failures.works()?;
+        if self.files.touch(number)? {
+            return Ok(());
+        }
+        let path = path_of(self.rt.alloc(), self.folder.as_str(), number)?;
+        let len = match kind_at(&self.rt, path.as_str())? {
+            EntryKind::File(len) => len,
+            EntryKind::Absent if creates => 0,
+            EntryKind::Absent => return Err(DiskError::NoFile),
+            EntryKind::Other => return Err(DiskError::Failed),
+        };
+        let file = opened(&self.rt, path.as_str(), self.writes, creates)?;
+        self.files.keep(OpenFile::new(number, file, len))?;
+        Ok(())
+    }
+
+    fn list(&self) -> Result<Vec<u64>, DiskError>
+        ensures { 2 ^ 64 - 1 ≤ self.now.failures.count → IsErrOf result DiskError.Failed }
+    {
+        self.failures.works()?;
+        numbers_in(&self.rt, self.folder.as_str())
+    }
+
+    fn write_in(&mut self, file: u64, at: u64, bytes: &[u8]) -> Result<(), DiskError>
+        ensures count { self.new.failures.count ≡ self.old.failures.count }
+        ensures last { 2 ^ 64 - 1 ≤ self.old.failures.count → IsErrOf result DiskError.Failed }
+    {
+        self.may_write()?;
+        if ends_out_of_range(at, bytes.len()) {
+            return Err(DiskError::Failed);
+        }
+        self.reach(file, at == 0)?;
+        self.files.latest().write(at, bytes)
+    }
+
+    fn cut_in(&mut self, file: u64, length: u64) -> Result<(), DiskError>
+        ensures count { self.new.failures.count ≡ self.old.failures.count }
+        ensures last { 2 ^ 64 - 1 ≤ self.old.failures.count → IsErrOf result DiskError.Failed }
+    {
+        self.may_write()?;
+        self.reach(file, false)?;
+        self.files.latest().cut(length)
+    }
+
+    fn remove_in(&mut self, file: u64) -> Result<(), DiskError>
+        ensures count { self.new.failures.count ≡ self.old.failures.count }
+        ensures last { 2 ^ 64 - 1 ≤ self.old.failures.count → IsErrOf result DiskError.Failed }
+    {
+        self.may_write()?;
+        let path = path_of(self.rt.alloc(), self.folder.as_str(), file)?;
+        self.files.close(file);
+        removed(&self.rt, path.as_str())
+    }
+}
+
+impl<R: Files<File = File> + Alloc<A = Global> + Clone + Drop> Disk for DirDisk<R> {
+    ghost is_honest = { λ disk. ⊥ };
+
+    ghost state = { λ disk file. Absent None };
+
+    ghost failures = { λ disk. disk.failures.count };
+
+    ghost is_reliable = { λ disk. ⊥ };
+
+    ghost past = { λ disk. [] };
+
+    ghost marks = { λ disk. [] };
+
+    ghost allocates = { Unit {0} };
+
+    fn files(&mut self) -> Result<Vec<u64>, DiskError> {
+        let answer = self.list();
+        self.failures.end(answer)
+    }
+
+    fn length(&mut self, file: u64) -> Result<u64, DiskError> {
+        let answer = match self.reach(file, false) {
+            Ok(()) => self.files.latest().length(),
+            Err(e) => Err(e),
+        };
+        self.failures.end(answer)
+    }
+
+    fn read(&mut self, file: u64, at: u64, into: &mut [u8]) -> Result<(), DiskError> {
+        let answer = match self.reach(file, false) {
+            Ok(()) => self.files.latest().read(at, into),
+            Err(e) => Err(e),
+        };
+        self.failures.end(answer)
+    }
+
+    fn write_at(&mut self, file: u64, at: u64, bytes: &[u8]) -> Result<(), DiskError> {
+        let answer = self.write_in(file, at, bytes);
+        self.failures.end(answer)
+    }
+
+    fn cut(&mut self, file: u64, length: u64) -> Result<(), DiskError> {
+        let answer = self.cut_in(file, length);
+        self.failures.end(answer)
+    }
+
+    fn sync(&mut self, file: u64) -> Result<(), DiskError> {
+        let answer = match self.reach(file, false) {
+            Ok(()) => self.files.latest().sync(),
+            Err(e) => Err(e),
+        };
+        self.failures.end(answer)
+    }
+
+    fn remove(&mut self, file: u64) -> Result<(), DiskError> {
+        let answer = self.remove_in(file);
+        self.failures.end(answer)
+    }
+}
+
+/// A folder can neither be made to fail nor to crash: these calls leave it as it is.
+impl<R: Files<File = File> + Alloc<A = Global> + Clone + Drop> Crash for DirDisk<R> {
+    fn arm(&mut self, _fault: &Fault) {}
+
+    fn has_struck(&self) -> bool {
+        false
+    }
+
+    fn crash(&mut self, junk: Junk) {
+        drop(junk);
+    }
+}

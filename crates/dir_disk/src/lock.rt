@@ -1,0 +1,43 @@
+// The lock on a folder.
+ghost use Rattle.std.specs.Prelude.{◌≡◌};
+ghost use Rattle.dir_disk.specs.declared.lock.LockError.TheVariants.{Memory};
+
+use std::alloc::AllocError;
+use std::fs::{File, TryLockError};
+use std::io;
+use thiserror::Error;
+
+/// Why a folder was not locked. It is as it was.
+#[derive(Clone, Copy, Debug, PartialEq, Eq, Error)]
+pub enum LockError {
+    /// Another user has locked it.
+    #[error("the folder is in use")]
+    InUse = 1,
+    /// There is no such folder, or the device failed.
+    #[error("the device failed")]
+    Failed,
+    /// Memory was wanting.
+    #[error("out of memory")]
+    Memory,
+}
+
+impl From<AllocError> for LockError {
+    ghost from_gives = { λ _ e. e ≡ Memory };
+
+    fn from(_e: AllocError) -> LockError {
+        LockError::Memory
+    }
+}
+
+/// Locks a folder that was opened. The lock is free again once the file is closed, so at the latest
+/// when the process has ended.
+pub fn locked(opened: io::Result<File>) -> Result<File, LockError> {
+    let Ok(folder) = opened else {
+        return Err(LockError::Failed);
+    };
+    match folder.try_lock() {
+        Ok(()) => Ok(folder),
+        Err(TryLockError::WouldBlock) => Err(LockError::InUse),
+        Err(TryLockError::Error(_)) => Err(LockError::Failed),
+    }
+}

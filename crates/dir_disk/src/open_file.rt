@@ -1,0 +1,106 @@
+// One file that is open. No call here makes more than two system calls, as long as the system
+// reads and writes at once what it is asked for.
+use disk::DiskError;
+use std::fs::File;
+use std::io::{self, ErrorKind};
+use std::os::unix::fs::FileExt;
+
+/// The greatest place where a file may end.
+const MAX_LEN: u64 = (1 << 63) - 1;
+
+/// Whether so many bytes from this place on end past the greatest place of a file.
+pub fn ends_out_of_range(at: u64, len: usize) -> bool {
+    at > MAX_LEN || len as u64 > MAX_LEN - at
+}
+
+/// A file that is open, and its length where that is known: this disk alone writes to it.
+#[derive(Drop)]
+pub struct OpenFile {
+    number: u64,
+    file: File,
+    len: Option<u64>,
+}
+
+fn done(answer: io::Result<()>) -> Result<(), DiskError> {
+    match answer {
+        Ok(()) => Ok(()),
+        Err(_) => Err(DiskError::Failed),
+    }
+}
+
+impl OpenFile {
+    pub fn new(number: u64, file: File, len: u64) -> OpenFile {
+        OpenFile {
+            number,
+            file,
+            len: Some(len),
+        }
+    }
+
+    pub fn number(&self) -> u64 {
+        self.number
+    }
+
+    /// How long the file is, as the system says now.
+    pub fn length(&mut self) -> Result<u64, DiskError> {
+        match self.file.metadata() {
+            Ok(metadata) => {
+                self.len = Some(metadata.len());
+                Ok(metadata.len())
+            }
+            Err(_) => Err(DiskError::Failed),
+        }
+    }
+
+    // The length that is known, or else what the system says.
+    fn known_length(&mut self) -> Result<u64, DiskError> {
+        match self.len {
+            Some(len) => Ok(len),
+            None => self.length(),
+        }
+    }
+
+    /// Fills the buffer with the bytes from a place on.
+    pub fn read(&mut self, at: u64, into: &mut [u8]) -> Result<(), DiskError> {
+        if ends_out_of_range(at, into.len()) {
+            return Err(DiskError::Short);
+        }
+        if into.is_empty() && at > self.length()? {
+            return Err(DiskError::Short);
+        }
+        match self.file.read_exact_at(into, at) {
+            Ok(()) => Ok(()),
+            Err(e) if e.kind() == ErrorKind::UnexpectedEof => Err(DiskError::Short),
+            Err(_) => Err(DiskError::Failed),
+        }
+    }
+
+    /// Writes bytes from a place on, which is not behind the end.
+    pub fn write(&mut self, at: u64, bytes: &[u8]) -> Result<(), DiskError> {
+        let len = self.known_length()?;
+        if at > len {
+            return Err(DiskError::Short);
+        }
+        // A write that fails may have written a part.
+        self.len = None;
+        done(self.file.write_all_at(bytes, at))?;
+        self.len = Some(len.max(at.saturating_add(bytes.len() as u64)));
+        Ok(())
+    }
+
+    /// Cuts the file to a length, which is not behind the end.
+    pub fn cut(&mut self, length: u64) -> Result<(), DiskError> {
+        if length > self.known_length()? {
+            return Err(DiskError::Short);
+        }
+        self.len = None;
+        done(self.file.set_len(length))?;
+        self.len = Some(length);
+        Ok(())
+    }
+
+    /// Asks the system to make the bytes durable, and the length with them.
+    pub fn sync(&self) -> Result<(), DiskError> {
+        done(self.file.sync_data())
+    }
+}

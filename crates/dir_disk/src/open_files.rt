@@ -1,0 +1,69 @@
+// The files of a folder that are open.
+ghost use Rattle.std.specs.Prelude.{◌<◌, IfOk, IfSome, IsTrue, OnOk, vec_len};
+
+use crate::open_file::OpenFile;
+use std::alloc::{AllocError, Global};
+
+/// The most files that are open at once.
+const MOST: usize = 32;
+
+/// The files that were used last, the latest at the end. The list has its memory from the beginning
+/// on, so no file that was opened is refused for want of it.
+#[derive(Drop)]
+pub struct OpenFiles {
+    files: Vec<OpenFile>,
+}
+
+impl OpenFiles {
+    pub fn new(alloc: Global) -> Result<OpenFiles, AllocError> {
+        Ok(OpenFiles {
+            files: Vec::with_capacity(alloc, MOST)?,
+        })
+    }
+
+    // Where the file with this number is.
+    fn index_of(&self, number: u64) -> Option<usize>
+        ensures { IfSome result (λ index. index < vec_len self.now.files) }
+    {
+        self.files.iter().position(|it| it.number() == number)
+    }
+
+    /// Closes the file with this number, if it is open.
+    pub fn close(&mut self, number: u64) {
+        if let Some(index) = self.index_of(number) {
+            self.files.remove(index);
+        }
+    }
+
+    /// Keeps an open file as the latest. Where too many are open, the one that was used least
+    /// lately is closed.
+    pub fn keep(&mut self, file: OpenFile) -> Result<(), AllocError>
+        ensures { OnOk result (0 < vec_len self.new.files) }
+    {
+        if self.files.len() >= MOST {
+            self.files.remove(0);
+        }
+        self.files.push(file)?;
+        Ok(())
+    }
+
+    /// Makes an open file with this number the latest. It answers whether there is one.
+    pub fn touch(&mut self, number: u64) -> Result<bool, AllocError>
+        ensures { IfOk result (λ is_open. IsTrue is_open → 0 < vec_len self.new.files) }
+    {
+        let Some(index) = self.index_of(number) else {
+            return Ok(false);
+        };
+        let file = self.files.remove(index);
+        self.files.push(file)?;
+        Ok(true)
+    }
+
+    /// The latest file.
+    pub fn latest(&mut self) -> &mut OpenFile
+        requires { 0 < vec_len self.old.files }
+    {
+        let last = self.files.len() - 1;
+        &mut self.files[last]
+    }
+}

@@ -1,0 +1,153 @@
+// A disk over another one, of which it changes nothing.
+ghost use Rattle.std.specs.Prelude.{◌≡◌, ◌≤◌, ◌^◌, ◌-◌, [], None, IsErrOf};
+ghost use Rattle.disk.specs.{Absent, IsSame};
+
+use crate::failure_count::FailureCount;
+use disk::{Disk, DiskError};
+use std::alloc::Global;
+
+/// A disk of which no call changes anything. A file that is removed is only left out from then on,
+/// and one that is synced only has to be there. What would write or cut fails. It promises nothing
+/// else of its answers.
+#[derive(Drop)]
+pub struct Unchanged<D: Disk> {
+    disk: D,
+    removed: Vec<u64>,
+    failures: FailureCount,
+}
+
+impl<D: Disk + Drop> Unchanged<D> {
+    /// A disk over this one, none of whose files is left out.
+    pub fn new(alloc: Global, disk: D) -> Unchanged<D>
+        ensures inner { result.disk ≡ disk }
+        ensures count { ⟦<Unchanged<D> as Disk>⟧.failures result ≡ 0 }
+    {
+        Unchanged {
+            disk,
+            removed: Vec::new(alloc),
+            failures: FailureCount::new(),
+        }
+    }
+
+    /// The disk inside.
+    pub fn into_disk(self) -> D
+        ensures { result ≡ self.disk }
+    {
+        self.disk
+    }
+
+    // Whether a call is made of the file: it was not removed.
+    fn may_look(&self, file: u64) -> Result<(), DiskError>
+        ensures { 2 ^ 64 - 1 ≤ self.now.failures.count → IsErrOf result DiskError.Failed }
+    {
+        self.failures.works()?;
+        if self.removed.contains(&file) {
+            return Err(DiskError::NoFile);
+        }
+        Ok(())
+    }
+
+    fn numbers(&mut self) -> Result<Vec<u64>, DiskError>
+        ensures same { D.is_honest self.old.disk →
+            IsSame (D.state self.old.disk) (D.state self.new.disk) }
+        ensures count { self.new.failures.count ≡ self.old.failures.count }
+        ensures last { 2 ^ 64 - 1 ≤ self.old.failures.count → IsErrOf result DiskError.Failed }
+    {
+        self.failures.works()?;
+        let mut numbers = self.disk.files()?;
+        let removed = &self.removed;
+        numbers.retain(|number| !removed.contains(&*number));
+        Ok(numbers)
+    }
+
+    fn measure(&mut self, file: u64) -> Result<u64, DiskError>
+        ensures same { D.is_honest self.old.disk →
+            IsSame (D.state self.old.disk) (D.state self.new.disk) }
+        ensures count { self.new.failures.count ≡ self.old.failures.count }
+        ensures last { 2 ^ 64 - 1 ≤ self.old.failures.count → IsErrOf result DiskError.Failed }
+    {
+        self.may_look(file)?;
+        self.disk.length(file)
+    }
+
+    fn fill(&mut self, file: u64, at: u64, into: &mut [u8]) -> Result<(), DiskError>
+        ensures same { D.is_honest self.old.disk →
+            IsSame (D.state self.old.disk) (D.state self.new.disk) }
+        ensures count { self.new.failures.count ≡ self.old.failures.count }
+        ensures last { 2 ^ 64 - 1 ≤ self.old.failures.count → IsErrOf result DiskError.Failed }
+    {
+        self.may_look(file)?;
+        self.disk.read(file, at, into)
+    }
+
+    fn look_for(&mut self, file: u64) -> Result<(), DiskError>
+        ensures same { D.is_honest self.old.disk →
+            IsSame (D.state self.old.disk) (D.state self.new.disk) }
+        ensures count { self.new.failures.count ≡ self.old.failures.count }
+        ensures last { 2 ^ 64 - 1 ≤ self.old.failures.count → IsErrOf result DiskError.Failed }
+    {
+        self.may_look(file)?;
+        self.disk.length(file)?;
+        Ok(())
+    }
+
+    fn leave_out(&mut self, file: u64) -> Result<(), DiskError>
+        ensures same { D.is_honest self.old.disk →
+            IsSame (D.state self.old.disk) (D.state self.new.disk) }
+        ensures count { self.new.failures.count ≡ self.old.failures.count }
+        ensures last { 2 ^ 64 - 1 ≤ self.old.failures.count → IsErrOf result DiskError.Failed }
+    {
+        self.look_for(file)?;
+        self.removed.push(file)?;
+        Ok(())
+    }
+}
+
+impl<D: Disk + Drop> Disk for Unchanged<D> {
+    ghost is_honest = { λ disk. ⊥ };
+
+    ghost state = { λ disk file. Absent None };
+
+    ghost failures = { λ disk. disk.failures.count };
+
+    ghost is_reliable = { λ disk. ⊥ };
+
+    ghost past = { λ disk. [] };
+
+    ghost marks = { λ disk. [] };
+
+    ghost allocates = { Unit {0} };
+
+    fn files(&mut self) -> Result<Vec<u64>, DiskError> {
+        let answer = self.numbers();
+        self.failures.end(answer)
+    }
+
+    fn length(&mut self, file: u64) -> Result<u64, DiskError> {
+        let answer = self.measure(file);
+        self.failures.end(answer)
+    }
+
+    fn read(&mut self, file: u64, at: u64, into: &mut [u8]) -> Result<(), DiskError> {
+        let answer = self.fill(file, at, into);
+        self.failures.end(answer)
+    }
+
+    fn write_at(&mut self, _file: u64, _at: u64, _bytes: &[u8]) -> Result<(), DiskError> {
+        self.failures.end(Err(DiskError::Failed))
+    }
+
+    fn cut(&mut self, _file: u64, _length: u64) -> Result<(), DiskError> {
+        self.failures.end(Err(DiskError::Failed))
+    }
+
+    fn sync(&mut self, file: u64) -> Result<(), DiskError> {
+        let answer = self.look_for(file);
+        self.failures.end(answer)
+    }
+
+    fn remove(&mut self, file: u64) -> Result<(), DiskError> {
+        let answer = self.leave_out(file);
+        self.failures.end(answer)
+    }
+}

@@ -1,0 +1,238 @@
+// A store in a folder: the bytes of its files, what an opening finds, and an opening that leaves
+// each byte as it was.
+use crate::cases::{holds_at, is_so};
+use crate::folder_rows::{disk_over, empty_folder, remove_folder};
+use crate::items::{filled, is_same, put};
+use crate::plain_store::{PlainStore, append, batch_at, created, get_agrees, opened, tends};
+use dir_disk::{DirDisk, Unchanged};
+use disk::{Disk, DiskError, MemDisk};
+use engine::Engine;
+use std::alloc::Global;
+use std::process::Abort;
+
+// With this limit each log that has a batch is due for a flush, and five tables for a merge.
+const LOG: u64 = 16;
+
+const BATCHES: u16 = 60;
+
+// No version names this file.
+const UNNAMED: u64 = 900;
+
+// Count, floor, kept number and the tables of each level.
+type Facts = ([u64; 3], [u64; 7]);
+
+fn facts_of<D: Disk + Drop>(engine: &Engine<D>) -> Facts {
+    let numbers = [
+        engine.count().get(),
+        engine.floor().get(),
+        engine.kept().get(),
+    ];
+    (numbers, engine.tables())
+}
+
+// Tends until nothing is due.
+fn settle<D: Disk + Drop>(rt: &impl Abort, alloc: Global, engine: &mut Engine<D>) {
+    for _ in 0..10 {
+        if !tends(rt, alloc, engine) {
+            return;
+        }
+    }
+}
+
+// A store of 60 batches of one put each, whose last log is not flushed.
+fn filled_store<D: Disk + Drop>(rt: &impl Abort, alloc: Global, disk: D) -> Engine<D> {
+    let mut engine = created(rt, alloc, disk, LOG);
+    for place in 0..BATCHES {
+        settle(rt, alloc, &mut engine);
+        let batch = batch_at(rt, alloc, &[(place, Some(place))]);
+        append(rt, alloc, &mut engine, &batch);
+    }
+    engine
+}
+
+// The plain store of these batches.
+fn plain(rt: &impl Abort, alloc: Global) -> PlainStore {
+    let mut plain = PlainStore::new(rt, alloc);
+    for place in 0..BATCHES {
+        plain.add(rt, place as u64 + 1, &[(place, Some(place))]);
+    }
+    plain
+}
+
+// Whether each key has its value.
+fn has_all<D: Disk + Drop>(rt: &impl Abort, alloc: Global, engine: &mut Engine<D>) -> bool {
+    let plain = plain(rt, alloc);
+    let mut agree = true;
+    for place in 0..BATCHES {
+        agree = agree && get_agrees(rt, alloc, engine, &plain, (place, BATCHES as u64));
+    }
+    agree
+}
+
+// A file, and its bytes.
+type Text = (u64, Vec<u8>);
+
+fn text_of<D: Disk>(rt: &impl Abort, alloc: Global, disk: &mut D, file: u64) -> Text {
+    let len = disk.length(file).expect(rt, "a length");
+    let mut bytes = filled(rt, alloc, 0, len as usize);
+    disk.read(file, 0, &mut bytes).expect(rt, "a read");
+    (file, bytes)
+}
+
+// The files of a disk with their bytes.
+fn texts<D: Disk>(rt: &impl Abort, alloc: Global, disk: &mut D) -> Vec<Text> {
+    let mut texts = Vec::new(alloc);
+    for file in disk.files().expect(rt, "the files") {
+        put(rt, &mut texts, text_of(rt, alloc, disk, file));
+    }
+    texts
+}
+
+fn are_same(found: &[Text], want: &[Text]) -> bool {
+    if found.len() != want.len() {
+        return false;
+    }
+    for (found, want) in found.iter().zip(want) {
+        if found.0 != want.0 || !is_same(&found.1, &want.1) {
+            return false;
+        }
+    }
+    true
+}
+
+// The facts of a store in this folder, after its creation.
+fn store_in(rt: &impl Abort, host: &HostRuntime, folder: &str) -> Facts {
+    let engine = filled_store(rt, host.alloc(), disk_over(rt, host, folder));
+    facts_of(&engine)
+}
+
+// Whether the files of the folder are those of the same store in memory.
+fn is_as_in_memory(rt: &impl Abort, host: &HostRuntime, folder: &str) -> bool {
+    let alloc = host.alloc();
+    let mut memory = filled_store(rt, alloc, MemDisk::new(alloc)).into_disk();
+    let want = texts(rt, alloc, &mut memory);
+    drop(memory);
+    are_same(&texts(rt, alloc, &mut disk_over(rt, host, folder)), &want)
+}
+
+#[test]
+fn a_store_in_a_folder_is_opened_again(rt: HostRuntime) {
+    let folder = empty_folder(&rt, &rt, "store");
+    let facts = store_in(&rt, &rt, folder.as_str());
+    is_so(
+        &rt,
+        facts.0[0] == BATCHES as u64 && facts.1[1] > 0,
+        "batches and merged tables",
+    );
+    is_so(
+        &rt,
+        is_as_in_memory(&rt, &rt, folder.as_str()),
+        "the bytes of each file",
+    );
+    let mut engine = opened(&rt, rt.alloc(), disk_over(&rt, &rt, folder.as_str()), LOG);
+    is_so(&rt, facts_of(&engine) == facts, "the same numbers");
+    is_so(
+        &rt,
+        has_all(&rt, rt.alloc(), &mut engine),
+        "the value of each key",
+    );
+    drop(engine);
+    remove_folder(&rt, &rt, folder.as_str());
+}
+
+// Opens the store, whatever is asked of the disk inside, and reads it.
+fn look_at(rt: &impl Abort, host: &HostRuntime, folder: &str) -> Facts {
+    let alloc = host.alloc();
+    let disk = DirDisk::to_read(*host, folder).expect(rt, "memory");
+    let mut engine = opened(rt, alloc, Unchanged::new(alloc, disk), LOG);
+    is_so(rt, has_all(rt, alloc, &mut engine), "the value of each key");
+    facts_of(&engine)
+}
+
+// The files of the folder with their bytes.
+fn folder_texts(rt: &impl Abort, host: &HostRuntime, folder: &str) -> Vec<Text> {
+    texts(rt, host.alloc(), &mut disk_over(rt, host, folder))
+}
+
+#[test]
+fn an_unchanged_store_keeps_each_byte(rt: HostRuntime) {
+    let folder = empty_folder(&rt, &rt, "unchanged");
+    let facts = store_in(&rt, &rt, folder.as_str());
+    let mut disk = disk_over(&rt, &rt, folder.as_str());
+    disk.write_at(UNNAMED, 0, b"no version names it")
+        .expect(&rt, "a write");
+    drop(disk);
+    let before = folder_texts(&rt, &rt, folder.as_str());
+    is_so(
+        &rt,
+        look_at(&rt, &rt, folder.as_str()) == facts,
+        "the same numbers",
+    );
+    is_so(
+        &rt,
+        are_same(&folder_texts(&rt, &rt, folder.as_str()), &before),
+        "each byte",
+    );
+    // Any other opening removes the file.
+    drop(opened(&rt, rt.alloc(), disk_over(&rt, &rt, folder.as_str()), LOG));
+    let after = folder_texts(&rt, &rt, folder.as_str());
+    is_so(
+        &rt,
+        after.len() + 1 == before.len(),
+        "the file without a name is gone",
+    );
+    remove_folder(&rt, &rt, folder.as_str());
+}
+
+// What an unchanged disk answers, whose disk has file 1 with two bytes and file 2 with none.
+fn unchanged_answers(disk: &mut Unchanged<MemDisk>) -> [Result<(), DiskError>; 9] {
+    let mut into = [0u8; 2];
+    [
+        disk.sync(1),
+        disk.sync(3),
+        disk.write_at(1, 0, b"x"),
+        disk.cut(1, 0),
+        disk.read(1, 0, &mut into),
+        disk.remove(1),
+        disk.remove(1),
+        disk.sync(1),
+        disk.read(1, 0, &mut into),
+    ]
+}
+
+const UNCHANGED: [Result<(), DiskError>; 9] = [
+    Ok(()),
+    Err(DiskError::NoFile),
+    Err(DiskError::Failed),
+    Err(DiskError::Failed),
+    Ok(()),
+    Ok(()),
+    Err(DiskError::NoFile),
+    Err(DiskError::NoFile),
+    Err(DiskError::NoFile),
+];
+
+#[test]
+fn an_unchanged_disk_leaves_out_what_is_removed(rt: HostRuntime) {
+    let alloc = rt.alloc();
+    let mut memory = MemDisk::new(alloc);
+    memory.write_at(1, 0, b"ab").expect(&rt, "a write");
+    memory.write_at(2, 0, b"").expect(&rt, "a write");
+    let before = texts(&rt, alloc, &mut memory);
+    let mut disk = Unchanged::new(alloc, memory);
+    let answers = unchanged_answers(&mut disk);
+    for (index, (answer, want)) in answers.iter().zip(&UNCHANGED).enumerate() {
+        holds_at(&rt, index, answer == want);
+    }
+    is_so(&rt, disk.length(1) == Err(DiskError::NoFile), "no length");
+    is_so(
+        &rt,
+        disk.files().expect(&rt, "files").as_slice() == [2].as_slice(),
+        "one file",
+    );
+    is_so(
+        &rt,
+        are_same(&texts(&rt, alloc, &mut disk.into_disk()), &before),
+        "each byte",
+    );
+}

@@ -1,0 +1,258 @@
+"""The files of a node's folder in plain Python, written from docs/FORMATS.md and not from the code:
+slots with their edits, logs with their batches, tables with filter and index.
+
+What is not as the page says raises `Damage`, with the place where it was met.
+"""
+
+import collections
+import hashlib
+
+GREATEST = 2**63 - 1
+LONGEST_KEY, LONGEST_VALUE, LONGEST_BATCH, MOST_EDITS = 1_024, 16_384, 65_536, 256
+MOST_IDS, LAST_EPOCH, DEEPEST, MOST_LINES = 16, 15, 6, 4_096
+MOST_DATA, FOOTER, DIGEST, HEAD = 2**33, 52, 8, 11
+MARK = b"CRLSMT01"
+
+# An edit of the version, a line of a log, a line of a table, and an entry of a table: a deletion has
+# no value.
+Edit = collections.namedtuple(
+    "Edit", "next_file floor flushed epoch ids logs_gone logs_added tables_gone tables_added"
+)
+LogLine = collections.namedtuple("LogLine", "file first")
+TableLine = collections.namedtuple("TableLine", "level file length least greatest")
+Entry = collections.namedtuple("Entry", "key number value")
+
+
+class Damage(Exception):
+    """Bytes that are not as the formats say."""
+
+
+def expect(holds, text):
+    """Bytes for which this does not hold are damaged."""
+    if not holds:
+        raise Damage(text)
+
+
+class Fields:
+    """Bytes that are read from the front on, up to their end."""
+
+    def __init__(self, content, what):
+        """These bytes, which are what."""
+        self.content, self.what, self.place = content, what, 0
+
+    def take(self, length):
+        """The next bytes."""
+        expect(self.place + length <= len(self.content), f"{self.what} ends inside a field")
+        self.place += length
+        return self.content[self.place - length : self.place]
+
+    def number(self, size, name, least=0, most=None):
+        """The next number, of so many bytes, which is in its range."""
+        value = int.from_bytes(self.take(size), "big")
+        most = 256**size - 1 if most is None else most
+        expect(least <= value <= most, f"{name} of {self.what} is {value}")
+        return value
+
+    def text(self, most, name):
+        """The next bytes behind their length."""
+        return self.take(self.number(2, f"the length of {name}", most=most))
+
+    def end(self):
+        """Nothing is left."""
+        expect(self.place == len(self.content), f"bytes stand behind {self.what}")
+
+
+# ---- logs
+
+
+def records_of(content, start=0):
+    """The records of the log that begins at this place."""
+    records, place = [], start
+    while content[place : place + 1] == b"\x01":
+        expect(place + 5 <= len(content), f"the log ends in the length of the record at {place}")
+        length = int.from_bytes(content[place + 1 : place + 5], "big")
+        expect(place + 5 + length <= len(content), f"the log ends in the record at {place}")
+        records.append(content[place + 5 : place + 5 + length])
+        place += 5 + length
+    expect(place < len(content), "the log has no closed gate")
+    return records
+
+
+def batch_of(content, number):
+    """The edits of the batch that this record of a log holds, as pairs: a deletion has no value."""
+    fields = Fields(content, f"the record of batch {number}")
+    told = fields.number(8, "the number", most=GREATEST)
+    expect(told == number, f"batch {told} stands in the place of batch {number}")
+    expect(len(content) - 8 <= LONGEST_BATCH, f"batch {number} is too long")
+    edits = []
+    for _ in range(fields.number(2, "the number of edits", least=1, most=MOST_EDITS)):
+        kind = fields.number(1, "the kind of an edit", least=1, most=2)
+        key = fields.text(LONGEST_KEY, "a key")
+        edits.append((key, fields.text(LONGEST_VALUE, "a value") if kind == 1 else None))
+    fields.end()
+    return edits
+
+
+# ---- the manifest
+
+
+def ids_of(fields):
+    """The ids of a configuration."""
+    count = fields.number(1, "the number of ids", least=1, most=MOST_IDS)
+    ids = [fields.number(2, "an id", least=1) for _ in range(count)]
+    expect(len(set(ids)) == count, f"{fields.what} has an id twice")
+    return ids
+
+
+def list_of(fields, name, item):
+    """The items behind their number."""
+    return [item() for _ in range(fields.number(2, name))]
+
+
+def edit_of(content, place):
+    """The edit that this record of a slot is, the one in this place of the slot's edits."""
+    fields = Fields(content, f"edit {place}")
+
+    def file():
+        return fields.number(8, "a file", most=GREATEST)
+
+    def level():
+        return fields.number(1, "a level", most=DEEPEST)
+
+    def log_line():
+        return LogLine(file(), fields.number(8, "the first number", least=1, most=GREATEST + 1))
+
+    def table_line():
+        line = TableLine(
+            level(),
+            file(),
+            fields.number(8, "the length of a table", most=GREATEST),
+            fields.text(LONGEST_KEY, "a least key"),
+            fields.text(LONGEST_KEY, "a greatest key"),
+        )
+        expect(line.least <= line.greatest, f"the keys of a table of edit {place} are out of order")
+        return line
+
+    edit = Edit(
+        fields.number(8, "the next file", most=GREATEST + 1),
+        fields.number(8, "the floor", most=GREATEST),
+        fields.number(8, "the flushed number", most=GREATEST),
+        fields.number(4, "the epoch", most=LAST_EPOCH),
+        ids_of(fields),
+        list_of(fields, "the number of logs given up", file),
+        list_of(fields, "the number of logs added", log_line),
+        list_of(fields, "the number of tables given up", lambda: (level(), file())),
+        list_of(fields, "the number of tables added", table_line),
+    )
+    fields.end()
+    return edit
+
+
+def head_of(content):
+    """The generation and the id in the head of an open slot."""
+    expect(len(content) >= HEAD, "the open slot ends before its log")
+    return int.from_bytes(content[1:9], "big"), int.from_bytes(content[9:HEAD], "big")
+
+
+def slot_that_counts(first, second):
+    """Which of the slots counts, 1 or 2, by their bytes: none where a file is absent. No slot counts
+    where none is open."""
+    slots = {1: first or b"", 2: second or b""}
+    heads = {it: head_of(slots[it]) for it in slots if slots[it][:1] == b"\x01"}
+    if not heads:
+        return None
+    expect(all(slots.values()), "one slot is open, and the other absent or empty")
+    generations = [heads[it][0] for it in heads]
+    expect(len(set(generations)) == len(generations), "both slots are open with one generation")
+    return max(heads, key=lambda it: heads[it][0])
+
+
+def slot_of(content):
+    """The id and the edits of the slot that counts."""
+    generation, node = head_of(content)
+    expect(generation <= GREATEST, f"the generation is {generation}")
+    expect(node > 0, "the id of the node is 0")
+    records = records_of(content, HEAD)
+    expect(records, "the slot has no edit")
+    return node, [edit_of(it, place + 1) for place, it in enumerate(records)]
+
+
+# ---- tables
+
+
+def filter_of(keys):
+    """The filter of these keys, which are different."""
+    size = max(8, (10 * len(keys) + 7) // 8)
+    bits = bytearray(size)
+    for key in keys:
+        digest = hashlib.sha256(key).digest()
+        first, second = (int.from_bytes(digest[i : i + 8], "big") for i in (0, 8))
+        for probe in range(7):
+            bit = (first + probe * second) % (8 * size)
+            bits[bit // 8] |= 1 << bit % 8
+    return bytes(bits)
+
+
+def part_of(content, place, length, what):
+    """The fields of a part of a table: of what stands before its digest."""
+    expect(length >= DIGEST and place + length <= len(content), f"{what} has no place in the file")
+    part = content[place : place + length - DIGEST]
+    digest = content[place + length - DIGEST : place + length]
+    expect(hashlib.sha256(part).digest()[:DIGEST] == digest, f"the digest of {what} is another")
+    return Fields(part, what)
+
+
+def entries_of(fields):
+    """The entries of a block."""
+    entries = []
+    for _ in range(fields.number(4, "the number of entries", least=1)):
+        key = fields.text(LONGEST_KEY, "a key")
+        number = fields.number(8, "the number of an entry", most=GREATEST)
+        kind = fields.number(1, "the kind of an entry", least=1, most=2)
+        value = fields.text(LONGEST_VALUE, "a value") if kind == 1 else None
+        entries.append(Entry(key, number, value))
+    fields.end()
+    return entries
+
+
+def blocks_of(content, lines, end):
+    """The entries of all blocks, which fill the file from its front to this place."""
+    entries, behind = [], 0
+    for place, length, key, number in lines:
+        expect(place == behind, f"the block at {place} should be at {behind}")
+        block = entries_of(part_of(content, place, length, f"the block at {place}"))
+        expect(block[-1][:2] == (key, number), f"the block at {place} ends with another entry")
+        entries, behind = entries + block, place + length
+    expect(behind == end, "the blocks do not end where the filter begins")
+    expect(end <= MOST_DATA, "the blocks are too long")
+    order = [(it.key, -it.number) for it in entries]
+    expect(all(a < b for a, b in zip(order, order[1:])), "the entries are out of order")
+    return entries
+
+
+def table_of(content):
+    """The entries of a table."""
+    expect(len(content) >= FOOTER, "the file is shorter than a footer")
+    fields = part_of(content, len(content) - FOOTER, FOOTER, "the footer")
+    index, index_length = fields.number(8, "the index's place"), fields.number(4, "its length")
+    place, length = fields.number(8, "the filter's place"), fields.number(4, "its length")
+    count = fields.number(8, "the number of entries")
+    fields.number(4, "the format", least=1, most=1)
+    expect(fields.take(len(MARK)) == MARK, "the footer has another mark")
+    expect(place + length == index, "the index does not begin where the filter ends")
+    expect(index + index_length == len(content) - FOOTER, "the footer is not behind the index")
+    fields = part_of(content, index, index_length, "the index")
+    lines = []
+    for _ in range(fields.number(4, "the number of blocks", least=1)):
+        line = fields.number(8, "a block's place"), fields.number(4, "its length")
+        key = fields.text(LONGEST_KEY, "the key of a line")
+        lines.append((*line, key, fields.number(8, "the number of a line", most=GREATEST)))
+    fields.end()
+    entries = blocks_of(content, lines, place)
+    expect(count == len(entries), f"the footer tells of {count} entries")
+    fields = part_of(content, place, length, "the filter")
+    bits = fields.take(fields.number(4, "the length of the filter"))
+    fields.end()
+    keys = list(dict.fromkeys(it.key for it in entries))
+    expect(bits == filter_of(keys), "the filter is not that of the keys")
+    return entries
