@@ -153,17 +153,6 @@ class TakesLostSubmits(PlainChain):
             self.nodes[it.words[1]].submit(it.line)
 
 
-class AppliesLostReads(PlainChain):
-    """A chain in which lost requests to open and close snapshots do so."""
-
-    def lose(self, it, frame):
-        """The node has the snapshot, or has it no more."""
-        super().lose(it, frame)
-        if it.words[0] == "open" and not self.nodes[it.words[1]].refusal():
-            node = self.nodes[it.words[1]]
-            node.snapshots[int(it.words[2]) if it.words[2:] else node.committed] += 1
-
-
 class SaysLostReplies(PlainChain):
     """A chain whose clients get lost replies."""
 
@@ -219,5 +208,5 @@ class LeavesLostFrames(PlainChain):
 
 
 # Chains that lose in a wrong way, each seen in some run.
-WRONG_LOSSES = (ActsOnLostFrames, TakesLostSubmits, AppliesLostReads, SaysLostReplies)
-WRONG_LOSSES += (UndoesUnanswered, LosesTheNext, LosesAgain, LeavesLostFrames)
+WRONG_LOSSES = (ActsOnLostFrames, TakesLostSubmits, SaysLostReplies, UndoesUnanswered)
+WRONG_LOSSES += (LosesTheNext, LosesAgain, LeavesLostFrames)
