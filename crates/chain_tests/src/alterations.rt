@@ -7,7 +7,7 @@ use crate::courses::Step;
 use crate::items::ONE;
 use std::alloc::Global;
 use std::process::Abort;
-use test_carriers::{Altering, Alteration};
+use test_carriers::{Alteration, Altering};
 
 // A turn, a place in its bytes, the byte that stands there then, and what is shown of the run.
 type Row = (u64, usize, u8, &'static str);
@@ -342,6 +342,13 @@ fn what_is_altered_is_dropped_or_read(rt: HostRuntime) {
 }
 
 // A close that is a reply now is for no node: the snapshot is still open.
+const CLOSES: &[Act] = &[
+    Act::Take(Step::Submit(1, ONE)),
+    Act::Take(Step::Open(1, None)),
+    Act::Take(Step::Close(1, 1)),
+    Act::Take(Step::Close(1, 1)),
+];
+
 static KINDS: [Row; 1] = [(
     4,
     4,
@@ -357,11 +364,5 @@ dropped NotForNodes
 
 #[test]
 fn a_request_that_is_a_reply_now(rt: HostRuntime) {
-    let acts = [
-        Act::Take(Step::Submit(1, ONE)),
-        Act::Take(Step::Open(1, None)),
-        Act::Take(Step::Close(1, 1)),
-        Act::Take(Step::Close(1, 1)),
-    ];
-    all_show(&rt, rt.alloc(), &[1], &acts, &KINDS);
+    all_show(&rt, rt.alloc(), &[1], CLOSES, &KINDS);
 }

@@ -4,7 +4,7 @@ use crate::items::{Change, Walk, batch_of, config_of, id_of, key_of, number, ran
 use configurations::{Configs, Epoch, NodeId};
 use disk::{Fault, Junk, JunkBytes, MemDisk};
 use kv_types::Limits;
-use lab::{Event, EventKind, Line, Report, Tended, World, names_nodes, run};
+use lab::{Direct, Event, EventKind, Line, Report, Tended, World, names_nodes, run};
 use node::{Numbers, Stop};
 use std::alloc::{AllocError, Global};
 use std::process::Abort;
@@ -296,7 +296,7 @@ pub fn all_show(rt: &impl Abort, alloc: Global, ids: &[u16], runs: &[Run]) {
 
 /// The number of events of a world so far, that of the frames it sent, and the trace of the last
 /// event.
-fn put_world(text: &mut String, world: &World<MemDisk>) -> Result<(), AllocError> {
+fn put_world(text: &mut String, world: &World<MemDisk, Direct>) -> Result<(), AllocError> {
     let (taken, sent) = (world.events().len(), world.sent());
     let Some(lines) = world.report().last() else {
         return write!(text, "{taken} {sent}\n");
@@ -306,7 +306,13 @@ fn put_world(text: &mut String, world: &World<MemDisk>) -> Result<(), AllocError
 }
 
 /// Takes a step, with this fault.
-pub fn take(rt: &impl Abort, alloc: Global, world: &mut World<MemDisk>, step: &Step, fault: Fault) {
+pub fn take(
+    rt: &impl Abort,
+    alloc: Global,
+    world: &mut World<MemDisk, Direct>,
+    step: &Step,
+    fault: Fault,
+) {
     let event = event(rt, alloc, step, fault);
     world.step(alloc, &event).expect(rt, "a step");
 }
@@ -316,7 +322,7 @@ fn put_way(
     rt: &impl Abort,
     alloc: Global,
     text: &mut String,
-    world: &mut World<MemDisk>,
+    world: &mut World<MemDisk, Direct>,
     steps: &[Step],
 ) {
     put_world(text, world).expect(rt, "memory");
@@ -327,12 +333,12 @@ fn put_way(
 }
 
 /// A new world of these configurations.
-pub fn world_of_list(rt: &impl Abort, alloc: Global, lists: &[&[u16]]) -> World<MemDisk> {
+pub fn world_of_list(rt: &impl Abort, alloc: Global, lists: &[&[u16]]) -> World<MemDisk, Direct> {
     World::new(alloc, &configs_of(rt, alloc, lists), &limits(rt)).expect(rt, "a world")
 }
 
 /// A new world of these nodes.
-pub fn world_of(rt: &impl Abort, alloc: Global, ids: &[u16]) -> World<MemDisk> {
+pub fn world_of(rt: &impl Abort, alloc: Global, ids: &[u16]) -> World<MemDisk, Direct> {
     world_of_list(rt, alloc, &[ids])
 }
 

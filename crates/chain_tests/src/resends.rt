@@ -5,7 +5,7 @@ use crate::courses::{Step, configs_of, put_lines, put_node, take};
 use crate::items::{ONE, id_of};
 use disk::{Fault, MemDisk};
 use kv_types::Limits;
-use lab::{Line, Tended, World};
+use lab::{Direct, Line, Tended, World};
 use std::alloc::Global;
 use std::process::Abort;
 
@@ -27,7 +27,7 @@ enum Act {
 // A world, and the place of the next frame.
 #[derive(Drop)]
 struct Chain {
-    world: World<MemDisk>,
+    world: World<MemDisk, Direct>,
     next: u64,
 }
 

@@ -5,7 +5,7 @@ use crate::courses::{Step, junk_of, take, world_of_list};
 use crate::histories::{History, is_taken, one_list};
 use crate::items::{ONE, THREE, TWO, key_of};
 use disk::{Fault, Junk, MemDisk};
-use lab::{Line, World};
+use lab::{Direct, Line, World};
 use node::Stop;
 use std::alloc::Global;
 use std::process::Abort;
@@ -189,7 +189,7 @@ fn cause_of(way: Way) -> Option<Stop> {
 // A run so far, and the step of each event.
 #[derive(Drop)]
 struct Course {
-    world: World<MemDisk>,
+    world: World<MemDisk, Direct>,
     taken: Vec<Step>,
 }
 

@@ -5,6 +5,6 @@ mod altering;
 mod losing;
 mod only_once;
 
-pub use altering::{Altering, Alteration};
+pub use altering::{Alteration, Altering};
 pub use losing::Losing;
 pub use only_once::OnlyOnce;

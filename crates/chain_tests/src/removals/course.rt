@@ -10,7 +10,7 @@ use crate::removals::history::{Asked, History, KEYS};
 use crate::removals::lists::{Brings, Lists};
 use crate::sweep::{ALL_WAYS, fault_at};
 use disk::{Fault, MemDisk};
-use lab::{Event, EventKind, Line, NodeReport, Reply, World};
+use lab::{Direct, Event, EventKind, Line, NodeReport, Reply, World};
 use std::alloc::Global;
 use std::process::Abort;
 
@@ -23,7 +23,7 @@ static JUNKS: [&[u8]; 4] = [b"", b"\x00", b"\x01", b"\x01\x00"];
 #[derive(Drop)]
 struct Course {
     lists: &'static [&'static [u16]],
-    world: World<MemDisk>,
+    world: World<MemDisk, Direct>,
     known: Lists,
     chance: Chance,
     // The place of the next frame in order, the epochs that nodes may be told of, and the snapshots
