@@ -1,5 +1,5 @@
 -- The lines of an answer: those of the model's, their frames, and the line of an adoption.
-use Rattle.std.proofs.Common.{◌≡◌, ℕ, suc, ◌+◌, List, [], ◌∷◌, ◌++◌, length, map, Option, Some}
+use Rattle.std.proofs.Common.{◌≡◌, ℕ, suc, ◌+◌, Bool, List, [], ◌∷◌, ◌++◌, length, map, Option, Some}
 use Rattle.std.proofs.Common.{None, cond, refl, ap, ap₂, subst, arith}
 use Rattle.std.specs.Prelude.{not, nat_lt}
 use Rattle.std.proofs.lemmas.Bool.{cond_both}
@@ -19,10 +19,11 @@ use Rattle.lab.specs.declared.event.EventKind.{EventKind}
 use Rattle.lab.specs.declared.event.EventKind.TheVariants.{Notice}
 use Rattle.lab.specs.declared.report.Line.{Line}
 use Rattle.lab.specs.declared.report.Line.TheVariants as line
-use Rattle.lab.specs.Events.{dropped_lines, epoch_in, frame_line, frame_lines, turn_trace}
+use Rattle.lab.specs.Events.{arrived, dropped_lines, epoch_in, first_told, frame_line, frame_lines}
+use Rattle.lab.specs.Events.{others_told, turn_trace}
 use Rattle.lab.specs.SimNodes.{Choice}
 use Rattle.lab.specs.Outcomes.{adopted_lines, sent_as, sent_lines}
-use Rattle.lab.specs.Worlds.{frames_of_step}
+use Rattle.lab.specs.Worlds.{frames_in, frames_of_step}
 
 -- a frame that is sent has the line of the model's
 line_same : (p to : ℕ) (it : Frame) (f : ModelFrame BatchContent) → frame_as to it ≡ Some f →
@@ -113,6 +114,18 @@ counts_answer x epoch n a replies =
       counts_frames n a.frames,
       counts_replies replies,
     )
+
+-- .. and those of them that arrive
+pub counts_arrived : (told : List Bool) (lines : List Line) →
+    frames_of_step (arrived told lines) ≡ frames_of_step lines
+counts_arrived told [] = refl
+counts_arrived told (line.Replied reply ∷ lines) =
+    let later = counts_arrived (others_told told) lines in
+    cond_both (first_told told) (line.Replied reply ∷ arrived (others_told told) lines)
+    (arrived (others_told told) lines)
+    (λ (l : List Line). frames_of_step l ≡ frames_of_step lines) (λ _. later) (λ _. later)
+counts_arrived told (other ∷ lines) =
+    ap (λ n. frames_in other + n) (counts_arrived told lines)
 
 -- ---- adoptions
 

@@ -20,7 +20,7 @@ use Rattle.chain_core.specs.{frame_as}
 use Rattle.node.specs.declared.Stop.TheVariants.{Disk}
 use Rattle.node.specs.{replies_to_response}
 use Rattle.disk.specs.declared.Disk.{Ghosts}
-use Rattle.lab.specs.declared.input.NodeInput.{NodeInput}
+use Rattle.carriers.specs.declared.NodeInput.{NodeInput}
 use Rattle.lab.specs.declared.input.StepOutcome.{StepOutcome}
 use Rattle.lab.specs.declared.event.EventKind.{EventKind}
 use Rattle.lab.specs.declared.event.EventKind.TheVariants.{Submit, Get, Rows, Open, Close}
@@ -28,8 +28,9 @@ use Rattle.lab.specs.declared.event.EventKind.TheVariants.{Deliver, Notice, Tick
 use Rattle.lab.specs.declared.event.EventKind.TheVariants.{Stop}
 use Rattle.lab.specs.declared.node_state.NodeState.{NodeState}
 use Rattle.lab.specs.declared.report.Line.TheVariants as line
-use Rattle.lab.specs.Events.{modelled, reply_line, line_cause}
-use Rattle.lab.specs.Deliveries.{IsDeliveryOf, HasNoDelivery, input_of}
+use Rattle.lab.specs.Events.{arriving, reply_line, line_cause}
+use Rattle.carriers.specs.{input_of}
+use Rattle.lab.specs.Deliveries.{IsDeliveryOf, HasNoDelivery}
 use Rattle.lab.specs.Outcomes.{HasStarted, Starts, Fails, RunsOn, HasStopped, Stops, RestsOn}
 use Rattle.lab.specs.Outcomes.{OutcomeRefines, input_junk}
 use Rattle.lab.specs.Disks.{junk_of}
@@ -115,29 +116,29 @@ tick_replies x (Response.Closed j s) = refl
 tick_replies x (Response.Refused j why) = refl
 
 module _ {D : Type 0} {g : Ghosts D} (cs : Configurations) (w : SystemState BatchContent) (i x : ℕ)
-    (it : Fault) (struck : Bool) (old new : NodeState D g) (did : StepOutcome)
+    (it : Fault) (struck : Bool) (heard : List Bool) (old new : NodeState D g) (did : StepOutcome)
   where
     -- the choice in a step that the node does not stop by itself
     abbrev plain : Choice
-    plain = chosen Answered struck Disk
+    plain = chosen heard Answered struck Disk
 
     -- a frame in a place is delivered to its addressee
     to_addressee : (p : ℕ) (sent : Frame) (f : ModelFrame BatchContent) (choice : Choice) →
         place w.frames p ≡ Some f → frame_as x sent ≡ Some f →
-        outcome w cs (modelled i (Deliver p) choice) ≡ delivered w (frame_as x sent) choice.went
+        outcome w cs (arriving i (Deliver p) choice) ≡ delivered w (frame_as x sent) choice.went
     to_addressee p sent f choice there same =
         ap (λ (o : Option (ModelFrame BatchContent)). delivered w o choice.went) (there ∙ sym same)
 
     deliver : (p : ℕ) (sent : Frame) (f : ModelFrame BatchContent) → place w.frames p ≡ Some f →
         frame_as x sent ≡ Some f → OutcomeRefines g.is_honest g.state it struck x (w.nodes x)
         (input_of sent) old new did →
-        IsOutcome cs w i x (Deliver p) it struck new did
+        IsOutcome cs w i x (Deliver p) it struck heard new did
     deliver p (frame.Forward epoch from number batch) f there same was =
-        given cs w i x (Deliver p) it struck (input.Forward epoch from number batch) new did
+        given cs w i x (Deliver p) it struck heard (input.Forward epoch from number batch) new did
         (λ choice. to_addressee p (frame.Forward epoch from number batch) f choice there same)
         (λ choice. refl) (λ choice. (refl, refl)) (forward_replies p epoch from number batch) was
     deliver p (frame.Ack epoch from committed have) f there same was =
-        given cs w i x (Deliver p) it struck (input.Ack epoch from committed have) new did
+        given cs w i x (Deliver p) it struck heard (input.Ack epoch from committed have) new did
         (λ choice. to_addressee p (frame.Ack epoch from committed have) f choice there same)
         (λ choice. refl) (λ choice. (refl, refl)) (ack_replies p epoch from committed have) was
     deliver p (frame.Notice epoch config) f there same was = absurd (cc)
@@ -154,10 +155,10 @@ module _ {D : Type 0} {g : Ghosts D} (cs : Configurations) (w : SystemState Batc
     deliver p (frame.Closed request number) f there same was = absurd (cc)
 
     start : HasStarted g.is_honest g.state it struck x (w.nodes x) new did →
-        IsOutcome cs w i x (Start x) it struck new did
+        IsOutcome cs w i x (Start x) it struck heard new did
     start (Starts off is traced) =
         let o = answers x (silent (started x (w.nodes x))) in
-        as_plain cs w i x (Start x) it new did plain (refl, refl) (no_start traced) o
+        as_plain cs w i x (Start x) it new did plain (refl, refl) refl (no_start traced) o
         (started x (w.nodes x)) (cond-false _ _ _ off) refl is
         (subst (λ (d : StepOutcome). IsTraced x (with_fault (Start x) it) plain d o) (sym traced)
         (record {
@@ -169,25 +170,25 @@ module _ {D : Type 0} {g : Ghosts D} (cs : Configurations) (w : SystemState Batc
           told = tt;
         }))
     start (Fails off by is) =
-        as_plain cs w i x (Start x) it new did (chosen StoppedBefore struck by.cause) (refl, refl)
+        as_plain cs w i x (Start x) it new did (chosen heard StoppedBefore struck by.cause) (refl, refl) refl
         (no_stop by.told) (stops x (w.nodes x)) (stopped (w.nodes x)) (cond-false _ _ _ off) refl is
         (subst (λ (d : StepOutcome). IsTraced x (with_fault (Start x) it)
-        (chosen StoppedBefore struck by.cause) d (stops x (w.nodes x))) (sym by.told)
-        (stop_traced x (with_fault (Start x) it) (chosen StoppedBefore struck by.cause)
+        (chosen heard StoppedBefore struck by.cause) d (stops x (w.nodes x))) (sym by.told)
+        (stop_traced x (with_fault (Start x) it) (chosen heard StoppedBefore struck by.cause)
         (line_cause it struck by.cause) (w.nodes x) refl by.device
         (told_fits it struck by.cause by.environmental)))
     start (RunsOn up is traced) =
         let o = answers x (dropped_for (w.nodes x) reason.Running) in
-        as_plain cs w i x (Start x) it new did plain (refl, refl) (no_answer traced.1) o (w.nodes x)
+        as_plain cs w i x (Start x) it new did plain (refl, refl) refl (no_answer traced.1) o (w.nodes x)
         (cond-true _ _ _ up) refl is
         (subst (λ (d : StepOutcome). IsTraced x (with_fault (Start x) it) plain d o) (sym traced.1)
         (drop_traced x (with_fault (Start x) it) plain (w.nodes x) reason.Running traced.0
         traced.2 refl))
 
     stop : (junk : Junk) → HasStopped g.is_honest g.state x (w.nodes x) new did →
-        IsOutcome cs w i x (Stop x junk) it struck new did
+        IsOutcome cs w i x (Stop x junk) it struck heard new did
     stop junk (Stops up is traced) =
-        as_plain cs w i x (Stop x junk) it new did plain (refl, refl) (no_stop traced)
+        as_plain cs w i x (Stop x junk) it new did plain (refl, refl) refl (no_stop traced)
         (stops x (w.nodes x)) (stopped (w.nodes x)) (cond-true _ _ _ up) refl is
         (subst (λ (d : StepOutcome). IsTraced x (with_fault (Stop x junk) it) plain d
         (stops x (w.nodes x))) (sym traced)
@@ -195,7 +196,7 @@ module _ {D : Type 0} {g : Ghosts D} (cs : Configurations) (w : SystemState Batc
         (λ e. refl) tt))
     stop junk (RestsOn off is traced) =
         let o = answers x (dropped_for (w.nodes x) reason.NotRunning) in
-        as_plain cs w i x (Stop x junk) it new did plain (refl, refl) (no_answer traced.1) o
+        as_plain cs w i x (Stop x junk) it new did plain (refl, refl) refl (no_answer traced.1) o
         (w.nodes x)
         (cond-false _ _ _ off) refl is
         (subst (λ (d : StepOutcome). IsTraced x (with_fault (Stop x junk) it) plain d o)
@@ -207,34 +208,34 @@ module _ {D : Type 0} {g : Ghosts D} (cs : Configurations) (w : SystemState Batc
     pub refined : (kind : EventKind) (node_input : NodeInput) → IsDeliveryOf cs w.frames i kind x
         node_input →
         OutcomeRefines g.is_honest g.state it struck x (w.nodes x) node_input old new did →
-        IsOutcome cs w i x kind it struck new did
+        IsOutcome cs w i x kind it struck heard new did
     refined (Submit node batch) node_input brings was =
-        subst (λ (y : ℕ). IsOutcome cs w i x (Submit y batch) it struck new did) brings.0
-        (given cs w i x (Submit x batch) it struck (input.Submit i batch) new did (λ choice. refl)
+        subst (λ (y : ℕ). IsOutcome cs w i x (Submit y batch) it struck heard new did) brings.0
+        (given cs w i x (Submit x batch) it struck heard (input.Submit i batch) new did (λ choice. refl)
         (λ choice. refl) (λ choice. (refl, refl)) (submit_replies x i batch)
         (subst (λ (k : NodeInput). OutcomeRefines g.is_honest g.state it struck x
         (w.nodes x) k old new did) brings.1 was))
     refined (Get node key at) node_input brings was =
-        subst (λ (y : ℕ). IsOutcome cs w i x (Get y key at) it struck new did) brings.0
-        (given cs w i x (Get x key at) it struck (input.Get i key at) new did (λ choice. refl)
+        subst (λ (y : ℕ). IsOutcome cs w i x (Get y key at) it struck heard new did) brings.0
+        (given cs w i x (Get x key at) it struck heard (input.Get i key at) new did (λ choice. refl)
         (λ choice. refl) (λ choice. (refl, refl)) (get_replies x i key at)
         (subst (λ (k : NodeInput). OutcomeRefines g.is_honest g.state it struck x
         (w.nodes x) k old new did) brings.1 was))
     refined (Rows node range at) node_input brings was =
-        subst (λ (y : ℕ). IsOutcome cs w i x (Rows y range at) it struck new did) brings.0
-        (given cs w i x (Rows x range at) it struck (input.Rows i range at) new did
+        subst (λ (y : ℕ). IsOutcome cs w i x (Rows y range at) it struck heard new did) brings.0
+        (given cs w i x (Rows x range at) it struck heard (input.Rows i range at) new did
         (λ choice. refl) (λ choice. refl) (λ choice. (refl, refl)) (rows_replies x i range at)
         (subst (λ (k : NodeInput). OutcomeRefines g.is_honest g.state it struck x
         (w.nodes x) k old new did) brings.1 was))
     refined (Open node at) node_input brings was =
-        subst (λ (y : ℕ). IsOutcome cs w i x (Open y at) it struck new did) brings.0
-        (given cs w i x (Open x at) it struck (input.Open i at) new did (λ choice. refl)
+        subst (λ (y : ℕ). IsOutcome cs w i x (Open y at) it struck heard new did) brings.0
+        (given cs w i x (Open x at) it struck heard (input.Open i at) new did (λ choice. refl)
         (λ choice. refl) (λ choice. (refl, refl)) (open_replies x i at)
         (subst (λ (k : NodeInput). OutcomeRefines g.is_honest g.state it struck x
         (w.nodes x) k old new did) brings.1 was))
     refined (Close node number) node_input brings was =
-        subst (λ (y : ℕ). IsOutcome cs w i x (Close y number) it struck new did) brings.0
-        (given cs w i x (Close x number) it struck (input.Close i number) new did (λ choice. refl)
+        subst (λ (y : ℕ). IsOutcome cs w i x (Close y number) it struck heard new did) brings.0
+        (given cs w i x (Close x number) it struck heard (input.Close i number) new did (λ choice. refl)
         (λ choice. refl) (λ choice. (refl, refl)) (close_replies x i number)
         (subst (λ (k : NodeInput). OutcomeRefines g.is_honest g.state it struck x
         (w.nodes x) k old new did) brings.1 was))
@@ -244,8 +245,8 @@ module _ {D : Type 0} {g : Ghosts D} (cs : Configurations) (w : SystemState Batc
         (w.nodes x) k old new did) brings.is was)
     refined (Notice node epoch) node_input brings was =
         let ids = at_epoch cs epoch in
-        subst (λ (y : ℕ). IsOutcome cs w i x (Notice y epoch) it struck new did) brings.same
-        (given cs w i x (Notice x epoch) it struck (input.Notice epoch ids) new did
+        subst (λ (y : ℕ). IsOutcome cs w i x (Notice y epoch) it struck heard new did) brings.same
+        (given cs w i x (Notice x epoch) it struck heard (input.Notice epoch ids) new did
         (λ choice. cond-true (nat_lt epoch (length cs)) _ _
         (lt-ltb epoch (length cs) brings.within)) (λ choice. refl)
         (λ choice. (notice_turns x (w.nodes x) epoch ids choice, refl))
@@ -253,23 +254,23 @@ module _ {D : Type 0} {g : Ghosts D} (cs : Configurations) (w : SystemState Batc
         (subst (λ (k : NodeInput). OutcomeRefines g.is_honest g.state it struck x
         (w.nodes x) k old new did) brings.is was))
     refined (Tick node) node_input brings was =
-        subst (λ (y : ℕ). IsOutcome cs w i x (Tick y) it struck new did) brings.0
-        (given cs w i x (Tick x) it struck input.Tick new did (λ choice. refl)
+        subst (λ (y : ℕ). IsOutcome cs w i x (Tick y) it struck heard new did) brings.0
+        (given cs w i x (Tick x) it struck heard input.Tick new did (λ choice. refl)
         (λ choice. refl) (λ choice. (refl, refl)) (tick_replies x)
         (subst (λ (k : NodeInput). OutcomeRefines g.is_honest g.state it struck x
         (w.nodes x) k old new did) brings.1 was))
     refined (Tend node) node_input brings was =
-        subst (λ (y : ℕ). IsOutcome cs w i x (Tend y) it struck new did) brings.0
-        (tended cs w i x it struck old new did
+        subst (λ (y : ℕ). IsOutcome cs w i x (Tend y) it struck heard new did) brings.0
+        (tended cs w i x it struck heard old new did
         (subst (λ (k : NodeInput). OutcomeRefines g.is_honest g.state it struck x (w.nodes x) k
         old new did) brings.1 was))
     refined (Start node) node_input brings was =
-        subst (λ (y : ℕ). IsOutcome cs w i x (Start y) it struck new did) brings.0
+        subst (λ (y : ℕ). IsOutcome cs w i x (Start y) it struck heard new did) brings.0
         (start (subst (λ (k : NodeInput). OutcomeRefines g.is_honest g.state it struck x
         (w.nodes x) k
         old new did) brings.1 was))
     refined (Stop node junk) node_input brings was =
-        subst (λ (y : ℕ). IsOutcome cs w i x (Stop y junk) it struck new did) brings.0
+        subst (λ (y : ℕ). IsOutcome cs w i x (Stop y junk) it struck heard new did) brings.0
         (stop junk (subst (λ (k : NodeInput). OutcomeRefines g.is_honest g.state it struck x
         (w.nodes x) k old new did)
         brings.1 was))
@@ -277,7 +278,7 @@ module _ {D : Type 0} {g : Ghosts D} (cs : Configurations) (w : SystemState Batc
 -- an event without a frame or a configuration does nothing
 pub nothing_done : (cs : Configurations) (w : SystemState BatchContent) (i : ℕ) (kind : EventKind)
     (choice : Choice) → HasNoDelivery cs w.frames kind →
-    outcome w cs (modelled i kind choice) ≡ nothing
+    outcome w cs (arriving i kind choice) ≡ nothing
 nothing_done cs w i (Deliver p) choice brings =
     ap (λ (o : Option (ModelFrame BatchContent)). delivered w o choice.went) brings
 nothing_done cs w i (Notice node epoch) choice brings =

@@ -15,8 +15,8 @@ use Rattle.node.specs.declared.Output.{Output}
 use Rattle.node.specs.declared.Stop.{Stop as Cause}
 use Rattle.node.specs.declared.Stop.TheVariants.{Disk, Memory}
 use Rattle.node.specs.{HasLongFile, IsReady, NodeRefines, answer_to_tend}
-use Rattle.lab.specs.declared.input.NodeInput.{NodeInput}
-use Rattle.lab.specs.declared.input.NodeInput.TheVariants as to_node
+use Rattle.carriers.specs.declared.NodeInput.{NodeInput}
+use Rattle.carriers.specs.declared.NodeInput.TheVariants as to_node
 use Rattle.lab.specs.declared.input.StepOutcome.{StepOutcome}
 use Rattle.lab.specs.declared.input.StepOutcome.TheVariants as done
 use Rattle.lab.specs.declared.node_state.NodeState.{NodeState}

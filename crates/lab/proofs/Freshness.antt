@@ -8,7 +8,7 @@ use Rattle.std.proofs.lemmas.List.Elements.{All-from_recursion, recursion_from_A
 use Rattle.kv_types.specs.{BatchContent}
 use Rattle.chain_model.specs.{Configurations, Lawful, Request, Response, Committed, Shows, Opened}
 use Rattle.chain_model.specs.{Closed, Refused, SystemEvent as ModelEvent, SystemState, Outcome}
-use Rattle.chain_model.specs.System.{Ask}
+use Rattle.chain_model.specs.System.{Ask, Lost}
 use Rattle.chain_model.specs.{StepResult, Answered, StoppedBefore, StoppedAfter, Answer, answers}
 use Rattle.chain_model.specs.{as_completed, ask, first_state, outcome, reached, refused, run}
 use Rattle.chain_model.specs.{state_after}
@@ -20,12 +20,12 @@ use Rattle.lab.specs.declared.event.Event.{Event}
 use Rattle.lab.specs.declared.event.EventKind.{EventKind}
 use Rattle.lab.specs.declared.event.EventKind.TheVariants.{Get, Rows}
 use Rattle.lab.specs.declared.report.Line.{Line}
-use Rattle.lab.specs.Events.{modelled, lines_of_event, reply_line, reply_lines}
+use Rattle.lab.specs.Events.{arriving, modelled, reported_lines, reply_line, reply_lines}
 use Rattle.lab.specs.Freshness.{AreFresh, IsTailRead, NodesKeepEnough, LineIsAtMost, LineIsFresh}
 use Rattle.lab.specs.Freshness.{AreAtMost, ReadsAreFresh, ReadsLatest}
 use Rattle.lab.specs.SimNodes.{Choice}
 use Rattle.lab.specs.Traces.{IsTrace, lines_from, modelled_from}
-use Rattle.lab.proofs.TraceLines.{IsQuiet, back, both, front, lines_have}
+use Rattle.lab.proofs.TraceLines.{IsQuiet, back, both, front, reported_have}
 
 -- ---- lines with numbers at most s
 
@@ -33,6 +33,7 @@ use Rattle.lab.proofs.TraceLines.{IsQuiet, back, both, front, lines_have}
 quiet_below : (s : ℕ) → IsQuiet (LineIsAtMost s)
 quiet_below s = record {
   nothing = tt;
+  lost = tt;
   dropped = λ why. tt;
   started = λ x e n k. tt;
   adopted = λ x e. tt;
@@ -73,15 +74,15 @@ IsBounded w earlier = (s : ℕ) → AllByRecursion (IsAtMost s) w.replies →
 -- nor have those of one event more
 bounded_more : (cs : Configurations) (w : SystemState BatchContent) (i : ℕ) (event : Event)
     (ch : Choice) (earlier : List (List Line)) → IsBounded w earlier →
-    IsBounded (state_after cs w (modelled i event.kind ch)) (earlier ++ lines_of_event
+    IsBounded (state_after cs w (modelled i event.kind ch)) (earlier ++ reported_lines
     (length w.frames) event ch (outcome w cs (modelled i event.kind ch)) ∷ [])
 bounded_more cs w i event ch earlier bounded = λ s below.
     let o = outcome w cs (modelled i event.kind ch) in
-    let lines = lines_of_event (length w.frames) event ch o in
+    let lines = reported_lines (length w.frames) event ch o in
     both (λ (l : List Line). All (LineIsAtMost s) l) earlier (lines ∷ [])
     (bounded s (front (IsAtMost s) w.replies o.replies below)) (
       All-from_recursion (LineIsAtMost s) lines
-          (lines_have (LineIsAtMost s) (quiet_below s) o.acted_on (length w.frames) event ch o
+          (reported_have (LineIsAtMost s) (quiet_below s) (length w.frames) event ch o
           (replies_below s event.kind o.replies (back (IsAtMost s) w.replies o.replies below))),
       tt,
     )
@@ -92,6 +93,7 @@ bounded_more cs w i event ch earlier bounded = λ s below.
 quiet_fresh : (earlier : List (List Line)) → IsQuiet (LineIsFresh earlier)
 quiet_fresh earlier = record {
   nothing = tt;
+  lost = tt;
   dropped = λ why. tt;
   started = λ x e n k. tt;
   adopted = λ x e. tt;
@@ -118,9 +120,9 @@ shows_fresh earlier kind t i n l (inr rows) below =
 
 -- it is a read without a number in the model
 asks_latest : (i : ℕ) (kind : EventKind) (t : ℕ) (ch : Choice) → ReadsLatest kind t →
-    modelled i kind ch ≡ Ask t i (Request.Read None) ch.went
-asks_latest i kind t ch (inl get) = ap (λ (k : EventKind). modelled i k ch) get.1
-asks_latest i kind t ch (inr rows) = ap (λ (k : EventKind). modelled i k ch) rows.1
+    arriving i kind ch ≡ Ask t i (Request.Read None) ch.went
+asks_latest i kind t ch (inl get) = ap (λ (k : EventKind). arriving i k ch) get.1
+asks_latest i kind t ch (inr rows) = ap (λ (k : EventKind). arriving i k ch) rows.1
 
 -- the answer of a node to the read
 abbrev read_by : ℕ → ℕ → Machine → Answer BatchContent
@@ -151,12 +153,12 @@ module _ (cs : Configurations) (law : (es : List (ModelEvent BatchContent))
   ended es kind t i earlier bounded read StoppedBefore up = tt
   ended es kind t i earlier bounded read StoppedAfter up = tt
 
-  -- the replies to the read, of a tail that is down too
-  tail_replies : (es : List (ModelEvent BatchContent)) (kind : EventKind) (t i : ℕ) (ch : Choice)
+  -- the replies to the read that arrives, of a tail that is down too
+  asked_replies : (es : List (ModelEvent BatchContent)) (kind : EventKind) (t i : ℕ) (ch : Choice)
       (earlier : List (List Line)) → IsBounded (reached cs es) earlier →
       IsTailRead cs (reached cs es) kind t →
-      HasFresh earlier kind (outcome (reached cs es) cs (modelled i kind ch))
-  tail_replies es kind t i ch earlier bounded read =
+      HasFresh earlier kind (outcome (reached cs es) cs (arriving i kind ch))
+  asked_replies es kind t i ch earlier bounded read =
       let n = (reached cs es).nodes t in
       let asks = asks_latest i kind t ch read.reads in
       subst (λ (e : ModelEvent BatchContent).
@@ -165,17 +167,27 @@ module _ (cs : Configurations) (law : (es : List (ModelEvent BatchContent))
       (answers t (refused n i NotRunning)) (HasFresh earlier kind)
       (ended es kind t i earlier bounded read ch.went) (λ down. (tt, tt)))
 
+  -- one that is lost has none
+  tail_replies : (es : List (ModelEvent BatchContent)) (kind : EventKind) (t i : ℕ) (ch : Choice)
+      (earlier : List (List Line)) → IsBounded (reached cs es) earlier →
+      IsTailRead cs (reached cs es) kind t →
+      HasFresh earlier kind (outcome (reached cs es) cs (modelled i kind ch))
+  tail_replies es kind t i ch earlier bounded read =
+      cond_both ch.lost Lost (arriving i kind ch)
+      (λ (e : ModelEvent BatchContent). HasFresh earlier kind (outcome (reached cs es) cs e))
+      (λ _. tt) (λ _. asked_replies es kind t i ch earlier bounded read)
+
   -- the lines of the read
   tail_lines : (es : List (ModelEvent BatchContent)) (i : ℕ) (event : Event) (ch : Choice)
       (earlier : List (List Line)) → IsBounded (reached cs es) earlier → (t : ℕ) →
       IsTailRead cs (reached cs es) event.kind t →
-      All (LineIsFresh earlier) (lines_of_event (length (reached cs es).frames) event ch
+      All (LineIsFresh earlier) (reported_lines (length (reached cs es).frames) event ch
       (outcome (reached cs es) cs (modelled i event.kind ch)))
   tail_lines es i event ch earlier bounded t read =
       let w = reached cs es in
       let o = outcome w cs (modelled i event.kind ch) in
-      All-from_recursion (LineIsFresh earlier) (lines_of_event (length w.frames) event ch o)
-      (lines_have (LineIsFresh earlier) (quiet_fresh earlier) o.acted_on
+      All-from_recursion (LineIsFresh earlier) (reported_lines (length w.frames) event ch o)
+      (reported_have (LineIsFresh earlier) (quiet_fresh earlier)
       (length w.frames) event ch o
       (tail_replies es event.kind t i ch earlier bounded read))
 
@@ -195,7 +207,7 @@ module _ (cs : Configurations) (law : (es : List (ModelEvent BatchContent))
   all_fresh i (event ∷ events) (ch ∷ chs) es earlier same bounded =
       let w = reached cs es in
       let e = modelled i event.kind ch in
-      let lines = lines_of_event (length w.frames) event ch (outcome w cs e) in
+      let lines = reported_lines (length w.frames) event ch (outcome w cs e) in
       let next = run_one es e (first_state cs) in (
         tail_lines es i event ch earlier bounded,
         subst (λ (v : SystemState BatchContent). AreFresh cs (suc i) events chs v

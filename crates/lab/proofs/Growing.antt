@@ -15,7 +15,7 @@ use Rattle.lab.specs.declared.delivery.Posted.{Posted}
 use Rattle.lab.specs.declared.report.Line.{Line}
 use Rattle.lab.specs.declared.sim_node.SimNode.{SimNode}
 use Rattle.lab.specs.Disks.{DisksFollow, AllFollow}
-use Rattle.lab.specs.Events.{modelled, lines_of_event, ChoiceFits}
+use Rattle.lab.specs.Events.{modelled, reported_lines, ChoiceFits}
 use Rattle.lab.specs.SimNodes.{Choice, IsUnarmed}
 use Rattle.lab.specs.Traces.{modelled_from, lines_from, AllFit}
 use Rattle.lab.specs.Worlds.{AllNodesFollow, HaveLimits, NodesFollow, NodesRefine, PostedRefines}
@@ -39,15 +39,15 @@ module _ (cs : Configurations) (e : Event) (ch : Choice) where
       (w : SystemState BatchContent) →
       length chs ≡ length es → k ≡ i + length es →
       let u = run cs (modelled_from i es chs) w in
-      lines_from cs i (es ++ e ∷ []) (chs ++ ch ∷ []) w ≡ lines_from cs i es chs w ++ lines_of_event
+      lines_from cs i (es ++ e ∷ []) (chs ++ ch ∷ []) w ≡ lines_from cs i es chs w ++ reported_lines
       (length u.frames) e ch (outcome u cs (modelled k e.kind ch)) ∷ []
   lines_from-push i k [] [] w same at = ap
-      (λ (j : ℕ). lines_of_event (length w.frames) e ch
+      (λ (j : ℕ). reported_lines (length w.frames) e ch
       (outcome w cs (modelled j e.kind ch)) ∷ []) (omega arith)
   lines_from-push i k [] (c ∷ chs) w same at = absurd (omega arith)
   lines_from-push i k (f ∷ es) [] w same at = absurd (omega arith)
   lines_from-push i k (f ∷ es) (c ∷ chs) w same at =
-      ap (λ (l : List (List Line)). lines_of_event (length w.frames) f c
+      ap (λ (l : List (List Line)). reported_lines (length w.frames) f c
       (outcome w cs (modelled i f.kind c)) ∷ l)
       (lines_from-push (suc i) k es chs (state_after cs w (modelled i f.kind c)) (omega arith)
       (omega arith))
@@ -55,10 +55,11 @@ module _ (cs : Configurations) (e : Event) (ch : Choice) where
   pub fit-push : (i k : ℕ) (es : List Event) (chs : List Choice) (w : SystemState BatchContent) →
       length chs ≡ length es → k ≡ i + length es → AllFit cs i es chs w →
       let u = run cs (modelled_from i es chs) w in
-      ChoiceFits e ch (outcome u cs (modelled k e.kind ch)) →
+      ChoiceFits u.frames e ch (outcome u cs (modelled k e.kind ch)) →
       AllFit cs i (es ++ e ∷ []) (chs ++ ch ∷ []) w
   fit-push i k [] [] w same at all one = (
-    subst (λ (j : ℕ). ChoiceFits e ch (outcome w cs (modelled j e.kind ch))) (omega arith) one,
+    subst (λ (j : ℕ). ChoiceFits w.frames e ch (outcome w cs (modelled j e.kind ch))) (omega arith)
+        one,
     tt,
   )
   fit-push i k [] (c ∷ chs) w same at all one = absurd (omega arith)
@@ -161,9 +162,9 @@ module _ {D : Type 0} {g : Ghosts D} where
       (event : Event) (choice : Choice) (sims : List (SimNode D g)) (posted : List Posted)
       (lines : List Line)
       : Type 0 where
-    pub traced : lines ≡ lines_of_event (length w.frames) event choice
+    pub traced : lines ≡ reported_lines (length w.frames) event choice
         (outcome w cs (modelled i event.kind choice))
-    pub fits : ChoiceFits event choice (outcome w cs (modelled i event.kind choice))
+    pub fits : ChoiceFits w.frames event choice (outcome w cs (modelled i event.kind choice))
     pub counted : frames_of_step lines ≡ length (outcome w cs (modelled i event.kind choice)).frames
     pub frames : AllZip PostedRefines posted (state_after cs w
         (modelled i event.kind choice)).frames

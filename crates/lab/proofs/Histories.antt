@@ -1,6 +1,7 @@
 -- From the model's one list of batches to what the lines of a report say.
 use Rattle.std.proofs.Common.{◌≡◌, ℕ, suc, List, [], ◌∷◌, length}
-use Rattle.std.proofs.Common.{refl, ap, subst, arith}
+use Rattle.std.proofs.Common.{inl, refl, ap, subst, arith}
+use Rattle.std.proofs.lemmas.Bool.{cond_both}
 use Rattle.std.specs.List.{All, AllZip, AllByRecursion, flat_map}
 use Rattle.std.proofs.lemmas.List.Elements.{All-from_recursion}
 use Rattle.kv_types.specs.{BatchContent, map_of}
@@ -8,17 +9,18 @@ use Rattle.kv_types.specs.Pages.{IsPage, PagesAgree, page_of}
 use Rattle.chain_model.specs.{Configurations, ResponseAgrees, numbered}
 use Rattle.chain_model.specs.{submitted, Response, Committed, Shows, Opened, Closed, Refused}
 use Rattle.chain_model.specs.{SystemEvent as ModelEvent, SystemState, Outcome, outcome, outcomes}
-use Rattle.chain_model.specs.{state_after}
+use Rattle.chain_model.specs.{Part, state_after}
+use Rattle.chain_model.specs.System.{Lost}
 use Rattle.lab.specs.declared.event.Event.{Event}
 use Rattle.lab.specs.declared.event.EventKind.{EventKind}
 use Rattle.lab.specs.declared.event.EventKind.TheVariants.{Submit, Get, Rows}
 use Rattle.lab.specs.declared.report.Line.{Line}
-use Rattle.lab.specs.Events.{modelled, lines_of_event, reply_line, reply_lines}
+use Rattle.lab.specs.Events.{arriving, modelled, reported_lines, reply_line, reply_lines}
 use Rattle.lab.specs.SimNodes.{Choice}
 use Rattle.lab.specs.Traces.{modelled_from, lines_from}
 use Rattle.lab.specs.History.{LineAgrees, Placed}
-use Rattle.lab.proofs.Submits.{submitted_from}
-use Rattle.lab.proofs.TraceLines.{IsQuiet, back, both, front, lines_have}
+use Rattle.lab.proofs.Submits.{part_behind, submitted_from, with_batch}
+use Rattle.lab.proofs.TraceLines.{IsQuiet, back, both, front, reported_have}
 
 -- ---- events
 
@@ -27,30 +29,48 @@ pub numbered_same : (i : ℕ) (events : List Event) (chs : List Choice) →
     numbered i (modelled_from i events chs) ≡ modelled_from i events chs
 numbered_same i [] chs = refl
 numbered_same i (event ∷ events) [] = refl
-numbered_same i (event ∷ events) (ch ∷ chs) = one event.kind (numbered_same (suc i) events chs)
+numbered_same i (event ∷ events) (ch ∷ chs) =
+    let later = numbered_same (suc i) events chs in
+    cond_both ch.lost Lost (arriving i event.kind ch) Numbered
+    (λ _. ap (λ (l : List (ModelEvent BatchContent)). Lost ∷ l) later) (λ _. one event.kind later)
   where
+    Numbered : ModelEvent BatchContent → Type 0
+    Numbered e = numbered i (e ∷ modelled_from (suc i) events chs) ≡ e ∷ modelled_from (suc i) events
+        chs
+
     one : (kind : EventKind) →
         numbered (suc i) (modelled_from (suc i) events chs) ≡ modelled_from (suc i) events chs
-        → numbered i (modelled i kind ch ∷ modelled_from (suc i) events chs) ≡ modelled i kind
-        ch ∷ modelled_from (suc i) events chs
+        → Numbered (arriving i kind ch)
     one (Submit x batch) later
-        = ap (λ (l : List (ModelEvent BatchContent)). modelled i (Submit x batch) ch ∷ l) later
-    one kind later = ap (λ (l : List (ModelEvent BatchContent)). modelled i kind ch ∷ l) later
+        = ap (λ (l : List (ModelEvent BatchContent)). arriving i (Submit x batch) ch ∷ l) later
+    one kind later = ap (λ (l : List (ModelEvent BatchContent)). arriving i kind ch ∷ l) later
 
--- the model's events submit what the events submit
-pub submitted_same : (i : ℕ) (events : List Event) (chs : List Choice) →
+-- the model's events submit what the events submit, without what was lost
+pub submitted_part : (i : ℕ) (events : List Event) (chs : List Choice) →
     length chs ≡ length events →
-    submitted i (modelled_from i events chs) ≡ submitted_from i events
-submitted_same i [] chs same = refl
-submitted_same i (event ∷ events) [] same = absurd (omega arith)
-submitted_same i (event ∷ events) (ch ∷ chs) same = one event.kind
-    (submitted_same (suc i) events chs (omega arith))
+    Part (submitted i (modelled_from i events chs)) (submitted_from i events)
+submitted_part i [] chs same = tt
+submitted_part i (event ∷ events) [] same = absurd (omega arith)
+submitted_part i (event ∷ events) (ch ∷ chs) same =
+    let later = submitted_part (suc i) events chs (omega arith) in
+    cond_both ch.lost Lost (arriving i event.kind ch) (Submits event.kind)
+    (λ _. lost event.kind later) (λ _. one event.kind later)
   where
-    one : (kind : EventKind) →
-        submitted (suc i) (modelled_from (suc i) events chs) ≡ submitted_from (suc i) events
-        → submitted i (modelled i kind ch ∷ modelled_from (suc i) events chs) ≡ submitted_from i
-        (record { kind = kind; fault = event.fault } ∷ events)
-    one (Submit x batch) later = ap (λ (l : List Placed). (i, batch) ∷ l) later
+    Submits : EventKind → ModelEvent BatchContent → Type 0
+    Submits kind e = Part (submitted i (e ∷ modelled_from (suc i) events chs))
+        (with_batch i kind (submitted_from (suc i) events))
+
+    Later : Type 0
+    Later = Part (submitted (suc i) (modelled_from (suc i) events chs))
+        (submitted_from (suc i) events)
+
+    lost : (kind : EventKind) → Later → Submits kind Lost
+    lost (Submit x batch) later = part_behind (i, batch)
+        (submitted (suc i) (modelled_from (suc i) events chs)) (submitted_from (suc i) events) later
+    lost kind later = later
+
+    one : (kind : EventKind) → Later → Submits kind (arriving i kind ch)
+    one (Submit x batch) later = inl (refl, later)
     one kind later = later
 
 -- ---- lines
@@ -63,6 +83,7 @@ Each B kind lines = AllByRecursion (LineAgrees B kind) lines
 quiet : (B : List Placed) (kind : EventKind) → IsQuiet (LineAgrees B kind)
 quiet B kind = record {
   nothing = tt;
+  lost = tt;
   dropped = λ why. tt;
   started = λ x e n k. tt;
   adopted = λ x e. tt;
@@ -120,8 +141,8 @@ module _ (pages : PagesAgree) where
       let n = length w.frames in
       let later = flat_map (λ (p : Outcome BatchContent). p.replies)
       (outcomes cs (modelled_from (suc i) events chs) (state_after cs w e)) in (
-        All-from_recursion (LineAgrees B event.kind) (lines_of_event n event ch o)
-            (lines_have (LineAgrees B event.kind) (quiet B event.kind) o.acted_on n event ch o
+        All-from_recursion (LineAgrees B event.kind) (reported_lines n event ch o)
+            (reported_have (LineAgrees B event.kind) (quiet B event.kind) n event ch o
             (replied B event.kind o.replies (front (ResponseAgrees B) o.replies later agree))),
         all_agree B cs (suc i) events chs (state_after cs w e) (omega arith)
             (back (ResponseAgrees B) o.replies later agree),

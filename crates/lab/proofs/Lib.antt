@@ -3,13 +3,13 @@ mod Faults
 mod Dispatching
 mod Disks
 mod Posting
-mod Reading
 mod Places
 mod Rises
 mod AnswerLines
 mod Outcomes
 mod Tends
 mod Deliveries
+mod Found
 mod SimNodes
 mod Growing
 mod Addressees
@@ -17,6 +17,7 @@ mod Moves
 mod Worlds
 mod WorldSteps
 mod Nodes
+mod Arrivals
 mod TraceLines
 mod Submits
 mod Histories

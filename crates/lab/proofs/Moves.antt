@@ -18,8 +18,8 @@ use Rattle.engine.specs.Tended.{Tended}
 use Rattle.engine.specs.{Facts, facts_of}
 use Rattle.node.specs.declared.Node.{Node}
 use Rattle.node.specs.{disk_of, engine_of, facts_for, has_risen}
-use Rattle.lab.specs.declared.input.NodeInput.{NodeInput}
-use Rattle.lab.specs.declared.input.NodeInput.TheVariants as to_node
+use Rattle.carriers.specs.declared.NodeInput.{NodeInput}
+use Rattle.carriers.specs.declared.NodeInput.TheVariants as to_node
 use Rattle.lab.specs.declared.input.StepOutcome.{StepOutcome}
 use Rattle.lab.specs.declared.node_state.NodeState.{NodeState}
 use Rattle.lab.specs.declared.node_state.NodeState.TheVariants.{Up, Down}

@@ -32,7 +32,7 @@ use Rattle.lab.specs.declared.node_state.NodeState.{NodeState}
 use Rattle.lab.specs.declared.report.Line.{Line}
 use Rattle.lab.specs.declared.report.Line.TheVariants as line
 use Rattle.lab.specs.Events.{RiseFits, dropped_lines, epoch_in, frame_lines, lines_of_event}
-use Rattle.lab.specs.Events.{modelled, turn_trace}
+use Rattle.lab.specs.Events.{arriving, modelled, turn_trace}
 use Rattle.lab.specs.Events.{reply_line, reply_lines, reported_cause, line_cause}
 use Rattle.lab.specs.SimNodes.{StateRefines, Choice}
 use Rattle.lab.specs.Outcomes.{down_answer, IsAnswer, IsDrop, HasAnswered}
@@ -75,14 +75,16 @@ abbrev pub with_fault : EventKind → Fault → Event
 with_fault kind it = record { kind = kind; fault = it }
 
 -- an event's outcome with its lines: the node that it was for, and the state of that node now,
--- where the fault struck or did not
+-- where the fault struck or did not; it was not lost, and its replies were heard so
 pub record IsOutcome {D : Type 0} {g : Ghosts D} (cs : Configurations)
     (w : SystemState BatchContent)
     (i x : ℕ)
-    (kind : EventKind) (it : Fault) (struck : Bool) (new : NodeState D g) (did : StepOutcome)
-    : Type 0 where
+    (kind : EventKind) (it : Fault) (struck : Bool) (heard : List Bool) (new : NodeState D g)
+    (did : StepOutcome) : Type 0 where
   pub choice : Choice
   pub chose : choice.struck ≡ struck
+  pub arrives : choice.lost ≡ false
+  pub heard_so : choice.told ≡ heard
   pub tends : RiseFits kind choice (outcome w cs (modelled i kind choice))
   pub risen : RaisesAsTold x (w.nodes x) new choice did
   pub node : Machine
@@ -110,8 +112,9 @@ pub record IsTraced (x : ℕ) (event : Event) (choice : Choice) (did : StepOutco
   pub ends : StopsSo event choice did o
   pub told : TellsChosen choice did
 
-abbrev pub chosen : StepResult → Bool → Cause → Choice
-chosen went struck cause =
+-- an event that arrives, of which these replies are heard
+abbrev pub chosen : List Bool → StepResult → Bool → Cause → Choice
+chosen heard went struck cause =
     record {
       went = went;
       struck = struck;
@@ -119,23 +122,27 @@ chosen went struck cause =
       tended = tended.Idle;
       rises = false;
       gives_up = 0;
+      lost = false;
+      told = heard;
     }
 
 module _ {D : Type 0} {g : Ghosts D} (cs : Configurations) (w : SystemState BatchContent) (i x : ℕ)
     (kind : EventKind) (it : Fault) (new : NodeState D g) (did : StepOutcome) where
   -- with this choice the outcome is this one
-  pub as_chosen : (choice : Choice) (o : Outcome BatchContent) (n : Machine) →
-      RiseFits kind choice o → RaisesAsTold x (w.nodes x) new choice did →
+  pub as_chosen : (choice : Choice) → choice.lost ≡ false →
+      (o : Outcome BatchContent) (n : Machine) → RiseFits kind choice o → RaisesAsTold x (w.nodes x) new choice did →
       outcome w cs (modelled i kind choice) ≡ o → o.acted_on ≡ Some (x, n) →
       StateRefines g.is_honest g.state new x n → IsTraced x (with_fault kind it) choice did o →
-      IsOutcome cs w i x kind it choice.struck new did
-  as_chosen choice o n tends risen is_o came is tells =
+      IsOutcome cs w i x kind it choice.struck choice.told new did
+  as_chosen choice arrives o n tends risen is_o came is tells =
       let same = sym is_o in
       let all = subst (λ (p : Outcome BatchContent). IsTraced x (with_fault kind it) choice did p)
       same tells in
       record {
         choice = choice;
         chose = refl;
+        arrives = arrives;
+        heard_so = refl;
         tends = subst (RiseFits kind choice) same tends;
         risen = risen;
         node = n;
@@ -150,13 +157,14 @@ module _ {D : Type 0} {g : Ghosts D} (cs : Configurations) (w : SystemState Batc
       }
 
   -- so it is where nothing rises
-  pub as_plain : (choice : Choice) → ChoosesNoRise choice → IsNoTend did →
+  pub as_plain : (choice : Choice) → ChoosesNoRise choice → choice.lost ≡ false →
+      IsNoTend did →
       (o : Outcome BatchContent) (n : Machine) →
       outcome w cs (modelled i kind choice) ≡ o → o.acted_on ≡ Some (x, n) →
       StateRefines g.is_honest g.state new x n → IsTraced x (with_fault kind it) choice did o →
-      IsOutcome cs w i x kind it choice.struck new did
-  as_plain choice none other o n =
-      as_chosen choice o n (no_rise kind choice o none) (λ answer is. absurd (other answer is))
+      IsOutcome cs w i x kind it choice.struck choice.told new did
+  as_plain choice none arrives other o n =
+      as_chosen choice arrives o n (no_rise kind choice o none) (λ answer is. absurd (other answer is))
 
 -- ---- answers and stops
 
@@ -238,9 +246,10 @@ shows_so inp kind (r ∷ replies) each =
 
 -- an input, as the model has it
 module _ {D : Type 0} {g : Ghosts D} (cs : Configurations) (w : SystemState BatchContent) (i x : ℕ)
-    (kind : EventKind) (it : Fault) (struck : Bool) (inp : Input) (new : NodeState D g)
+    (kind : EventKind) (it : Fault) (struck : Bool) (heard : List Bool) (inp : Input)
+    (new : NodeState D g)
     (did : StepOutcome)
-    (at : (choice : Choice) → outcome w cs (modelled i kind choice)
+    (at : (choice : Choice) → outcome w cs (arriving i kind choice)
     ≡ cond (w.nodes x).running
     (as_completed x (w.nodes x) (answer_to x (w.nodes x) inp) choice.went)
     (answers x (down_answer (w.nodes x) inp)))
@@ -250,60 +259,60 @@ module _ {D : Type 0} {g : Ghosts D} (cs : Configurations) (w : SystemState Batc
     × TurnsSo x kind choice (down_answer (w.nodes x) inp))
     (replies : (r : request.Response BatchContent) → reply_line kind r
     ≡ map (λ reply. line.Replied reply) (replies_to_response inp r)) where
-  runs : (choice : Choice) → (w.nodes x).running ≡ true → outcome w cs (modelled i kind choice)
+  runs : (choice : Choice) → (w.nodes x).running ≡ true → outcome w cs (arriving i kind choice)
       ≡ as_completed x (w.nodes x) (answer_to x (w.nodes x) inp) choice.went
   runs choice up = at choice ∙ cond-true _ _ _ up
 
-  rests : (choice : Choice) → (w.nodes x).running ≡ false → outcome w cs (modelled i kind choice)
+  rests : (choice : Choice) → (w.nodes x).running ≡ false → outcome w cs (arriving i kind choice)
       ≡ answers x (down_answer (w.nodes x) inp)
   rests choice off = at choice ∙ cond-false _ _ _ off
 
   -- the node answers so
   tells : (a : Answer BatchContent) → (traced : HasAnswered did (IsAnswer inp a)) →
-      TurnsSo x kind (chosen Answered struck Disk) a →
-      IsTraced x (with_fault kind it) (chosen Answered struck Disk) did (answers x a)
+      TurnsSo x kind (chosen heard Answered struck Disk) a →
+      IsTraced x (with_fault kind it) (chosen heard Answered struck Disk) did (answers x a)
   tells a traced turn = subst (λ (d : StepOutcome). IsTraced x (with_fault kind it)
-      (chosen Answered struck Disk) d (answers x a))
+      (chosen heard Answered struck Disk) d (answers x a))
       (sym traced.1)
-      (answer_traced x (with_fault kind it) inp (chosen Answered struck Disk) a traced.0 traced.2
+      (answer_traced x (with_fault kind it) inp (chosen heard Answered struck Disk) a traced.0 traced.2
       turn (shows_so inp kind a.replies replies))
 
   -- .. or stops so
   ends : (went : StepResult) (n : Machine) (stop : StopsByItself it struck did) →
-      IsTraced x (with_fault kind it) (chosen went struck stop.cause) did (stops x n)
+      IsTraced x (with_fault kind it) (chosen heard went struck stop.cause) did (stops x n)
   ends went n stop =
-      let choice = chosen went struck stop.cause in
+      let choice = chosen heard went struck stop.cause in
       subst (λ (d : StepOutcome). IsTraced x (with_fault kind it) choice d (stops x n))
       (sym stop.told)
       (stop_traced x (with_fault kind it) choice (line_cause it struck stop.cause) n (causes choice)
       stop.device (told_fits it struck stop.cause stop.environmental))
 
   pub given : HasHandled g.is_honest g.state it struck x (w.nodes x) inp new did →
-      IsOutcome cs w i x kind it struck new did
+      IsOutcome cs w i x kind it struck heard new did
   given (Answers up is traced) =
-      as_plain cs w i x kind it new did (chosen Answered struck Disk) (refl, refl)
+      as_plain cs w i x kind it new did (chosen heard Answered struck Disk) (refl, refl) refl
       (no_answer traced.1) (answers x (answer_to x (w.nodes x) inp))
       (answer_to x (w.nodes x) inp).node
-      (runs (chosen Answered struck Disk) up) refl is
-      (tells (answer_to x (w.nodes x) inp) traced (turns (chosen Answered struck Disk)).0)
+      (runs (chosen heard Answered struck Disk) up) refl is
+      (tells (answer_to x (w.nodes x) inp) traced (turns (chosen heard Answered struck Disk)).0)
   given (Ends up stop (inl before)) =
-      as_plain cs w i x kind it new did (chosen StoppedBefore struck stop.cause) (refl, refl)
+      as_plain cs w i x kind it new did (chosen heard StoppedBefore struck stop.cause) (refl, refl) refl
       (no_stop stop.told) (stops x (w.nodes x)) (stopped (w.nodes x))
-      (runs (chosen StoppedBefore struck stop.cause) up) refl before
+      (runs (chosen heard StoppedBefore struck stop.cause) up) refl before
       (ends StoppedBefore (w.nodes x) stop)
   given (Ends up stop (inr behind)) =
-      as_plain cs w i x kind it new did (chosen StoppedAfter struck stop.cause) (refl, refl)
+      as_plain cs w i x kind it new did (chosen heard StoppedAfter struck stop.cause) (refl, refl) refl
       (no_stop stop.told) (stops x (answer_to x (w.nodes x) inp).node)
       (stopped (answer_to x (w.nodes x) inp).node)
-      (runs (chosen StoppedAfter struck stop.cause) up) refl behind
+      (runs (chosen heard StoppedAfter struck stop.cause) up) refl behind
       (ends StoppedAfter (answer_to x (w.nodes x) inp).node stop)
   given (Rests off is traced) =
-      as_plain cs w i x kind it new did (chosen Answered struck Disk) (refl, refl)
+      as_plain cs w i x kind it new did (chosen heard Answered struck Disk) (refl, refl) refl
       (no_answer traced.1) (answers x (down_answer (w.nodes x) inp))
       (down_answer (w.nodes x) inp).node
-      (rests (chosen Answered struck Disk) off) refl
+      (rests (chosen heard Answered struck Disk) off) refl
       (subst (λ (n : Machine). StateRefines g.is_honest g.state new x n) (sym (rests_same inp)) is)
-      (tells (down_answer (w.nodes x) inp) traced (turns (chosen Answered struck Disk)).1)
+      (tells (down_answer (w.nodes x) inp) traced (turns (chosen heard Answered struck Disk)).1)
     where
       rests_same : (inp : Input) → (down_answer (w.nodes x) inp).node ≡ w.nodes x
       rests_same (input.Submit request batch) = refl

@@ -8,7 +8,8 @@ use Rattle.kv_types.specs.{BatchContent}
 use Rattle.kv_types.specs.Pages.{PagesAgree}
 use Rattle.disk.specs.{Slots}
 use Rattle.chain_model.specs.{Configurations, has, last_of, ResponseAgrees, OneList, batches, Part}
-use Rattle.chain_model.specs.{IsPrefix, RunIsOutcomes, Response, Outcome, SystemEvent as ModelEvent}
+use Rattle.chain_model.specs.{IsPrefix, RunIsOutcomes, Response, Outcome, submitted}
+use Rattle.chain_model.specs.{SystemEvent as ModelEvent}
 use Rattle.chain_model.specs.{outcomes, first_state, reached, node_of}
 use Rattle.chain_core.specs.{Machine}
 use Rattle.disk.specs.declared.Disk.{Ghosts}
@@ -25,14 +26,15 @@ use Rattle.lab.specs.declared.sim_node.SimNode.{SimNode}
 use Rattle.lab.specs.Disks.{HaveDisks, IsDiskOf}
 use Rattle.lab.specs.Freshness.{NodesKeepEnough, ReadsAreFresh}
 use Rattle.lab.specs.History.{HasAll, IsHistory, LineAgrees, Placed}
-use Rattle.lab.specs.SimNodes.{Choice, IsUnarmed, StateRefines, disk_in, in_memory, state}
-use Rattle.lab.specs.Runs.{IsRun, RunningRefines}
+use Rattle.lab.specs.SimNodes.{Arrives, Choice, IsUnarmed, StateRefines, disk_in, in_memory}
+use Rattle.lab.specs.SimNodes.{state}
+use Rattle.lab.specs.Runs.{IsRun, IsRunOver, RunningRefines}
 use Rattle.lab.specs.Traces.{modelled_from, IsTrace}
 use Rattle.lab.specs.Worlds.{AreLeft, AreNodesAfter, AreReportsAfter, HasRun, IsLeft, IsReportOf}
 use Rattle.lab.specs.Worlds.{MemNode, MemWorld, RunRefines, SimNodeRefines, WorldHasLimits}
-use Rattle.lab.specs.Worlds.{WorldRun}
-use Rattle.lab.proofs.Histories.{numbered_same, submitted_same, all_agree}
-use Rattle.lab.proofs.Submits.{all_ordered, all_submitted}
+use Rattle.lab.specs.Worlds.{WorldRun, direct_carrier}
+use Rattle.lab.proofs.Histories.{numbered_same, submitted_part, all_agree}
+use Rattle.lab.proofs.Submits.{all_ordered, all_submitted, part_of_part, submitted_from}
 use Rattle.lab.proofs.Nodes.{reported_ids}
 
 -- the model's one list is that of the lines and of the disks
@@ -56,8 +58,8 @@ one_of g id disk cs events choices steps nodes trace disks one made pages =
     in
     let begins = subst (λ (l : List (ModelEvent BatchContent)). (x : ℕ) → has (last_of cs) x ≡ true
     → IsPrefix (batches one.B) (node_of cs l x).list) same one.stands in
-    let part = subst (λ (l : List Placed). Part one.B l)
-    (submitted_same 1 events choices trace.one_each) one.taken in
+    let part = part_of_part one.B (submitted 1 (modelled_from 1 events choices))
+    (submitted_from 1 events) one.taken (submitted_part 1 events choices trace.one_each) in
     record {
       B = one.B;
       clients = record {
@@ -136,12 +138,13 @@ module _ {D : Type 0} {g : Ghosts D} (sims : List (SimNode D g)) (posted : List 
 module _ (sims : List MemNode) (posted : List Posted) (past : WorldRun)
     (made : RunRefines sims posted past) where
   -- what is left of a world's nodes is a run
-  pub run_left : (report : Report) → report.steps.items ≡ past.steps →
+  pub run_left : (loses : Type 0) → Arrives loses past.choices → (report : Report) →
+      report.steps.items ≡ past.steps →
       AreLeft sims report.nodes.items → ReadsAreFresh past.configs past.events past.choices
       past.steps →
       NodesKeepEnough past.configs past.events past.choices →
-      IsRun past.configs past.events past.choices report
-  run_left report same left fresh enough =
+      IsRunOver loses past.configs past.events past.choices report
+  run_left loses arrives report same left fresh enough =
       let nodes = report.nodes.items in
       let machines = node_of past.configs (modelled_from 1 past.events past.choices) in
       let each = left.each machines made.disks made.each in
@@ -150,6 +153,7 @@ module _ (sims : List MemNode) (posted : List Posted) (past : WorldRun)
         trace = subst (λ (l : List (List Line)). IsTrace past.configs past.events past.choices l)
             (sym same)
             made.trace;
+        arrives = arrives;
         disks = record {
           ids = reported_ids sims nodes left.own ∙ made.nodes;
           disks = made.disks;
@@ -173,7 +177,7 @@ module _ (sims : List MemNode) (posted : List Posted) (past : WorldRun)
 
 -- a report of a world that has run these events is of the nodes that they left, with its limits
 pub reported_run : {E : Type 0} (world : MemWorld) (limits : Limits) (past : WorldRun) →
-    HasRun world past → WorldHasLimits world limits → (result : Result Report E) →
+    HasRun direct_carrier world past → WorldHasLimits world limits → (result : Result Report E) →
     IfOk result (IsRun past.configs past.events past.choices) →
     IfOk result (λ report. AllZip IsReportOf world.nodes.items report.nodes.items) →
     IfOk result (λ report. (choices : List Choice) × IsRun past.configs past.events choices report

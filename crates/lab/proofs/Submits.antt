@@ -28,6 +28,23 @@ part_rises R (y ∷ l) (z ∷ m) (inl first) rises = (
 )
 part_rises R (y ∷ l) (z ∷ m) (inr later) rises = part_rises R (y ∷ l) m later rises.1
 
+-- a part is one of a longer list
+pub part_behind : {A : Type 0} (x : A) (l m : List A) → Part l m → Part l (x ∷ m)
+part_behind x [] m part = tt
+part_behind x (y ∷ l) m part = inr part
+
+-- a part of a part is a part
+pub part_of_part : {A : Type 0} (k l m : List A) → Part k l → Part l m → Part k m
+part_of_part [] l m part of = tt
+part_of_part (x ∷ k) [] m part of = absurd part
+part_of_part (x ∷ k) (y ∷ l) [] part of = absurd of
+part_of_part (x ∷ k) (y ∷ l) (z ∷ m) part (inr later) =
+    inr (part_of_part (x ∷ k) (y ∷ l) m part later)
+part_of_part (x ∷ k) (y ∷ l) (z ∷ m) (inl first) (inl same) =
+    inl (first.0 ∙ same.0, part_of_part k l m first.1 same.1)
+part_of_part (x ∷ k) (y ∷ l) (z ∷ m) (inr part) (inl same) =
+    inr (part_of_part (x ∷ k) l m part same.1)
+
 -- ---- the batches that events submit
 
 -- the batches that events submit, the first event being in place i

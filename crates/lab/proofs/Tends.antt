@@ -1,6 +1,6 @@
 -- A tend of a simulated node, as an event of the model: what rose in it, and what was given up.
 use Rattle.std.proofs.Common.{◌≡◌, ℕ, Bool, true, false, inl, inr, refl, sym, ap, subst, ◌∙◌}
-use Rattle.std.proofs.Common.{arith, Some}
+use Rattle.std.proofs.Common.{arith, List, Some}
 use Rattle.std.proofs.lemmas.Bool.{cond-true, cond-false, false≢true}
 use Rattle.kv_types.specs.{BatchContent}
 use Rattle.disk.specs.declared.Disk.{Ghosts}
@@ -23,7 +23,7 @@ use Rattle.lab.specs.declared.input.StepOutcome.{StepOutcome}
 use Rattle.lab.specs.declared.input.StepOutcome.TheVariants as done
 use Rattle.lab.specs.declared.node_state.NodeState.{NodeState}
 use Rattle.lab.specs.declared.node_state.NodeState.TheVariants.{Up, Down}
-use Rattle.lab.specs.Events.{RiseFits, line_cause, modelled}
+use Rattle.lab.specs.Events.{RiseFits, arriving, line_cause}
 use Rattle.lab.specs.Outcomes.{Halts, HasTended, IsTendedAnswer, StopsByItself, Tends, TendsNot}
 use Rattle.lab.specs.Outcomes.{rises_in, tended_in}
 use Rattle.lab.specs.SimNodes.{Choice, StateRefines}
@@ -53,7 +53,7 @@ tend_again n kept =
     ap (λ (k : ℕ). record (tend n true kept).node { kept = k }) (kept_again n kept)
 
 module _ {D : Type 0} {g : Ghosts D} (cs : Configurations) (w : SystemState BatchContent) (i x : ℕ)
-    (it : Fault) (struck : Bool) (old new : NodeState D g) (did : StepOutcome)
+    (it : Fault) (struck : Bool) (heard : List Bool) (old new : NodeState D g) (did : StepOutcome)
   where
     -- the machine of the node
     abbrev machine : Machine
@@ -68,11 +68,13 @@ module _ {D : Type 0} {g : Ghosts D} (cs : Configurations) (w : SystemState Batc
       tended = answer;
       rises = rises;
       gives_up = gives_up;
+      lost = false;
+      told = heard;
     }
 
     -- a tend of a running node is that of its machine
     ran : (choice : Choice) → machine.running ≡ true →
-        outcome w cs (modelled i (Tend x) choice)
+        outcome w cs (arriving i (Tend x) choice)
         ≡ as_completed x machine (tend machine choice.rises choice.gives_up) choice.went
     ran choice up = cond-true _ _ _ up
 
@@ -96,14 +98,14 @@ module _ {D : Type 0} {g : Ghosts D} (cs : Configurations) (w : SystemState Batc
     -- the node ran, and its facts say what rose
     tends_so : (now : Node D g) (answer : Tended) → new ≡ Up now → machine.running ≡ true →
         StateRefines g.is_honest g.state (Up now) x (tended_in x machine (Up now)).node →
-        did ≡ done.Tended answer → IsOutcome cs w i x (Tend x) it struck new did
+        did ≡ done.Tended answer → IsOutcome cs w i x (Tend x) it struck heard new did
     tends_so now answer is_up up is traced =
         let facts = facts_of (engine_of now) in
         let rises = has_risen (facts_for x machine) facts in
         let choice = chosen_tend Answered Disk answer rises (given_up rises facts.kept) in
         let same = same_tend machine rises facts.kept in
         let a = tend machine rises facts.kept in
-        as_chosen cs w i x (Tend x) it new did choice (answers x a) a.node
+        as_chosen cs w i x (Tend x) it new did choice refl (answers x a) a.node
         (fits_risen rises facts.kept choice (answers x a) a.node refl refl refl
         (λ _. ap (λ (f : Facts). f.kept) is.facts))
         (λ told _. ap (rises_in x machine) (sym is_up))
@@ -148,32 +150,32 @@ module _ {D : Type 0} {g : Ghosts D} (cs : Configurations) (w : SystemState Batc
         (told_fits it struck by.cause by.environmental))
 
     pub tended : HasTended g.is_honest g.state it struck x machine old new did →
-        IsOutcome cs w i x (Tend x) it struck new did
+        IsOutcome cs w i x (Tend x) it struck heard new did
     tended (Tends up is traced) = by_state old new refl is traced.2
       where
         by_state : (was now : NodeState D g) → new ≡ now →
             StateRefines g.is_honest g.state now x (tended_in x machine now).node →
-            IsTendedAnswer was now traced.0 → IsOutcome cs w i x (Tend x) it struck new did
+            IsTendedAnswer was now traced.0 → IsOutcome cs w i x (Tend x) it struck heard new did
         by_state (Up was) (Up now) same is told = tends_so now traced.0 same up is traced.1
         by_state (Up was) (Down disk) same is told = absurd told
         by_state (Down disk) now same is told = absurd told
     tended (Halts up by gives_up (inl before)) =
-        let choice = chosen StoppedBefore struck by.cause in
-        as_plain cs w i x (Tend x) it new did choice (refl, refl) (no_stop by.told)
+        let choice = chosen heard StoppedBefore struck by.cause in
+        as_plain cs w i x (Tend x) it new did choice (refl, refl) refl (no_stop by.told)
         (stops x machine) (stopped machine) (ran choice up) refl before
         (halts_so by choice machine refl refl)
     tended (Halts up by gives_up (inr behind)) =
         let m = (tend machine true gives_up).node in
         let choice = chosen_tend StoppedAfter by.cause idle.Idle true m.kept in
-        as_chosen cs w i x (Tend x) it new did choice (stops x m) (stopped m)
+        as_chosen cs w i x (Tend x) it new did choice refl (stops x m) (stopped m)
         (fits_risen true m.kept choice (stops x m) (stopped m) refl refl refl (λ _. refl))
         (λ told is. absurd (no_stop by.told told is))
         (ran choice up ∙ ap (stops x) (tend_again machine gives_up)) refl behind
         (halts_so by choice m refl refl)
     tended (TendsNot off is traced) =
-        let choice = chosen Answered struck Disk in
+        let choice = chosen heard Answered struck Disk in
         let o = answers x (dropped_for machine reason.NotRunning) in
-        as_plain cs w i x (Tend x) it new did choice (refl, refl) (no_answer traced.1) o machine
+        as_plain cs w i x (Tend x) it new did choice (refl, refl) refl (no_answer traced.1) o machine
         (cond-false _ _ _ off) refl is
         (subst (λ (d : StepOutcome). IsTraced x (with_fault (Tend x) it) choice d o)
         (sym traced.1)

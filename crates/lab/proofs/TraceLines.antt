@@ -1,5 +1,5 @@
 -- What holds of each line of a run, where it holds of its replies and of every other line.
-use Rattle.std.proofs.Common.{ℕ, suc, List, [], ◌∷◌, ◌++◌, length, Option, Some, None}
+use Rattle.std.proofs.Common.{ℕ, suc, Bool, List, [], ◌∷◌, ◌++◌, length, Option, Some, None}
 use Rattle.std.specs.List.{AllByRecursion}
 use Rattle.std.proofs.lemmas.Bool.{cond_both}
 use Rattle.kv_types.specs.{BatchContent}
@@ -14,13 +14,14 @@ use Rattle.lab.specs.declared.event.EventKind.TheVariants.{Notice, Tend, Start}
 use Rattle.lab.specs.declared.report.Line.{Line}
 use Rattle.lab.specs.declared.report.Line.TheVariants as line
 use Rattle.lab.specs.Events.{lines_at, lines_if, dropped_lines, if_adopted, if_started}
-use Rattle.lab.specs.Events.{if_tended}
+use Rattle.lab.specs.Events.{arrived, first_told, if_tended, others_told, reported_lines}
 use Rattle.lab.specs.Events.{turn_trace, frame_lines, reply_lines, reported_cause}
 use Rattle.lab.specs.SimNodes.{Choice}
 
 -- it holds of each line that is no reply
 pub record IsQuiet (Of : Line → Type 0) : Type 0 where
   pub nothing : Of line.Nothing
+  pub lost : Of line.Lost
   pub dropped : (why : DropReason) → Of (line.Dropped why)
   pub started : (x e n k : ℕ) → Of (line.Started x e n k)
   pub adopted : (x e : ℕ) → Of (line.Adopted x e)
@@ -100,8 +101,26 @@ module _ (Of : Line → Type 0) (quiet : IsQuiet Of) where
       (both Of (frame_lines n o.frames) replies (sent n o.frames) have)))
 
   -- so do those of an event that was for none
-  pub lines_have : (at : Option (ℕ × Machine)) (n : ℕ) (event : Event) (choice : Choice)
+  lines_have : (at : Option (ℕ × Machine)) (n : ℕ) (event : Event) (choice : Choice)
       (o : Outcome BatchContent) → Each (reply_lines event.kind o.replies) →
       Each (lines_if at n event choice o)
   lines_have None n event choice o have = (quiet.nothing, tt)
   lines_have (Some at) n event choice o have = lines_have_at at.0 n event choice o have
+
+  -- so do those of them that arrive
+  arrived_have : (told : List Bool) (lines : List Line) → Each lines → Each (arrived told lines)
+  arrived_have told [] all = tt
+  arrived_have told (line.Replied reply ∷ lines) all =
+      let later = arrived_have (others_told told) lines all.1 in
+      cond_both (first_told told) (line.Replied reply ∷ arrived (others_told told) lines)
+      (arrived (others_told told) lines) Each (λ _. (all.0, later)) (λ _. later)
+  arrived_have told (other ∷ lines) all = (all.0, arrived_have told lines all.1)
+
+  -- and those of an event that may be lost
+  pub reported_have : (n : ℕ) (event : Event) (choice : Choice) (o : Outcome BatchContent) →
+      Each (reply_lines event.kind o.replies) → Each (reported_lines n event choice o)
+  reported_have n event choice o have =
+      let lines = lines_if o.acted_on n event choice o in
+      cond_both choice.lost (line.Lost ∷ []) (arrived choice.told lines) Each
+      (λ _. (quiet.lost, tt))
+      (λ _. arrived_have choice.told lines (lines_have o.acted_on n event choice o have))

@@ -1,37 +1,45 @@
 -- A step of a world, by what its event was found to deliver.
 use Rattle.std.proofs.Common.{◌≡◌, ℕ, suc, ◌+◌, ◌≤◌, List, [], ◌∷◌, ◌++◌, length, true, false}
-use Rattle.std.proofs.Common.{Result, Ok, Err, refl, sym, ap, subst, ◌∙◌, arith}
-use Rattle.std.specs.Prelude.{MatchResult, OnErr, OnOk, Option, Some, None}
+use Rattle.std.proofs.Common.{Bool, Result, Ok, Err, refl, sym, ap, ap₂, subst, ◌∙◌, arith}
+use Rattle.std.specs.Prelude.{MatchResult, OnErr, OnOk}
 use Rattle.disk.specs.declared.disk.Disk.{Ghosts}
 use Rattle.std.proofs.lemmas.Bool.{false≢true}
-use Rattle.std.proofs.lemmas.List.Elements.{All-weaker}
+use Rattle.std.proofs.lemmas.List.Elements.{All-push, All-weaker}
 use Rattle.kv_types.specs.declared.bounds.TheConstants.{MAX_NUMBER}
 use Rattle.kv_types.specs.declared.Limits.{Limits}
 use Rattle.kv_types.specs.{BatchContent}
 use Rattle.chain_model.specs.{Configurations, SystemState, first_state, node_of}
+use Rattle.carriers.specs.declared.Carrier.{Ghosts as Carriers}
+use Rattle.carriers.specs.declared.Delivery.{Delivery}
+use Rattle.carriers.specs.declared.Delivery.TheVariants as delivery
+use Rattle.carriers.specs.{DeliveryWasLost}
 use Rattle.lab.specs.declared.delivery.Posted.{Posted}
 use Rattle.lab.specs.declared.event.Event.{Event}
-use Rattle.lab.specs.declared.input.NodeInput.{NodeInput}
+use Rattle.lab.specs.declared.event.EventKind.{EventKind}
+use Rattle.lab.specs.declared.event.EventRecord.{EventRecord}
+use Rattle.carriers.specs.declared.NodeInput.{NodeInput}
 use Rattle.lab.specs.declared.report.Line.{Line}
-use Rattle.lab.specs.declared.report.Line.TheVariants.{Nothing}
+use Rattle.lab.specs.declared.report.Line.TheVariants as line
 use Rattle.lab.specs.declared.sim_node.SimNode.{SimNode}
 use Rattle.lab.specs.declared.world.World.{World}
 use Rattle.lab.specs.Events.{NamesNode}
-use Rattle.lab.specs.SimNodes.{Choice, StateRefines}
+use Rattle.lab.specs.Arrivals.{RepliesArrive}
+use Rattle.lab.specs.SimNodes.{Choice, HasArrived, StateRefines}
 use Rattle.lab.specs.Traces.{modelled_from}
-use Rattle.lab.specs.Worlds.{FollowRun, HasApplied, HasFollowed, HasKept, HasNoNode, HasRun}
-use Rattle.lab.specs.Worlds.{HasStepped, HaveLimits, NodesRefine, RunRefines, SimNodeRefines}
-use Rattle.lab.specs.Worlds.{WorldHasEnded, WorldKeepsLimits, WorldRun, extended}
+use Rattle.lab.specs.Worlds.{FollowRun, HasApplied, HasBegun, HasFollowed, HasKept, HasNoNode}
+use Rattle.lab.specs.Worlds.{HasRun, HasStepped, HaveLimits, NodesRefine, RunRefines}
+use Rattle.lab.specs.Worlds.{SimNodeRefines, WorldHasEnded, WorldKeepsLimits, WorldRun}
+use Rattle.lab.specs.Worlds.{event_record, event_records, extended}
 use Rattle.lab.proofs.Growing.{follow_limited, length-steps, nodes-push, run-push}
 use Rattle.lab.proofs.Moves.{limited}
-use Rattle.lab.proofs.Worlds.{AlwaysInOrder, FitsDelivery, IsNext, node_after, nothing_after}
-use Rattle.lab.proofs.Worlds.{refined_after}
+use Rattle.lab.proofs.Worlds.{AlwaysInOrder, FitsDelivery, Grows, IsNext, lost_after, node_after}
+use Rattle.lab.proofs.Worlds.{nothing_after, refined_after}
 
 -- an event's place is one more than there are steps
-place_of : {D : Type 0} {g : Ghosts D} (world : World D g) (past : WorldRun) → HasRun world past →
-    (n i : ℕ) →
+place_of : {D C : Type 0} {g : Ghosts D} (h : Carriers C) (world : World D C g) (past : WorldRun) →
+    HasRun h world past → (n i : ℕ) →
     n ≡ world.steps.len → n + 1 ≤ MAX_NUMBER → i ≡ n + 1 → IsNext past.events i
-place_of world past run n i long fits is = record {
+place_of h world past run n i long fits is = record {
   at = omega (
     arith,
     is,
@@ -43,23 +51,51 @@ place_of world past run n i long fits is = record {
   fits = subst (λ (k : ℕ). k ≤ MAX_NUMBER) (sym is) fits;
 }
 
--- Nodes and frames of a world changed by an event, and then it kept the event and its lines.
-module _ {D : Type 0} {g : Ghosts D} (old mid new : World D g) (event : Event) (lines : List Line)
-    (delivers : mid ≡ record old { nodes = mid.nodes; frames = mid.frames; ended = true })
-    (keeps : HasKept mid new event lines)
+-- events as a world keeps them, and one more
+records-push : (events : List Event) (choices : List Choice) (event : Event) (choice : Choice) →
+    length choices ≡ length events →
+    event_records (events ++ event ∷ []) (choices ++ choice ∷ [])
+    ≡ event_records events choices ++ event_record event choice.lost ∷ []
+records-push [] [] event choice same = refl
+records-push [] (c ∷ choices) event choice same = absurd (omega arith)
+records-push (e ∷ events) [] event choice same = absurd (omega arith)
+records-push (e ∷ events) (c ∷ choices) event choice same =
+    ap (λ (l : List EventRecord). event_record e c.lost ∷ l)
+    (records-push events choices event choice (omega arith))
+
+-- A world began an event, which changed its nodes, its frames and its carrier, and then it kept the
+-- lines of that.
+module _ {D C : Type 0} {g : Ghosts D} (h : Carriers C) (old begun mid new : World D C g)
+    (event : Event) (begins : HasBegun old begun event) (lost : Bool) (lines : List Line)
+    (moves : mid ≡ record begun { nodes = mid.nodes; frames = mid.frames; carrier = mid.carrier })
+    (keeps : HasKept mid new lost lines)
     (stay : HaveLimits old.nodes.items old.limits → HaveLimits mid.nodes.items old.limits) where
+  delivers : mid ≡ record old {
+    nodes = mid.nodes;
+    frames = mid.frames;
+    carrier = mid.carrier;
+    events = begun.events;
+    ended = true;
+  }
+  delivers = moves ∙ ap (λ (w : World D C g). record w {
+    nodes = mid.nodes;
+    frames = mid.frames;
+    carrier = mid.carrier;
+  }) begins.others
+
   -- what it is then
-  abbrev now : World D g
+  abbrev now : World D C g
   now = record old {
     nodes = mid.nodes;
     frames = mid.frames;
+    carrier = mid.carrier;
     events = new.events;
     steps = new.steps;
     ended = false;
   }
 
   so : new ≡ now
-  so = keeps.others ∙ ap (λ (w : World D g). record w {
+  so = keeps.others ∙ ap (λ (w : World D C g). record w {
     events = new.events;
     steps = new.steps;
     ended = false;
@@ -68,32 +104,40 @@ module _ {D : Type 0} {g : Ghosts D} (old mid new : World D g) (event : Event) (
   -- it has the limits that it had
   pub keeps_limits : WorldKeepsLimits old new
   keeps_limits limits has = record {
-    given = ap (λ (w : World D g). w.limits) so ∙ has.given;
-    nodes = subst (λ (w : World D g). HaveLimits w.nodes.items limits) (sym so)
+    given = ap (λ (w : World D C g). w.limits) so ∙ has.given;
+    nodes = subst (λ (w : World D C g). HaveLimits w.nodes.items limits) (sym so)
         (subst (λ (own : Limits). HaveLimits mid.nodes.items own) has.given
         (stay
         (subst (λ (own : Limits). HaveLimits old.nodes.items own) (sym has.given) has.nodes)));
   }
 
   -- and has run one event more, where its nodes and frames refine that
-  pub followed_so : (past : WorldRun) → HasRun old past → (choice : Choice) →
+  pub followed_so : (past : WorldRun) → HasRun h old past → (choice : Choice) →
+      choice.lost ≡ lost → ((h.loses → ⊥) → HasArrived choice) → h.is_faithful mid.carrier →
       RunRefines mid.nodes.items mid.frames.items (extended past event choice lines) →
-      FollowRun past event choice old.nodes.items mid.nodes.items → HasFollowed old new past event
-  followed_so past run choice ran follow =
+      FollowRun past event choice old.nodes.items mid.nodes.items →
+      HasFollowed h old new past event
+  followed_so past run choice lost_so arrives faithful ran follow =
       let limits = old.limits in
       let cs = past.configs in
       let came = run.came in
       let machines = node_of cs (modelled_from 1 (past.events ++ event ∷ [])
       (past.choices ++ choice ∷ [])) in
-      subst (λ (w : World D g). HasFollowed old w past event) (sym so) (record {
+      subst (λ (w : World D C g). HasFollowed h old w past event) (sym so) (record {
         choice = choice;
         lines = lines;
         run = record {
           configs = run.configs;
-          kept = keeps.kept ∙ ap (λ (w : World D g). w.steps.items ++ lines ∷ []) delivers
+          kept = keeps.kept ∙ ap (λ (w : World D C g). w.steps.items ++ lines ∷ []) delivers
               ∙ ap (λ (l : List (List Line)). l ++ lines ∷ []) run.kept;
-          taken = keeps.taken ∙ ap (λ (w : World D g). w.events.items ++ event ∷ []) delivers
-              ∙ ap (λ (l : List Event). l ++ event ∷ []) run.taken;
+          taken = keeps.taken old.events.items event
+              (ap (λ (w : World D C g). w.events.items) delivers ∙ begins.taken)
+              ∙ ap₂ (λ (l : List EventRecord) (b : Bool). l ++ event_record event b ∷ []) run.taken
+              (sym lost_so)
+              ∙ sym (records-push past.events past.choices event choice run.made.trace.one_each);
+          carrier = faithful;
+          arrives = λ loses_not. All-push HasArrived past.choices choice (run.arrives loses_not)
+              (arrives loses_not);
           made = ran;
           came = record {
             first = came.first;
@@ -114,24 +158,30 @@ module _ {D : Type 0} {g : Ghosts D} (old mid new : World D g) (event : Event) (
         nodes = follow;
       })
 
--- a world ends where it could not keep an event
-pub ends_so : {D : Type 0} {g : Ghosts D} {T E : Type 0} (r : Result T E) (mid new : World D g)
-    (event : Event)
-    (lines : List Line) → mid.ended ≡ true → OnOk r (HasKept mid new event lines) →
+-- a world ends where it could not keep the lines of an event
+pub ends_so : {D C : Type 0} {g : Ghosts D} {T E : Type 0} (r : Result T E) (mid new : World D C g)
+    (lost : Bool) (lines : List Line) → mid.ended ≡ true → OnOk r (HasKept mid new lost lines) →
     OnErr r (new.ended ≡ mid.ended) →
     MatchResult r (λ _. WorldHasEnded new → ⊥) (λ _. WorldHasEnded new)
-ends_so {D = D} {g = g} (Ok v) mid new event lines ended keeps fails =
-    λ ends. false≢true (sym (ap (λ (w : World D g). w.ended) keeps.others) ∙ ends)
-ends_so (Err e) mid new event lines ended keeps fails = fails ∙ ended
+ends_so {D = D} {C = C} {g = g} (Ok v) mid new lost lines ended keeps fails =
+    λ ends. false≢true (sym (ap (λ (w : World D C g). w.ended) keeps.others) ∙ ends)
+ends_so (Err e) mid new lost lines ended keeps fails = fails ∙ ended
 
--- The next event of a world, which names a node of it or none, by what it was found to bring.
-module _ {D : Type 0} {g : Ghosts D} (in_order : AlwaysInOrder) (old : World D g) (n i : ℕ)
-    (long : n ≡ old.steps.len)
-    (few : n + 1 ≤ MAX_NUMBER) (at : i ≡ n + 1) (event : Event) (found : Option (ℕ × NodeInput))
-    (here : FitsDelivery old.configs old.frames.items i event.kind found)
-    (is_named : NamesNode old.configs event.kind) (past : WorldRun) (run : HasRun old past) where
+-- what was found on the way of the event in place i is a delivery of it, by a faithful carrier
+abbrev pub IsFoundFor : {D C : Type 0} {g : Ghosts D} → Carriers C → World D C g → ℕ → EventKind
+    → Delivery → Type 0
+IsFoundFor h world i kind found = h.is_faithful world.carrier →
+    FitsDelivery world.configs world.frames.items i kind found
+
+-- The next event of a world, which names a node of it or none, by what was found on its way.
+module _ {D C : Type 0} {g : Ghosts D} (h : Carriers C) (in_order : AlwaysInOrder)
+    (old begun : World D C g) (event : Event) (begins : HasBegun old begun event) (n i : ℕ)
+    (long : n ≡ begun.steps.len) (few : n + 1 ≤ MAX_NUMBER) (at : i ≡ n + 1) (found : Delivery)
+    (here : IsFoundFor h begun i event.kind found) (may : DeliveryWasLost found → h.loses)
+    (is_named : NamesNode old.configs event.kind) (past : WorldRun) (run : HasRun h old past) where
   next : IsNext past.events i
-  next = place_of old past run n i long few at
+  next = place_of h old past run n i
+      (long ∙ ap (λ (w : World D C g). w.steps.len) begins.others) few at
 
   abbrev sims : List (SimNode D g)
   sims = old.nodes.items
@@ -139,42 +189,82 @@ module _ {D : Type 0} {g : Ghosts D} (in_order : AlwaysInOrder) (old : World D g
   abbrev posted : List Posted
   posted = old.frames.items
 
-  -- what it was found to bring fits the configurations of the run, and so does the node that it
-  -- names
+  -- it fits the configurations of the run, and so does the node that the event names
   fits : FitsDelivery past.configs posted i event.kind found
-  fits = subst (λ (cs : Configurations). FitsDelivery cs posted i event.kind found) run.configs here
+  fits = subst (λ (cs : Configurations). FitsDelivery cs posted i event.kind found) run.configs
+      (subst (λ (w : World D C g). IsFoundFor h w i event.kind found) begins.others here run.carrier)
 
   names : NamesNode past.configs event.kind
   names = subst (λ (cs : Configurations). NamesNode cs event.kind) run.configs is_named
 
-  -- one that brings nothing is applied where it is kept
-  pub passed_after : found ≡ None → (new : World D g) →
-      HasKept (record old { ended = true }) new event (Nothing ∷ []) → HasApplied old new past event
-  passed_after none new keeps =
-      let grows = nothing_after in_order past sims posted run.made i next event found fits none in
+  -- an event for which no node does anything is applied where its line is kept
+  pub passed_after : (lost : Bool) (line : Line) →
+      Grows in_order past sims posted run.made i next event h.loses lost sims posted (line ∷ []) →
+      (mid new : World D C g) → mid ≡ record begun { carrier = mid.carrier } →
+      h.is_faithful mid.carrier → HasKept mid new lost (line ∷ []) → HasApplied h old new past event
+  passed_after lost line grows mid new moves faithful keeps =
+      let same : (w : World D C g) → w ≡ record begun { carrier = w.carrier } →
+      (w.nodes.items ≡ sims) × (w.frames.items ≡ posted) =
+      λ w is. (
+        ap (λ (v : World D C g). v.nodes.items) is
+            ∙ ap (λ (v : World D C g). v.nodes.items) begins.others,
+        ap (λ (v : World D C g). v.frames.items) is
+            ∙ ap (λ (v : World D C g). v.frames.items) begins.others,
+      ) in
       record {
-        follows = λ _. followed_so old (record old { ended = true }) new event (Nothing ∷ [])
-            refl keeps (λ has. has) past run grows.choice grows.ran grows.nodes;
+        follows = λ _. followed_so h old begun mid new event begins lost (line ∷ [])
+            (moved_so mid moves) keeps
+            (λ has. subst (λ (l : List (SimNode D g)). HaveLimits l old.limits)
+            (sym (same mid moves).0) has)
+            past run grows.choice grows.lost_so grows.arrives faithful
+            (subst (λ (l : List (SimNode D g)). RunRefines l mid.frames.items
+            (extended past event grows.choice (line ∷ []))) (sym (same mid moves).0)
+            (subst (λ (l : List Posted). RunRefines sims l
+            (extended past event grows.choice (line ∷ []))) (sym (same mid moves).1) grows.ran))
+            (subst (λ (l : List (SimNode D g)). FollowRun past event grows.choice sims l)
+            (sym (same mid moves).0) grows.nodes);
         nothing = λ other. absurd (other names);
       }
+    where
+      moved_so : (w : World D C g) → w ≡ record begun { carrier = w.carrier } →
+          w ≡ record begun { nodes = w.nodes; frames = w.frames; carrier = w.carrier }
+      moved_so w is = subst (λ (v : World D C g).
+          v ≡ record begun { nodes = v.nodes; frames = v.frames; carrier = v.carrier }) (sym is) refl
 
-  module _ (it : ℕ × NodeInput) (is : found ≡ Some it) where
-    -- one that is for a node is applied by the node's step
-    pub delivered_after : (mid new : World D g) (lines : List Line) →
-        mid ≡ record old { nodes = mid.nodes; frames = mid.frames; ended = true } →
-        HasStepped sims posted it.0 it.1 event old.limits lines mid.nodes.items mid.frames.items →
-        HasKept mid new event lines → HasApplied old new past event
-    delivered_after mid new lines delivers stepped keeps =
-        let grows = refined_after in_order past sims posted run.made i next event found fits it is
-        old.limits lines mid.nodes.items mid.frames.items stepped in
+  -- so is one that has nothing to deliver
+  pub nothing_applied : found ≡ delivery.Nothing → (mid new : World D C g) →
+      mid ≡ record begun { carrier = mid.carrier } → h.is_faithful mid.carrier →
+      HasKept mid new false (line.Nothing ∷ []) → HasApplied h old new past event
+  nothing_applied is = passed_after false line.Nothing
+      (nothing_after in_order past sims posted run.made i next event h.loses found fits is)
+
+  -- and one that was lost
+  pub lost_applied : found ≡ delivery.Lost → (mid new : World D C g) →
+      mid ≡ record begun { carrier = mid.carrier } → h.is_faithful mid.carrier →
+      HasKept mid new true (line.Lost ∷ []) → HasApplied h old new past event
+  lost_applied is = passed_after true line.Lost
+      (lost_after in_order past sims posted run.made i next event h.loses found fits is may)
+
+  module _ (x : ℕ) (node_input : NodeInput) (is : found ≡ delivery.To x node_input) where
+    -- one that is for a node is applied by the node's step, of whose lines so much arrives
+    pub delivered_after : (mid new : World D C g) (given lines : List Line) →
+        mid ≡ record begun { nodes = mid.nodes; frames = mid.frames; carrier = mid.carrier } →
+        h.is_faithful mid.carrier →
+        HasStepped sims posted x node_input event old.limits given mid.nodes.items
+        mid.frames.items → RepliesArrive h.loses given lines →
+        HasKept mid new false lines → HasApplied h old new past event
+    delivered_after mid new given lines moves faithful stepped heard keeps =
+        let grows = refined_after in_order past sims posted run.made i next event h.loses found fits
+        x node_input is old.limits given lines mid.nodes.items mid.frames.items stepped heard in
         record {
-          follows = λ _. followed_so old mid new event lines delivers keeps
-              (limited sims it.0 it.1 event.fault old.limits stepped.did mid.nodes.items
-              stepped.took) past run grows.choice grows.ran grows.nodes;
+          follows = λ _. followed_so h old begun mid new event begins false lines moves keeps
+              (limited sims x node_input event.fault old.limits stepped.did mid.nodes.items
+              stepped.took) past run grows.choice grows.lost_so grows.arrives faithful grows.ran
+              grows.nodes;
           nothing = λ other. absurd (other names);
         }
 
     -- the world has the node that one is for
-    pub ignored_after : HasNoNode sims it.0 → (new : World D g) → HasApplied old new past event
+    pub ignored_after : HasNoNode sims x → (new : World D C g) → HasApplied h old new past event
     ignored_after none new = absurd (node_after in_order past sims posted run.made i next event
-        found fits it is names none)
+        h.loses found fits x node_input is names none)

@@ -1,12 +1,11 @@
 -- A step of a world's node is a step of the model's.
 use Rattle.std.proofs.Common.{◌≡◌, ℕ, ◌+◌, ◌≤◌, List, [], ◌∷◌, ◌++◌, length, get_or, slice_set}
 use Rattle.std.proofs.Common.{Bool, true, false}
-use Rattle.std.proofs.Common.{refl, sym, ap, subst, ◌∙◌, arith, append-nil}
+use Rattle.std.proofs.Common.{refl, sym, ap, ap₂, subst, ◌∙◌, arith, append-nil}
 use Rattle.std.proofs.Math.Seq.{map-set_same}
-use Rattle.std.specs.Prelude.{All, Option, Some, None, MatchOption}
+use Rattle.std.specs.Prelude.{All, Option, Some, None}
 use Rattle.disk.specs.declared.disk.Disk.{Ghosts}
-use Rattle.std.proofs.lemmas.Bool.{false≢true}
-use Rattle.std.proofs.lemmas.Option.{MatchOption-at_none, MatchOption-at_some}
+use Rattle.std.proofs.lemmas.Bool.{cond-false, false≢true}
 use Rattle.std.specs.List.{AllZip, AllByRecursion}
 use Rattle.std.proofs.lemmas.List.Elements.{recursion_from_All, All-from_recursion}
 use Rattle.std.proofs.lemmas.Slice.Zip.{AllZip-long}
@@ -20,24 +19,31 @@ use Rattle.chain_model.specs.{SystemState, Outcome, Answered, reached, first_sta
 use Rattle.chain_model.specs.{state_after, after, nothing}
 use Rattle.node.specs.declared.Stop.TheVariants.{Disk}
 use Rattle.chain_core.specs.{Machine}
-use Rattle.lab.specs.declared.input.NodeInput.{NodeInput}
+use Rattle.carriers.specs.declared.NodeInput.{NodeInput}
 use Rattle.lab.specs.declared.event.Event.{Event}
 use Rattle.lab.specs.declared.event.EventKind.{EventKind}
 use Rattle.lab.specs.declared.event.EventKind.TheVariants.{Deliver, Notice}
 use Rattle.engine.specs.Tended.TheVariants as tended
 use Rattle.lab.specs.declared.delivery.Posted.{Posted}
 use Rattle.lab.specs.declared.report.Line.{Line}
-use Rattle.lab.specs.declared.report.Line.TheVariants.{Nothing}
+use Rattle.lab.specs.declared.report.Line.TheVariants as line
 use Rattle.lab.specs.declared.sim_node.SimNode.{SimNode}
-use Rattle.lab.specs.Events.{modelled, lines_of_event, NamesNode}
-use Rattle.lab.specs.SimNodes.{StateRefines, Choice, IsUnarmed, disk_in}
-use Rattle.lab.specs.Deliveries.{IsDeliveryOf, HasNoDelivery}
+use Rattle.lab.specs.Events.{MayBeLost, NamesNode, arrived, lines_of_event, modelled, reply_count}
+use Rattle.lab.specs.Events.{reported_lines}
+use Rattle.lab.specs.SimNodes.{StateRefines, Choice, HasArrived, IsUnarmed, disk_in}
+use Rattle.carriers.specs.declared.Delivery.{Delivery}
+use Rattle.carriers.specs.declared.Delivery.TheVariants as delivery
+use Rattle.carriers.specs.{DeliveryWasLost}
+use Rattle.lab.specs.Arrivals.{RepliesArrive}
+use Rattle.lab.specs.Deliveries.{IsDeliverable, IsDeliveryOf}
 use Rattle.lab.specs.Outcomes.{DiskFits, IsExplained, MarksFit, OutcomeRefines, StateFollows}
 use Rattle.lab.specs.Outcomes.{has_struck_in, sent_by}
 use Rattle.lab.specs.Disks.{DiskFollows, HasGrown, StaysReliable, junk_of}
 use Rattle.lab.specs.Traces.{modelled_from}
 use Rattle.lab.specs.Worlds.{FollowRun, HasNoNode, HasStepped, NodesFollow, PostedRefines}
-use Rattle.lab.specs.Worlds.{RunRefines, SimNodeRefines, WorldRun, extended, frames_of_step}
+use Rattle.lab.specs.Worlds.{RunRefines, SimNodeRefines, WorldRun, extended, frames_in}
+use Rattle.lab.specs.Worlds.{frames_of_step}
+use Rattle.lab.proofs.AnswerLines.{counts_arrived}
 use Rattle.lab.proofs.Posting.{zip_both}
 use Rattle.lab.proofs.Deliveries.{refined, nothing_done, junk_same}
 use Rattle.lab.proofs.Disks.{MayRise, with_disk, all_follow, none_follow, follows, few_more}
@@ -51,11 +57,9 @@ use Rattle.lab.proofs.Rises.{no_rise}
 
 -- the delivery that was found is that of the event, by the configurations and the frames that are
 -- posted
-abbrev pub FitsDelivery : Configurations → List Posted → ℕ → EventKind → Option (ℕ × NodeInput)
-    → Type 0
+abbrev pub FitsDelivery : Configurations → List Posted → ℕ → EventKind → Delivery → Type 0
 FitsDelivery cs posted i kind found = (frames : List (ModelFrame BatchContent)) →
-    AllZip PostedRefines posted frames → MatchOption found (HasNoDelivery cs frames kind)
-    (λ it. IsDeliveryOf cs frames i kind it.0 it.1)
+    AllZip PostedRefines posted frames → IsDeliverable cs frames i kind found
 
 -- the number is the place of the event behind these
 pub record IsNext (events : List Event) (i : ℕ) : Type 0 where
@@ -66,6 +70,24 @@ pub record IsNext (events : List Event) (i : ℕ) : Type 0 where
 abbrev pub AlwaysInOrder : Type 0
 AlwaysInOrder = (cs : Configurations) (es : List (ModelEvent BatchContent)) → Lawful cs →
     InOrder cs es
+
+-- the choice in an event for which no node does anything, lost or not
+abbrev at_rest : Bool → Choice
+at_rest lost = record {
+  went = Answered;
+  struck = false;
+  cause = Disk;
+  tended = tended.Idle;
+  rises = false;
+  gives_up = 0;
+  lost = lost;
+  told = [];
+}
+
+-- where nothing may be lost, nothing was
+not_lost : (lost : Bool) → (lost ≡ true → ⊥) → lost ≡ false
+not_lost true none = absurd (none refl)
+not_lost false none = refl
 
 module _ {D : Type 0} {g : Ghosts D} (in_order : AlwaysInOrder) (past : WorldRun)
     (sims : List (SimNode D g)) (posted : List Posted)
@@ -114,9 +136,11 @@ module _ {D : Type 0} {g : Ghosts D} (in_order : AlwaysInOrder) (past : WorldRun
 
   -- nodes, frames and lines refine one event more, in which something was chosen, and the nodes
   -- follow
-  pub record Grows (now : List (SimNode D g)) (more : List Posted)
+  pub record Grows (loses : Type 0) (lost : Bool) (now : List (SimNode D g)) (more : List Posted)
       (lines : List Line) : Type 0 where
     pub choice : Choice
+    pub lost_so : choice.lost ≡ lost
+    pub arrives : (loses → ⊥) → HasArrived choice
     pub ran : RunRefines now more (extended past event choice lines)
     pub nodes : FollowRun past event choice sims now
 
@@ -129,12 +153,13 @@ module _ {D : Type 0} {g : Ghosts D} (in_order : AlwaysInOrder) (past : WorldRun
       subst (λ (k : ℕ). let o = outcome w cs (modelled k event.kind choice) in
       NodesFollow o.acted_on event choice o sims now) (omega (arith, next.at)) is
 
-  -- a step of the node refines one event more
-  refined_next : (x : ℕ) (node_input : NodeInput) (limits : Limits) (lines : List Line)
-      (now : List (SimNode D g)) (more : List Posted) →
+  -- a step of the node refines one event more, of whose lines so much arrives
+  refined_next : (loses : Type 0) (x : ℕ) (node_input : NodeInput) (limits : Limits)
+      (given lines : List Line) (now : List (SimNode D g)) (more : List Posted) →
       IsDeliveryOf cs w.frames i event.kind x node_input →
-      HasStepped sims posted x node_input event limits lines now more → Grows now more lines
-  refined_next x node_input limits lines now more brings t =
+      HasStepped sims posted x node_input event limits given now more →
+      RepliesArrive loses given lines → Grows loses false now more lines
+  refined_next loses x node_input limits given lines now more brings t heard =
       let sim = t.took.sim in
       let all = recursion_from_All (SimNodeRefines w.nodes made.disks) sims made.each in
       let old = get_or sims t.took.index sim in
@@ -147,7 +172,8 @@ module _ {D : Type 0} {g : Ghosts D} (in_order : AlwaysInOrder) (past : WorldRun
       (made.each t.took.index sim t.took.at.within).disk ∙ ap made.disks was in
       let own = disk_in sim.state in
       let struck = struck_by event.fault old sim in
-      let out = refined cs w i x event.fault struck old.state sim.state t.did event.kind node_input
+      let out = refined cs w i x event.fault struck heard.told old.state sim.state t.did event.kind
+      node_input
       brings
       (t.took.dispatched.refines x (w.nodes x) before) in
       let so : out.choice.struck ≡ has_struck_in g.past event.fault (made.disks x) sim.state =
@@ -193,17 +219,24 @@ module _ {D : Type 0} {g : Ghosts D} (in_order : AlwaysInOrder) (past : WorldRun
       out.ends left marked why grows in
       let id : sim.id ≡ x = t.took.id in
       let long = AllZip-long PostedRefines posted w.frames made.frames in
+      let gives : given ≡ lines_of_event (length w.frames) event out.choice o =
+      t.traced ∙ out.traced (length posted)
+      ∙ ap (λ n. lines_of_event n event out.choice o) (sym long) in
       let came = grown past sims posted made i event out.choice now more lines
       next.at (record {
-        traced = t.traced ∙ out.traced (length posted)
-            ∙ ap (λ n. lines_of_event n event out.choice o) (sym long);
+        traced = heard.kept
+            ∙ ap₂ (λ (b : List Bool) (l : List Line). arrived b l) (sym out.heard_so) gives
+            ∙ sym (cond-false out.choice.lost _ _ out.arrives);
         fits = record {
           cause = out.fits;
           struck = stops_so (made.disks x) sim.state may event out.choice o x out.node t.did
               out.ends left;
           tends = out.tends;
+          lost = λ lost. absurd (false≢true (sym out.arrives ∙ lost));
+          told = ap length out.heard_so ∙ heard.each ∙ ap reply_count gives;
         };
-        counted = ap frames_of_step t.traced ∙ out.counted (length posted);
+        counted = ap frames_of_step heard.kept ∙ counts_arrived heard.told given
+            ∙ ap frames_of_step t.traced ∙ out.counted (length posted);
         frames = subst (λ (l : List Posted). AllZip PostedRefines l (w.frames ++ o.frames))
             (sym t.sent.whole)
             (zip_both PostedRefines posted t.sent.more w.frames o.frames made.frames
@@ -232,6 +265,12 @@ module _ {D : Type 0} {g : Ghosts D} (in_order : AlwaysInOrder) (past : WorldRun
       })
       in record {
         choice = out.choice;
+        lost_so = out.arrives;
+        arrives = λ loses_not. record {
+          whole = out.arrives;
+          replies = subst (λ (l : List Bool). All (λ b. b ≡ true) l) (sym out.heard_so)
+              (heard.all loses_not);
+        };
         ran = came;
         nodes = followed out.choice now
             (subst (λ (a : Option (ℕ × Machine)). NodesFollow a event out.choice o sims now)
@@ -262,33 +301,33 @@ module _ {D : Type 0} {g : Ghosts D} (in_order : AlwaysInOrder) (past : WorldRun
             }));
       }
 
-  -- no frame has the place, or no configuration the epoch
-  nothing_next : HasNoDelivery cs w.frames event.kind → Grows sims posted (Nothing ∷ [])
-  nothing_next brings =
-      let choice : Choice =
-      record {
-        went = Answered;
-        struck = false;
-        cause = Disk;
-        tended = tended.Idle;
-        rises = false;
-        gives_up = 0;
-      }
-      in
-      let none = nothing_done cs w i event.kind choice brings in
+  -- an event that the model has as nothing, with this line
+  nothing_next : (loses : Type 0) (lost : Bool) (line : Line) →
+      (let choice = at_rest lost in
+      outcome w cs (modelled i event.kind choice) ≡ nothing) →
+      (line ∷ [] ≡ reported_lines (length w.frames) event (at_rest lost) nothing) →
+      frames_in line ≡ 0 → (lost ≡ true → loses) →
+      (lost ≡ true → MayBeLost w.frames event.kind) →
+      Grows loses lost sims posted (line ∷ [])
+  nothing_next loses lost line none traced silent may fits =
+      let choice = at_rest lost in
       let same : after w nothing ≡ state_after cs w (modelled i event.kind choice) =
       ap (after w) (sym none) in
       let came = grown past sims posted made i event choice sims posted
-      (Nothing ∷ []) next.at (record {
-        traced = ap (lines_of_event (length w.frames) event choice) (sym none);
+      (line ∷ []) next.at (record {
+        traced = traced ∙ ap (reported_lines (length w.frames) event choice) (sym none);
         fits = record {
           cause = λ stops. absurd (false≢true
               (ap (λ (o : Outcome BatchContent). o.stopped) (sym none) ∙ stops));
           struck = λ strikes. absurd (false≢true strikes);
           tends = no_rise event.kind choice
               (outcome w cs (modelled i event.kind choice)) (refl, refl);
+          lost = fits;
+          told = ap (λ (o : Outcome BatchContent). reply_count
+              (lines_of_event (length w.frames) event choice o)) (sym none);
         };
-        counted = ap (λ (o : Outcome BatchContent). length o.frames) (sym none);
+        counted = omega (arith, silent)
+            ∙ ap (λ (o : Outcome BatchContent). length o.frames) (sym none);
         frames = subst (λ (v : SystemState BatchContent). AllZip PostedRefines posted v.frames) same
             (subst (λ (l : List (ModelFrame BatchContent)). AllZip PostedRefines posted l)
             (sym (append-nil w.frames)) made.frames);
@@ -304,31 +343,47 @@ module _ {D : Type 0} {g : Ghosts D} (in_order : AlwaysInOrder) (past : WorldRun
       })
       in record {
         choice = choice;
+        lost_so = refl;
+        arrives = λ loses_not. record {
+          whole = not_lost lost (λ is. loses_not (may is));
+          replies = tt;
+        };
         ran = came;
         nodes = followed choice sims (subst (λ (a : Option (ℕ × Machine)).
             NodesFollow a event choice (outcome w cs (modelled i event.kind choice)) sims sims)
             (sym (ap (λ (o : Outcome BatchContent). o.acted_on) none)) refl);
       }
 
-  -- the same, by what an event was found to bring
-  module _ (found : Option (ℕ × NodeInput)) (fits : FitsDelivery cs posted i event.kind found)
+  -- the same, by what became of an event on its way
+  module _ (loses : Type 0) (found : Delivery) (fits : FitsDelivery cs posted i event.kind found)
     where
-      pub nothing_after : found ≡ None → Grows sims posted (Nothing ∷ [])
-      nothing_after is = nothing_next (MatchOption-at_none (HasNoDelivery cs w.frames event.kind)
-          (λ it. IsDeliveryOf cs w.frames i event.kind it.0 it.1) is (fits w.frames made.frames))
+      -- no frame has the place, or no configuration the epoch
+      pub nothing_after : found ≡ delivery.Nothing →
+          Grows loses false sims posted (line.Nothing ∷ [])
+      nothing_after is =
+          nothing_next loses false line.Nothing
+          (nothing_done cs w i event.kind (at_rest false)
+          (subst (IsDeliverable cs w.frames i event.kind) is (fits w.frames made.frames)))
+          refl refl (λ lost. absurd (false≢true lost)) (λ lost. absurd (false≢true lost))
 
-      module _ (it : ℕ × NodeInput) (is : found ≡ Some it) where
-        brings : IsDeliveryOf cs w.frames i event.kind it.0 it.1
-        brings = MatchOption-at_some (HasNoDelivery cs w.frames event.kind)
-            (λ it. IsDeliveryOf cs w.frames i event.kind it.0 it.1) it is
-            (fits w.frames made.frames)
+      -- it was lost
+      pub lost_after : found ≡ delivery.Lost → (DeliveryWasLost found → loses) →
+          Grows loses true sims posted (line.Lost ∷ [])
+      lost_after is may =
+          nothing_next loses true line.Lost refl refl refl
+          (λ _. may (subst DeliveryWasLost (sym is) tt))
+          (λ _. subst (IsDeliverable cs w.frames i event.kind) is (fits w.frames made.frames))
 
-        pub node_after : NamesNode cs event.kind → HasNoNode sims it.0 → ⊥
-        node_after names none = has_its_node it.0 it.1 names brings none
+      module _ (x : ℕ) (node_input : NodeInput) (is : found ≡ delivery.To x node_input) where
+        brings : IsDeliveryOf cs w.frames i event.kind x node_input
+        brings = subst (IsDeliverable cs w.frames i event.kind) is (fits w.frames made.frames)
 
-        pub refined_after : (limits : Limits) (lines : List Line) (now : List (SimNode D g))
-            (more : List Posted) →
-            HasStepped sims posted it.0 it.1 event limits lines now more →
-            Grows now more lines
-        refined_after limits lines now more t =
-            refined_next it.0 it.1 limits lines now more brings t
+        pub node_after : NamesNode cs event.kind → HasNoNode sims x → ⊥
+        node_after names none = has_its_node x node_input names brings none
+
+        pub refined_after : (limits : Limits) (given lines : List Line)
+            (now : List (SimNode D g)) (more : List Posted) →
+            HasStepped sims posted x node_input event limits given now more →
+            RepliesArrive loses given lines → Grows loses false now more lines
+        refined_after limits given lines now more t heard =
+            refined_next loses x node_input limits given lines now more brings t heard

@@ -4,25 +4,19 @@ use Rattle.kv_types.specs.{BatchContent}
 use Rattle.chain_model.specs.{Configurations, at_epoch, place}
 use Rattle.chain_model.specs as model_frame
 use Rattle.link_messages.specs.declared.Frame.{Frame}
-use Rattle.link_messages.specs.declared.Frame.TheVariants as frame
-use Rattle.chain_model.specs.declared.DropReason.TheVariants as reason
 use Rattle.chain_core.specs.declared.Input.TheVariants as input
 use Rattle.chain_core.specs.{frame_as}
-use Rattle.lab.specs.declared.input.NodeInput.{NodeInput}
-use Rattle.lab.specs.declared.input.NodeInput.TheVariants as to_node
+use Rattle.carriers.specs.declared.Delivery.{Delivery}
+use Rattle.carriers.specs.declared.Delivery.TheVariants as delivery
+use Rattle.carriers.specs.declared.NodeInput.{NodeInput}
+use Rattle.carriers.specs.declared.NodeInput.TheVariants as to_node
+use Rattle.carriers.specs.{input_of}
 use Rattle.lab.specs.declared.event.EventKind.{EventKind}
 use Rattle.lab.specs.declared.event.EventKind.TheVariants.{Submit, Get, Rows, Open, Close}
 use Rattle.lab.specs.declared.event.EventKind.TheVariants.{Deliver, Notice, Tick, Tend, Start}
 use Rattle.lab.specs.declared.event.EventKind.TheVariants.{Stop}
 use Rattle.lab.specs.declared.delivery.Posted.{Posted}
-
--- the input that a frame is to its addressee
-abbrev pub input_of : Frame → NodeInput
-input_of (frame.Forward epoch from number batch) =
-    to_node.Step (input.Forward epoch from number batch)
-input_of (frame.Ack epoch from committed have) =
-    to_node.Step (input.Ack epoch from committed have)
-input_of _ = to_node.BadFrame reason.NotForNodes
+use Rattle.lab.specs.Events.{MayBeLost}
 
 -- no list of frames has anything in this place, the first being 1
 abbrev pub HasNoFrame : {A : Type 0} → List A → ℕ → Type 0
@@ -74,3 +68,9 @@ module _ (cs : Configurations) (frames : List (model_frame.Message BatchContent)
   HasNoDelivery (Deliver p) = HasNoFrame frames p
   HasNoDelivery (Notice node epoch) = length cs ≤ epoch
   HasNoDelivery kind = ⊥
+
+  -- what became of the event in place i: it was lost, or delivers this, or has nothing to deliver
+  abbrev pub IsDeliverable : ℕ → EventKind → Delivery → Type 0
+  IsDeliverable i kind delivery.Nothing = HasNoDelivery kind
+  IsDeliverable i kind delivery.Lost = MayBeLost frames kind
+  IsDeliverable i kind (delivery.To x node_input) = IsDeliveryOf i kind x node_input

@@ -1,13 +1,13 @@
 -- Events as the chain's model has them, and the lines of their outcomes.
 use Rattle.std.specs.Prelude.{◌≡◌, ℕ, suc, List, [], ◌∷◌, ◌++◌, length, Option, Some, None}
-use Rattle.std.specs.Prelude.{Bool, IfSome, true, false, if◌then◌else◌, All}
+use Rattle.std.specs.Prelude.{Bool, IfSome, IsSome, true, false, if◌then◌else◌, All}
 use Rattle.std.specs.List.{flat_map}
 use Rattle.kv_types.specs.{BatchContent, map_of}
 use Rattle.kv_types.specs.Pages.{page_of}
 use Rattle.disk.specs.{IsEnvironmental}
 use Rattle.disk.specs.declared.Fault.{Fault}
 use Rattle.disk.specs.declared.Fault.TheVariants as fault
-use Rattle.chain_model.specs.{Configurations, has, at_epoch, Message, Request, Response}
+use Rattle.chain_model.specs.{Configurations, has, at_epoch, place, Message, Request, Response}
 use Rattle.chain_model.specs.{SystemEvent}
 use Rattle.chain_model.specs.declared.DropReason.{DropReason}
 use Rattle.chain_model.specs as model_frame
@@ -52,20 +52,24 @@ abbrev pub epoch_in : EventKind → Option ℕ
 epoch_in (Notice node epoch) = Some epoch
 epoch_in kind = None
 
--- the event in place i, as the model has it, by what was chosen in it
-abbrev pub modelled : ℕ → EventKind → Choice → model_frame.SystemEvent BatchContent
-modelled i (Submit node batch) choice =
+-- the event in place i that was not lost, as the model has it, by what was chosen in it
+abbrev pub arriving : ℕ → EventKind → Choice → model_frame.SystemEvent BatchContent
+arriving i (Submit node batch) choice =
     SystemEvent.Ask node i (Request.Submit batch) choice.went
-modelled i (Get node key at) choice = SystemEvent.Ask node i (Request.Read at) choice.went
-modelled i (Rows node range at) choice = SystemEvent.Ask node i (Request.Read at) choice.went
-modelled i (Open node at) choice = SystemEvent.Ask node i (Request.Open at) choice.went
-modelled i (Close node number) choice = SystemEvent.Ask node i (Request.Close number) choice.went
-modelled i (Deliver place) choice = SystemEvent.Deliver place choice.went
-modelled i (Notice node epoch) choice = SystemEvent.Notice node epoch choice.went
-modelled i (Tick node) choice = SystemEvent.Tick node choice.went
-modelled i (Tend node) choice = SystemEvent.Tend node choice.rises choice.gives_up choice.went
-modelled i (Start node) choice = SystemEvent.Start node choice.went
-modelled i (Stop node junk) choice = SystemEvent.Stop node
+arriving i (Get node key at) choice = SystemEvent.Ask node i (Request.Read at) choice.went
+arriving i (Rows node range at) choice = SystemEvent.Ask node i (Request.Read at) choice.went
+arriving i (Open node at) choice = SystemEvent.Ask node i (Request.Open at) choice.went
+arriving i (Close node number) choice = SystemEvent.Ask node i (Request.Close number) choice.went
+arriving i (Deliver place) choice = SystemEvent.Deliver place choice.went
+arriving i (Notice node epoch) choice = SystemEvent.Notice node epoch choice.went
+arriving i (Tick node) choice = SystemEvent.Tick node choice.went
+arriving i (Tend node) choice = SystemEvent.Tend node choice.rises choice.gives_up choice.went
+arriving i (Start node) choice = SystemEvent.Start node choice.went
+arriving i (Stop node junk) choice = SystemEvent.Stop node
+
+-- the event in place i, as the model has it: one that was lost keeps its place
+abbrev pub modelled : ℕ → EventKind → Choice → model_frame.SystemEvent BatchContent
+modelled i kind choice = if choice.lost then SystemEvent.Lost else arriving i kind choice
 
 -- a drop has a line with its reason
 abbrev pub dropped_lines : Option DropReason → List Line
@@ -160,9 +164,51 @@ abbrev pub lines_if : Option (ℕ × Machine) → ℕ → Event → Choice → m
 lines_if None sent event choice o = line.Nothing ∷ []
 lines_if (Some at) sent event choice o = lines_at at.0 sent event choice o
 
--- the lines of an event after so many frames, and of a node that stopped by itself the cause
+-- the lines that the node gives of an event after so many frames, and of one that stopped by itself
+-- the cause
 abbrev pub lines_of_event : ℕ → Event → Choice → model_frame.Outcome BatchContent → List Line
 lines_of_event sent event choice o = lines_if o.acted_on sent event choice o
+
+-- how many of these lines are replies
+abbrev pub reply_count : List Line → ℕ
+reply_count [] = 0
+reply_count (line.Replied reply ∷ lines) = suc (reply_count lines)
+reply_count (other ∷ lines) = reply_count lines
+
+-- whether the client was told the first of some replies, by whether it was told each
+abbrev pub first_told : List Bool → Bool
+first_told [] = true
+first_told (b ∷ told) = b
+
+-- .. and the others
+abbrev pub others_told : List Bool → List Bool
+others_told [] = []
+others_told (b ∷ told) = told
+
+-- the lines without those replies that the client was not told
+abbrev pub arrived : List Bool → List Line → List Line
+arrived told [] = []
+arrived told (line.Replied reply ∷ lines) =
+    if first_told told then line.Replied reply ∷ arrived (others_told told) lines
+    else arrived (others_told told) lines
+arrived told (other ∷ lines) = other ∷ arrived told lines
+
+-- the lines of an event after so many frames: of one that was lost only that, and else those of the
+-- node, with the replies that arrived
+abbrev pub reported_lines : ℕ → Event → Choice → model_frame.Outcome BatchContent → List Line
+reported_lines sent event choice o =
+    if choice.lost then line.Lost ∷ []
+    else arrived choice.told (lines_of_event sent event choice o)
+
+-- the event has a request or a frame, which may be lost, after these frames
+abbrev pub MayBeLost : List (model_frame.Message BatchContent) → EventKind → Type 0
+MayBeLost frames (Submit node batch) = Unit {0}
+MayBeLost frames (Get node key at) = Unit {0}
+MayBeLost frames (Rows node range at) = Unit {0}
+MayBeLost frames (Open node at) = Unit {0}
+MayBeLost frames (Close node number) = Unit {0}
+MayBeLost frames (Deliver p) = IsSome (place frames p)
+MayBeLost frames kind = ⊥
 
 -- The event is a tend of a node, and its kept number after it is what was given up.
 pub record HasRaised (kind : EventKind) (choice : Choice) (o : model_frame.Outcome BatchContent) :
@@ -181,9 +227,9 @@ pub record RiseFits (kind : EventKind) (choice : Choice) (o : model_frame.Outcom
     pub rises : choice.rises ≡ true → HasRaised kind choice o
     pub rests : choice.rises ≡ false → choice.gives_up ≡ 0
 
--- what was chosen fits the event and its outcome
-pub record ChoiceFits (event : Event) (choice : Choice) (o : model_frame.Outcome BatchContent) :
-    Type 0
+-- what was chosen fits the event and its outcome, after these frames
+pub record ChoiceFits (frames : List (model_frame.Message BatchContent)) (event : Event)
+    (choice : Choice) (o : model_frame.Outcome BatchContent) : Type 0
   where
     -- a node stops by itself for its device or for memory alone
     pub cause : o.stopped ≡ true →
@@ -192,3 +238,7 @@ pub record ChoiceFits (event : Event) (choice : Choice) (o : model_frame.Outcome
     pub struck : choice.struck ≡ true → (o.stopped ≡ true) × (choice.cause ≡ Disk)
     -- only a tend raises a floor, and the kept number after it tells what it gave up
     pub tends : RiseFits event.kind choice o
+    -- a request or a frame alone is lost
+    pub lost : choice.lost ≡ true → MayBeLost frames event.kind
+    -- of each reply of the node it was chosen whether it arrives
+    pub told : length choice.told ≡ reply_count (lines_of_event (length frames) event choice o)

@@ -2,6 +2,7 @@ pub mod Events
 pub mod SimNodes
 pub mod Traces
 pub mod Disks
+pub mod Arrivals
 pub mod Deliveries
 pub mod Outcomes
 pub mod Freshness
@@ -24,8 +25,8 @@ pub use Rattle.engine.specs.Tended
 -- What crates above name.
 pub use Rattle.lab.specs.Events.{NamesNode, node_in}
 pub use Rattle.lab.specs.History.{ClientHistory, DisksHold, OneHistory}
-pub use Rattle.lab.specs.Runs.{AreNumbersOf, IsRun}
-pub use Rattle.lab.specs.SimNodes.{Choice}
+pub use Rattle.lab.specs.Runs.{AreNumbersOf, IsRun, IsRunOver}
+pub use Rattle.lab.specs.SimNodes.{Arrives, Choice}
 pub use Rattle.lab.specs.Worlds.{AreNodesAfter, AreReportsAfter, HasRun, WorldHasLimits, WorldRun}
-pub use Rattle.lab.specs.Worlds.{IsReportOf, MemWorld, ShowsTables}
+pub use Rattle.lab.specs.Worlds.{IsReportOf, MemWorld, ShowsTables, direct_carrier}
 pub use Rattle.lab.specs.Worlds.{frames_of_step, frames_in_steps}

@@ -27,8 +27,8 @@ use Rattle.node.specs.declared.Stop.TheVariants.{Disk, Memory}
 use Rattle.engine.specs.{IsTendAnswer, facts_of}
 use Rattle.node.specs.{answer_to_tend, facts_for, has_risen}
 use Rattle.node.specs.{replies_of, disk_of, engine_of, HasLongFile}
-use Rattle.lab.specs.declared.input.NodeInput.{NodeInput}
-use Rattle.lab.specs.declared.input.NodeInput.TheVariants as to_node
+use Rattle.carriers.specs.declared.NodeInput.{NodeInput}
+use Rattle.carriers.specs.declared.NodeInput.TheVariants as to_node
 use Rattle.lab.specs.declared.input.StepOutcome.{StepOutcome}
 use Rattle.lab.specs.declared.input.StepOutcome.TheVariants as done
 use Rattle.lab.specs.declared.node_state.NodeState.{NodeState}

@@ -1,5 +1,5 @@
 -- Simulated nodes: what a running or stopped one refines, and what the code may choose in a step.
-use Rattle.std.specs.Prelude.{◌≡◌, ℕ, Bool, None, false}
+use Rattle.std.specs.Prelude.{◌≡◌, ℕ, All, Bool, List, None, false, true}
 use Rattle.kv_types.specs.declared.Limits.{Limits}
 use Rattle.disk.specs.{IsReliable, Marks, Slots, State, fault_of, past_states, state_of}
 use Rattle.disk.specs.declared.disk.Disk.{Ghosts}
@@ -49,7 +49,8 @@ StateIsSound g (Down disk) = g.is_honest disk
 
 -- what the code may choose in a step: how it went, whether the event's fault struck in it, why the
 -- node stopped if it did, and what it did if it tended: whether its floor rises then, and which
--- batches it gives up
+-- batches it gives up; and what the carrier may: whether the event's request or frame was lost, and
+-- of each reply whether the client was told
 pub record Choice : Type 0 where
   pub went : model.StepResult
   pub struck : Bool
@@ -57,6 +58,17 @@ pub record Choice : Type 0 where
   pub tended : Tended
   pub rises : Bool
   pub gives_up : ℕ
+  pub lost : Bool
+  pub told : List Bool
+
+-- nothing of an event was lost
+pub record HasArrived (choice : Choice) : Type 0 where
+  pub whole : choice.lost ≡ false
+  pub replies : All (λ b. b ≡ true) choice.told
+
+-- where nothing may be lost, nothing of these events was
+abbrev pub Arrives : Type 0 → List Choice → Type 0
+Arrives loses choices = (loses → ⊥) → All HasArrived choices
 
 -- a disk is armed with no fault
 abbrev pub IsUnarmed : {D : Type 0} → Ghosts D → D → Type 0

@@ -5,7 +5,7 @@ use Rattle.chain_model.specs.{Configurations}
 use Rattle.chain_model.specs as model
 use Rattle.lab.specs.declared.event.Event.{Event}
 use Rattle.lab.specs.declared.report.Line.{Line}
-use Rattle.lab.specs.Events.{modelled, lines_of_event, ChoiceFits}
+use Rattle.lab.specs.Events.{modelled, reported_lines, ChoiceFits}
 use Rattle.lab.specs.SimNodes.{Choice}
 
 -- the events from place i on, as the model has them, by what was chosen in each
@@ -23,7 +23,7 @@ lines_from cs i [] choices w = []
 lines_from cs i (event ∷ events) [] w = []
 lines_from cs i (event ∷ events) (choice ∷ choices) w =
     let e = modelled i event.kind choice in
-    lines_of_event (length w.frames) event choice (model.outcome w cs e)
+    reported_lines (length w.frames) event choice (model.outcome w cs e)
     ∷ lines_from cs (suc i) events choices (model.state_after cs w e)
 
 -- what was chosen fits each of them, from a world on
@@ -33,7 +33,7 @@ AllFit cs i [] choices w = Unit {0}
 AllFit cs i (event ∷ events) [] w = ⊥
 AllFit cs i (event ∷ events) (choice ∷ choices) w =
     let e = modelled i event.kind choice in
-    ChoiceFits event choice (model.outcome w cs e)
+    ChoiceFits w.frames event choice (model.outcome w cs e)
     × AllFit cs (suc i) events choices (model.state_after cs w e)
 
 -- By these choices, one for each event, the events are a run of the model, and each has the lines

@@ -1,6 +1,6 @@
 -- A world of simulated nodes, and the run of the model that it refines.
 use Rattle.std.specs.Prelude.{◌≡◌, ℕ, suc, ◌+◌, ◌≤◌, List, [], ◌∷◌, ◌++◌, length, map}
-use Rattle.std.specs.Prelude.{MatchOption, Option, Some, None}
+use Rattle.std.specs.Prelude.{Bool, MatchOption, Option, Some, None}
 use Rattle.std.specs.Prelude.{All, true, false, ◌≢◌, ◌<◌, get_or, slice_index, slice_set}
 use Rattle.std.specs.List.{AllZip, HoldsAt}
 use Rattle.kv_types.specs.declared.Limits.{Limits}
@@ -17,10 +17,13 @@ use Rattle.node.specs.{disk_of, engine_of, has_risen}
 use Rattle.link_messages.specs.declared.Frame.{Frame}
 use Rattle.link_messages.specs.{IsFrame, HasBounds, frame_bytes}
 use Rattle.chain_core.specs.{frame_as, Machine}
+use Rattle.carriers.specs.declared.Carrier.{Ghosts as Carriers}
+use Rattle.carriers.specs.declared.Direct.{Direct}
 use Rattle.chain_core.specs.declared.Sent.{Sent}
-use Rattle.lab.specs.declared.input.NodeInput.{NodeInput}
+use Rattle.carriers.specs.declared.NodeInput.{NodeInput}
 use Rattle.lab.specs.declared.input.StepOutcome.{StepOutcome}
 use Rattle.lab.specs.declared.event.Event.{Event}
+use Rattle.lab.specs.declared.event.EventRecord.{EventRecord}
 use Rattle.lab.specs.declared.event.EventKind.TheVariants.{Stop, Tend}
 use Rattle.lab.specs.declared.node_state.NodeState.{NodeState}
 use Rattle.lab.specs.declared.node_state.NodeState.TheVariants.{Up, Down}
@@ -31,7 +34,7 @@ use Rattle.lab.specs.declared.report.NodeReport.{NodeReport}
 use Rattle.node.specs.declared.Numbers.{Numbers}
 use Rattle.lab.specs.declared.sim_node.SimNode.{SimNode}
 use Rattle.lab.specs.declared.world.World.{World}
-use Rattle.lab.specs.SimNodes.{Choice, StateRefines, disk_in, in_memory, state}
+use Rattle.lab.specs.SimNodes.{Arrives, Choice, StateRefines, disk_in, in_memory, state}
 use Rattle.lab.specs.SimNodes.{StateHasLimits, IsDown, IsUnarmed}
 use Rattle.lab.specs.Events.{NamesNode, epoch_in, modelled}
 use Rattle.lab.specs.Outcomes.{HasDispatched, outcome_lines, sent_by}
@@ -47,6 +50,7 @@ abbrev pub frames_in : Line → ℕ
 frames_in (line.Forwarded place from to epoch number) = 1
 frames_in (line.Acknowledged place from to epoch committed have) = 1
 frames_in line.Nothing = 0
+frames_in line.Lost = 0
 frames_in (line.Adopted node epoch) = 0
 frames_in (line.Dropped reason) = 0
 frames_in (line.Started node epoch count committed) = 0
@@ -82,6 +86,16 @@ pub record HasPosted (old : List Posted) (sent : List Sent) (new : List Posted) 
   pub more : List Posted
   pub whole : new ≡ old ++ more
   pub each : AllZip IsPosted more sent
+
+-- an event as a world keeps it, lost or not
+abbrev pub event_record : Event → Bool → EventRecord
+event_record event lost = record { event = event; lost = lost }
+
+-- events as a world keeps them, by what was chosen in each
+abbrev pub event_records : List Event → List Choice → List EventRecord
+event_records (event ∷ events) (choice ∷ choices) =
+    event_record event choice.lost ∷ event_records events choices
+event_records _ _ = []
 
 -- a run of a world: its configurations, its events, what was chosen in each, and the lines of each
 pub record WorldRun : Type 0 where
@@ -257,58 +271,72 @@ module _ {D : Type 0} {g : Ghosts D} where
     pub created : AreCreated (at_epoch cs 0) (at_epoch cs 0) limits first
     pub follow : AllNodesFollow cs limits 1 events choices (model_frame.first_state cs) first sims
 
-  -- The world has run so, and keeps its configurations, its events and the lines of each; its nodes
-  -- came of them, with its limits.
-  pub record HasRun (world : World D g) (run : WorldRun) : Type 0 where
+module _ {D C : Type 0} {g : Ghosts D} where
+  -- The world has run so over a faithful carrier, and keeps its configurations, its events, which of
+  -- them were lost, and the lines of each; its nodes came of them, with its limits.
+  pub record HasRun (h : Carriers C) (world : World D C g) (run : WorldRun) : Type 0 where
     pub configs : world.configs ≡ run.configs
     pub kept : world.steps.items ≡ run.steps
-    pub taken : world.events.items ≡ run.events
+    pub taken : world.events.items ≡ event_records run.events run.choices
     pub made : RunRefines world.nodes.items world.frames.items run
     pub came : AreNodesAfter run.configs world.limits run.events run.choices world.nodes.items
+    pub carrier : h.is_faithful world.carrier
+    pub arrives : Arrives h.loses run.choices
 
-  -- the world kept an event with its lines, and goes on; it is as it was otherwise
-  pub record HasKept (old new : World D g) (event : Event) (lines : List Line) : Type 0 where
-    pub taken : new.events.items ≡ old.events.items ++ event ∷ []
+  -- the world has begun an event, which is not known to be lost; it is as it was otherwise
+  pub record HasBegun (old new : World D C g) (event : Event) : Type 0 where
+    pub taken : new.events.items ≡ old.events.items ++ event_record event false ∷ []
+    pub others : new ≡ record old { events = new.events; ended = true }
+
+  -- The world kept the lines of the event that it had begun, which was lost or not, and goes on. It
+  -- is as it was otherwise.
+  pub record HasKept (old new : World D C g) (lost : Bool) (lines : List Line) : Type 0 where
     pub kept : new.steps.items ≡ old.steps.items ++ lines ∷ []
+    pub taken : (before : List EventRecord) (event : Event) →
+        old.events.items ≡ before ++ event_record event false ∷ [] →
+        new.events.items ≡ before ++ event_record event lost ∷ []
     pub others : new ≡ record old { events = new.events; steps = new.steps; ended = false }
 
   -- the world starts nodes with these limits, and each of its nodes that is up has them
-  pub record WorldHasLimits (world : World D g) (limits : Limits) : Type 0 where
+  pub record WorldHasLimits (world : World D C g) (limits : Limits) : Type 0 where
     pub given : world.limits ≡ limits
     pub nodes : HaveLimits world.nodes.items limits
 
   -- the world keeps the limits that it had
-  abbrev pub WorldKeepsLimits : World D g → World D g → Type 0
+  abbrev pub WorldKeepsLimits : World D C g → World D C g → Type 0
   WorldKeepsLimits old new =
       (limits : Limits) → WorldHasLimits old limits → WorldHasLimits new limits
 
   -- The world has run one event more, with its lines, and its very nodes follow, as was chosen.
-  pub record HasFollowed (old new : World D g) (past : WorldRun) (event : Event) : Type 0 where
+  pub record HasFollowed (h : Carriers C) (old new : World D C g) (past : WorldRun)
+      (event : Event) : Type 0 where
     pub choice : Choice
     pub lines : List Line
-    pub run : HasRun new (extended past event choice lines)
+    pub run : HasRun h new (extended past event choice lines)
     pub nodes : FollowRun past event choice old.nodes.items new.nodes.items
 
   -- the run is as it was, and so is each node
-  pub record HasStayed (old new : World D g) (past : WorldRun) : Type 0 where
-    pub run : HasRun new past
+  pub record HasStayed (h : Carriers C) (old new : World D C g) (past : WorldRun) : Type 0 where
+    pub run : HasRun h new past
     pub nodes : new.nodes.items ≡ old.nodes.items
 
   -- An event was applied if it names a node of the world, or none. Where it names another node, all
   -- stays.
-  pub record HasApplied (old new : World D g) (past : WorldRun) (event : Event) : Type 0 where
-    pub follows : NamesNode past.configs event.kind → HasFollowed old new past event
-    pub nothing : (NamesNode past.configs event.kind → ⊥) → HasStayed old new past
+  pub record HasApplied (h : Carriers C) (old new : World D C g) (past : WorldRun)
+      (event : Event) : Type 0 where
+    pub follows : NamesNode past.configs event.kind → HasFollowed h old new past event
+    pub nothing : (NamesNode past.configs event.kind → ⊥) → HasStayed h old new past
 
   -- a step was refused, and so is every later one
-  abbrev pub WorldHasEnded : World D g → Type 0
+  abbrev pub WorldHasEnded : World D C g → Type 0
   WorldHasEnded world = world.ended ≡ true
 
   -- the lines of the run are those of the model over these events, and each node has the disk that
   -- they left, which represents its machine's whole list, and which has no fault; reads at the last
   -- tail are fresh, and no node gives up what another one may lack
-  pub record IsRunSoFar (world : World D g) (run : WorldRun) : Type 0 where
+  pub record IsRunSoFar (h : Carriers C) (world : World D C g) (run : WorldRun) : Type 0 where
     pub trace : IsTrace run.configs run.events run.choices run.steps
+    pub arrives : Arrives h.loses run.choices
     pub disks : HaveDisks g (λ (sim : SimNode D g). sim.id)
         (λ (sim : SimNode D g). disk_in sim.state) run.configs run.events run.choices
         world.nodes.items
@@ -317,7 +345,7 @@ module _ {D : Type 0} {g : Ghosts D} where
     pub enough : NodesKeepEnough run.configs run.events run.choices
 
   -- .. and there is one history of them
-  abbrev pub HasHistory : World D g → WorldRun → Type 0
+  abbrev pub HasHistory : World D C g → WorldRun → Type 0
   HasHistory world run = IsHistory g.state (λ (sim : SimNode D g). sim.id)
       (λ (sim : SimNode D g). disk_in sim.state) run.configs run.events run.steps world.nodes.items
 
@@ -327,9 +355,13 @@ module _ {D : Type 0} {g : Ghosts D} where
 abbrev pub MemNode : Type 0
 MemNode = SimNode Slots in_memory
 
--- a world of them
+-- what the carrier in memory is: it loses nothing
+abbrev pub direct_carrier : Carriers Direct
+direct_carrier = record { is_faithful = λ carrier. Unit {0}; loses = ⊥ }
+
+-- a world of them, of which nothing is lost
 abbrev pub MemWorld : Type 0
-MemWorld = World Slots in_memory
+MemWorld = World Slots Direct in_memory
 
 -- the report of a node that is this machine and has this disk, at the end of a run
 pub record IsLeft (n : Machine) (own : Slots) (left : NodeReport) : Type 0 where

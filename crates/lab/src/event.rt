@@ -18,6 +18,13 @@ pub struct Event {
     pub fault: Fault,
 }
 
+/// An event that a world has begun, and whether its request or frame was lost on its way.
+#[derive(Drop)]
+pub struct EventRecord {
+    pub event: Event,
+    pub lost: bool,
+}
+
 impl Event {
     /// The same event. Refused where memory runs out.
     pub fn clone(&self) -> Result<Event, AllocError>

@@ -1,28 +1,15 @@
-// The inputs of a simulated node, and the outcomes of its steps.
+// The outcomes of the steps of a simulated node, and what one answers that is down.
 ghost use Rattle.std.specs.Prelude.{IfOk};
 ghost use Rattle.chain_core.specs.{Machine};
 ghost use Rattle.lab.specs.Outcomes.{IsAnswer, IsAnswerAtRest, IsDrop, IsRefusal, down_answer};
 
+use carriers::NodeInput;
 use configurations::Epoch;
-use disk::Junk;
 use engine::Tended;
 use kv_types::Number;
 use link_messages::Refusal;
 use node::{DropReason, Input, Output, Reply, Stop};
 use std::alloc::{AllocError, Global};
-
-/// What an event delivers to a node.
-#[derive(Drop)]
-pub enum NodeInput {
-    Step(Input),
-    /// No frame between nodes, and the reason to drop it.
-    BadFrame(DropReason),
-    /// A turn to work on its files.
-    Tend,
-    Start,
-    /// The machine stops, and its disk crashes.
-    Stop(Junk),
-}
 
 /// How a step of a node ended.
 #[derive(Drop)]

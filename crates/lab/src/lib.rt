@@ -1,12 +1,12 @@
-//! Runs of a chain, simulated in memory: every event, every line, and every disk at the end.
+//! Runs of a chain, simulated: every event, every line, what was lost, and every disk at the end.
 #![tactic(auto)]
 
 mod delivery;
-mod error;
 mod event;
 mod input;
 pub mod laws;
 mod node_state;
+mod replies;
 mod report;
 mod runs;
 mod sim_node;
@@ -15,12 +15,12 @@ mod world;
 
 // The types that events, lines and reports have, and a law of their words, so that a caller names
 // this crate alone.
+pub use carriers::{Carried, Carrier, Direct, LabError, Peer};
 pub use configurations::laws::test_decides_config;
 pub use configurations::{Config, ConfigError, Configs, Epoch, NodeId};
 pub use disk::{Fault, Junk, JunkBytes, MemDisk};
 pub use engine::Tended;
-pub use error::LabError;
-pub use event::{Event, EventKind, names_node, names_nodes};
+pub use event::{Event, EventKind, EventRecord, names_node, names_nodes};
 pub use kv_types::{Batch, Key, Limits, Number, Page, Range, Row, Value};
 pub use link_messages::Refusal;
 pub use node::{DropReason, Numbers, Reply, Stop};

@@ -12,7 +12,8 @@ ghost use Rattle.lab.specs.Events.{line_cause};
 ghost use Rattle.lab.specs.SimNodes.{StateHasLimits, StateIsReady, StateRefines, disk_in};
 ghost use Rattle.lab.specs.Outcomes.{HasCrashed, HasDispatched};
 
-use crate::input::{NodeInput, StepOutcome, dropped, output_at_rest};
+use crate::input::{StepOutcome, dropped, output_at_rest};
+use carriers::NodeInput;
 use disk::laws::{crashed_is_durable, durable_is_left};
 use disk::{Crash, Disk, Fault, Junk};
 use kv_types::Limits;

@@ -13,6 +13,8 @@ use std::marker::Model;
 pub enum Line {
     /// No frame has the place, or no configuration the epoch.
     Nothing,
+    /// The request or the frame did not arrive.
+    Lost,
     Dropped(DropReason),
     Started {
         node: NodeId,
@@ -72,6 +74,12 @@ impl Lines {
         ensures { result ≡ lines.items }
     {
         Lines { lines }
+    }
+
+    pub(crate) fn into_vec(self) -> Vec<Line>
+        ensures { result.items ≡ self }
+    {
+        self.lines
     }
 
     /// The lines in order.

@@ -62,6 +62,7 @@ fn post(
     alloc: Global,
     frames: &mut Vec<Posted>,
     lines: &mut Vec<Line>,
+    from: NodeId,
     sent: &Sent,
 ) -> Result<(), AllocError>
     ensures posted { OnOk result (HasPosted frames.old.items (sent.now ∷ []) frames.new.items) }
@@ -69,7 +70,8 @@ fn post(
         ≡ lines.old.items ++ sent_line (length frames.old.items + 1) sent.now ∷ []) }
 {
     let bytes = write(alloc, &sent.frame)?;
-    frames.push(Posted { to: sent.to, bytes })?;
+    let to = sent.to;
+    frames.push(Posted { from, to, bytes })?;
     lines.push(line_of(frames.len() as u64, sent))?;
     Ok(())
 }
@@ -79,6 +81,7 @@ fn post_all(
     alloc: Global,
     frames: &mut Vec<Posted>,
     lines: &mut Vec<Line>,
+    from: NodeId,
     sent: &[Sent],
 ) -> Result<(), AllocError>
     ensures posted { OnOk result (HasPosted frames.old.items sent.now frames.new.items) }
@@ -86,7 +89,7 @@ fn post_all(
         ≡ lines.old.items ++ sent_lines (length frames.old.items) sent.now) }
 {
     for it in sent {
-        post(alloc, frames, lines, it)?;
+        post(alloc, frames, lines, from, it)?;
     }
     Ok(())
 }
@@ -148,7 +151,7 @@ fn trace_output(
     let mut lines = Vec::with_capacity(alloc, count.max(1))?;
     trace_drop(&mut lines, output.dropped)?;
     trace_adoption(&mut lines, id, told, output.dropped)?;
-    post_all(alloc, frames, &mut lines, &output.frames)?;
+    post_all(alloc, frames, &mut lines, id, &output.frames)?;
     trace_replies(&mut lines, output.replies)?;
     Ok(lines)
 }

@@ -6,22 +6,23 @@ ghost use Rattle.chain_model.specs.{Lawful, at_epoch, has};
 ghost use Rattle.chain_core.specs.{Machine};
 ghost use Rattle.disk.specs.{Slots};
 ghost use Rattle.lab.specs.SimNodes.{StateHasLimits, StateRefines, disk_in, in_memory};
-ghost use Rattle.lab.specs.Runs.{AreNumbersOf, IsRun};
+ghost use Rattle.lab.specs.Runs.{AreNumbersOf, IsRunOver};
 ghost use Rattle.lab.specs.History.{OneHistory};
-ghost use Rattle.lab.specs.Worlds.{AreCreated, AreLeft, HasApplied, HasHistory, HasKept, HasNoNode};
-ghost use Rattle.lab.specs.Worlds.{HasRun, HasStepped, HaveLimits, IsCreated, IsIndexOf, IsLeft};
-ghost use Rattle.lab.specs.Worlds.{IsReportOf, IsRunSoFar, ShowsTables, WorldHasEnded};
-ghost use Rattle.lab.specs.Worlds.{WorldHasLimits, WorldKeepsLimits, WorldRun, empty_run};
-ghost use Rattle.lab.specs.Worlds.{frames_in_steps};
+ghost use Rattle.lab.specs.Worlds.{AreCreated, AreLeft, HasApplied, HasBegun, HasHistory};
+ghost use Rattle.lab.specs.Worlds.{HasKept, HasNoNode, HasRun, HasStepped, HaveLimits, IsCreated};
+ghost use Rattle.lab.specs.Worlds.{IsIndexOf, IsLeft, IsReportOf, IsRunSoFar, ShowsTables};
+ghost use Rattle.lab.specs.Worlds.{WorldHasEnded, WorldHasLimits, WorldKeepsLimits, WorldRun};
+ghost use Rattle.lab.specs.Worlds.{direct_carrier, empty_run, event_records, frames_in_steps};
 
 use crate::delivery::{Posted, delivery_of};
 use crate::event::names_node;
-use crate::input::NodeInput;
 use crate::node_state::NodeState;
+use crate::replies::carry_replies;
 use crate::report::{Line, Lines, NodeReport, Report};
 use crate::sim_node::SimNode;
 use crate::trace::{one_line, trace_of};
-use crate::{Event, LabError};
+use crate::{Carrier, Direct, Event, EventRecord, LabError};
+use carriers::{Delivery, NodeInput};
 use chain_model::{in_order, keeps_enough, one_history, reads_fresh, run_is_outcomes};
 use configurations::{Config, Configs, NodeId};
 use disk::{Crash, Disk, Fault, MemDisk};
@@ -31,15 +32,16 @@ use node::laws::disks_represent;
 use node::{Node, Numbers, Stop};
 use std::alloc::{AllocError, Global};
 
-/// The nodes of a chain on disks of one type, every frame that they ever sent, and the trace so
-/// far. An event is one step of one of them.
+/// The nodes of a chain on disks of one type, what carries between them and their client, every frame
+/// that they ever sent, and the trace so far. An event is one step of one of them, or is lost.
 #[derive(Drop)]
-pub struct World<D: Disk + Drop> {
+pub struct World<D: Disk + Drop, C: Carrier + Drop> {
     configs: Configs,
     limits: Limits,
     nodes: Vec<SimNode<D>>,
+    carrier: C,
     frames: Vec<Posted>,
-    events: Vec<Event>,
+    events: Vec<EventRecord>,
     steps: Vec<Lines>,
     // A step was refused.
     ended: bool,
@@ -165,29 +167,47 @@ fn deliver<D: Crash + Drop>(
     trace_of(alloc, frames, id, event.kind.epoch(), outcome)
 }
 
-impl World<MemDisk> {
-    /// Creates the nodes of the first configuration, on new disks.
+impl World<MemDisk, Direct> {
+    /// Creates the nodes of the first configuration, on new disks. Nothing is lost.
     pub fn new(
         alloc: Global,
         configs: &Configs,
         limits: &Limits,
-    ) -> Result<World<MemDisk>, LabError>
-        ensures ran { IfOk result (λ world. HasRun world (empty_run configs.now)) }
+    ) -> Result<World<MemDisk, Direct>, LabError>
+        ensures ran { IfOk result
+            (λ world. HasRun direct_carrier world (empty_run configs.now)) }
+        ensures goes_on { IfOk result (λ world. WorldHasEnded world → ⊥) }
+        ensures limits { IfOk result (λ world. WorldHasLimits world limits.now) }
+    {
+        World::created(alloc, configs, Direct, limits)
+    }
+}
+
+impl<C: Carrier + Drop> World<MemDisk, C> {
+    /// Creates the nodes of the first configuration, on new disks, with this carrier.
+    pub fn created(
+        alloc: Global,
+        configs: &Configs,
+        carrier: C,
+        limits: &Limits,
+    ) -> Result<World<MemDisk, C>, LabError>
+        ensures ran { C.is_faithful carrier →
+            IfOk result (λ world. HasRun C.Carrier world (empty_run configs.now)) }
         ensures goes_on { IfOk result (λ world. WorldHasEnded world → ⊥) }
         ensures limits { IfOk result (λ world. WorldHasLimits world limits.now) }
     {
         let configs = configs.clone(alloc)?;
         let nodes = created_nodes(alloc, configs.first(), limits)?;
-        Ok(World::over(alloc, configs, nodes, limits))
+        Ok(World::over(alloc, configs, nodes, carrier, limits))
     }
 
     /// The report of the run: its lines, and each node at the end.
     pub fn finish(self, alloc: Global) -> Result<Report, LabError>
-        ensures steps { (run : WorldRun) → HasRun self run →
+        ensures steps { (run : WorldRun) → HasRun C.Carrier self run →
             IfOk result (λ report. report.steps.items ≡ run.steps) }
-        ensures run { (run : WorldRun) → HasRun self run →
-            IfOk result (IsRun run.configs run.events run.choices) }
-        ensures history { (run : WorldRun) → HasRun self run →
+        ensures run { (run : WorldRun) → HasRun C.Carrier self run →
+            IfOk result (IsRunOver C.loses run.configs run.events run.choices) }
+        ensures history { (run : WorldRun) → HasRun C.Carrier self run →
             IfOk result (OneHistory run.configs run.events) }
         ensures own { IfOk result
             (λ report. AllZip IsReportOf self.nodes.items report.nodes.items) }
@@ -198,6 +218,7 @@ impl World<MemDisk> {
             steps,
             configs: _configs,
             limits: _limits,
+            carrier: _carrier,
             frames: _frames,
             events: _events,
             ended,
@@ -218,7 +239,7 @@ impl World<MemDisk> {
     }
 }
 
-impl<D: Disk + Drop> World<D> {
+impl<D: Disk + Drop, C: Carrier + Drop> World<D, C> {
     /// A world of these nodes, which has run no event. If they were just created, the world has run
     /// so (`ran`). Of nodes that were started on what an earlier run left of their disks nothing of
     /// one history is claimed: no event of this run submitted what they hold.
@@ -226,11 +247,12 @@ impl<D: Disk + Drop> World<D> {
         alloc: Global,
         configs: Configs,
         nodes: Vec<SimNode<D>>,
+        carrier: C,
         limits: &Limits,
-    ) -> World<D>
-        ensures ran { Lawful configs →
+    ) -> World<D, C>
+        ensures ran { Lawful configs → C.is_faithful carrier →
             AreCreated (at_epoch configs 0) (at_epoch configs 0) limits.now nodes.items →
-            HasRun result (empty_run configs) }
+            HasRun C.Carrier result (empty_run configs) }
         ensures goes_on { WorldHasEnded result → ⊥ }
         ensures limits { HaveLimits nodes.items limits.now → WorldHasLimits result limits.now }
     {
@@ -238,6 +260,7 @@ impl<D: Disk + Drop> World<D> {
             configs,
             limits: *limits,
             nodes,
+            carrier,
             frames: Vec::new(alloc),
             events: Vec::new(alloc),
             steps: Vec::new(alloc),
@@ -245,20 +268,33 @@ impl<D: Disk + Drop> World<D> {
         }
     }
 
-    // Keeps an event with its lines, and goes on.
-    fn keep(&mut self, event: &Event, lines: Lines) -> Result<(), LabError>
-        ensures kept { OnOk result (HasKept self.old self.new event.now lines) }
+    // Begins an event, which is in the list before anything is done for it.
+    fn begin(&mut self, event: &Event) -> Result<(), LabError>
+        ensures begun { OnOk result (HasBegun self.old self.new event.now) }
+        ensures ends { OnErr result (WorldHasEnded self.new) }
+    {
+        self.ended = true;
+        let (event, lost) = (event.clone()?, false);
+        self.events.push(EventRecord { event, lost })?;
+        Ok(())
+    }
+
+    // Keeps the lines of the event that was begun, which was lost or not, and goes on.
+    fn keep(&mut self, lost: bool, lines: Lines) -> Result<(), LabError>
+        ensures kept { OnOk result (HasKept self.old self.new lost lines) }
         ensures ends { OnErr result (self.new.ended ≡ self.old.ended) }
     {
         self.steps.push(lines)?;
-        self.events.push(event.clone()?)?;
+        if let Some(record) = self.events.last_mut() {
+            record.lost = lost;
+        }
         self.ended = false;
         Ok(())
     }
 
     /// How many frames were sent so far.
     pub fn sent(&self) -> u64
-        ensures { (run : WorldRun) → HasRun self.now run → result ≡ frames_in_steps run.steps }
+        ensures { (run : WorldRun) → HasRun C.Carrier self.now run → result ≡ frames_in_steps run.steps }
     {
         self.frames.len() as u64
     }
@@ -266,7 +302,7 @@ impl<D: Disk + Drop> World<D> {
     /// The numbers of a node as it is now: none of one that is down, or that the world does not
     /// have.
     pub fn numbers(&self, id: NodeId) -> Option<Numbers>
-        ensures run { (run : WorldRun) → HasRun self.now run →
+        ensures run { (run : WorldRun) → HasRun C.Carrier self.now run →
             has (at_epoch run.configs 0) id ≡ true →
             AreNumbersOf run.configs run.events run.choices id result }
         ensures tables { IfSome result (ShowsTables self.now.nodes.items id) }
@@ -282,9 +318,9 @@ impl<D: Disk + Drop> World<D> {
 
     /// The lines of each event so far. The world keeps the disks.
     pub fn report(&self) -> &[Lines]
-        ensures steps { (run : WorldRun) → HasRun self.now run → result.now ≡ run.steps }
-        ensures run { (run : WorldRun) → HasRun self.now run → IsRunSoFar self.now run }
-        ensures history { (run : WorldRun) → HasRun self.now run → HasHistory self.now run }
+        ensures steps { (run : WorldRun) → HasRun C.Carrier self.now run → result.now ≡ run.steps }
+        ensures run { (run : WorldRun) → HasRun C.Carrier self.now run → IsRunSoFar C.Carrier self.now run }
+        ensures history { (run : WorldRun) → HasRun C.Carrier self.now run → HasHistory self.now run }
     {
         // laws: reads at the last tail are fresh, and nothing is given up that may be needed
         reads_fresh::<Batch>();
@@ -299,9 +335,11 @@ impl<D: Disk + Drop> World<D> {
         &self.steps
     }
 
-    /// The events that were applied so far.
-    pub fn events(&self) -> &[Event]
-        ensures { (run : WorldRun) → HasRun self.now run → result.now ≡ run.events }
+    /// The events that were begun so far, and which of them were lost. A step that is refused may
+    /// have begun one more.
+    pub fn events(&self) -> &[EventRecord]
+        ensures { (run : WorldRun) → HasRun C.Carrier self.now run →
+            result.now ≡ event_records run.events run.choices }
     {
         &self.events
     }
@@ -313,13 +351,13 @@ impl<D: Disk + Drop> World<D> {
     }
 }
 
-impl<D: Crash + Drop> World<D> {
-    /// Applies an event to the node that it is for. One that names a node which the world does not
-    /// have does nothing. After an error the world is at its end: every later step is refused, and
-    /// what `sent`, `numbers`, `report` and `events` say of it is left open.
+impl<D: Crash + Drop, C: Carrier + Drop> World<D, C> {
+    /// Applies an event to the node that it is for, or loses it. One that names a node which the
+    /// world does not have does nothing. After an error the world is at its end: every later step is
+    /// refused, and what `sent`, `numbers`, `report` and `events` say of it is left open.
     pub fn step(&mut self, alloc: Global, event: &Event) -> Result<(), LabError>
-        ensures ran { (run : WorldRun) → HasRun self.old run →
-            OnOk result (HasApplied self.old self.new run event.now) }
+        ensures ran { (run : WorldRun) → HasRun C.Carrier self.old run →
+            OnOk result (HasApplied C.Carrier self.old self.new run event.now) }
         ensures ends { MatchResult result (λ _. WorldHasEnded self.new
             → ⊥) (λ _. WorldHasEnded self.new) }
         ensures again { WorldHasEnded self.old → IsErr result }
@@ -331,31 +369,41 @@ impl<D: Crash + Drop> World<D> {
         if !names_node(&self.configs, &event.kind) {
             return Ok(());
         }
-        self.ended = true;
+        self.begin(event)?;
         // No run that memory holds has more events than there are numbers.
         let Some(request) = Number::new(self.steps.len() as u64 + 1) else {
             return Err(LabError::Memory);
         };
         // law: in every run of the model frames are in order
         in_order::<Batch>();
-        let found = delivery_of(alloc, &self.configs, &self.frames, request, &event.kind)?;
-        let Some(delivery) = found else {
-            return self.keep(event, one_line(alloc, Line::Nothing)?);
+        let (id, input) = match delivery_of(
+            alloc,
+            &mut self.carrier,
+            &self.configs,
+            &self.frames,
+            request,
+            &event.kind,
+        )? {
+            Delivery::Nothing => return self.keep(false, one_line(alloc, Line::Nothing)?),
+            Delivery::Lost => return self.keep(true, one_line(alloc, Line::Lost)?),
+            Delivery::To(id, input) => (id, input),
         };
-        let Some(index) = index_of(&self.nodes, delivery.0) else {
-            drop(delivery);
+        let Some(index) = index_of(&self.nodes, id) else {
+            drop(input);
             self.ended = false;
             return Ok(());
         };
+        let (nodes, frames) = (&mut self.nodes, &mut self.frames);
         let lines = deliver(
             alloc,
-            &mut self.nodes,
-            &mut self.frames,
+            nodes,
+            frames,
             event,
             index,
-            delivery,
+            (id, input),
             &self.limits,
         )?;
-        self.keep(event, lines)
+        let lines = carry_replies(alloc, &mut self.carrier, id, lines)?;
+        self.keep(false, lines)
     }
 }

@@ -16,7 +16,7 @@ use Rattle.lab.specs.Numbers.{Numbers}
 use Rattle.lab.specs.{MemWorld as World}
 use Rattle.lab.specs.Tended.TheVariants as tended
 use Rattle.lab.specs.{AreNumbersOf, Choice, HasRun, ShowsTables, WorldHasLimits, WorldRun}
-use Rattle.lab.specs.{frames_in_steps}
+use Rattle.lab.specs.{direct_carrier, frames_in_steps}
 use Rattle.program.specs.declared.script.setup.Setup.{Setup}
 use Rattle.program.specs.declared.script.statement.Action.{Action}
 use Rattle.program.specs.declared.script.statement.Action.TheVariants.{Event, Invalid, Flow}
@@ -170,7 +170,7 @@ run_of setup past = record {
 
 -- the world has run this far, at the nodes that were set up, with their limits
 pub record HasRunTo (world : World) (setup : Setup) (past : Stretch) : Type 0 where
-  pub run : HasRun world (run_of setup past)
+  pub run : HasRun direct_carrier world (run_of setup past)
   pub limits : WorldHasLimits world setup.limits
 
 -- what is shown of a node are its numbers after all that happened, and how many tables its store

@@ -166,6 +166,7 @@ numbers_text node it =
 -- a line of a report, but for the rows of an answer
 abbrev pub line_text : Line → List ℕ
 line_text line.Nothing = codes "nothing"
+line_text line.Lost = codes "lost"
 line_text (line.Dropped reason) = codes "dropped " ++ reason_text reason
 line_text (line.Started node epoch count committed) = started_text node epoch count committed
 line_text (line.Adopted node epoch) = adopted_text node epoch
@@ -190,6 +191,7 @@ rows_of_reply (Refused request refusal) = []
 abbrev pub rows_of_line : Line → List Row
 rows_of_line (line.Replied reply) = rows_of_reply reply
 rows_of_line line.Nothing = []
+rows_of_line line.Lost = []
 rows_of_line (line.Dropped reason) = []
 rows_of_line (line.Started node epoch count committed) = []
 rows_of_line (line.Adopted node epoch) = []
@@ -228,6 +230,7 @@ request_of (Refused request refusal) = request
 abbrev pub reply_place : List ℕ → ℕ → Line → ℕ
 reply_place places here (line.Replied reply) = line_of_request places here (request_of reply)
 reply_place places here line.Nothing = here
+reply_place places here line.Lost = here
 reply_place places here (line.Dropped reason) = here
 reply_place places here (line.Started node epoch count committed) = here
 reply_place places here (line.Adopted node epoch) = here

@@ -19,7 +19,9 @@ ghost use Rattle.program.specs.declared.statement_result.StatementResult.{Statem
 
 use crate::script::{Action, Setup, Statement};
 use crate::statement_result::{Note, StatementResult};
-use lab::{Event, EventKind, Fault, LabError, Line, MemDisk, NodeId, Numbers, Tended, World};
+use lab::{
+    Direct, Event, EventKind, Fault, LabError, Line, MemDisk, NodeId, Numbers, Tended, World,
+};
 use std::alloc::{AllocError, Global};
 use std::collections::VecDeque;
 
@@ -30,7 +32,7 @@ const MOST: usize = 10000;
 /// delivered yet.
 #[derive(Drop)]
 pub struct ScriptRun {
-    pub world: World<MemDisk>,
+    pub world: World<MemDisk, Direct>,
     pub left: VecDeque<u64>,
 }
 

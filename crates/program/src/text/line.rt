@@ -160,6 +160,7 @@ impl fmt::Display for LineText<'_> {
     fn fmt<W: fmt::Write>(&self, f: &mut fmt::Formatter<W>) -> fmt::Result {
         match *self.0 {
             Line::Nothing => f.write_str("nothing"),
+            Line::Lost => f.write_str("lost"),
             Line::Replied(ref reply) => ReplyText(reply).fmt(f),
             Line::Dropped(reason) => write!(f, "dropped {}", reason_name(reason)),
             Line::Started {

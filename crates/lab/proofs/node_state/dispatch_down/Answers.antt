@@ -1,5 +1,5 @@
 use Rattle.std.proofs.Common.{sym, subst}
-use Rattle.lab.specs.declared.input.NodeInput.{NodeInput}
+use Rattle.carriers.specs.declared.NodeInput.{NodeInput}
 use Rattle.lab.specs.declared.node_state.NodeState.TheVariants.{Down}
 use Rattle.lab.specs.Outcomes.{HasDispatched}
 use Rattle.lab.proofs.Dispatching.{answered_at_rest}

@@ -3,7 +3,7 @@ use Rattle.chain_model.specs.{started, stopped, silent}
 use Rattle.disk.specs.{State, contents}
 use Rattle.disk.specs.StepsLemmas.{read_is_outcome}
 use Rattle.node.specs.{DiskAlwaysRefines}
-use Rattle.lab.specs.declared.input.NodeInput.TheVariants as to_node
+use Rattle.carriers.specs.declared.NodeInput.TheVariants as to_node
 use Rattle.lab.specs.declared.node_state.NodeState.TheVariants.{Down}
 use Rattle.lab.specs.SimNodes.{StateRefines}
 use Rattle.lab.specs.Outcomes.{Starts, Fails}

@@ -7,7 +7,7 @@ use Rattle.node.specs.declared.Output.{Output}
 use Rattle.node.specs.declared.Stop.{Stop as Cause}
 use Rattle.node.specs.{HasLongFile, IsNearlyFull, IsOwned, StopRefines}
 use Rattle.node.specs.{disk_of, engine_of}
-use Rattle.lab.specs.declared.input.NodeInput.TheVariants as to_node
+use Rattle.carriers.specs.declared.NodeInput.TheVariants as to_node
 use Rattle.lab.specs.declared.node_state.NodeState.TheVariants.{Up}
 use Rattle.lab.specs.Outcomes.{Answers, Ends}
 use Rattle.lab.proofs.Dispatching.{halted, halts_so}

@@ -9,7 +9,7 @@ use Rattle.node.specs.declared.Stop.TheVariants as stop
 use Rattle.node.specs.declared.Stop.{Stop as Cause}
 use Rattle.node.specs.{HasLongFile, IsNearlyFull, IsOwned, StopRefines}
 use Rattle.node.specs.{disk_of, engine_of}
-use Rattle.lab.specs.declared.input.NodeInput.TheVariants as to_node
+use Rattle.carriers.specs.declared.NodeInput.TheVariants as to_node
 use Rattle.lab.specs.declared.node_state.NodeState.TheVariants.{Up}
 use Rattle.lab.specs.Outcomes.{Halts, Tends}
 use Rattle.lab.proofs.Dispatching.{halted, halts_so, tends_armed}

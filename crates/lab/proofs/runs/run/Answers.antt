@@ -2,7 +2,7 @@ use Rattle.std.proofs.Common.{List, ◌∷◌, [], ◌++◌, take, sym, ap, subs
 use Rattle.std.proofs.lemmas.List.{take_more, take_all}
 use Rattle.lab.specs.declared.event.Event.{Event}
 use Rattle.lab.specs.Events.{NamesNode}
-use Rattle.lab.specs.Worlds.{HasRun, WorldRun}
+use Rattle.lab.specs.Worlds.{HasRun, WorldRun, direct_carrier}
 use Rattle.lab.proofs.Reports.{reported_run}
 use Rattle.lab.proofs.runs.run.Goals as goal
 
@@ -23,7 +23,7 @@ loop-event-preserved c =
     ∙ sym (take_more events i event c.loop-event-test.true) in (
       was.0 ++ ran.choice ∷ [],
       was.1 ++ ran.lines ∷ [],
-      subst (λ (es : List Event). HasRun c.step.new.self (record {
+      subst (λ (es : List Event). HasRun direct_carrier c.step.new.self (record {
         configs = cs;
         events = es;
         choices = was.0 ++ ran.choice ∷ [];
@@ -41,9 +41,9 @@ past_of c = record {
   steps = c.loop-event.invariant.1;
 }
 
-has_run : (c : goal.After-finish) → HasRun c.loop-event.world (past_of c)
+has_run : (c : goal.After-finish) → HasRun direct_carrier c.loop-event.world (past_of c)
 has_run c =
-    subst (λ (es : List Event). HasRun c.loop-event.world (record (past_of c) { events = es }))
+    subst (λ (es : List Event). HasRun direct_carrier c.loop-event.world (record (past_of c) { events = es }))
     (take_all c.loop-event.event-index c.args.events.now c.loop-event-test.false)
     c.loop-event.invariant.2
 

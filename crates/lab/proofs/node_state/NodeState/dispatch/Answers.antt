@@ -3,7 +3,7 @@ use Rattle.std.specs.Prelude.{IfOk, IsSome}
 use Rattle.disk.specs.declared.Mark.TheVariants.{Crashed}
 use Rattle.lab.specs.Disks.{IsMarkedSo}
 use Rattle.chain_model.specs.{stopped, silent}
-use Rattle.lab.specs.declared.input.NodeInput.TheVariants as to_node
+use Rattle.carriers.specs.declared.NodeInput.TheVariants as to_node
 use Rattle.lab.specs.declared.input.StepOutcome.TheVariants as done
 use Rattle.lab.specs.declared.node_state.NodeState.{NodeState}
 use Rattle.lab.specs.declared.node_state.NodeState.TheVariants.{Up}

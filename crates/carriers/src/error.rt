@@ -1,6 +1,6 @@
-// Why a run has no report.
+// Why a run, or what was to be carried in it, came to no end.
 ghost use Rattle.std.specs.Prelude.{◌≡◌};
-ghost use Rattle.lab.specs.declared.error.LabError.TheVariants.{Memory};
+ghost use Rattle.carriers.specs.declared.error.LabError.TheVariants.{Memory};
 
 use std::alloc::{AllocError, AllocFailed};
 use thiserror::Error;

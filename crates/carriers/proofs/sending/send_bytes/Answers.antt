@@ -1,0 +1,15 @@
+use Rattle.std.proofs.Common.{List, ℕ, subst, sym, ◌∙◌}
+use Rattle.std.specs.Prelude.{IfOk}
+use Rattle.carriers.specs.declared.carrier.Carried.{Carried}
+use Rattle.carriers.specs.Carriers.{IsCarried, IsReadFrom}
+use Rattle.carriers.proofs.Reading.{read_as}
+use Rattle.carriers.proofs.sending.send_bytes.Goals as goal
+
+-- what arrived is what was sent, and is read as it was spelled
+pub returns-in-Bytes-clause-received : goal.returns-in-Bytes-clause-received
+returns-in-Bytes-clause-received g c = λ frame is spelled faithful.
+    let got = subst (λ (it : Carried). IsCarried c.args.bytes.now it) c.in-Bytes.is
+    (c.in_ok-carry.ensures.carried faithful) in
+    read_as c.one_spelling.ensures.one c.args.bytes.now frame (is, spelled) c.read_whole.result
+    (subst (λ (l : List ℕ). IfOk c.read_whole.result (IsReadFrom l)) (c.deref.ensures.value ∙ got)
+    c.read_whole.ensures)

@@ -1,0 +1,89 @@
+// Frames that are sent by a carrier, and what arrives of them.
+ghost use Rattle.std.specs.Prelude.{◌≡◌, ◌↔◌, IfOk, IsErr};
+ghost use Rattle.link_messages.specs.{IsFrame, frame_bytes};
+ghost use Rattle.carriers.specs.Carriers.{IsReadFrom, IsReceived, WasLost};
+
+use crate::{Carried, Carrier, LabError, Peer};
+use link_messages::laws::{one_answer, one_spelling};
+use link_messages::{Frame, FrameError, read, write};
+use std::alloc::Global;
+
+/// What arrived of a frame.
+#[derive(Drop)]
+pub enum Received {
+    Frame(Frame),
+    /// Bytes that are not exactly one frame.
+    Unreadable,
+    Lost,
+}
+
+// Bytes with this error are no frame, or there was no memory to read it.
+fn unread(e: FrameError) -> Result<Received, LabError>
+    ensures memory { e ≡ FrameError.Memory → IsErr result }
+    ensures none { IfOk result (λ it. it ≡ Received.Unreadable) }
+{
+    match e {
+        FrameError::Memory => Err(LabError::Memory),
+        FrameError::TooLong | FrameError::BadKind => Ok(Received::Unreadable),
+        FrameError::BadField | FrameError::Trailing => Ok(Received::Unreadable),
+    }
+}
+
+// What the bytes are: a frame, if they are exactly one.
+fn read_whole(alloc: Global, bytes: &[u8]) -> Result<Received, LabError>
+    ensures { IfOk result (IsReadFrom bytes.now) }
+{
+    one_answer(); // law: the same bytes have one answer
+    let (frame, len) = match read(alloc, bytes) {
+        Ok(Some(found)) => found,
+        Ok(None) => return Ok(Received::Unreadable),
+        Err(e) => return unread(e),
+    };
+    if len < bytes.len() {
+        return Ok(Received::Unreadable);
+    }
+    Ok(Received::Frame(frame))
+}
+
+/// Sends the bytes of a frame: what arrives of it. They are read where they arrive.
+pub fn send_bytes<C: Carrier>(
+    alloc: Global,
+    carrier: &mut C,
+    from: Peer,
+    to: Peer,
+    bytes: &[u8],
+) -> Result<Received, LabError>
+    ensures faithful { C.is_faithful carrier.new ↔ C.is_faithful carrier.old }
+    ensures received { (frame : Frame) → IsFrame frame → bytes.now ≡ frame_bytes frame →
+        C.is_faithful carrier.old → IfOk result (IsReceived frame) }
+    ensures lost { IfOk result (λ it. WasLost it → C.loses) }
+{
+    one_spelling(); // law: no two frames have one spelling
+    match carrier.carry(alloc, from, to, bytes)? {
+        Carried::Lost => Ok(Received::Lost),
+        Carried::Bytes(got) => read_whole(alloc, &got),
+    }
+}
+
+/// Sends a frame: what arrives of it. Bytes that arrive as they were sent are not read again.
+pub fn send<C: Carrier>(
+    alloc: Global,
+    carrier: &mut C,
+    from: Peer,
+    to: Peer,
+    frame: Frame,
+) -> Result<Received, LabError>
+    ensures faithful { C.is_faithful carrier.new ↔ C.is_faithful carrier.old }
+    ensures received { C.is_faithful carrier.old → IfOk result (IsReceived frame) }
+    ensures lost { IfOk result (λ it. WasLost it → C.loses) }
+{
+    let bytes = write(alloc, &frame)?;
+    let got = match carrier.carry(alloc, from, to, &bytes)? {
+        Carried::Lost => return Ok(Received::Lost),
+        Carried::Bytes(got) => got,
+    };
+    if got.as_slice() == bytes.as_slice() {
+        return Ok(Received::Frame(frame));
+    }
+    read_whole(alloc, &got)
+}

@@ -1,0 +1,19 @@
+-- What arrives of the lines of a node: its replies may be lost on their way to the client.
+use Rattle.std.specs.Prelude.{◌≡◌, List, All, Bool, Option, Some, None, length, true}
+use Rattle.lab.specs.declared.report.Line.{Line}
+use Rattle.lab.specs.declared.report.Line.TheVariants as line
+use Rattle.lab.specs.Events.{arrived, reply_count}
+
+-- the very line arrives; or it is a reply that was lost, which may be
+abbrev pub LineArrives : Type 0 → Line → Option Line → Type 0
+LineArrives loses given (Some got) = got ≡ given
+LineArrives loses (line.Replied reply) None = loses
+LineArrives loses given None = ⊥
+
+-- these lines arrive of those that a node gave: of each reply it is told whether it did, and where
+-- nothing may be lost each did
+pub record RepliesArrive (loses : Type 0) (given got : List Line) : Type 0 where
+  pub told : List Bool
+  pub each : length told ≡ reply_count given
+  pub kept : got ≡ arrived told given
+  pub all : (loses → ⊥) → All (λ b. b ≡ true) told

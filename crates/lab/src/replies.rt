@@ -1,0 +1,49 @@
+// The replies of a step, as they are carried to the client.
+ghost use Rattle.std.specs.Prelude.{◌↔◌, IfOk};
+ghost use Rattle.lab.specs.Arrivals.{LineArrives, RepliesArrive};
+
+use crate::report::{Line, Lines};
+use crate::{Carrier, LabError};
+use carriers::send_reply;
+use configurations::NodeId;
+use std::alloc::Global;
+
+// What arrives of a line: a reply is carried to the client, and may be lost.
+fn carry_line<C: Carrier>(
+    alloc: Global,
+    carrier: &mut C,
+    from: NodeId,
+    line: Line,
+) -> Result<Option<Line>, LabError>
+    ensures faithful { C.is_faithful carrier.new ↔ C.is_faithful carrier.old }
+    ensures arrives { C.is_faithful carrier.old → IfOk result (LineArrives C.loses line) }
+{
+    match line {
+        Line::Replied(reply) => match send_reply(alloc, carrier, from, reply)? {
+            Some(reply) => Ok(Some(Line::Replied(reply))),
+            None => Ok(None),
+        },
+        other => Ok(Some(other)),
+    }
+}
+
+/// Carries the replies among the lines of a node to the client, one after another. Those that do not
+/// arrive are left out.
+pub fn carry_replies<C: Carrier>(
+    alloc: Global,
+    carrier: &mut C,
+    from: NodeId,
+    lines: Lines,
+) -> Result<Lines, LabError>
+    ensures faithful { C.is_faithful carrier.new ↔ C.is_faithful carrier.old }
+    ensures arrives { C.is_faithful carrier.old → IfOk result (RepliesArrive C.loses lines) }
+{
+    let lines = lines.into_vec();
+    let mut kept = Vec::with_capacity(alloc, lines.len())?;
+    for line in lines {
+        if let Some(line) = carry_line(alloc, carrier, from, line)? {
+            kept.push(line)?;
+        }
+    }
+    Ok(Lines::new(kept))
+}
