@@ -24,7 +24,7 @@ fn main(rt: HostRuntime) -> Result<()> {
     rt.stdin().read_to_end(&mut text)?;
     let script = match read_script(alloc, &text) {
         Ok(script) => script,
-        Err(fault) => bail!("{fault}"),
+        Err(fault) => bail!("script: a fault in line {}", fault.line),
     };
     let setup = &script.setup;
     let mut world = World::created(alloc, &setup.configs, losing(&rt)?, &setup.limits)?;

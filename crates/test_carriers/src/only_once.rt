@@ -23,10 +23,11 @@ impl OnlyOnce {
         }
     }
 
-    // Whether this message was carried.
-    fn has_carried(&self, from: Peer, to: Peer, bytes: &[u8]) -> bool {
+    // Whether this was carried.
+    fn has_carried(&self, sent: &SentBytes) -> bool {
         for it in &self.carried {
-            if it.from == from && it.to == to && it.bytes.as_slice() == bytes {
+            let is_between = it.from == sent.from && it.to == sent.to;
+            if is_between && it.bytes.as_slice() == sent.bytes.as_slice() {
                 return true;
             }
         }
@@ -46,12 +47,16 @@ impl Carrier for OnlyOnce {
         to: Peer,
         bytes: &[u8],
     ) -> Result<Carried, LabError> {
-        if self.has_carried(from, to, bytes) {
+        let got = bytes.to_vec(alloc)?;
+        let sent = SentBytes {
+            from,
+            to,
+            bytes: bytes.to_vec(alloc)?,
+        };
+        if self.has_carried(&sent) {
             return Ok(Carried::Lost);
         }
-        let got = bytes.to_vec(alloc)?;
-        let bytes = bytes.to_vec(alloc)?;
-        self.carried.push(SentBytes { from, to, bytes })?;
+        self.carried.push(sent)?;
         Ok(Carried::Bytes(got))
     }
 }
