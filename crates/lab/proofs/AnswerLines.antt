@@ -123,7 +123,8 @@ counts_arrived told (line.Replied reply ∷ lines) =
     let later = counts_arrived (others_told told) lines in
     cond_both (first_told told) (line.Replied reply ∷ arrived (others_told told) lines)
     (arrived (others_told told) lines)
-    (λ (l : List Line). frames_of_step l ≡ frames_of_step lines) (λ _. later) (λ _. later)
+    (λ (l : List Line). frames_of_step l ≡ frames_of_step (line.Replied reply ∷ lines))
+    (λ _. ap (λ n. 0 + n) later) (λ _. omega (arith, later))
 counts_arrived told (other ∷ lines) =
     ap (λ n. frames_in other + n) (counts_arrived told lines)
 

@@ -4,21 +4,11 @@ use Rattle.std.proofs.Common.{None, true, false, refl, sym, ap, subst, ◌∙◌
 use Rattle.std.proofs.Common.{length-append}
 use Rattle.std.specs.Prelude.{All}
 use Rattle.std.proofs.lemmas.Bool.{cond_both}
-use Rattle.std.proofs.lemmas.List.Elements.{All-push}
+use Rattle.std.proofs.lemmas.List.Elements.{All-from_recursion, All-push}
 use Rattle.lab.specs.declared.report.Line.{Line}
 use Rattle.lab.specs.declared.report.Line.TheVariants as line
-use Rattle.lab.specs.Arrivals.{LineArrives, RepliesArrive}
+use Rattle.lab.specs.Arrivals.{LineArrives, RepliesArrive, as_lines}
 use Rattle.lab.specs.Events.{arrived, first_told, others_told, reply_count}
-
--- the line, if it arrives
-abbrev pub as_lines : Option Line → List Line
-as_lines None = []
-as_lines (Some line) = line ∷ []
-
--- whether a reply that arrives or not was told
-abbrev told_by : Option Line → Bool
-told_by None = false
-told_by (Some line) = true
 
 -- of replies of which each is told whether it arrives, and of one more
 arrived_reply : (told : List Bool) (b : Bool) (lines more : List Line) →
@@ -63,9 +53,13 @@ count_both [] b = omega arith
 count_both (line.Replied reply ∷ a) b = omega (arith, count_both a b)
 count_both (other ∷ a) b = count_both a b
 
+-- of no replies each was told
+none_told : All (λ (b : Bool). b ≡ true) []
+none_told = All-from_recursion (λ (b : Bool). b ≡ true) [] tt
+
 -- no lines arrive of none
 pub none_arrive : (loses : Type 0) → RepliesArrive loses [] []
-none_arrive loses = record { told = []; each = refl; kept = refl; all = λ loses_not. tt }
+none_arrive loses = record { told = []; each = refl; kept = refl; all = λ loses_not. none_told }
 
 -- one reply more, which was told or not
 reply_more : (loses : Type 0) (given got : List Line) (reply : Line) (b : Bool) →

@@ -2,6 +2,7 @@
 use Rattle.std.proofs.Common.{◌≡◌, ℕ, suc, ◌+◌, ◌≤◌, List, [], ◌∷◌, ◌++◌, length, true, false}
 use Rattle.std.proofs.Common.{Bool, Result, Ok, Err, refl, sym, ap, ap₂, subst, ◌∙◌, arith}
 use Rattle.std.specs.Prelude.{MatchResult, OnErr, OnOk}
+use Rattle.std.specs.Result.{IsErrAnd}
 use Rattle.disk.specs.declared.disk.Disk.{Ghosts}
 use Rattle.std.proofs.lemmas.Bool.{false≢true}
 use Rattle.std.proofs.lemmas.List.Elements.{All-push, All-weaker}
@@ -158,6 +159,12 @@ module _ {D C : Type 0} {g : Ghosts D} (h : Carriers C) (old begun mid new : Wor
         nodes = follow;
       })
 
+-- a world ends with an error
+pub ends_with : {T E : Type 0} (P : E → Type 0) (R : T → Type 0) (Q : Type 0) (r : Result T E) →
+    IsErrAnd r P → Q → MatchResult r R (λ _. Q)
+ends_with P R Q (Ok v) is ends = absurd is
+ends_with P R Q (Err e) is ends = ends
+
 -- a world ends where it could not keep the lines of an event
 pub ends_so : {D C : Type 0} {g : Ghosts D} {T E : Type 0} (r : Result T E) (mid new : World D C g)
     (lost : Bool) (lines : List Line) → mid.ended ≡ true → OnOk r (HasKept mid new lost lines) →
@@ -179,7 +186,7 @@ module _ {D C : Type 0} {g : Ghosts D} (h : Carriers C) (in_order : AlwaysInOrde
     (long : n ≡ begun.steps.len) (few : n + 1 ≤ MAX_NUMBER) (at : i ≡ n + 1) (found : Delivery)
     (here : IsFoundFor h begun i event.kind found) (may : DeliveryWasLost found → h.loses)
     (is_named : NamesNode old.configs event.kind) (past : WorldRun) (run : HasRun h old past) where
-  next : IsNext past.events i
+  pub next : IsNext past.events i
   next = place_of h old past run n i
       (long ∙ ap (λ (w : World D C g). w.steps.len) begins.others) few at
 
@@ -194,6 +201,10 @@ module _ {D C : Type 0} {g : Ghosts D} (h : Carriers C) (in_order : AlwaysInOrde
   fits = subst (λ (cs : Configurations). FitsDelivery cs posted i event.kind found) run.configs
       (subst (λ (w : World D C g). IsFoundFor h w i event.kind found) begins.others here run.carrier)
 
+  -- its carrier is faithful
+  carried : h.is_faithful begun.carrier
+  carried = subst (λ (w : World D C g). h.is_faithful w.carrier) (sym begins.others) run.carrier
+
   names : NamesNode past.configs event.kind
   names = subst (λ (cs : Configurations). NamesNode cs event.kind) run.configs is_named
 
@@ -201,7 +212,8 @@ module _ {D C : Type 0} {g : Ghosts D} (h : Carriers C) (in_order : AlwaysInOrde
   pub passed_after : (lost : Bool) (line : Line) →
       Grows in_order past sims posted run.made i next event h.loses lost sims posted (line ∷ []) →
       (mid new : World D C g) → mid ≡ record begun { carrier = mid.carrier } →
-      h.is_faithful mid.carrier → HasKept mid new lost (line ∷ []) → HasApplied h old new past event
+      (h.is_faithful begun.carrier → h.is_faithful mid.carrier) →
+      HasKept mid new lost (line ∷ []) → HasApplied h old new past event
   passed_after lost line grows mid new moves faithful keeps =
       let same : (w : World D C g) → w ≡ record begun { carrier = w.carrier } →
       (w.nodes.items ≡ sims) × (w.frames.items ≡ posted) =
@@ -216,7 +228,7 @@ module _ {D C : Type 0} {g : Ghosts D} (h : Carriers C) (in_order : AlwaysInOrde
             (moved_so mid moves) keeps
             (λ has. subst (λ (l : List (SimNode D g)). HaveLimits l old.limits)
             (sym (same mid moves).0) has)
-            past run grows.choice grows.lost_so grows.arrives faithful
+            past run grows.choice grows.lost_so grows.arrives (faithful carried)
             (subst (λ (l : List (SimNode D g)). RunRefines l mid.frames.items
             (extended past event grows.choice (line ∷ []))) (sym (same mid moves).0)
             (subst (λ (l : List Posted). RunRefines sims l
@@ -233,14 +245,16 @@ module _ {D C : Type 0} {g : Ghosts D} (h : Carriers C) (in_order : AlwaysInOrde
 
   -- so is one that has nothing to deliver
   pub nothing_applied : found ≡ delivery.Nothing → (mid new : World D C g) →
-      mid ≡ record begun { carrier = mid.carrier } → h.is_faithful mid.carrier →
+      mid ≡ record begun { carrier = mid.carrier } →
+      (h.is_faithful begun.carrier → h.is_faithful mid.carrier) →
       HasKept mid new false (line.Nothing ∷ []) → HasApplied h old new past event
   nothing_applied is = passed_after false line.Nothing
       (nothing_after in_order past sims posted run.made i next event h.loses found fits is)
 
   -- and one that was lost
   pub lost_applied : found ≡ delivery.Lost → (mid new : World D C g) →
-      mid ≡ record begun { carrier = mid.carrier } → h.is_faithful mid.carrier →
+      mid ≡ record begun { carrier = mid.carrier } →
+      (h.is_faithful begun.carrier → h.is_faithful mid.carrier) →
       HasKept mid new true (line.Lost ∷ []) → HasApplied h old new past event
   lost_applied is = passed_after true line.Lost
       (lost_after in_order past sims posted run.made i next event h.loses found fits is may)
@@ -249,22 +263,28 @@ module _ {D C : Type 0} {g : Ghosts D} (h : Carriers C) (in_order : AlwaysInOrde
     -- one that is for a node is applied by the node's step, of whose lines so much arrives
     pub delivered_after : (mid new : World D C g) (given lines : List Line) →
         mid ≡ record begun { nodes = mid.nodes; frames = mid.frames; carrier = mid.carrier } →
-        h.is_faithful mid.carrier →
-        HasStepped sims posted x node_input event old.limits given mid.nodes.items
-        mid.frames.items → RepliesArrive h.loses given lines →
+        (h.is_faithful begun.carrier → h.is_faithful mid.carrier) →
+        HasStepped begun.nodes.items begun.frames.items x node_input event begun.limits given
+        mid.nodes.items mid.frames.items → (h.is_faithful begun.carrier →
+        RepliesArrive h.loses given lines) →
         HasKept mid new false lines → HasApplied h old new past event
-    delivered_after mid new given lines moves faithful stepped heard keeps =
+    delivered_after mid new given lines moves faithful takes arrive keeps =
+        let stepped = subst (λ (w : World D C g). HasStepped w.nodes.items w.frames.items x
+        node_input event w.limits given mid.nodes.items mid.frames.items) begins.others takes in
+        let heard = arrive carried in
         let grows = refined_after in_order past sims posted run.made i next event h.loses found fits
         x node_input is old.limits given lines mid.nodes.items mid.frames.items stepped heard in
         record {
           follows = λ _. followed_so h old begun mid new event begins false lines moves keeps
               (limited sims x node_input event.fault old.limits stepped.did mid.nodes.items
-              stepped.took) past run grows.choice grows.lost_so grows.arrives faithful grows.ran
-              grows.nodes;
+              stepped.took) past run grows.choice grows.lost_so grows.arrives (faithful carried)
+              grows.ran grows.nodes;
           nothing = λ other. absurd (other names);
         }
 
     -- the world has the node that one is for
-    pub ignored_after : HasNoNode sims x → (new : World D C g) → HasApplied h old new past event
+    pub ignored_after : HasNoNode begun.nodes.items x → (new : World D C g) →
+        HasApplied h old new past event
     ignored_after none new = absurd (node_after in_order past sims posted run.made i next event
-        h.loses found fits x node_input is names none)
+        h.loses found fits x node_input is names
+        (subst (λ (w : World D C g). HasNoNode w.nodes.items x) begins.others none))

@@ -346,7 +346,7 @@ module _ {D : Type 0} {g : Ghosts D} (in_order : AlwaysInOrder) (past : WorldRun
         lost_so = refl;
         arrives = λ loses_not. record {
           whole = not_lost lost (λ is. loses_not (may is));
-          replies = tt;
+          replies = All-from_recursion (λ (b : Bool). b ≡ true) [] tt;
         };
         ran = came;
         nodes = followed choice sims (subst (λ (a : Option (ℕ × Machine)).

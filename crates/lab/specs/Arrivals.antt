@@ -1,8 +1,13 @@
 -- What arrives of the lines of a node: its replies may be lost on their way to the client.
-use Rattle.std.specs.Prelude.{◌≡◌, List, All, Bool, Option, Some, None, length, true}
+use Rattle.std.specs.Prelude.{◌≡◌, List, [], ◌∷◌, All, Bool, Option, Some, None, length, true}
 use Rattle.lab.specs.declared.report.Line.{Line}
 use Rattle.lab.specs.declared.report.Line.TheVariants as line
 use Rattle.lab.specs.Events.{arrived, reply_count}
+
+-- the line, if it arrived
+abbrev pub as_lines : Option Line → List Line
+as_lines None = []
+as_lines (Some line) = line ∷ []
 
 -- the very line arrives; or it is a reply that was lost, which may be
 abbrev pub LineArrives : Type 0 → Line → Option Line → Type 0

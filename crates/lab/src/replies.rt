@@ -1,6 +1,6 @@
 // The replies of a step, as they are carried to the client.
-ghost use Rattle.std.specs.Prelude.{◌↔◌, IfOk};
-ghost use Rattle.lab.specs.Arrivals.{LineArrives, RepliesArrive};
+ghost use Rattle.std.specs.Prelude.{◌≡◌, ◌↔◌, ◌++◌, IfOk, OnOk};
+ghost use Rattle.lab.specs.Arrivals.{LineArrives, RepliesArrive, as_lines};
 
 use crate::report::{Line, Lines};
 use crate::{Carrier, LabError};
@@ -27,6 +27,16 @@ fn carry_line<C: Carrier>(
     }
 }
 
+// Keeps a line, if it arrived.
+fn keep_line(kept: &mut Vec<Line>, line: Option<Line>) -> Result<(), LabError>
+    ensures { OnOk result (kept.new.items ≡ kept.old.items ++ as_lines line) }
+{
+    match line {
+        Some(line) => Ok(kept.push(line)?),
+        None => Ok(()),
+    }
+}
+
 /// Carries the replies among the lines of a node to the client, one after another. Those that do not
 /// arrive are left out.
 pub fn carry_replies<C: Carrier>(
@@ -41,9 +51,8 @@ pub fn carry_replies<C: Carrier>(
     let lines = lines.into_vec();
     let mut kept = Vec::with_capacity(alloc, lines.len())?;
     for line in lines {
-        if let Some(line) = carry_line(alloc, carrier, from, line)? {
-            kept.push(line)?;
-        }
+        let arrived = carry_line(alloc, carrier, from, line)?;
+        keep_line(&mut kept, arrived)?;
     }
     Ok(Lines::new(kept))
 }

@@ -1,6 +1,6 @@
 // A world of simulated nodes, stepped event by event.
 ghost use Rattle.std.specs.Prelude.{◌≡◌, ℕ, IfOk, IfSome, IsErr, MatchOption, MatchResult};
-ghost use Rattle.std.specs.Prelude.{OnErr, OnOk, true};
+ghost use Rattle.std.specs.Prelude.{◌∷◌, ◌++◌, [], List, OnErr, OnOk, false, true};
 ghost use Rattle.std.specs.List.{AllZip};
 ghost use Rattle.chain_model.specs.{Lawful, at_epoch, has};
 ghost use Rattle.chain_core.specs.{Machine};
@@ -12,7 +12,8 @@ ghost use Rattle.lab.specs.Worlds.{AreCreated, AreLeft, HasApplied, HasBegun, Ha
 ghost use Rattle.lab.specs.Worlds.{HasKept, HasNoNode, HasRun, HasStepped, HaveLimits, IsCreated};
 ghost use Rattle.lab.specs.Worlds.{IsIndexOf, IsLeft, IsReportOf, IsRunSoFar, ShowsTables};
 ghost use Rattle.lab.specs.Worlds.{WorldHasEnded, WorldHasLimits, WorldKeepsLimits, WorldRun};
-ghost use Rattle.lab.specs.Worlds.{direct_carrier, empty_run, event_records, frames_in_steps};
+ghost use Rattle.lab.specs.Worlds.{direct_carrier, empty_run, event_record, event_records};
+ghost use Rattle.lab.specs.Worlds.{frames_in_steps};
 
 use crate::delivery::{Posted, delivery_of};
 use crate::event::names_node;
@@ -167,6 +168,17 @@ fn deliver<D: Crash + Drop>(
     trace_of(alloc, frames, id, event.kind.epoch(), outcome)
 }
 
+// Marks the last event as lost, or not.
+fn mark(events: &mut Vec<EventRecord>, lost: bool)
+    ensures { (before : List EventRecord) (event : Event) →
+        events.old.items ≡ before ++ event_record event false ∷ [] →
+        events.new.items ≡ before ++ event_record event lost ∷ [] }
+{
+    if let Some(record) = events.last_mut() {
+        record.lost = lost;
+    }
+}
+
 impl World<MemDisk, Direct> {
     /// Creates the nodes of the first configuration, on new disks. Nothing is lost.
     pub fn new(
@@ -285,9 +297,7 @@ impl<D: Disk + Drop, C: Carrier + Drop> World<D, C> {
         ensures ends { OnErr result (self.new.ended ≡ self.old.ended) }
     {
         self.steps.push(lines)?;
-        if let Some(record) = self.events.last_mut() {
-            record.lost = lost;
-        }
+        mark(&mut self.events, lost);
         self.ended = false;
         Ok(())
     }

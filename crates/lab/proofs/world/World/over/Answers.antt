@@ -1,12 +1,14 @@
-use Rattle.std.proofs.Common.{List, refl, sym, subst}
+use Rattle.std.proofs.Common.{List, [], refl, sym, subst}
+use Rattle.std.proofs.lemmas.List.Elements.{All-from_recursion}
 use Rattle.lab.specs.declared.delivery.Posted.{Posted}
+use Rattle.lab.specs.SimNodes.{HasArrived}
 use Rattle.lab.specs.Worlds.{RunRefines, empty_run}
 use Rattle.lab.proofs.Nodes.{begun}
 use Rattle.lab.proofs.world.World.over.Goals as goal
 
 -- nodes that were just created have made the run of no events
 pub returns-clause-ran : goal.returns-clause-ran
-returns-clause-ran g c = λ lawful are.
+returns-clause-ran g c = λ lawful faithful are.
     let cs = c.args.configs in
     let sims = c.args.nodes.items in
     record {
@@ -16,4 +18,6 @@ returns-clause-ran g c = λ lawful are.
       made = subst (λ (l : List Posted). RunRefines sims l (empty_run cs))
           (sym c.new.ensures.items) (begun cs c.args.limits.now sims lawful are);
       came = record { first = sims; created = are; follow = refl };
+      carrier = faithful;
+      arrives = λ loses_not. All-from_recursion HasArrived [] tt;
     }

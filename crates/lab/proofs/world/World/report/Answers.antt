@@ -11,6 +11,7 @@ returns-clause-run g c = λ past run.
     let made = run.made in
     record {
       trace = made.trace;
+      arrives = run.arrives;
       disks = disks_so_far self.nodes.items self.frames.items past made
           (λ sim. disk_represents c.disks_represent.ensures sim.state);
       unarmed = unarmed_so_far self.nodes.items self.frames.items past made;

@@ -1,103 +1,141 @@
-use Rattle.std.proofs.Common.{List, [], ◌∷◌, false, refl, subst, true}
+use Rattle.std.proofs.Common.{List, [], ◌∷◌, false, true, refl, ap, subst, sym, ◌∙◌}
 use Rattle.std.specs.Prelude.{OnOk}
+use Rattle.std.specs.List.{AllZip}
+use Rattle.std.proofs.lemmas.Bool.{false≢true}
 use Rattle.std.proofs.lemmas.Option.{MatchOption-at_none}
 use Rattle.std.proofs.lemmas.Result.{on_ok_weaker}
 use Rattle.lab.specs.declared.delivery.Posted.{Posted}
 use Rattle.lab.specs.declared.report.Line.{Line}
-use Rattle.lab.specs.declared.report.Line.TheVariants.{Nothing}
+use Rattle.lab.specs.declared.report.Line.TheVariants as line
 use Rattle.lab.specs.declared.sim_node.SimNode.{SimNode}
 use Rattle.lab.specs.declared.world.World.{World}
-use Rattle.lab.specs.Worlds.{HasKept, HasNoNode, IsIndexOf}
+use Rattle.lab.specs.Worlds.{HasKept, HasNoNode, HaveLimits, IsIndexOf, PostedRefines}
 use Rattle.lab.proofs.Moves.{limited}
-use Rattle.lab.proofs.Worlds.{FitsDelivery}
-use Rattle.lab.proofs.WorldSteps.{delivered_after, ends_so, ignored_after, keeps_limits}
-use Rattle.lab.proofs.WorldSteps.{passed_after}
-use Rattle.lab.proofs.world.World.step.Goals.{After-keep}
+use Rattle.lab.proofs.WorldSteps.{IsFoundFor, delivered_after, ends_so, ends_with, ignored_after}
+use Rattle.lab.proofs.WorldSteps.{keeps_limits, lost_applied, nothing_applied}
 use Rattle.lab.proofs.world.World.step.Goals as goal
 
--- no frame has the place: the event is kept with the line of that
-passed : (g : _) (c : After-keep g) → OnOk c.keep.result
-    (HasKept (record c.args.self.now { ended = true }) c.keep.new.self c.args.event.now
-    (Nothing ∷ []))
-passed g c = subst (λ (l : List Line). OnOk c.keep.result
-    (HasKept (record c.args.self.now { ended = true }) c.keep.new.self c.args.event.now l))
-    c.in_ok-one_line.ensures c.keep.ensures.kept
-
-pub returns-in_default-found-clause-ran : goal.returns-in_default-found-clause-ran
-returns-in_default-found-clause-ran g c = λ past run.
-    let self = c.args.self.now in
+-- no frame has the place, or no configuration the epoch: the event is kept with the line of that
+pub returns-in-Nothing-clause-ran : goal.returns-in-Nothing-clause-ran
+returns-in-Nothing-clause-ran g c = λ past run.
+    let begun = c.begin.new.self in
     let event = c.args.event.now in
-    let found = c.in_ok-found.found in
-    let fits = subst (λ (l : List Posted). FitsDelivery self.configs l c.in-Some.request event.kind
-    found) c.deref.ensures.value c.in_ok-found.ensures in
-    on_ok_weaker c.keep.result (passed_after c.in_order.ensures self c.len.result
-    c.in-Some.request c.len.ensures c.in-Some.ensures.0 c.in-Some.ensures.1 event found fits
-    (c.names_node.ensures.0 c.if-not-names_node.false) past run c.in_default-found.is
-    c.keep.new.self) (passed g c)
+    let found = c.in_ok-delivery_of.field-0 in
+    let mid : World g.row.D.Denot g.row.C.Denot g.D.Disk =
+    record begun { carrier = c.delivery_of.new.carrier } in
+    let here : IsFoundFor g.C.Carrier begun c.in-Some.request event.kind found =
+    λ faithful frames each. c.in_ok-delivery_of.ensures.found frames
+    (subst (λ (l : List Posted). AllZip PostedRefines l frames) (sym c.deref.ensures.value) each)
+    faithful in
+    on_ok_weaker c.keep.result (nothing_applied g.C.Carrier c.in_order.ensures c.args.self.now begun
+    event c.in_ok-begin.ensures.begun c.len.result c.in-Some.request c.len.ensures
+    c.in-Some.ensures.0 c.in-Some.ensures.1 found here c.in_ok-delivery_of.ensures.lost
+    (c.names_node.ensures.0 c.if-not-names_node.false) past run c.in-Nothing.is mid
+    c.keep.new.self refl c.in_ok-delivery_of.ensures.faithful.1)
+    (subst (λ (l : List Line). OnOk c.keep.result (HasKept mid c.keep.new.self false l))
+    c.in_ok-one_line-in-Nothing.ensures c.keep.ensures.kept)
 
-pub returns-in_default-found-clause-ends : goal.returns-in_default-found-clause-ends
-returns-in_default-found-clause-ends g c =
-    ends_so c.keep.result (record c.args.self.now { ended = true }) c.keep.new.self
-    c.args.event.now (Nothing ∷ []) refl (passed g c) c.keep.ensures.ends
-
-pub returns-in_default-found-clause-limits : goal.returns-in_default-found-clause-limits
-returns-in_default-found-clause-limits g c =
-    let self = c.args.self.now in
-    on_ok_weaker c.keep.result (λ keeps. keeps_limits self (record self { ended = true })
-    c.keep.new.self c.args.event.now (Nothing ∷ []) refl keeps (λ has. has)) (passed g c)
+-- it was lost, and is kept so
+pub returns-in-Lost-clause-ran : goal.returns-in-Lost-clause-ran
+returns-in-Lost-clause-ran g c = λ past run.
+    let begun = c.begin.new.self in
+    let event = c.args.event.now in
+    let found = c.in_ok-delivery_of.field-0 in
+    let mid : World g.row.D.Denot g.row.C.Denot g.D.Disk =
+    record begun { carrier = c.delivery_of.new.carrier } in
+    let here : IsFoundFor g.C.Carrier begun c.in-Some.request event.kind found =
+    λ faithful frames each. c.in_ok-delivery_of.ensures.found frames
+    (subst (λ (l : List Posted). AllZip PostedRefines l frames) (sym c.deref.ensures.value) each)
+    faithful in
+    on_ok_weaker c.keep-in-Lost.result (lost_applied g.C.Carrier c.in_order.ensures c.args.self.now begun
+    event c.in_ok-begin.ensures.begun c.len.result c.in-Some.request c.len.ensures
+    c.in-Some.ensures.0 c.in-Some.ensures.1 found here c.in_ok-delivery_of.ensures.lost
+    (c.names_node.ensures.0 c.if-not-names_node.false) past run c.in-Lost.is mid
+    c.keep-in-Lost.new.self refl c.in_ok-delivery_of.ensures.faithful.1)
+    (subst (λ (l : List Line). OnOk c.keep-in-Lost.result (HasKept mid c.keep-in-Lost.new.self true l))
+    c.in_ok-one_line-in-Lost.ensures c.keep-in-Lost.ensures.kept)
 
 -- the world does not have the node
 pub returns-in_default-index_of-clause-ran : goal.returns-in_default-index_of-clause-ran
 returns-in_default-index_of-clause-ran g c = λ past run.
-    let self = c.args.self.now in
+    let begun = c.begin.new.self in
     let event = c.args.event.now in
-    let it = c.in-Some-found.delivery in
-    let found = c.in_ok-found.found in
-    let fits = subst (λ (l : List Posted). FitsDelivery self.configs l c.in-Some.request event.kind
-    found) c.deref.ensures.value c.in_ok-found.ensures in
-    ignored_after c.in_order.ensures self c.len.result c.in-Some.request c.len.ensures
-    c.in-Some.ensures.0 c.in-Some.ensures.1 event found fits
-    (c.names_node.ensures.0 c.if-not-names_node.false) past run it c.in-Some-found.is
-    (subst (λ (l : List (SimNode g.row.D.Denot g.D.Disk)). HasNoNode l it.0) c.deref-2.ensures.value
-    (MatchOption-at_none (HasNoNode c.deref-2.result.now it.0)
-    (λ index. IsIndexOf c.deref-2.result.now index it.0) c.in_default-index_of.is
-    c.index_of.ensures)) (record self { ended = false })
+    let found = c.in_ok-delivery_of.field-0 in
+    let here : IsFoundFor g.C.Carrier begun c.in-Some.request event.kind found =
+    λ faithful frames each. c.in_ok-delivery_of.ensures.found frames
+    (subst (λ (l : List Posted). AllZip PostedRefines l frames) (sym c.deref.ensures.value) each)
+    faithful in
+    ignored_after g.C.Carrier c.in_order.ensures c.args.self.now begun event
+    c.in_ok-begin.ensures.begun c.len.result c.in-Some.request c.len.ensures
+    c.in-Some.ensures.0 c.in-Some.ensures.1 found here c.in_ok-delivery_of.ensures.lost
+    (c.names_node.ensures.0 c.if-not-names_node.false) past run c.in-To.id c.in-To.input c.in-To.is
+    (subst (λ (l : List (SimNode g.row.D.Denot g.D.Disk)). HasNoNode l c.in-To.id)
+    c.deref-2.ensures.value
+    (MatchOption-at_none (HasNoNode c.deref-2.result.now c.in-To.id)
+    (λ index. IsIndexOf c.deref-2.result.now index c.in-To.id) c.in_default-index_of.is
+    c.index_of.ensures)) _
 
 pub returns-in_default-index_of-clause-limits : goal.returns-in_default-index_of-clause-limits
-returns-in_default-index_of-clause-limits g c = λ limits has.
-    record { given = has.given; nodes = has.nodes }
+returns-in_default-index_of-clause-limits g c = λ limits has. record {
+  given = ap (λ (w : World g.row.D.Denot g.row.C.Denot g.D.Disk). w.limits)
+      c.in_ok-begin.ensures.begun.others ∙ has.given;
+  nodes = subst (λ (w : World g.row.D.Denot g.row.C.Denot g.D.Disk). HaveLimits w.nodes.items
+      limits) (sym c.in_ok-begin.ensures.begun.others) has.nodes;
+}
 
--- the world once its node took the step
-abbrev mid : (g : _) (c : goal.After-keep-2 g) → World g.row.D.Denot g.D.Disk
-mid g c = record c.args.self.now {
+-- memory was wanted for the replies
+pub returns-in_err-lines-2-clause-ends : goal.returns-in_err-lines-2-clause-ends
+returns-in_err-lines-2-clause-ends g c =
+    ends_with _ _ _ c.from_residual-in_err-lines-2.result
+    c.from_residual-in_err-lines-2.ensures.1
+    (ap (λ (w : World g.row.D.Denot g.row.C.Denot g.D.Disk). w.ended)
+    c.in_ok-begin.ensures.begun.others)
+
+-- the world once its node took the step, and its replies were carried
+abbrev mid : (g : _) (c : goal.After-keep-2 g) → World g.row.D.Denot g.row.C.Denot g.D.Disk
+mid g c = record c.begin.new.self {
   nodes = c.deliver.new.nodes;
   frames = c.deliver.new.frames;
-  ended = true;
+  carrier = c.carry_replies.new.carrier;
 }
 
 pub returns-clause-ran : goal.returns-clause-ran
 returns-clause-ran g c = λ past run.
-    let self = c.args.self.now in
+    let begun = c.begin.new.self in
     let event = c.args.event.now in
-    let found = c.in_ok-found.found in
-    let fits = subst (λ (l : List Posted). FitsDelivery self.configs l c.in-Some.request event.kind
-    found) c.deref.ensures.value c.in_ok-found.ensures in
-    on_ok_weaker c.keep-2.result (delivered_after c.in_order.ensures self c.len.result
-    c.in-Some.request c.len.ensures c.in-Some.ensures.0 c.in-Some.ensures.1 event found fits
-    (c.names_node.ensures.0 c.if-not-names_node.false) past run c.in-Some-found.delivery
-    c.in-Some-found.is (mid g c) c.keep-2.new.self c.in_ok-lines.lines refl c.in_ok-lines.ensures)
+    let found = c.in_ok-delivery_of.field-0 in
+    let here : IsFoundFor g.C.Carrier begun c.in-Some.request event.kind found =
+    λ faithful frames each. c.in_ok-delivery_of.ensures.found frames
+    (subst (λ (l : List Posted). AllZip PostedRefines l frames) (sym c.deref.ensures.value) each)
+    faithful in
+    let first = c.in_ok-delivery_of.ensures.faithful.1 in
+    on_ok_weaker c.keep-2.result (delivered_after g.C.Carrier c.in_order.ensures c.args.self.now
+    begun event c.in_ok-begin.ensures.begun c.len.result c.in-Some.request c.len.ensures
+    c.in-Some.ensures.0 c.in-Some.ensures.1 found here c.in_ok-delivery_of.ensures.lost
+    (c.names_node.ensures.0 c.if-not-names_node.false) past run c.in-To.id c.in-To.input c.in-To.is
+    (mid g c) c.keep-2.new.self c.in_ok-lines.lines c.in_ok-lines-2.lines refl
+    (λ faithful. c.in_ok-lines-2.ensures.faithful.1 (first faithful)) c.in_ok-lines.ensures
+    (λ faithful. c.in_ok-lines-2.ensures.arrives (first faithful)))
     c.keep-2.ensures.kept
 
 pub returns-clause-ends : goal.returns-clause-ends
 returns-clause-ends g c =
-    ends_so c.keep-2.result (mid g c) c.keep-2.new.self c.args.event.now c.in_ok-lines.lines refl
-    c.keep-2.ensures.kept c.keep-2.ensures.ends
+    ends_so c.keep-2.result (mid g c) c.keep-2.new.self false c.in_ok-lines-2.lines
+    (ap (λ (w : World g.row.D.Denot g.row.C.Denot g.D.Disk). w.ended)
+    c.in_ok-begin.ensures.begun.others) c.keep-2.ensures.kept c.keep-2.ensures.ends
+
+pub returns-clause-again : goal.returns-clause-again
+returns-clause-again g c = λ ended. absurd (false≢true (sym c.if-self.false ∙ ended))
 
 pub returns-clause-limits : goal.returns-clause-limits
 returns-clause-limits g c =
-    let self = c.args.self.now in
-    let it = c.in-Some-found.delivery in
+    let old = c.args.self.now in
+    let begun = c.begin.new.self in
     let h = c.in_ok-lines.ensures in
-    on_ok_weaker c.keep-2.result (λ keeps. keeps_limits self (mid g c) c.keep-2.new.self
-    c.args.event.now c.in_ok-lines.lines refl keeps (limited self.nodes.items it.0 it.1
-    c.args.event.now.fault self.limits h.did (mid g c).nodes.items h.took)) c.keep-2.ensures.kept
+    on_ok_weaker c.keep-2.result (λ keeps. keeps_limits g.C.Carrier old begun (mid g c)
+    c.keep-2.new.self c.args.event.now c.in_ok-begin.ensures.begun false c.in_ok-lines-2.lines refl
+    keeps (subst (λ (w : World g.row.D.Denot g.row.C.Denot g.D.Disk).
+    HaveLimits w.nodes.items w.limits → HaveLimits (mid g c).nodes.items w.limits)
+    c.in_ok-begin.ensures.begun.others
+    (limited begun.nodes.items c.in-To.id c.in-To.input c.args.event.now.fault begun.limits h.did
+    (mid g c).nodes.items h.took))) c.keep-2.ensures.kept

@@ -1,0 +1,18 @@
+use Rattle.std.proofs.Common.{subst, sym}
+use Rattle.std.specs.Prelude.{IfOk}
+use Rattle.lab.specs.declared.event.EventKind.{EventKind}
+use Rattle.lab.specs.Deliveries.{IsDeliverable}
+use Rattle.lab.proofs.delivery.delivery_of.Goals as goal
+
+pub returns-in-Deliver-clause-found : goal.returns-in-Deliver-clause-found
+returns-in-Deliver-clause-found g c = λ frames each faithful.
+    subst (λ (kind : EventKind).
+    IfOk c.delivered.result (IsDeliverable c.args.configs.now frames c.args.request kind))
+    (sym c.in-Deliver.is)
+    (c.delivered.ensures.found c.args.configs.now c.args.request frames each faithful)
+
+pub returns-in-Notice-clause-found : goal.returns-in-Notice-clause-found
+returns-in-Notice-clause-found g c = λ frames each faithful.
+    subst (λ (kind : EventKind).
+    IfOk c.noticed.result (IsDeliverable c.args.configs.now frames c.args.request kind))
+    (sym c.in-Notice.is) (c.noticed.ensures.found c.args.request frames)
