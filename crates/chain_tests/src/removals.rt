@@ -4,3 +4,4 @@ mod course;
 mod disks;
 mod history;
 mod lists;
+mod runs;
