@@ -7,7 +7,7 @@ use Rattle.kv_types.specs.declared.Limits.{Limits}
 use Rattle.kv_types.specs.{BatchContent}
 use Rattle.kv_types.specs.Pages.{PagesAgree}
 use Rattle.disk.specs.{Slots}
-use Rattle.chain_model.specs.{Configurations, has, last_of, ResponseAgrees, OneList, batches, Part}
+use Rattle.chain_model.specs.{Configurations, has, last_of, ResponseAgrees, OneList, batches}
 use Rattle.chain_model.specs.{IsPrefix, RunIsOutcomes, Response, Outcome, submitted}
 use Rattle.chain_model.specs.{SystemEvent as ModelEvent}
 use Rattle.chain_model.specs.{outcomes, first_state, reached, node_of}
@@ -25,7 +25,7 @@ use Rattle.lab.specs.declared.report.Report.{Report}
 use Rattle.lab.specs.declared.sim_node.SimNode.{SimNode}
 use Rattle.lab.specs.Disks.{HaveDisks, IsDiskOf}
 use Rattle.lab.specs.Freshness.{NodesKeepEnough, ReadsAreFresh}
-use Rattle.lab.specs.History.{HasAll, IsHistory, LineAgrees, Placed}
+use Rattle.lab.specs.History.{HasAll, IsHistory, LineAgrees}
 use Rattle.lab.specs.SimNodes.{Arrives, Choice, IsUnarmed, StateRefines, disk_in, in_memory}
 use Rattle.lab.specs.SimNodes.{state}
 use Rattle.lab.specs.Runs.{IsRun, IsRunOver, RunningRefines}

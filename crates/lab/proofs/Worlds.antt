@@ -3,7 +3,7 @@ use Rattle.std.proofs.Common.{◌≡◌, ℕ, ◌+◌, ◌≤◌, List, [], ◌�
 use Rattle.std.proofs.Common.{Bool, true, false}
 use Rattle.std.proofs.Common.{refl, sym, ap, ap₂, subst, ◌∙◌, arith, append-nil}
 use Rattle.std.proofs.Math.Seq.{map-set_same}
-use Rattle.std.specs.Prelude.{All, Option, Some, None}
+use Rattle.std.specs.Prelude.{All, Option}
 use Rattle.disk.specs.declared.disk.Disk.{Ghosts}
 use Rattle.std.proofs.lemmas.Bool.{cond-false, false≢true}
 use Rattle.std.specs.List.{AllZip, AllByRecursion}

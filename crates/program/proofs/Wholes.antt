@@ -1,70 +1,118 @@
 -- How a whole run ends.
 use Rattle.std.proofs.Common.{◌≡◌, ℕ, List, [], ◌∷◌, Option, None, Some, refl, sym, ap, subst, inl}
-use Rattle.std.proofs.Common.{inr}
+use Rattle.std.proofs.Common.{inr, true}
 use Rattle.std.proofs.Common.{length, take}
-use Rattle.std.specs.Prelude.{Result, Ok, Err, OnErr, IfOk, IfSome, MatchResult}
+use Rattle.std.specs.Prelude.{true, ◌⊎◌, Result, Ok, Err, OnErr, IfErr, IfOk}
+use Rattle.std.specs.Prelude.{IfSome, MatchResult}
 use Rattle.std.specs.Io.KnownBytes.{Appends}
+use Rattle.lab.specs.{MemWorld, direct_carrier}
 use Rattle.program.specs.declared.failure.Failure.{Failure}
 use Rattle.program.specs.declared.failure.Failure.TheVariants.{Unreadable, Script, Output}
 use Rattle.program.specs.declared.failure.Failure.TheVariants as failure
-use Rattle.program.specs.declared.script.setup.Setup.{Setup}
-use Rattle.program.specs.declared.script.statement.Statement.{Statement}
-use Rattle.program.specs.Scripts.{script_lines, IsScript}
-use Rattle.program.specs.Faults.{script_fault, start}
-use Rattle.program.specs.Failures.{failure_line, IsFailureOf, IsOfReading}
-use Rattle.program.specs.Runs.{IsRunOf, IsRunOfText, AppendsPart, FailureIsReported, RunHasFailed}
-use Rattle.program.specs.Runs.{RunEnds, RunEndsAs}
+use Rattle.client.specs.declared.run_error.RunError.{RunError}
+use Rattle.client.specs.declared.run_error.RunError.TheVariants as run
+use Rattle.scripts.specs.declared.setup.Setup.{Setup}
+use Rattle.scripts.specs.declared.statement.Statement.{Statement}
+use Rattle.script_words.specs.Lines.{script_lines}
+use Rattle.scripts.specs.Scripts.{IsScript}
+use Rattle.scripts.specs.Faults.{script_fault, start}
+use Rattle.program.specs.Failures.{failure_line, failure_of, IsFailureOf, IsOfReading}
+use Rattle.client.specs.PrintedRuns.{AppendsPart, HasEndedEarly}
+use Rattle.program.specs.Runs.{FailureIsReported, IsCutShort, IsCutShortText, IsRunOf, IsRunOfText}
+use Rattle.program.specs.Runs.{IsScriptThat, RunEnds, RunEndsAs, RunFailsSo, RunHasFailed}
 
 -- nothing is said of what was read
 any_text : (text : Option (List ℕ)) → IfSome text (λ t. Unit {0})
 any_text None = tt
 any_text (Some t) = tt
 
--- a run of which the output took a beginning of the text
-pub failed_output : (text old new : Option (List ℕ)) (setup : Setup) (statements : List Statement)
-    → IfSome text (λ t. IsScript 1 (script_lines t) setup statements)
-    → IfSome text (λ t. script_fault start 1 (script_lines t) ≡ None)
-    → IsRunOf setup statements (AppendsPart old new) → RunHasFailed text old new Output
-failed_output text old new setup statements spelled fault part = record {
-  cause = any_text text;
-  untouched = λ other. absurd (other refl);
-  part = λ _. record {
-    setup = setup;
-    statements = statements;
-    spelled = spelled;
-    fault = fault;
-    run = part;
-  };
-}
+-- no world was made
+pub no_world : (setup : Setup) (statements : List Statement) (out : Option (List ℕ))
+    → RunFailsSo setup statements out out failure.Memory
+no_world setup statements out = inr (refl, inl refl)
+
+-- a run in a world in memory that ended early
+pub fails_so : (world : MemWorld) (setup : Setup) (statements : List Statement)
+    (old new : Option (List ℕ)) (error : RunError)
+    → HasEndedEarly direct_carrier error world setup statements old new
+    → RunFailsSo setup statements old new (failure_of error)
+fails_so world setup statements old new run.Write ended =
+    inl (refl, record { world = world; ended = ended })
+fails_so world setup statements old new run.Memory ended =
+    inr (refl, inr (record { world = world; ended = ended }))
+
+-- what is known of an error gives more
+pub if_err_weaker : {T E : Type 0} {P Q : E → Type 0} (r : Result T E)
+    → ((e : E) → P e → Q e) → IfErr r P → IfErr r Q
+if_err_weaker (Ok x) gives is = tt
+if_err_weaker (Err e) gives is = gives e is
+
+-- a run of a script that failed
+pub failed_run : (text old new : Option (List ℕ)) (setup : Setup) (statements : List Statement)
+    (f : Failure) → IfSome text (λ t. IsScript 1 (script_lines t) setup statements)
+    → IfSome text (λ t. script_fault (start true) 1 (script_lines t) ≡ None)
+    → RunFailsSo setup statements old new f → RunHasFailed text old new f
+failed_run text old new setup statements f spelled fault (inl (is, cut)) =
+    subst (λ (x : Failure). RunHasFailed text old new x) (sym is) (record {
+      cause = any_text text;
+      untouched = λ other _. absurd (other refl);
+      output = λ _. record {
+        setup = setup;
+        statements = statements;
+        spelled = spelled;
+        fault = fault;
+        run = cut;
+      };
+      memory = λ h. absurd (cc);
+    })
+failed_run text old new setup statements f spelled fault (inr (is, inl same)) =
+    subst (λ (x : Failure). RunHasFailed text old new x) (sym is) (record {
+      cause = any_text text;
+      untouched = λ _ other. absurd (other refl);
+      output = λ h. absurd (cc);
+      memory = λ _. inl same;
+    })
+failed_run text old new setup statements f spelled fault (inr (is, inr cut)) =
+    subst (λ (x : Failure). RunHasFailed text old new x) (sym is) (record {
+      cause = any_text text;
+      untouched = λ _ other. absurd (other refl);
+      output = λ h. absurd (cc);
+      memory = λ _. inr (record {
+        setup = setup;
+        statements = statements;
+        spelled = spelled;
+        fault = fault;
+        run = cut;
+      });
+    })
 
 -- a script that was not read
 pub failed_reading : (text out : Option (List ℕ)) (f : Failure) → IsOfReading f
     → IfSome text (λ t. IsFailureOf t f) → RunHasFailed text out out f
 failed_reading text out Unreadable is cause = record {
   cause = cause;
-  untouched = λ _. refl;
-  part = λ h. absurd (cc);
+  untouched = λ _ _. refl;
+  output = λ h. absurd (cc);
+  memory = λ h. absurd (cc);
 }
 failed_reading text out (Script fault) is cause = record {
   cause = cause;
-  untouched = λ _. refl;
-  part = λ h. absurd (cc);
+  untouched = λ _ _. refl;
+  output = λ h. absurd (cc);
+  memory = λ h. absurd (cc);
 }
 failed_reading text out Output is cause = absurd is
 failed_reading text out failure.Memory is cause = record {
   cause = cause;
-  untouched = λ _. refl;
-  part = λ h. absurd (cc);
+  untouched = λ _ _. refl;
+  output = λ h. absurd (cc);
+  memory = λ _. inl refl;
 }
 
--- .. for want of memory
-pub failed_memory : (text out : Option (List ℕ)) → RunHasFailed text out out failure.Memory
-failed_memory text out = failed_reading text out failure.Memory tt (any_text text)
-
 -- nothing is said of what was read
-any_run : (text : Option (List ℕ)) (done : List ℕ → Type 0) → IsRunOfText text done
-    → IsRunOfText None done
-any_run text done it = record {
+any_script : (text : Option (List ℕ)) (P : Setup → List Statement → Type 0) → IsScriptThat text P
+    → IsScriptThat None P
+any_script text P it = record {
   setup = it.setup;
   statements = it.statements;
   spelled = tt;
@@ -72,12 +120,19 @@ any_run text done it = record {
   run = it.run;
 }
 
+any_memory : (text old new : Option (List ℕ)) → (new ≡ old)
+    ⊎ IsCutShortText run.Memory text old new → (new ≡ old)
+    ⊎ IsCutShortText run.Memory None old new
+any_memory text old new (inl same) = inl same
+any_memory text old new (inr cut) = inr (any_script text
+    (λ setup statements. IsCutShort run.Memory setup statements old new) cut)
+
 of_any : (text old_out new_out old_err new_err : Option (List ℕ)) (answer : ℕ)
     → RunEndsAs text old_out new_out old_err new_err answer
     → RunEndsAs None old_out new_out old_err new_err answer
 of_any text old_out new_out old_err new_err answer (inl prints) = inl (record {
   status = prints.status;
-  run = any_run text (Appends old_out new_out) prints.run;
+  run = any_script text (λ setup statements. IsRunOf setup statements old_out new_out) prints.run;
   quiet = prints.quiet;
 })
 of_any text old_out new_out old_err new_err answer (inr fails) = inr (record {
@@ -86,7 +141,10 @@ of_any text old_out new_out old_err new_err answer (inr fails) = inr (record {
   failed = record {
     cause = tt;
     untouched = fails.failed.untouched;
-    part = λ is. any_run text (AppendsPart old_out new_out) (fails.failed.part is);
+    output = λ is. any_script text
+        (λ setup statements. IsCutShort run.Write setup statements old_out new_out)
+        (fails.failed.output is);
+    memory = λ is. any_memory text old_out new_out (fails.failed.memory is);
   };
   told = fails.told;
 })

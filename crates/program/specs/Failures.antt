@@ -1,12 +1,14 @@
 -- Why a run ends early, and the line that says so.
-use Rattle.std.specs.Prelude.{ℕ, List, [], ◌∷◌, ◌++◌, codes}
+use Rattle.std.specs.Prelude.{ℕ, true, List, [], ◌∷◌, ◌++◌, codes}
 use Rattle.std.specs.Fmt.{decimal}
 use Rattle.program.specs.declared.failure.Failure.{Failure}
 use Rattle.program.specs.declared.failure.Failure.TheVariants.{Unreadable, Script, Output}
 use Rattle.program.specs.declared.failure.Failure.TheVariants.{Memory}
-use Rattle.program.specs.Scripts.{script_lines}
-use Rattle.program.specs.Faults.{IsReported}
-use Rattle.program.specs.Text.{fault_text}
+use Rattle.client.specs.declared.run_error.RunError.{RunError}
+use Rattle.client.specs.declared.run_error.RunError.TheVariants as run
+use Rattle.script_words.specs.Lines.{script_lines}
+use Rattle.scripts.specs.Faults.{IsReported}
+use Rattle.client.specs.Text.{fault_text}
 
 -- why a run ended early
 abbrev pub failure_text : Failure → List ℕ
@@ -15,6 +17,11 @@ failure_text (Script f) = codes "line " ++ (decimal f.line ++ (codes ": " ++ fau
 failure_text Output = codes "output: write"
 failure_text Memory = codes "run: memory"
 
+-- the failure that is reported of a run of a script that ended early
+abbrev pub failure_of : RunError → Failure
+failure_of run.Write = Output
+failure_of run.Memory = Memory
+
 -- the line that tells of a failure
 abbrev pub failure_line : Failure → List ℕ
 failure_line failure = failure_text failure ++ 10 ∷ []
@@ -22,7 +29,7 @@ failure_line failure = failure_text failure ++ 10 ∷ []
 -- a fault of the script is the least of its first faulty line, or want of memory at a line that was
 -- begun
 abbrev pub IsFailureOf : List ℕ → Failure → Type 0
-IsFailureOf text (Script f) = IsReported (script_lines text) f.line f.error
+IsFailureOf text (Script f) = IsReported true (script_lines text) f.line f.error
 IsFailureOf text Unreadable = Unit {0}
 IsFailureOf text Output = Unit {0}
 IsFailureOf text Memory = Unit {0}

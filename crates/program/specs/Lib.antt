@@ -1,16 +1,3 @@
-pub mod Words
-pub mod Statements
-pub mod Events
-pub mod Actions
-pub mod Limits
-pub mod Scripts
-pub mod Faults
-pub mod Edits
-pub mod Reading
-pub mod ScriptRuns
-pub mod Text
 pub mod Failures
 pub mod Invocations
 pub mod Runs
-pub mod Laws
-pub mod Beginnings

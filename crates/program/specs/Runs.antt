@@ -1,68 +1,75 @@
 -- A whole run: from the bytes of a script to the bytes that are printed, and how it can end.
-use Rattle.std.specs.Prelude.{◌≡◌, ◌≢◌, ◌⊎◌, ℕ, List, [], take, Option, None, IfSome}
+use Rattle.std.specs.Prelude.{◌≡◌, ◌≢◌, ◌⊎◌, ℕ, List, Option, None, IfSome, true}
 use Rattle.std.specs.Io.KnownBytes.{Appends}
-use Rattle.lab.specs.declared.Report.{Report}
-use Rattle.lab.specs.{AreReportsAfter, IsRun, OneHistory}
+use Rattle.lab.specs.{MemWorld, direct_carrier}
 use Rattle.program.specs.declared.failure.Failure.{Failure}
-use Rattle.program.specs.declared.failure.Failure.TheVariants.{Output}
-use Rattle.program.specs.declared.script.setup.Setup.{Setup}
-use Rattle.program.specs.declared.script.statement.Statement.{Statement}
-use Rattle.program.specs.declared.statement_result.StatementResult.{StatementResult}
-use Rattle.program.specs.ScriptRuns.{AreResults, Stretch, no_stretch}
-use Rattle.program.specs.Scripts.{script_lines, IsScript}
-use Rattle.program.specs.Faults.{script_fault, start}
+use Rattle.program.specs.declared.failure.Failure.TheVariants.{Memory, Output}
+use Rattle.client.specs.declared.run_error.RunError.{RunError}
+use Rattle.client.specs.declared.run_error.RunError.TheVariants as run
+use Rattle.scripts.specs.declared.setup.Setup.{Setup}
+use Rattle.scripts.specs.declared.statement.Statement.{Statement}
+use Rattle.script_words.specs.Lines.{script_lines}
+use Rattle.scripts.specs.Scripts.{IsScript}
+use Rattle.scripts.specs.Faults.{script_fault, start}
 use Rattle.program.specs.Failures.{IsFailureOf, failure_line}
 use Rattle.program.specs.Invocations.{usage_line}
-use Rattle.program.specs.Text.{run_text}
+use Rattle.client.specs.PrintedRuns.{AppendsPart, HasEndedEarly, IsPrintedRun}
 
--- the statements were run at the nodes of the configurations, and all that came of them is of one
--- history
-pub record HasRunStatements (setup : Setup) (statements : List Statement)
-    (turns : List StatementResult)
-    (report : Report) : Type 0 where
-  pub all : Stretch
-  pub course : AreResults setup no_stretch [] statements turns all
-  pub lines : report.steps.items ≡ all.steps
-  pub ran : IsRun setup.configs all.events all.choices report
-  -- the nodes of the report follow event by event, with the script's limits
-  pub nodes : AreReportsAfter setup.configs setup.limits all.events all.choices report.nodes.items
-  pub history : OneHistory setup.configs all.events report
+-- a world over disks in memory has run the statements, and exactly their text was written
+pub record IsRunOf (setup : Setup) (statements : List Statement) (old new : Option (List ℕ))
+    : Type 0 where
+  pub world : MemWorld
+  pub printed : IsPrintedRun direct_carrier world setup statements old new
 
--- .. and this was done with the text of exactly that run
-pub record IsRunOf (setup : Setup) (statements : List Statement) (done : List ℕ → Type 0) : Type 0
-  where
-    pub turns : List StatementResult
-    pub report : Report
-    pub run : HasRunStatements setup statements turns report
-    pub wrote : done (run_text turns report.steps.items)
+-- a run of the statements in such a world ended early for this
+pub record IsCutShort (error : RunError) (setup : Setup) (statements : List Statement)
+    (old new : Option (List ℕ)) : Type 0 where
+  pub world : MemWorld
+  pub ended : HasEndedEarly direct_carrier error world setup statements old new
 
--- what was read, where that is known, is a script without a fault, and this was done with the text
--- of its run
-pub record IsRunOfText (text : Option (List ℕ)) (done : List ℕ → Type 0) : Type 0 where
+-- how a run of a script fails: where the output takes no more, within the text of a statement;
+-- where memory is wanted, behind the text of some first statements, or before there is a world
+abbrev pub RunFailsSo : Setup → List Statement → Option (List ℕ) → Option (List ℕ) → Failure
+    → Type 0
+RunFailsSo setup statements old new failure =
+    ((failure ≡ Output) × IsCutShort run.Write setup statements old new)
+    ⊎ ((failure ≡ Memory)
+    × ((new ≡ old) ⊎ IsCutShort run.Memory setup statements old new))
+
+-- what was read, where that is known, is a script without a fault, and this is so of it
+pub record IsScriptThat (text : Option (List ℕ)) (is_so : Setup → List Statement → Type 0)
+    : Type 0 where
   pub setup : Setup
   pub statements : List Statement
   pub spelled : IfSome text (λ t. IsScript 1 (script_lines t) setup statements)
-  pub fault : IfSome text (λ t. script_fault start 1 (script_lines t) ≡ None)
-  pub run : IsRunOf setup statements done
+  pub fault : IfSome text (λ t. script_fault (start true) 1 (script_lines t) ≡ None)
+  pub run : is_so setup statements
 
--- a beginning of a text was written
-pub record AppendsPart (old new : Option (List ℕ)) (text : List ℕ) : Type 0 where
-  pub count : ℕ
-  pub wrote : Appends old new (take count text)
+-- what was read, where that is known, is a script without a fault, and the text of its run was
+-- written
+abbrev pub IsRunOfText : Option (List ℕ) → Option (List ℕ) → Option (List ℕ) → Type 0
+IsRunOfText text old new = IsScriptThat text (λ setup statements. IsRunOf setup statements old new)
 
--- why there is no run: nothing was written, but a beginning of its text where the output takes no
--- more
+-- .. but its run ended early for this
+abbrev pub IsCutShortText : RunError → Option (List ℕ) → Option (List ℕ) → Option (List ℕ) → Type 0
+IsCutShortText error text old new =
+    IsScriptThat text (λ setup statements. IsCutShort error setup statements old new)
+
+-- Why a run fails. Where the output took no more, the text of some first statements is written, and
+-- a beginning of that of the next one, which was run. Where memory was wanted, nothing is written,
+-- or the text of some first statements. For any other failure nothing is written.
 pub record RunHasFailed (text old new : Option (List ℕ)) (failure : Failure) : Type 0 where
   pub cause : IfSome text (λ t. IsFailureOf t failure)
-  pub untouched : failure ≢ Output → new ≡ old
-  pub part : failure ≡ Output → IsRunOfText text (AppendsPart old new)
+  pub untouched : failure ≢ Output → failure ≢ Memory → new ≡ old
+  pub output : failure ≡ Output → IsCutShortText run.Write text old new
+  pub memory : failure ≡ Memory → (new ≡ old) ⊎ IsCutShortText run.Memory text old new
 
 -- the run was printed, and no fault was told
 pub record RunIsPrinted (text old_out new_out old_err new_err : Option (List ℕ))
     (answer : ℕ) : Type 0
   where
     pub status : answer ≡ 0
-    pub run : IsRunOfText text (Appends old_out new_out)
+    pub run : IsRunOfText text old_out new_out
     pub quiet : new_err ≡ old_err
 
 -- there is no run, and this was done with the line that says why

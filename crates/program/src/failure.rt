@@ -1,15 +1,16 @@
 //! Why a run ended early, and the line that says so.
 ghost use Rattle.std.specs.Prelude.{◌≡◌, Some};
-ghost use Rattle.program.specs.Failures.{failure_text};
+ghost use Rattle.program.specs.Failures.{failure_of, failure_text};
 ghost use Rattle.program.specs.declared.failure.Failure.TheVariants.{Memory};
 
-use crate::script::ScriptFault;
-use crate::text::fault_name;
+use client::{RunError, fault_name};
 use lab::LabError;
+use scripts::ScriptFault;
 use std::alloc::AllocError;
 use std::fmt;
 
-/// Why a run ended early. With `Output`, a beginning of its text may have been written.
+/// Why a run ended early. With `Output` or `Memory` the text of its first statements may have been
+/// written; with `Output` a beginning of the next one's text too.
 #[derive(Clone, Copy)]
 pub enum Failure {
     Unreadable,
@@ -39,6 +40,17 @@ impl From<LabError> for Failure {
 
     fn from(_e: LabError) -> Failure {
         Failure::Memory
+    }
+}
+
+impl From<RunError> for Failure {
+    ghost from_gives = { λ e failure. failure ≡ failure_of e };
+
+    fn from(e: RunError) -> Failure {
+        match e {
+            RunError::Write => Failure::Output,
+            RunError::Memory => Failure::Memory,
+        }
     }
 }
 

@@ -3,17 +3,10 @@
 
 mod failure;
 mod invocation;
-mod plain;
 mod reading;
 mod run_input;
-mod script;
-mod script_run;
 mod service;
-mod statement_result;
-mod text;
-mod writing;
 
 pub use failure::Failure;
-pub use script::laws::{scripts_are_read, spellings_differ};
-pub use script::{ScriptError, ScriptFault};
+pub use scripts::{ScriptError, ScriptFault};
 pub use service::{refuse, report, serve, serve_script};

@@ -3,12 +3,12 @@ ghost use Rattle.std.specs.Prelude.{◌≡◌, ◌≢◌, ◌≤◌, ◌<◌, []
 ghost use Rattle.std.specs.Prelude.{IfOk, IfErr, IfSome, MatchOption};
 ghost use Rattle.std.specs.IoError.{error_kind};
 ghost use Rattle.std.specs.Io.KnownBytes.{Consumes, IsAtEnd};
-ghost use Rattle.program.specs.Beginnings.{IsEnough};
+ghost use Rattle.scripts.specs.Beginnings.{IsEnough};
 ghost use Rattle.program.specs.Failures.{IsOfInput};
 ghost use Rattle.program.specs.declared.failure.Failure.TheVariants.{Memory, Unreadable};
 
 use crate::failure::Failure;
-use crate::script::Extent;
+use scripts::Extent;
 use std::alloc::Global;
 use std::io::{self, ErrorKind, Read};
 

@@ -4,14 +4,15 @@ ghost use Rattle.std.specs.Prelude.{IfOk, OnOk, OnErr, MatchResult};
 ghost use Rattle.std.specs.Io.KnownBytes.{Appends};
 ghost use Rattle.program.specs.Failures.{failure_line};
 ghost use Rattle.program.specs.Invocations.{has_option, lab_script, usage_line};
-ghost use Rattle.program.specs.Runs.{AppendsPart, FailureIsReported, ProgramEnds};
+ghost use Rattle.client.specs.PrintedRuns.{AppendsPart};
+ghost use Rattle.program.specs.Runs.{FailureIsReported, ProgramEnds};
 ghost use Rattle.program.specs.Runs.{RunEnds, RunEndsAs, UsageIsReported};
 
 use crate::failure::Failure;
 use crate::invocation::{Invocation, WordsError, invocation_of};
 use crate::run_input::run_input;
-use crate::writing::print;
 use arrayvec::ArrayVec;
+use client::print;
 use std::alloc::Global;
 use std::fs::OpenOptions;
 use std::io::{self, Read, Write};

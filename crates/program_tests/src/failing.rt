@@ -1,7 +1,7 @@
 // Scripts that can't be read to their end, or have none, scripts at a path, and outputs that take
 // no more.
 use crate::calls::called;
-use crate::streams::{Broken, Endless, Full, SlowReader, SlowWriter};
+use crate::streams::{Broken, Endless, Flushed, Full, SlowReader, SlowWriter};
 use program::serve;
 use std::fs;
 use std::io::{BufWriter, ErrorKind};
@@ -12,6 +12,20 @@ const WORDS: &[&str] = &["chainstore", "lab", "-"];
 const SCRIPT: &[u8] = b"config 1\nsubmit 1 a=1\nget 1 a\n";
 
 const TEXT: &[u8] = b"2: committed 1\n3: value 1 at 1\n";
+
+// A script of statements of several lines, of one and of none, and a reply at an earlier line.
+const CHAIN: &[u8] = b"config 1 2\nsubmit 1 a=1\nflow\nget 2 a\nflow\nrows 2 @ * 9\n";
+
+const CHAIN_TEXT: &[u8] = b"2: #1 1>2 forward 0 1
+3: #2 2>1 ack 0 1 1
+2: committed 1
+4: value 1 at 1
+6: row a=1
+6: rows 1 at 1
+";
+
+// How much of it has been written at the end of each statement.
+const CHAIN_ENDS: &[usize] = &[22, 57, 73, 73, 99];
 
 // Beginnings of a script before the error, its kind, and what is told of it. The half of a line
 // that was read would be a statement of its own.
@@ -82,13 +96,24 @@ fn a_script_at_a_path_is_run(rt: HostRuntime) -> Result<(), Fail> {
 // However much is taken, it is a beginning of the text, and the failure is told.
 #[test]
 fn an_output_accepts_a_beginning(rt: HostRuntime) {
-    for room in 0..TEXT.len() {
+    for room in 0..CHAIN_TEXT.len() {
         let (taken, mut err) = (Vec::new(rt.alloc()), Vec::new(rt.alloc()));
-        let (mut input, mut out) = (SCRIPT, Full { taken, room });
+        let (mut input, mut out) = (CHAIN, Full { taken, room });
         let status = serve(&rt, WORDS, &mut input, &mut out, &mut err);
         assert!(rt; status == 1 && err.as_slice() == b"output: write\n".as_slice());
-        assert!(rt; out.taken.as_slice() == &TEXT[..room], "{room}");
+        assert!(rt; out.taken.as_slice() == &CHAIN_TEXT[..room], "{room}");
     }
+}
+
+// The text of each statement is flushed before the next begins: there is one flush for each, with
+// exactly its text behind those before it.
+#[test]
+fn each_statement_is_flushed(rt: HostRuntime) {
+    let (taken, at, mut err) = (Vec::new(rt.alloc()), Vec::new(rt.alloc()), Vec::new(rt.alloc()));
+    let (mut input, mut out) = (CHAIN, Flushed { taken, at });
+    let status = serve(&rt, WORDS, &mut input, &mut out, &mut err);
+    assert!(rt; status == 0 && err.is_empty() && out.taken.as_slice() == CHAIN_TEXT);
+    assert!(rt; out.at.as_slice() == CHAIN_ENDS, "{:?}", out.at.as_slice());
 }
 
 // A writer that keeps the bytes until it is flushed fails only then.

@@ -16,6 +16,8 @@ mod merges;
 #[cfg(test)]
 mod notices;
 #[cfg(test)]
+mod reading;
+#[cfg(test)]
 mod rewrites;
 #[cfg(test)]
 mod rows;

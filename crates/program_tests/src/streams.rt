@@ -1,5 +1,5 @@
-// Streams that fail, a reader half way, a writer at its end, a reader that never ends, and streams
-// that are slow.
+// Streams that fail, a reader half way, a writer at its end, a reader that never ends, streams that
+// are slow, and a writer that sees where it is flushed.
 use std::io::{self, ErrorKind, Read, Write};
 
 // Gives these bytes, and then fails in this way.
@@ -52,6 +52,25 @@ impl Write for Full {
     }
 
     fn flush(&mut self) -> io::Result<()> {
+        Ok(())
+    }
+}
+
+// Takes all, and keeps how many bytes it had at each flush.
+#[derive(Drop)]
+pub struct Flushed {
+    pub taken: Vec<u8>,
+    pub at: Vec<usize>,
+}
+
+impl Write for Flushed {
+    fn write(&mut self, buf: &[u8]) -> io::Result<usize> {
+        self.taken.extend_from_slice(buf)?;
+        Ok(buf.len())
+    }
+
+    fn flush(&mut self) -> io::Result<()> {
+        self.at.push(self.taken.len())?;
         Ok(())
     }
 }

@@ -1,4 +1,4 @@
-use Rattle.std.proofs.Common.{List, ℕ, subst, sym, ◌∙◌}
+use Rattle.std.proofs.Common.{List, ℕ, subst, ◌∙◌}
 use Rattle.std.specs.Prelude.{IfOk}
 use Rattle.carriers.specs.declared.carrier.Carried.{Carried}
 use Rattle.carriers.specs.Carriers.{IsCarried, IsReadFrom}

@@ -1,7 +1,7 @@
 use Rattle.std.proofs.Common.{List, [], ◌∷◌, ◌++◌, sym, subst}
 use Rattle.lab.specs.Arrivals.{RepliesArrive}
 use Rattle.lab.specs.declared.report.Line.{Line}
-use Rattle.lab.proofs.Arrivals.{line_more, none_arrive}
+use Rattle.lab.proofs.Arrivals.{line_more}
 use Rattle.lab.proofs.replies.carry_replies.Goals as goal
 
 -- one line more

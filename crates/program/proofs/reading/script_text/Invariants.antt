@@ -1,5 +1,5 @@
 use Rattle.std.specs.Io.KnownBytes.{Consumes}
-use Rattle.program.specs.Beginnings.{HasExtent}
+use Rattle.scripts.specs.Beginnings.{HasExtent}
 use Rattle.program.proofs.reading.script_text.Given as goal
 
 -- the text is what was read, and has this extent

@@ -1,4 +1,4 @@
-use Rattle.std.proofs.Common.{List, [], ◌∷◌, false, true, refl, ap, subst, sym, ◌∙◌}
+use Rattle.std.proofs.Common.{List, false, true, refl, ap, subst, sym, ◌∙◌}
 use Rattle.std.specs.Prelude.{OnOk}
 use Rattle.std.specs.List.{AllZip}
 use Rattle.std.proofs.lemmas.Bool.{false≢true}
@@ -6,7 +6,6 @@ use Rattle.std.proofs.lemmas.Option.{MatchOption-at_none}
 use Rattle.std.proofs.lemmas.Result.{on_ok_weaker}
 use Rattle.lab.specs.declared.delivery.Posted.{Posted}
 use Rattle.lab.specs.declared.report.Line.{Line}
-use Rattle.lab.specs.declared.report.Line.TheVariants as line
 use Rattle.lab.specs.declared.sim_node.SimNode.{SimNode}
 use Rattle.lab.specs.declared.world.World.{World}
 use Rattle.lab.specs.Worlds.{HasKept, HasNoNode, HaveLimits, IsIndexOf, PostedRefines}

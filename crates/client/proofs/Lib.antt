@@ -1,0 +1,10 @@
+pub mod Fronts
+pub mod Escape
+pub mod Printed
+pub mod Written
+pub mod Leaving
+pub mod Flowing
+pub mod Settling
+pub mod StatementResults
+pub mod StatementRuns
+pub mod PrintedRuns

@@ -1,0 +1,15 @@
+use Rattle.std.proofs.Common.{◌≡◌, ◌-◌, true}
+use Rattle.lab.specs.Configuration.{at_epoch, has}
+use Rattle.scripts.specs.declared.setup.Setup.{Setup}
+use Rattle.client.specs.ScriptRuns.{HasRunTo, Stretch, most}
+use Rattle.client.proofs.Settling.{Settles}
+use Rattle.client.proofs.script_run.settle.Given as goal
+
+-- so many tends worked
+abbrev pub invariant-loop-count : goal.invariant-loop-count
+invariant-loop-count g l = (setup : Setup) (past : Stretch) →
+    HasRunTo g.C.Carrier l.fn.world setup past → has (at_epoch setup.configs 0) l.fn.node ≡ true →
+    Settles g.C.Carrier l.world setup past l.fn.node l.fn.left.items l.left.items l.count
+
+abbrev pub decreases-loop-count : goal.decreases-loop-count
+decreases-loop-count g l = most - l.count

@@ -1,0 +1,3 @@
+pub mod ScriptRuns
+pub mod Text
+pub mod PrintedRuns

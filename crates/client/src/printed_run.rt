@@ -1,0 +1,83 @@
+//! A script is run statement by statement, and each is printed before the next begins.
+ghost use Rattle.std.specs.Prelude.{◌≡◌, ◌++◌, drop, replicate, OnOk, IfErr};
+ghost use Rattle.client.specs.PrintedRuns.{HasEndedEarly, IsPrintedRun, IsReadyToRun};
+ghost use Rattle.client.specs.Text.{result_text};
+
+use crate::run_error::RunError;
+use crate::script_run::run_statement;
+use crate::statement_result::StatementResult;
+use crate::text::{add_places, print_result};
+use crate::writing::print;
+use disk::Crash;
+use lab::{Carrier, Lines, World};
+use scripts::Script;
+use std::alloc::{AllocError, Global};
+use std::collections::VecDeque;
+use std::io::Write;
+
+// The lines behind so many steps.
+fn behind(steps: &[Lines], count: usize) -> &[Lines]
+    ensures { result.now ≡ drop count steps.now }
+{
+    match steps.get(count..) {
+        Some(behind) => behind,
+        None => &[],
+    }
+}
+
+// Makes the text of a statement's result, in place of what stood there. Its events have their
+// places behind those of the statements before it.
+fn make_text(
+    places: &mut Vec<u32>,
+    turn: &StatementResult,
+    steps: &[Lines],
+    text: &mut Vec<u8>,
+) -> Result<(), AllocError>
+    ensures places { OnOk result
+        (places.new.items ≡ places.old.items ++ replicate turn.now.events turn.now.line) }
+    ensures text { OnOk result
+        (text.new.items ≡ result_text places.new.items turn.now steps.now) }
+{
+    add_places(places, turn.line, turn.events)?;
+    text.clear();
+    match print_result(places, turn, steps, text) {
+        Ok(()) => Ok(()),
+        // Bytes that are kept need nothing but memory.
+        Err(_) => Err(AllocError),
+    }
+}
+
+/// Runs the statements of a script in a world that has run nothing yet, one after another. The text
+/// of each is written and flushed before the next one begins. `Write`: the output took no more of
+/// the text of the last statement that was run. `Memory`: nothing is written of the statement that
+/// wanted it. After an error the run can't be taken up again.
+///
+/// Nothing is promised of a world that has run events before, or whose nodes were started on what
+/// an earlier run left. The statements are run there as in any, but a flow does not deliver frames
+/// that were sent before, and a reply to an event before may stand at any line of the script.
+pub fn run_script<D: Crash + Drop, C: Carrier + Drop, W: Write>(
+    alloc: Global,
+    script: &Script,
+    world: &mut World<D, C>,
+    out: &mut W,
+) -> Result<(), RunError>
+    ensures printed { IsReadyToRun C.Carrier world.old script.now.setup
+        script.now.statements.items → OnOk result (IsPrintedRun C.Carrier world.new
+        script.now.setup script.now.statements.items (W.contents out.old) (W.contents out.new)) }
+    ensures ended { IsReadyToRun C.Carrier world.old script.now.setup
+        script.now.statements.items → IfErr result (λ error. HasEndedEarly C.Carrier error world.new script.now.setup
+        script.now.statements.items (W.contents out.old) (W.contents out.new)) }
+{
+    let mut left = VecDeque::new(alloc);
+    let mut places = Vec::new(alloc);
+    let mut text = Vec::new(alloc);
+    let mut before = world.report().len();
+    for statement in &script.statements {
+        let turn = run_statement(alloc, world, &mut left, statement)?;
+        let steps = world.report();
+        make_text(&mut places, &turn, behind(steps, before), &mut text)?;
+        before = steps.len();
+        print(&text, out)?;
+    }
+    Ok(())
+}

@@ -1,0 +1,11 @@
+//! The text of a run.
+
+mod line;
+mod names;
+mod printing;
+mod rows;
+mod shown;
+mod spelled;
+
+pub use names::fault_name;
+pub use printing::{add_places, print_result};

@@ -1,0 +1,160 @@
+//! The text of what a statement did.
+ghost use Rattle.std.specs.Prelude.{◌≡◌, ◌++◌, map, replicate, OnOk};
+ghost use Rattle.std.specs.List.{flat_map};
+ghost use Rattle.std.specs.Io.KnownBytes.{Appends};
+ghost use Rattle.client.specs.Text.{line_of_request, reply_place, line_output};
+ghost use Rattle.client.specs.Text.{step_text, note_text, result_text, request_of};
+ghost use Rattle.client.specs.Text.{line_text, numbered_line, printed_row, rows_of_line};
+
+use super::line::{LineText, StoppedText};
+use super::names::error_name;
+use super::rows::RowText;
+use super::shown::NumbersText;
+use crate::statement_result::{Note, StatementResult};
+use kv_types::Row;
+use lab::{Line, Lines, Reply};
+use std::alloc::AllocError;
+use std::io::{self, Write};
+
+/// Adds the places of a statement's events, which stand at its line.
+pub fn add_places(places: &mut Vec<u32>, line: u32, count: usize) -> Result<(), AllocError>
+    ensures { OnOk result (places.new.items ≡ places.old.items ++ replicate count line) }
+{
+    for _ in 0..count {
+        places.push(line)?;
+    }
+    Ok(())
+}
+
+fn request(reply: &Reply) -> u64
+    ensures { result ≡ request_of reply.now }
+{
+    match reply {
+        Reply::Committed { request, .. } => request.get(),
+        Reply::Value { request, .. } => request.get(),
+        Reply::Rows { request, .. } => request.get(),
+        Reply::Opened { request, .. } => request.get(),
+        Reply::Closed { request, .. } => request.get(),
+        Reply::Refused { request, .. } => request.get(),
+    }
+}
+
+/// The line of a request, which has the number of its event, from 1.
+fn line_of(places: &[u32], here: u32, request: u64) -> u32
+    ensures { result ≡ line_of_request places.now here request }
+{
+    let place = request.saturating_sub(1);
+    match places.get(place as usize) {
+        Some(line) => *line,
+        None => here,
+    }
+}
+
+/// Where a line of the report is told: a reply at its request, all else here.
+fn place_of(places: &[u32], here: u32, line: &Line) -> u32
+    ensures { result ≡ reply_place places.now here line.now }
+{
+    match line {
+        Line::Replied(reply) => line_of(places, here, request(reply)),
+        _ => here,
+    }
+}
+
+/// The rows of an answer, which stand before its own line.
+fn rows_of(line: &Line) -> &[Row]
+    ensures { result.now ≡ rows_of_line line.now }
+{
+    match line {
+        Line::Replied(Reply::Rows { page, .. }) => page.rows(),
+        _ => &[],
+    }
+}
+
+fn print_rows<W: Write>(number: u32, rows: &[Row], out: &mut W) -> io::Result<()>
+    ensures { OnOk result (Appends (W.contents out.old) (W.contents out.new)
+        (flat_map (numbered_line number) (map printed_row rows.now))) }
+{
+    for row in rows {
+        let text = RowText(row);
+        writeln!(out, "{number}: {text}")?;
+    }
+    Ok(())
+}
+
+// The line without its rows.
+fn print_text<W: Write>(number: u32, line: &Line, out: &mut W) -> io::Result<()>
+    ensures { OnOk result (Appends (W.contents out.old) (W.contents out.new)
+        (numbered_line number (line_text line.now))) }
+{
+    let text = LineText(line);
+    writeln!(out, "{number}: {text}")
+}
+
+fn print_line<W: Write>(places: &[u32], here: u32, line: &Line, out: &mut W) -> io::Result<()>
+    ensures { OnOk result (Appends (W.contents out.old) (W.contents out.new)
+        (line_output places.now here line.now)) }
+{
+    let number = place_of(places, here, line);
+    print_rows(number, rows_of(line), out)?;
+    print_text(number, line, out)?;
+    Ok(())
+}
+
+fn print_step<W: Write>(places: &[u32], here: u32, step: &[Line], out: &mut W) -> io::Result<()>
+    ensures { OnOk result (Appends (W.contents out.old) (W.contents out.new)
+        (step_text places.now here step.now)) }
+{
+    for line in step {
+        print_line(places, here, line, out)?;
+    }
+    Ok(())
+}
+
+fn print_steps<W: Write>(places: &[u32], here: u32, steps: &[Lines], out: &mut W) -> io::Result<()>
+    ensures { OnOk result (Appends (W.contents out.old) (W.contents out.new)
+        (flat_map (step_text places.now here) steps.now)) }
+{
+    for step in steps {
+        print_step(places, here, step.as_slice(), out)?;
+    }
+    Ok(())
+}
+
+fn print_note<W: Write>(here: u32, note: &Note, out: &mut W) -> io::Result<()>
+    ensures { OnOk result (Appends (W.contents out.old) (W.contents out.new)
+        (note_text here note.now)) }
+{
+    match *note {
+        Note::Nothing => Ok(()),
+        Note::Invalid(error) => {
+            let text = error_name(error);
+            writeln!(out, "{here}: invalid {text}")
+        }
+        Note::Busy => writeln!(out, "{here}: busy"),
+        Note::Running(node, ref numbers) => {
+            let text = NumbersText(node, numbers);
+            writeln!(out, "{here}: {text}")
+        }
+        Note::Down(node) => {
+            let text = StoppedText(node, None);
+            writeln!(out, "{here}: {text}")
+        }
+    }
+}
+
+/// Prints what a statement did: the lines of its steps, but of the silent first ones, and what is
+/// said of it besides. `places` are the lines of the events so far.
+pub fn print_result<W: Write>(
+    places: &[u32],
+    turn: &StatementResult,
+    steps: &[Lines],
+    out: &mut W,
+) -> io::Result<()>
+    ensures { OnOk result (Appends (W.contents out.old) (W.contents out.new)
+        (result_text places.now turn.now steps.now)) }
+{
+    let (own, _behind) = steps.split_at(turn.events.min(steps.len()));
+    let (_silent, printed) = own.split_at(turn.silent.min(own.len()));
+    print_steps(places, turn.line, printed, out)?;
+    print_note(turn.line, &turn.note, out)
+}

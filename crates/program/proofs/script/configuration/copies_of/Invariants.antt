@@ -1,6 +1,0 @@
-use Rattle.std.proofs.Common.{◌≡◌, take}
-use Rattle.program.proofs.script.configuration.copies_of.Given as goal
-
--- the first of them are copied
-abbrev pub invariant-loop-number : goal.invariant-loop-number
-invariant-loop-number l = l.copies.items ≡ take l.number l.configs

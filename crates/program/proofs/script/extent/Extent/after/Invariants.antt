@@ -1,8 +1,0 @@
-use Rattle.std.proofs.Common.{ℕ, List, ◌++◌, take}
-use Rattle.program.specs.Beginnings.{HasExtent}
-use Rattle.program.proofs.script.extent.Extent.after.Given as goal
-
--- the extent is that of the text with the bytes so far
-abbrev pub invariant-loop-byte : goal.invariant-loop-byte
-invariant-loop-byte l = (text : List ℕ) → HasExtent text l.fn.self
-    → HasExtent (text ++ take l.byte-index l.bytes) l.extent

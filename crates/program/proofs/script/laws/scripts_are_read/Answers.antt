@@ -1,9 +1,0 @@
-use Rattle.program.proofs.EventWords.{whole_read}
-use Rattle.program.proofs.ReadScripts.{script_read}
-use Rattle.program.proofs.script.laws.scripts_are_read.Goals as goal
-
-pub returns-clause-events : goal.returns-clause-events
-returns-clause-events c = whole_read
-
-pub returns-clause-scripts : goal.returns-clause-scripts
-returns-clause-scripts c = script_read c.test_decides_config.ensures

@@ -1,6 +1,0 @@
-use Rattle.std.proofs.Common.{arith}
-use Rattle.std.proofs.lemmas.Grind.{common_steps}
-use Rattle.program.proofs.script.reader.read_line.Goals as goal
-
-pub returns-in_ok-after-in-Ok : goal.returns-in_ok-after-in-Ok
-returns-in_ok-after-in-Ok c = grind (arith, common_steps)

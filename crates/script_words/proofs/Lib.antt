@@ -1,0 +1,7 @@
+pub mod Numbers
+pub mod Texts
+pub mod Fronts
+pub mod Edits
+pub mod Slices
+pub mod FirstLine
+pub mod FaultWords

@@ -1,0 +1,11 @@
+pub mod Words
+pub mod Edits
+pub mod Junks
+pub mod FaultWords
+pub mod Limits
+pub mod Lines
+pub mod WordsLemmas
+pub mod EditsLemmas
+pub mod JunksLemmas
+pub mod FaultWordsLemmas
+pub mod LimitsLemmas

@@ -1,0 +1,24 @@
+//! The words of scripts: what the words of one line spell, each with one spelling.
+#![tactic(auto)]
+
+mod bytes;
+mod edit;
+mod error;
+mod fault;
+mod junk;
+mod limits;
+mod lines;
+mod plain;
+mod range;
+mod word;
+
+pub use bytes::Bytes;
+pub use edit::{RawEdit, RawEdits, raw_edits_of};
+pub use error::ScriptError;
+pub use fault::{fault_behind, split_fault};
+pub use junk::junk_of;
+pub use limits::{LimitName, ScriptLimits};
+pub use lines::{ScriptLines, words};
+pub use plain::{is_itself, split_plain};
+pub use range::{RawRange, bounds_of};
+pub use word::{batch_number, bytes_of, number};

@@ -1,0 +1,55 @@
+//! The lines of a text, and the words of a line.
+ghost use Rattle.std.specs.Prelude.{◌≡◌, ◌≢◌, ◌<◌, ◌∷◌, ℕ, length, map, slice_index};
+ghost use Rattle.std.specs.Prelude.{IfOk, IfSome, IfNone};
+ghost use Rattle.std.specs.Iterator.{YieldsFirstRef, item_count};
+ghost use Rattle.script_words.specs.Lines.{script_lines, words_of};
+
+use std::alloc::{AllocError, Global};
+
+/// Where the first line feed stands.
+fn end_of_line(text: &[u8]) -> Option<usize>
+    ensures none { IfNone result ((k : ℕ) → k < length text.now → slice_index text.now k ≢ 10) }
+    ensures some { IfSome result (λ i. (i < length text.now) × (slice_index text.now i ≡ 10)) }
+    ensures first { IfSome result (λ i. (k : ℕ) → k < i → slice_index text.now k ≢ 10) }
+{
+    text.iter().position(|b| *b == b'\n')
+}
+
+/// The first line of a text, and what follows it.
+fn first_line(text: &[u8]) -> (&[u8], &[u8])
+    requires { 0 < length text.now }
+    ensures { script_lines text.now ≡ result.0.now ∷ script_lines result.1.now }
+{
+    match end_of_line(text) {
+        None => (text, &[]),
+        Some(end) => (&text[..end], &text[end + 1..]),
+    }
+}
+
+/// The lines of a text.
+#[derive(Drop)]
+pub struct ScriptLines<'a>(pub &'a [u8]);
+
+impl<'a> Iterator for ScriptLines<'a> {
+    type Item = &'a [u8];
+
+    ghost next_gives = { YieldsFirstRef (λ s. script_lines s.0.now) };
+
+    ghost remaining = { item_count (λ s. script_lines s.0.now) };
+
+    fn next(&mut self) -> Option<&'a [u8]> {
+        if self.0.is_empty() {
+            return None;
+        }
+        let (line, rest) = first_line(self.0);
+        self.0 = rest;
+        Some(line)
+    }
+}
+
+/// The words of a line.
+pub fn words<'a>(alloc: Global, line: &'a [u8]) -> Result<Vec<&'a [u8]>, AllocError>
+    ensures { IfOk result (λ words. map (λ w. w.now) words.items ≡ words_of line.now) }
+{
+    line.split(|b| *b == b' ').collect(alloc)
+}

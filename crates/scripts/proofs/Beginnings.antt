@@ -1,0 +1,257 @@
+-- A text that has a line too long or one too many has one fault, whatever follows it.
+use Rattle.std.proofs.Common.{◌≡◌, ◌≢◌, ◌⊎◌, ◌+◌, ◌<◌, ◌≤◌, ℕ, zero, suc, List, [], ◌∷◌, ◌++◌, refl}
+use Rattle.std.proofs.Common.{sym, ap, subst, ◌∙◌, inl, inr, arith, true, false, Option, Some, None}
+use Rattle.std.proofs.Common.{length, append_assoc, take, drop, get_or}
+use Rattle.std.specs.Prelude.{All, Bool, ◌==◌, if◌then◌else◌, is_none, nat_lt}
+use Rattle.std.specs.Option.{option_map_or, option_or}
+use Rattle.std.specs.List.{onto_first}
+use Rattle.std.proofs.lemmas.Bool.{cases_Bool}
+use Rattle.std.proofs.lemmas.Bool.Decides.{nat_tests}
+use Rattle.std.proofs.lemmas.Grind.{common_steps}
+use Rattle.std.proofs.lemmas.List.Elements.{All-nil, All-cons, All-head, All-tail}
+use Rattle.script_words.specs.declared.error.ScriptError.{ScriptError}
+use Rattle.script_words.specs.declared.error.ScriptError.TheVariants.{LineTooLong, TooManyLines}
+use Rattle.script_words.specs.declared.error.ScriptError.TheVariants.{BadConfiguration, OutOfMemory}
+use Rattle.scripts.specs.declared.extent.Extent.{Extent}
+use Rattle.scripts.specs.declared.statement.ParserState.{ParserState}
+use Rattle.script_words.specs.Lines.{script_lines}
+use Rattle.scripts.specs.Faults.{script_fault, start, numbered_fault, line_fault, after_line}
+use Rattle.scripts.specs.Faults.{IsReported}
+use Rattle.scripts.specs.Beginnings.{HasExtent, IsFaulty}
+use Rattle.lab.specs.Configuration.{has}
+
+-- ---- a text grows by one byte
+
+abbrev IsPlain : List ℕ → Type 0
+IsPlain bytes = All (λ b. (b == 10) ≡ false) bytes
+
+snoc : {A : Type 0} (xs : List A) (x : A) (more : List A) → (xs ++ x ∷ []) ++ more ≡ xs ++ x ∷ more
+snoc xs x more = append_assoc xs (x ∷ []) more
+
+plain_more : (bytes : List ℕ) (b : ℕ) → IsPlain bytes → (b == 10) ≡ false →
+    IsPlain (bytes ++ b ∷ [])
+plain_more [] b plain other = All-cons (λ b. (b == 10) ≡ false) b [] other (All-nil _)
+plain_more (a ∷ bytes) b plain other =
+    All-cons (λ b. (b == 10) ≡ false) a (bytes ++ b ∷ [])
+    (All-head (λ b. (b == 10) ≡ false) a bytes plain)
+    (plain_more bytes b (All-tail (λ b. (b == 10) ≡ false) a bytes plain) other)
+
+-- bytes without a line feed are a whole line before one
+whole_line : (bytes more : List ℕ) → IsPlain bytes →
+    script_lines (bytes ++ 10 ∷ more) ≡ bytes ∷ script_lines more
+whole_line [] more plain = refl
+whole_line (b ∷ bytes) more plain =
+    rw (
+      All-head (λ b. (b == 10) ≡ false) b bytes plain,
+      whole_line bytes more (All-tail (λ b. (b == 10) ≡ false) b bytes plain),
+    ) refl
+
+size_more : {A : Type 0} (xs : List A) (x : A) (n : ℕ) → length xs ≡ n →
+    length (xs ++ x ∷ []) ≡ n + 1
+size_more xs x n is = grind (arith, common_steps)
+
+pub no_text : (extent : Extent) → 0 ≡ extent.lines → 0 ≡ extent.line → HasExtent [] extent
+no_text extent lines line = record {
+  ended = [];
+  behind = [];
+  plain = All-nil _;
+  same = λ more. refl;
+  lines = lines;
+  line = line;
+}
+
+pub byte_more : (text : List ℕ) (old new : Extent) (b : ℕ) → (b == 10) ≡ false →
+    new.lines ≡ old.lines → new.line ≡ old.line + 1 → HasExtent text old →
+    HasExtent (text ++ b ∷ []) new
+byte_more text old new b other lines line has = record {
+  ended = has.ended;
+  behind = has.behind ++ b ∷ [];
+  plain = plain_more has.behind b has.plain other;
+  same = λ more. rw (snoc text b more, snoc has.behind b more) (has.same (b ∷ more));
+  lines = has.lines ∙ sym lines;
+  line = size_more has.behind b old.line has.line ∙ sym line;
+}
+
+pub line_more : (text : List ℕ) (old new : Extent) → new.lines ≡ old.lines + 1 → new.line ≡ 0 →
+    HasExtent text old → HasExtent (text ++ 10 ∷ []) new
+line_more text old new lines line has = record {
+  ended = has.ended ++ has.behind ∷ [];
+  behind = [];
+  plain = All-nil _;
+  same = λ more. rw (
+    snoc text 10 more,
+    has.same (10 ∷ more),
+    whole_line has.behind more has.plain,
+    snoc has.ended has.behind (script_lines more),
+  ) refl;
+  lines = size_more has.ended has.behind old.lines has.lines ∙ sym lines;
+  line = sym line;
+}
+
+pub not_ten : (b : ℕ) → b ≢ 10 → (b == 10) ≡ false
+not_ten b other = grind (arith, nat_tests)
+
+-- ---- a fault that stays, whatever follows
+
+-- the lines have one fault for each end of this form
+abbrev Stays : {A : Type 0} → (A → Option (ℕ × ScriptError)) → Type 0
+Stays {A} found = (fault : ℕ × ScriptError) × ((more : A) → found more ≡ Some fault)
+
+or_later : {A : Type 0} (n : ℕ) (o : Option ScriptError) (later : A → Option (ℕ × ScriptError)) →
+    Stays later → Stays (λ more. option_map_or (λ e. Some (n, e)) o (later more))
+or_later n None later stays = stays
+or_later n (Some e) later stays = ((n, e), λ more. refl)
+
+at_last : {A : Type 0} (n : ℕ) (o : Option ScriptError) (later : A → Option (ℕ × ScriptError)) →
+    Stays (λ more. option_map_or (λ e. Some (n, e)) (option_or o (Some TooManyLines)) (later more))
+at_last n None later = ((n, TooManyLines), λ more. refl)
+at_last n (Some e) later = ((n, e), λ more. refl)
+
+is_late : (n : ℕ) → (n ≤ 100000) ⊎ (100000 < n)
+is_late n = elim (cases_Bool (nat_lt 100000 n)) [
+  | inl t ↦ inr (grind (arith, nat_tests))
+  | inr f ↦ inl (grind (arith, nat_tests))
+]
+
+longer : (line rest : List ℕ) → 262144 < length line → 262144 < length (line ++ rest)
+longer line rest long = grind (arith, common_steps)
+
+above : (a b : ℕ) → a < b → nat_lt a b ≡ true
+above a b less = grind (arith, nat_tests)
+
+-- more than 100000 lines
+many_stay : (before : ParserState) (n : ℕ) (ended : List (List ℕ)) → n ≤ 100001 →
+    100001 < n + length ended → Stays (λ more. script_fault before n (ended ++ more))
+many_stay before n [] few many = absurd (omega (arith, few, many))
+many_stay before n (line ∷ ended) few many = elim (is_late n) [
+  | inl low ↦
+      or_later n (numbered_fault before n line)
+      (λ more. script_fault (after_line before line) (suc n) (ended ++ more))
+      (many_stay (after_line before line) (suc n) ended (omega arith) (omega arith))
+  | inr high ↦
+      rw (above 100000 n high) (at_last n (line_fault before line)
+      (λ more. script_fault (after_line before line) (suc n) (ended ++ more)))
+]
+
+-- a line of more than 262144 bytes
+long_stays : (before : ParserState) (n : ℕ) (ended : List (List ℕ)) (line : List ℕ) →
+    262144 < length line →
+    Stays (λ (rest : List ℕ × List (List ℕ)). script_fault before n
+    (ended ++ (line ++ rest.0) ∷ rest.1))
+long_stays before n [] line long = (
+  (n, LineTooLong),
+  λ rest. rw (above 262144 (length (line ++ rest.0)) (longer line rest.0 long)) refl,
+)
+long_stays before n (first ∷ ended) line long =
+    or_later n (numbered_fault before n first)
+    (λ (rest : List ℕ × List (List ℕ)). script_fault (after_line before first) (suc n)
+    (ended ++ (line ++ rest.0) ∷ rest.1))
+    (long_stays (after_line before first) (suc n) ended line long)
+
+onto : (b : ℕ) (lines : List (List ℕ)) → (rest : List ℕ × List (List ℕ))
+    × (onto_first b lines ≡ (b ∷ rest.0) ∷ rest.1)
+onto b [] = (([], []), refl)
+onto b (line ∷ lines) = ((line, lines), refl)
+
+-- bytes without a line feed begin a line
+begins : (b : ℕ) (bytes more : List ℕ) → IsPlain (b ∷ bytes) →
+    (rest : List ℕ × List (List ℕ))
+    × (script_lines ((b ∷ bytes) ++ more) ≡ ((b ∷ bytes) ++ rest.0) ∷ rest.1)
+begins b [] more plain =
+    let first = onto b (script_lines more) in
+    (first.0, rw (All-head (λ b. (b == 10) ≡ false) b [] plain) first.1)
+begins b (c ∷ bytes) more plain =
+    let later = begins c bytes more (All-tail (λ b. (b == 10) ≡ false) b (c ∷ bytes) plain) in
+    (later.0, rw (All-head (λ b. (b == 10) ≡ false) b (c ∷ bytes) plain, later.1) refl)
+
+long_line : (text : List ℕ) (ended : List (List ℕ)) (behind : List ℕ) → IsPlain behind →
+    ((more : List ℕ) → script_lines (text ++ more) ≡ ended ++ script_lines (behind ++ more)) →
+    262144 < length behind → IsFaulty text
+long_line text ended [] plain same long = absurd (omega (arith, long))
+long_line text ended (b ∷ bytes) plain same long =
+    λ faults. let stays = long_stays (start faults) 1 ended (b ∷ bytes) long in (
+      stays.0,
+      λ more. let line = begins b bytes more plain in
+          rw (same more, line.1) (stays.1 line.0),
+    )
+
+pub too_long : (text : List ℕ) (extent : Extent) → HasExtent text extent →
+    262144 < extent.line → IsFaulty text
+too_long text extent has long = long_line text has.ended has.behind has.plain has.same
+    (rw (← has.line) at long)
+
+pub too_many : (text : List ℕ) (extent : Extent) → HasExtent text extent →
+    100000 < extent.lines → IsFaulty text
+too_many text extent has many =
+    let count = has.lines in
+    λ faults.
+    let stays = many_stay (start faults) 1 has.ended (omega arith) (omega (arith, many, count)) in
+    (stays.0, λ more. rw (has.same more) (stays.1 (script_lines (has.behind ++ more))))
+
+-- ---- what was read is enough
+
+more_faulty : (text more : List ℕ) → IsFaulty text → IsFaulty (text ++ more)
+more_faulty text more faulty =
+    λ faults. ((faulty faults).0, λ rest. rw (append_assoc) ((faulty faults).1 (more ++ rest)))
+
+parts : (xs : List ℕ) (i : ℕ) → i < length xs → take i xs ++ get_or xs i 0 ∷ drop (suc i) xs ≡ xs
+parts [] i less = absurd (omega (arith, less))
+parts (x ∷ xs) zero less = refl
+parts (x ∷ xs) (suc i) less = ap (λ l. x ∷ l) (parts xs i (omega (arith, less)))
+
+pub fault_among : (text bytes : List ℕ) (i : ℕ) → i < length bytes →
+    IsFaulty ((text ++ take i bytes) ++ get_or bytes i 0 ∷ []) → IsFaulty (text ++ bytes)
+fault_among text bytes i less faulty =
+    let b = get_or bytes i 0 in let rest = drop (suc i) bytes in
+    let same = snoc (text ++ take i bytes) b rest ∙ append_assoc text (take i bytes) (b ∷ rest)
+    ∙ ap (λ l. text ++ l) (parts bytes i less) in
+    subst IsFaulty same (more_faulty ((text ++ take i bytes) ++ b ∷ []) rest faulty)
+
+some_fault : (fault : ℕ × ScriptError) (found : Option (ℕ × ScriptError)) → found ≡ Some fault →
+    found ≡ None → ⊥
+some_fault fault found is none = grind (arith, common_steps)
+
+-- ---- what is reported
+
+-- a fault stands at the first of these lines, or behind it
+at_or_behind : (o : Option ScriptError) (k n : ℕ) (e : ScriptError)
+    (rest : Option (ℕ × ScriptError)) → (rest ≡ Some (n, e) → suc k ≤ n) →
+    option_map_or (λ x. Some (k, x)) o rest ≡ Some (n, e) → k ≤ n
+at_or_behind None k n e rest later is = omega (arith, later is)
+at_or_behind (Some x) k n e rest later is =
+    omega (arith, ap (λ o. option_map_or (λ p. p.0) o 0) is)
+
+none_or_here : (b : Bool) (k n : ℕ) (e : ScriptError) → ◌≡◌ {A = Option (ℕ × ScriptError)}
+    (if b then Some (k, BadConfiguration) else None) (Some (n, e)) → k ≤ n
+none_or_here true k n e is = omega (arith, ap (λ o. option_map_or (λ p. p.0) o 0) is)
+none_or_here false k n e is = absurd (some_fault (n, e) None is refl)
+
+fault_behind : (before : ParserState) (k : ℕ) (lines : List (List ℕ)) (n : ℕ) (e : ScriptError) →
+    script_fault before k lines ≡ Some (n, e) → k ≤ n
+fault_behind before k [] n e is = none_or_here (is_none before.configs) k n e is
+fault_behind before k (line ∷ lines) n e is =
+    at_or_behind (numbered_fault before k line) k n e
+    (script_fault (after_line before line) (suc k) lines)
+    (fault_behind (after_line before line) (suc k) lines n e) is
+
+-- what is reported at a line
+pub reported_at : (faults : Bool) (before : ParserState) (n : ℕ) (line : List ℕ)
+    (lines all : List (List ℕ)) (e : ScriptError) →
+    (e ≢ OutOfMemory → numbered_fault before n line ≡ Some e) →
+    script_fault before n (line ∷ lines) ≡ script_fault (start faults) 1 all → 0 < n →
+    n + length (line ∷ lines) ≡ 1 + length all → IsReported faults all n e
+reported_at faults before n line lines all e met same above count = record {
+  least = λ other. sym same ∙ (rw (met other) refl);
+  begun = λ is. record {
+    above = above;
+    below = omega (arith, count);
+    sound = λ m x at. fault_behind before n (line ∷ lines) m x (same ∙ at);
+  };
+}
+
+-- .. and behind the last, where there is no configuration
+pub reported_end : (faults : Bool) (before : ParserState) (n : ℕ) (all : List (List ℕ)) →
+    before.configs ≡ None → script_fault before n [] ≡ script_fault (start faults) 1 all →
+    IsReported faults all n BadConfiguration
+reported_end faults before n all none same =
+    record { least = λ other. sym same ∙ (rw none refl); begun = λ is. absurd (cc) }

@@ -1,0 +1,8 @@
+use Rattle.std.proofs.Common.{ℕ, List, ◌++◌, take}
+use Rattle.scripts.specs.Beginnings.{HasExtent}
+use Rattle.scripts.proofs.extent.Extent.after.Given as goal
+
+-- the extent is that of the text with the bytes so far
+abbrev pub invariant-loop-byte : goal.invariant-loop-byte
+invariant-loop-byte l = (text : List ℕ) → HasExtent text l.fn.self
+    → HasExtent (text ++ take l.byte-index l.bytes) l.extent

@@ -1,0 +1,9 @@
+pub mod Statements
+pub mod Events
+pub mod Actions
+pub mod Scripts
+pub mod Faults
+pub mod Reading
+pub mod Beginnings
+pub mod BeginningsLemmas
+pub mod Laws

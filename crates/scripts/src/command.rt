@@ -1,0 +1,41 @@
+//! The words of a statement whose form is right.
+ghost use Rattle.std.specs.Prelude.{◌≡◌, Some};
+ghost use Rattle.lab.specs.{node_in};
+ghost use Rattle.scripts.specs.Reading.{what_of};
+
+use kv_types::Number;
+use lab::Junk;
+use script_words::{Bytes, RawEdits, RawRange};
+
+/// What a line asks for, before anything but its spelling is known.
+#[derive(Drop)]
+pub enum Command {
+    Submit(u64, RawEdits),
+    Get(u64, Bytes, Option<Number>),
+    Rows(u64, RawRange, Option<Number>),
+    Open(u64, Option<Number>),
+    Close(u64, Number),
+    Tick(u64),
+    Tend(u64),
+    Stop(u64, Junk),
+    Start(u64),
+}
+
+impl Command {
+    /// The node that it names.
+    pub fn node(&self) -> u64
+        ensures { node_in (what_of self.now) ≡ Some result }
+    {
+        match self {
+            Command::Submit(node, _) => *node,
+            Command::Get(node, _, _) => *node,
+            Command::Rows(node, _, _) => *node,
+            Command::Open(node, _) => *node,
+            Command::Close(node, _) => *node,
+            Command::Tick(node) => *node,
+            Command::Tend(node) => *node,
+            Command::Stop(node, _) => *node,
+            Command::Start(node) => *node,
+        }
+    }
+}

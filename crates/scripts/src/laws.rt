@@ -1,0 +1,28 @@
+//! What holds of the words of contracts. The functions do nothing: their clauses are the laws.
+ghost use Rattle.scripts.specs.Laws.{StringsDiffer, EditsDiffer, EventsDiffer, ScriptsDiffer};
+ghost use Rattle.scripts.specs.Laws.{EventsAreRead, ScriptsAreRead, FaultsAreRefused};
+
+use lab::test_decides_config;
+
+/// A word spells one byte string at most, and one edit, words one event, and lines one script.
+pub fn spellings_differ()
+    ensures strings { StringsDiffer }
+    ensures edits { EditsDiffer }
+    ensures events { EventsDiffer }
+    ensures scripts { ScriptsDiffer }
+{}
+
+/// The words that spell an event have no fault, and neither has a script, where they may spell what
+/// they do.
+pub fn scripts_are_read()
+    ensures events { EventsAreRead }
+    ensures scripts { ScriptsAreRead }
+{
+    test_decides_config(); // law: the test succeeds exactly for the configurations
+}
+
+/// Where faults may not be spelled, a script without a fault spells none, and no word for what a
+/// stop leaves.
+pub fn faults_are_refused()
+    ensures { FaultsAreRefused }
+{}

@@ -1,0 +1,161 @@
+//! The statements of a script, and what the reader knows between two lines.
+ghost use Rattle.std.specs.Prelude.{◌≡◌, ◌++◌, ℕ, true, false, Option, Some, None};
+ghost use Rattle.std.specs.Prelude.{IfOk, MatchOption, MatchResult};
+ghost use Rattle.lab.specs.Configuration.{has};
+ghost use Rattle.scripts.specs.Faults.{node_fault, place_fault};
+ghost use Rattle.scripts.specs.Reading.{HasEpoch, after_item, statements_of};
+ghost use Rattle.scripts.specs.Scripts.{begins};
+
+use kv_types::KvError;
+use lab::{Configs, Epoch, Event, NodeId};
+use script_words::{LimitName, ScriptError, ScriptLimits};
+use std::alloc::AllocError;
+
+/// What a statement comes to.
+#[derive(Drop)]
+pub enum Action {
+    /// Something that happens at a node.
+    Event(Event),
+    /// A key, value or batch that there can't be.
+    Invalid(KvError),
+    /// The frames that no statement has delivered yet are delivered, up to the bound.
+    Flow,
+    /// The node tends up to the first tend that does not work, or to the bound.
+    Settle(NodeId),
+    /// The numbers of the node are shown. Nothing happens.
+    Show(NodeId),
+}
+
+impl Action {
+    /// Whether it is more than a look.
+    fn begins(&self) -> bool
+        ensures { result ≡ begins self.now }
+    {
+        match self {
+            Action::Show(_) => false,
+            _ => true,
+        }
+    }
+}
+
+/// A statement, and the number of the line where it stands, from 1.
+#[derive(Drop)]
+pub struct Statement {
+    pub line: u32,
+    pub action: Action,
+}
+
+/// What one line of a script says.
+#[derive(Drop)]
+pub enum LineItem {
+    Skipped,
+    /// A limit, and the number that it is to be.
+    Limit(LimitName, u64),
+    /// The configurations up to this line.
+    Config(Configs),
+    Asks(Action),
+}
+
+/// What stands before a line: the configurations, whether a statement that is more than a look, and
+/// the limits; and whether faults may be spelled.
+#[derive(Drop)]
+pub struct ParserState {
+    pub configs: Option<Configs>,
+    pub begun: bool,
+    pub limits: ScriptLimits,
+    pub faults: bool,
+}
+
+// The node of this number, if it is one of these.
+fn id_in(ids: &[NodeId], node: u64) -> Option<NodeId>
+    ensures { MatchOption result (has ids.now node ≡ false)
+        (λ id. (id ≡ node) × (has ids.now node ≡ true)) }
+{
+    match ids {
+        [first, ..] if first.get() as u64 == node => Some(*first),
+        [_, later @ ..] => id_in(later, node),
+        [] => None,
+    }
+}
+
+impl ParserState {
+    /// What stands before the line after this one, and the statement that was added.
+    pub fn after(
+        self,
+        statements: &mut Vec<Statement>,
+        line: u32,
+        item: LineItem,
+    ) -> Result<ParserState, AllocError>
+        ensures after { IfOk result (λ after. after ≡ after_item self item) }
+        ensures added { IfOk result (λ _.
+            statements.new.items ≡ statements.old.items ++ statements_of line item) }
+    {
+        match item {
+            LineItem::Skipped => Ok(self),
+            LineItem::Limit(name, number) => Ok(ParserState {
+                configs: self.configs,
+                begun: self.begun,
+                limits: self.limits.with(name, number),
+                faults: self.faults,
+            }),
+            LineItem::Config(configs) => Ok(ParserState {
+                configs: Some(configs),
+                begun: self.begun,
+                limits: self.limits,
+                faults: self.faults,
+            }),
+            LineItem::Asks(action) => {
+                let begun = self.begun || action.begins();
+                statements.push(Statement { line, action })?;
+                Ok(ParserState {
+                    configs: self.configs,
+                    begun,
+                    limits: self.limits,
+                    faults: self.faults,
+                })
+            }
+        }
+    }
+
+    /// The configurations, if there is one.
+    pub fn into_configs(self) -> Option<Configs>
+        ensures { result ≡ self.configs }
+    {
+        self.configs
+    }
+
+    /// The epoch that a notice may be of here.
+    pub fn epoch(&self, number: u64) -> Result<Epoch, ScriptError>
+        ensures { MatchResult result
+            (λ epoch. (epoch ≡ number) × HasEpoch self.now.configs number)
+            (λ e. (named : Option ℕ) →
+            place_fault (Some number) self.now.configs named ≡ Some e) }
+    {
+        let Some(configs) = &self.configs else {
+            return Err(ScriptError::OutOfPlace);
+        };
+        let _first = configs.first(); // law: the list is lawful
+        let Ok(number) = u32::try_from(number) else {
+            return Err(ScriptError::BadConfiguration);
+        };
+        match Epoch::new(number) {
+            Some(epoch) if configs.at(epoch).is_some() => Ok(epoch),
+            _ => Err(ScriptError::BadConfiguration),
+        }
+    }
+
+    /// The node that a statement may name here.
+    pub fn place(&self, node: u64) -> Result<NodeId, ScriptError>
+        ensures { MatchResult result
+            (λ id. (id ≡ node) × (node_fault self.now.configs (Some node) ≡ None))
+            (λ e. node_fault self.now.configs (Some node) ≡ Some e) }
+    {
+        let Some(configs) = &self.configs else {
+            return Err(ScriptError::OutOfPlace);
+        };
+        match id_in(configs.first().ids(), node) {
+            Some(id) => Ok(id),
+            None => Err(ScriptError::UnknownNode),
+        }
+    }
+}

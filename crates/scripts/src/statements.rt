@@ -1,0 +1,202 @@
+//! Each statement, read from its words.
+ghost use Rattle.std.specs.Prelude.{◌≡◌, ◌∷◌, false, map, codes};
+ghost use Rattle.std.specs.Str.{bytes_eq};
+ghost use Rattle.scripts.specs.Statements.{walk_name};
+ghost use Rattle.scripts.specs.Reading.{ReadsCommand};
+
+use crate::command::Command;
+use lab::Junk;
+use script_words::{
+    Bytes, RawRange, ScriptError, batch_number, bounds_of, bytes_of, junk_of, number, raw_edits_of,
+};
+use std::alloc::Global;
+
+fn get(alloc: Global, args: &[&[u8]]) -> Result<Command, ScriptError>
+    ensures { ReadsCommand (codes "get" ∷ map (λ w. w.now) args.now) result }
+{
+    let (node, key, at) = match args {
+        [node, key] => (node, key, None),
+        [node, key, at] => (node, key, Some(at)),
+        _ => return Err(ScriptError::WrongNumberOfWords),
+    };
+    let Some(node) = number(node) else {
+        return Err(ScriptError::BadNumber);
+    };
+    let at = match at {
+        None => None,
+        Some(at) => match batch_number(at) {
+            None => return Err(ScriptError::BadNumber),
+            at => at,
+        },
+    };
+    match bytes_of(alloc, key)? {
+        None => Err(ScriptError::BadBytes),
+        Some(key) => Ok(Command::Get(node, Bytes::new(key), at)),
+    }
+}
+
+fn rows(alloc: Global, backward: bool, args: &[&[u8]]) -> Result<Command, ScriptError>
+    ensures { ReadsCommand (walk_name backward ∷ map (λ w. w.now) args.now) result }
+{
+    let (node, from, to, limit, at) = match args {
+        [node, from, to, limit] => (node, from, to, limit, None),
+        [node, from, to, limit, at] => (node, from, to, limit, Some(at)),
+        _ => return Err(ScriptError::WrongNumberOfWords),
+    };
+    let (Some(node), Some(limit)) = (number(node), number(limit)) else {
+        return Err(ScriptError::BadNumber);
+    };
+    let at = match at {
+        None => None,
+        Some(at) => match batch_number(at) {
+            None => return Err(ScriptError::BadNumber),
+            at => at,
+        },
+    };
+    match bounds_of(alloc, from, to)? {
+        None => Err(ScriptError::BadBytes),
+        Some((from, to)) => Ok(Command::Rows(node, RawRange::new(from, to, backward, limit), at)),
+    }
+}
+
+fn open_snapshot(args: &[&[u8]]) -> Result<Command, ScriptError>
+    ensures { ReadsCommand (codes "open" ∷ map (λ w. w.now) args.now) result }
+{
+    let (node, at) = match args {
+        [node] => (node, None),
+        [node, at] => (node, Some(at)),
+        _ => return Err(ScriptError::WrongNumberOfWords),
+    };
+    let Some(node) = number(node) else {
+        return Err(ScriptError::BadNumber);
+    };
+    match at {
+        None => Ok(Command::Open(node, None)),
+        Some(at) => match batch_number(at) {
+            None => Err(ScriptError::BadNumber),
+            at => Ok(Command::Open(node, at)),
+        },
+    }
+}
+
+fn close_snapshot(args: &[&[u8]]) -> Result<Command, ScriptError>
+    ensures { ReadsCommand (codes "close" ∷ map (λ w. w.now) args.now) result }
+{
+    let [node, at] = args else {
+        return Err(ScriptError::WrongNumberOfWords);
+    };
+    let Some(node) = number(node) else {
+        return Err(ScriptError::BadNumber);
+    };
+    match batch_number(at) {
+        None => Err(ScriptError::BadNumber),
+        Some(at) => Ok(Command::Close(node, at)),
+    }
+}
+
+fn tick(args: &[&[u8]]) -> Result<Command, ScriptError>
+    ensures { ReadsCommand (codes "tick" ∷ map (λ w. w.now) args.now) result }
+{
+    match args {
+        [node] => match number(node) {
+            None => Err(ScriptError::BadNumber),
+            Some(node) => Ok(Command::Tick(node)),
+        },
+        _ => Err(ScriptError::WrongNumberOfWords),
+    }
+}
+
+fn tend(args: &[&[u8]]) -> Result<Command, ScriptError>
+    ensures { ReadsCommand (codes "tend" ∷ map (λ w. w.now) args.now) result }
+{
+    match args {
+        [node] => match number(node) {
+            None => Err(ScriptError::BadNumber),
+            Some(node) => Ok(Command::Tend(node)),
+        },
+        _ => Err(ScriptError::WrongNumberOfWords),
+    }
+}
+
+fn start(args: &[&[u8]]) -> Result<Command, ScriptError>
+    ensures { ReadsCommand (codes "start" ∷ map (λ w. w.now) args.now) result }
+{
+    match args {
+        [node] => match number(node) {
+            None => Err(ScriptError::BadNumber),
+            Some(node) => Ok(Command::Start(node)),
+        },
+        _ => Err(ScriptError::WrongNumberOfWords),
+    }
+}
+
+fn submit(alloc: Global, args: &[&[u8]]) -> Result<Command, ScriptError>
+    ensures { ReadsCommand (codes "submit" ∷ map (λ w. w.now) args.now) result }
+{
+    let [node, edits @ ..] = args else {
+        return Err(ScriptError::WrongNumberOfWords);
+    };
+    let Some(node) = number(node) else {
+        return Err(ScriptError::BadNumber);
+    };
+    match raw_edits_of(alloc, edits)? {
+        None => Err(ScriptError::BadBytes),
+        Some(changes) => Ok(Command::Submit(node, changes)),
+    }
+}
+
+fn stop(alloc: Global, args: &[&[u8]]) -> Result<Command, ScriptError>
+    ensures { ReadsCommand (codes "stop" ∷ map (λ w. w.now) args.now) result }
+{
+    let (node, junk) = match args {
+        [node] => (node, None),
+        [node, junk] => (node, Some(junk)),
+        _ => return Err(ScriptError::WrongNumberOfWords),
+    };
+    let Some(node) = number(node) else {
+        return Err(ScriptError::BadNumber);
+    };
+    let junk = match junk {
+        None => Junk::Old,
+        Some(junk) => match junk_of(alloc, junk)? {
+            None => return Err(ScriptError::BadFault),
+            Some(junk) => junk,
+        },
+    };
+    Ok(Command::Stop(node, junk))
+}
+
+/// What the words behind the name of a statement with an event at a node ask for, or their least
+/// fault.
+pub fn command_of(alloc: Global, name: &[u8], args: &[&[u8]]) -> Result<Command, ScriptError>
+    requires deliver { bytes_eq name.now (codes "deliver") ≡ false }
+    requires notice { bytes_eq name.now (codes "notice") ≡ false }
+    requires flow { bytes_eq name.now (codes "flow") ≡ false }
+    requires settle { bytes_eq name.now (codes "settle") ≡ false }
+    requires show { bytes_eq name.now (codes "show") ≡ false }
+    ensures { ReadsCommand (name.now ∷ map (λ w. w.now) args.now) result }
+{
+    if name == b"submit".as_slice() {
+        submit(alloc, args)
+    } else if name == b"get".as_slice() {
+        get(alloc, args)
+    } else if name == b"rows".as_slice() {
+        rows(alloc, false, args)
+    } else if name == b"back".as_slice() {
+        rows(alloc, true, args)
+    } else if name == b"open".as_slice() {
+        open_snapshot(args)
+    } else if name == b"close".as_slice() {
+        close_snapshot(args)
+    } else if name == b"stop".as_slice() {
+        stop(alloc, args)
+    } else if name == b"start".as_slice() {
+        start(args)
+    } else if name == b"tick".as_slice() {
+        tick(args)
+    } else if name == b"tend".as_slice() {
+        tend(args)
+    } else {
+        Err(ScriptError::UnknownStatement)
+    }
+}
