@@ -3,8 +3,9 @@
 #![tactic(auto)]
 
 use anyhow::{Result, bail};
+use client::run_script;
 use lab::World;
-use program::{read_script, run_script};
+use scripts::read_script;
 use std::env;
 use std::io::Read;
 use test_carriers::Losing;
@@ -22,7 +23,7 @@ fn main(rt: HostRuntime) -> Result<()> {
     let alloc = rt.alloc();
     let mut text = Vec::new(alloc);
     rt.stdin().read_to_end(&mut text)?;
-    let script = match read_script(alloc, &text) {
+    let script = match read_script(alloc, &text, true) {
         Ok(script) => script,
         Err(fault) => bail!("script: a fault in line {}", fault.line),
     };
