@@ -4,4 +4,3 @@ mod course;
 mod disks;
 mod history;
 mod lists;
-mod runs;

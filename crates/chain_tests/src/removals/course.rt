@@ -1,6 +1,6 @@
-// A run of 60 submits under each configuration, by a fixed list of numbers that look like chance:
-// frames come again, late, out of order or never, tends merge, nodes stop and start, calls of a disk
-// fail, and each node hears of a new configuration early, late or never.
+// A run of 300 submits and four removals, by a fixed list of numbers that look like chance: frames
+// come again, late, out of order or never, tends merge, nodes stop and start, calls of a disk fail,
+// and each node hears of a new configuration early, late or never.
 use crate::answers::is_so;
 use crate::courses::{Step, configs_of, event};
 use crate::items::{id_of, number};
@@ -10,7 +10,7 @@ use crate::removals::history::{Asked, History, KEYS};
 use crate::removals::lists::{Brings, Lists};
 use crate::sweep::{ALL_WAYS, fault_at};
 use disk::{Fault, MemDisk};
-use lab::{Carrier, Event, EventKind, Line, NodeReport, Reply, World};
+use lab::{Direct, Event, EventKind, Line, NodeReport, Reply, World};
 use std::alloc::Global;
 use std::process::Abort;
 
@@ -19,11 +19,11 @@ const SUBMITS: u64 = 60;
 
 static JUNKS: [&[u8]; 4] = [b"", b"\x00", b"\x01", b"\x01\x00"];
 
-/// A run so far.
+// A run so far.
 #[derive(Drop)]
-pub struct Course<C: Carrier + Drop> {
+struct Course {
     lists: &'static [&'static [u16]],
-    world: World<MemDisk, C>,
+    world: World<MemDisk, Direct>,
     known: Lists,
     chance: Chance,
     // The place of the next frame in order, the epochs that nodes may be told of, and the snapshots
@@ -33,21 +33,14 @@ pub struct Course<C: Carrier + Drop> {
     open: Vec<(u16, u64)>,
 }
 
-impl<C: Carrier + Drop> Course<C> {
-    /// A run over these configurations and this carrier. The seed is where chance begins.
-    pub fn new(
-        rt: &impl Abort,
-        alloc: Global,
-        lists: &'static [&'static [u16]],
-        seed: u64,
-        carrier: C,
-    ) -> Course<C> {
+impl Course {
+    fn new(rt: &impl Abort, alloc: Global, lists: &'static [&'static [u16]], seed: u64) -> Course {
         let last = lists.last().copied().unwrap_or(&[]);
         let tail = (last.last().copied().unwrap_or(0), lists.len());
         let configs = configs_of(rt, alloc, lists);
         Course {
             lists,
-            world: World::created(alloc, &configs, carrier, &limits(rt)).expect(rt, "a world"),
+            world: World::new(alloc, &configs, &limits(rt)).expect(rt, "a world"),
             known: Lists::new(rt, alloc, tail),
             chance: Chance(seed),
             next: 1,
@@ -258,8 +251,8 @@ impl<C: Carrier + Drop> Course<C> {
         }
     }
 
-    /// All submits, and other events between.
-    pub fn run(&mut self, rt: &impl Abort, alloc: Global) {
+    // All submits, and other events between.
+    fn run(&mut self, rt: &impl Abort, alloc: Global) {
         for _ in self.lists {
             for _ in 0..SUBMITS {
                 self.submit(rt, alloc);
@@ -273,9 +266,9 @@ impl<C: Carrier + Drop> Course<C> {
         }
     }
 
-    /// Fails the test unless disks and answers are of one list, which is that of the last tail, and
-    /// there is enough of both.
-    pub fn end(self, rt: &impl Abort, alloc: Global, least: Least) {
+    // Fails the test unless disks and answers are of one list, which is that of the last tail, and
+    // there is enough of both.
+    fn end(self, rt: &impl Abort, alloc: Global, least: Least) {
         let (lists, known) = (self.lists, self.known);
         let report = self.world.finish(alloc).expect(rt, "a report");
         let on_disks = lists_on_disks(rt, alloc, report.nodes, &known, lists);
@@ -321,11 +314,44 @@ fn of_node<'a>(rt: &impl Abort, lists: &'a [Vec<u64>], id: u16) -> &'a [u64] {
     lists.get(index).expect(rt, "a node").as_slice()
 }
 
-/// How many batches the one list has at least, how many answers there are, and how many of them the
-/// last tail gave at its epoch.
+// How many batches the one list has at least, how many answers there are, and how many of them the
+// last tail gave at its epoch.
 #[derive(Clone, Copy)]
-pub struct Least {
-    pub batches: usize,
-    pub answers: usize,
-    pub last: usize,
+struct Least {
+    batches: usize,
+    answers: usize,
+    last: usize,
+}
+
+// Configurations, and where chance begins.
+type Run = (&'static [&'static [u16]], u64, Least);
+
+static RUNS: [Run; 2] = [
+    (
+        &[&[1, 2, 3, 4, 5], &[1, 2, 4, 5], &[2, 4, 5], &[2, 4], &[4]],
+        1,
+        Least {
+            batches: 100,
+            answers: 150,
+            last: 20,
+        },
+    ),
+    (
+        &[&[1, 2, 3, 4, 5], &[1, 2, 3, 5], &[2, 3, 5]],
+        5,
+        Least {
+            batches: 40,
+            answers: 80,
+            last: 10,
+        },
+    ),
+];
+
+#[test]
+fn runs_with_removals_have_one_history(rt: HostRuntime) {
+    for (lists, seed, least) in &RUNS {
+        let mut course = Course::new(&rt, rt.alloc(), *lists, *seed);
+        course.run(&rt, rt.alloc());
+        course.end(&rt, rt.alloc(), *least);
+    }
 }

@@ -45,8 +45,7 @@ pub enum Brings {
 // Whether the lines are those of an event that its node took.
 fn is_taken(lines: &[Line]) -> bool {
     match lines.first() {
-        None | Some(Line::Lost | Line::Nothing | Line::Dropped(_)) => false,
-        Some(Line::Stopped { .. }) => false,
+        None | Some(Line::Nothing | Line::Dropped(_) | Line::Stopped { .. }) => false,
         Some(Line::Replied(Reply::Refused { .. })) => false,
         Some(_) => true,
     }
