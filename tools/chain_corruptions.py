@@ -92,7 +92,7 @@ def read_lost(history, lines, choice):
     """A read has the value that a batch has given which is not of the history."""
     reads = []
     for it in history.reads:
-        for other in history.lost():
+        for other in history.others():
             value = value_at([history.edits[line] for line in other[: it.at]], it.key)
             if len(other) >= it.at and value != it.value:
                 reads.append((it, value))
@@ -105,7 +105,7 @@ def read_lost(history, lines, choice):
 def acknowledge_lost(history, lines, choice):
     """A batch that is not of the history is acknowledged."""
     lost = []
-    for other in history.lost():
+    for other in history.others():
         pairs = zip(other, history.history.batches)
         lost += [(at, one) for at, (one, its) in enumerate(pairs, 1) if one != its]
     if lost:

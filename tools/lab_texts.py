@@ -98,9 +98,11 @@ def limits_of(text):
     return LIMITS | {name: int(number) for _, name, number in lines}
 
 
-def output_of(program, script):
-    """What `PROGRAM lab -` prints of a script. Another end than a good one is a ValueError."""
-    done = subprocess.run([program, "lab", "-"], input=script.encode(), capture_output=True)
+def output_of(command, script):
+    """What a program prints that has a script as its input: a path is that of one that is called as
+    `PATH lab -`, a list is a whole command. Another end than a good one is a ValueError."""
+    command = [command, "lab", "-"] if isinstance(command, str) else command
+    done = subprocess.run(command, input=script.encode(), capture_output=True)
     if done.returncode or done.stderr:
         raise ValueError(f"status {done.returncode} {done.stderr.decode().strip()}")
     return done.stdout.decode()

@@ -1,5 +1,5 @@
 #!/usr/bin/env python3
-"""one_history.py SCRIPT OUTPUT: checks a run from its two texts alone, by what is promised of it.
+"""one_history.py SCRIPT OUTPUT [TURN..]: checks a run from its texts, by what is promised of it.
 
 Two things are checked. The first is the headline: there is one list of batches, in the order of
 their submits and none twice, of which every acknowledgement and every read speaks, whatever node of
@@ -8,6 +8,11 @@ is not behind anything acknowledged or read before; and what a node has given up
 its configuration has. The second is each line: it must be the one that the rules of a step give
 (`chain_rules.py`). Open is only where a floor is, what a tend does, and whether a fault strikes in
 a step that reads the disk: there a line must be one that can be so (`known_store.py`).
+
+A run may have lost what was carried in some turns, counted from 0: each request, each frame that is
+delivered and each reply has one. A request or frame that is lost has the line `lost`, and does
+nothing; a reply that is lost has no line, and says nothing (`losing_run.py`). So a batch that is
+acknowledged is in the history, and one whose acknowledgement is lost may be.
 
 Prints the lines of the batches' submits in their order, or what is broken, with status 1.
 """
@@ -21,8 +26,8 @@ sys.dont_write_bytecode = True
 from chain_rules import Node
 from known_store import MOST_FILES, KnownStore
 from lab_texts import SHOWN, Broken, expect, key_of, kind_of, limits_of
+from losing_run import LosingRun
 from plain_maps import value_at
-from ruled_run import RuledRun
 from run_tends import NodeTends
 
 STARTED = re.compile(r"started epoch (\d+) count (\d+) committed (\d+)")
@@ -120,12 +125,13 @@ class OneHistory:
                 expect(in_order, f"node {later} has a batch that node {name} before it lacks")
 
 
-class History(RuledRun):
+class History(LosingRun):
     """A run and what was printed of it, checked line by line."""
 
-    def __init__(self, script, output, seen, rules=Node):
-        """Checks a whole output, and counts its outcomes in what was seen."""
-        super().__init__(script, rules)
+    def __init__(self, script, output, seen, rules=Node, lost=()):
+        """Checks a whole output, and counts its outcomes in what was seen. The run had nodes of
+        these rules, and lost these turns."""
+        super().__init__(script, rules, lost)
         self.words = {it.line: it.words for it in self.statements}
         self.seen = seen
         self.lines, self.place = collections.deque(output.split("\n")[:-1]), 0
@@ -160,9 +166,11 @@ class History(RuledRun):
         for it in self.statements:
             self.seen[f"{it.words[0]} statements"] += 1
         self.seen[f"run of {len(self.configurations)} configurations"] += 1
-        self.seen["run with a batch beside the history"] += len(self.lost()) > 0
+        self.seen["run with a batch beside the history"] += len(self.others()) > 0
+        self.seen["request or frame lost"] += len(self.losses)
+        self.seen["reply lost"] += len(self.unsaid_replies)
 
-    def lost(self):
+    def others(self):
         """The lists of nodes that have another batch than the history in some place."""
         lists, history = [node.batches for node in self.nodes.values()], self.history.batches
         return [it for it in lists if it[: len(history)] != history[: len(it)]]
@@ -254,6 +262,12 @@ class History(RuledRun):
         """Whether a read up to the committed number is below the floor."""
         store = self.stores[node.name]
         asked = it.words[{"get": 3, "open": 2}.get(it.words[0], 5) :]
+        if self.is_unseen(it, node):
+            if not asked or at >= store.most:
+                return False
+            if at >= store.least:
+                self.open_unseen(it, node, at)
+            return True
         if self.peek(it) == "refused 3 TooOld":
             expect(asked, "the committed number is too old")
             if it.words[0] == "get" and at < store.least:
@@ -342,14 +356,14 @@ class History(RuledRun):
 
 def main():
     """Checks the output of one script."""
-    if len(sys.argv) != 3:
+    if len(sys.argv) < 3:
         sys.exit(__doc__)
-    texts = []
-    for path in sys.argv[1:]:
+    texts, lost = [], map(int, sys.argv[3:])
+    for path in sys.argv[1:3]:
         with open(path, encoding="utf-8") as it:
             texts.append(it.read())
     try:
-        run = History(*texts, collections.Counter())
+        run = History(*texts, collections.Counter(), Node, lost)
     except (Broken, ValueError) as what:
         sys.exit(f"broken: {what}")
     print("one history, of the submits in lines", *run.history.batches)

@@ -53,9 +53,9 @@ class PlainStore:
 class PlainChain(RuledRun):
     """A run of a script at plain nodes with plain stores."""
 
-    def __init__(self, script, seed, rules=Node):
+    def __init__(self, script, seed, rules=Node, lost=()):
         """Runs a whole script. The same seed chooses the same where rules leave it open."""
-        super().__init__(script, rules)
+        super().__init__(script, rules, lost)
         self.choice, self.lines = random.Random(seed), []
         limits = limits_of(script)
         self.stores = {name: PlainStore(limits) for name in self.nodes}
@@ -112,7 +112,7 @@ class PlainChain(RuledRun):
     def sent(self, *of_it):
         """Nothing is asked of what was sent or answered."""
 
-    acknowledged = told = started = sent
+    acknowledged = told = started = unsaid = sent
 
 
 class TakesOldFrames(Node):

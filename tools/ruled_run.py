@@ -1,5 +1,8 @@
 """A run of a script at plain nodes: what each statement prints by the rules of `chain_rules.py`.
 
+What clients and nodes send is carried, each in its turn, and what the carrier loses in its turns is
+lost: a request or frame reaches no node, a reply no client.
+
 The rules leave open where a node's floor is, what its tends do, and how many calls of the disk a
 step makes that reads it, so whether a fault strikes there. A subclass decides that, and what a line
 is for: `one_history.py` compares lines with a program's, `plain_chain.py` writes them.
@@ -9,6 +12,8 @@ from chain_rules import Node
 from lab_texts import bytes_of, bytes_of_batch, key_of, read_script
 from plain_maps import page_of, value_at
 
+# The statements that are requests of a client.
+REQUESTS = ("submit", "get", "rows", "back", "open", "close")
 # A flow delivers so many frames at most.
 MOST_IN_FLOW = 10_000
 # So many calls of the disk record a batch or a configuration: the record, a sync, its gate, a sync.
@@ -55,22 +60,48 @@ def is_kept(fault):
 class RuledRun:
     """A run, statement by statement. Each statement is a method of its name."""
 
-    def __init__(self, script, rules=Node):
-        """Reads a script. Its nodes have these rules."""
+    def __init__(self, script, rules=Node, lost=()):
+        """Reads a script. Its nodes have these rules, and its carrier loses these turns, from 0."""
         self.configurations, self.statements = read_script(script)
         self.nodes = {name: rules(name, self.configurations) for name in self.configurations[0]}
         submits = [it for it in self.statements if it.words[0] == "submit"]
         self.edits = {it.line: it.words[2:] for it in submits}
         # The frames by their places, and the places of those that a statement delivered.
         self.frames, self.delivered, self.next_in_flow = [], set(), 1
+        # The carrier's next turn, and those in which it loses what it carries.
+        self.turn, self.lost_turns = 0, frozenset(lost)
 
     def run(self):
-        """Each statement in its turn."""
+        """Each statement in its turn. A request is carried to its node."""
         for it in self.statements:
             if why := invalid_of(it.words):
                 self.say(it.line, f"invalid {why}")
+            elif it.words[0] in REQUESTS and not self.carry():
+                self.lose(it, None)
             else:
                 getattr(self, it.words[0])(it)
+
+    def carry(self):
+        """Whether what the carrier takes in this turn arrives."""
+        self.turn += 1
+        return self.turn - 1 not in self.lost_turns
+
+    def is_next_lost(self):
+        """Whether the carrier will lose what it takes next."""
+        return self.turn in self.lost_turns
+
+    def lose(self, it, frame):
+        """The request of a statement is lost, or a frame that it delivers: no node has a step."""
+        self.say(it.line, "lost")
+
+    def reply(self, line, *texts):
+        """The lines of a reply to the request of this line are printed, if it arrives."""
+        if is_there := self.carry():
+            for text in texts:
+                self.say(line, text)
+        else:
+            self.unsaid(line, texts)
+        return is_there
 
     def map_of(self, node, at):
         """The first so many batches of a node, as their edits."""
@@ -89,8 +120,8 @@ class RuledRun:
             self.sent(it, frame)
             self.say(it.line, f"#{len(self.frames)} {ends} {frame.kind} {numbers}")
         for number, line in answer.replies:
-            self.say(line, f"committed {number}")
-            self.acknowledged(node, line, number)
+            if self.reply(line, f"committed {number}"):
+                self.acknowledged(node, line, number)
 
     def fall(self, it, node):
         """A node stops in a step, by the fault of the statement."""
@@ -115,7 +146,7 @@ class RuledRun:
         """A batch for a node."""
         node = self.nodes[it.words[1]]
         if why := node.refusal_of_submit():
-            self.say(it.line, f"refused {why}")
+            self.reply(it.line, f"refused {why}")
         elif answer := self.step(it, node, node.submit, it.line):
             self.answer(it, node, answer)
 
@@ -140,11 +171,13 @@ class RuledRun:
             self.next_in_flow += 1
 
     def deliver_frame(self, it, place):
-        """A node that runs has a step of the frame."""
+        """A frame is carried to its addressee. If that runs, it has a step of the frame."""
         frame = self.frames[place - 1]
         node = self.nodes[frame.addressee]
         self.delivered.add(place)
-        if not node.is_up:
+        if not self.carry():
+            self.lose(it, frame)
+        elif not node.is_up:
             self.say(it.line, "dropped NotRunning")
         elif answer := self.step(it, node, node.receive, frame):
             self.answer(it, node, answer)
@@ -218,16 +251,20 @@ class RuledRun:
         numbers = f"{numbers} floor {floor} kept {kept} tables {' '.join(map(str, tables))}"
         self.say(it.line, f"node {node.name} {numbers}")
 
+    def is_full(self, it, node, at):
+        """Whether no more snapshots of a node may be open."""
+        return node.is_full()
+
     def read_at(self, it, node, asked):
         """The number of a read that is answered; None where it is refused, or stops its node."""
         at = int(asked[0]) if asked else node.committed
         why = node.refusal() or ("4 NotCommitted" if at > node.committed else None)
         if not why and self.is_hidden(it, node, at):
             why = "3 TooOld"
-        if not why and it.words[0] == "open" and node.is_full():
+        if not why and it.words[0] == "open" and self.is_full(it, node, at):
             why = "6 TooManySnapshots"
         if why:
-            self.say(it.line, f"refused {why}")
+            self.reply(it.line, f"refused {why}")
             return None
         if it.words[0] != "open" and it.fault and self.is_struck(it, node):
             self.fall(it, node)
@@ -241,8 +278,8 @@ class RuledRun:
         if at is not None:
             value = value_at(self.map_of(node, at), it.words[2])
             found = "none" if value is None else f"value {value}"
-            self.say(it.line, f"{found} at {at}")
-            self.told(it, node, at)
+            if self.reply(it.line, f"{found} at {at}"):
+                self.told(it, node, at)
 
     def rows(self, it):
         """A page of rows."""
@@ -251,10 +288,9 @@ class RuledRun:
         if at is not None:
             backward = it.words[0] == "back"
             rows, more = page_of(self.map_of(node, at), low, bound, backward, int(limit))
-            for key, value in rows:
-                self.say(it.line, f"row {key}={value}")
-            self.say(it.line, f"rows {len(rows)} at {at}" + " more" * more)
-            self.told(it, node, at)
+            lines = [f"row {key}={value}" for key, value in rows]
+            if self.reply(it.line, *lines, f"rows {len(rows)} at {at}" + " more" * more):
+                self.told(it, node, at)
 
     back = rows
 
@@ -264,14 +300,14 @@ class RuledRun:
         at = self.read_at(it, node, it.words[2:])
         if at is not None:
             node.snapshots[at] += 1
-            self.say(it.line, f"opened {at}")
-            self.told(it, node, at)
+            if self.reply(it.line, f"opened {at}"):
+                self.told(it, node, at)
 
     def close(self, it):
         """A snapshot is one no more."""
         node, at = self.nodes[it.words[1]], int(it.words[2])
         if why := node.refusal_of_close(at):
-            self.say(it.line, f"refused {why}")
+            self.reply(it.line, f"refused {why}")
         else:
             node.snapshots[at] -= 1
-            self.say(it.line, f"closed {at}")
+            self.reply(it.line, f"closed {at}")

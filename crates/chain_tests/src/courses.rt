@@ -175,6 +175,7 @@ fn tended_text(did: Tended) -> &'static str {
 fn put_line(text: &mut String, line: &Line) -> Result<(), AllocError> {
     match line {
         Line::Nothing => text.push_str("nothing"),
+        Line::Lost => text.push_str("lost"),
         Line::Dropped(reason) => write!(text, "dropped {reason:?}"),
         Line::Replied(reply) => put_reply(text, reply),
         Line::Stopped { node, cause } => put_stop(text, *node, *cause),

@@ -7,7 +7,11 @@ mod adoption_faults;
 #[cfg(test)]
 mod adoptions;
 #[cfg(test)]
+mod alterations;
+#[cfg(test)]
 mod answers;
+#[cfg(test)]
+mod carried;
 #[cfg(test)]
 mod courses;
 #[cfg(test)]
@@ -20,6 +24,8 @@ mod histories;
 mod items;
 #[cfg(test)]
 mod large_store;
+#[cfg(test)]
+mod losses;
 #[cfg(test)]
 mod nodes;
 #[cfg(test)]

@@ -1,0 +1,37 @@
+// A carrier that loses chosen turns.
+use carriers::{Carried, Carrier, LabError, Peer};
+use std::alloc::Global;
+
+/// Loses the bytes of these turns, counted from 0, and carries all others.
+#[derive(Drop)]
+pub struct Losing {
+    turns: Vec<u64>,
+    turn: u64,
+}
+
+impl Losing {
+    pub fn new(turns: Vec<u64>) -> Losing {
+        Losing { turns, turn: 0 }
+    }
+}
+
+impl Carrier for Losing {
+    ghost is_faithful = { λ _. Unit {0} };
+
+    ghost loses = { Unit {0} };
+
+    fn carry(
+        &mut self,
+        alloc: Global,
+        _from: Peer,
+        _to: Peer,
+        bytes: &[u8],
+    ) -> Result<Carried, LabError> {
+        let turn = self.turn;
+        self.turn = turn.saturating_add(1);
+        if self.turns.contains(&turn) {
+            return Ok(Carried::Lost);
+        }
+        Ok(Carried::Bytes(bytes.to_vec(alloc)?))
+    }
+}
