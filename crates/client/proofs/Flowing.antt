@@ -86,7 +86,7 @@ pub record Flows {D C : Type 0} {g : Ghosts D} (h : Carriers C)
 pub flows_none : {D C : Type 0} {g : Ghosts D} {h : Carriers C}
     (world : World D C g) (setup : Setup) (past : Stretch) (old : List ℕ) →
     HasRunTo h world setup past → Flows h world setup past old old 0
-flows_none world setup past old run = record {
+flows_none {h = h} world setup past old run = record {
   own = no_stretch;
   run = subst (λ (s : Stretch). HasRunTo h world setup s) (sym (joined_nothing past)) run;
   events = refl;
@@ -147,7 +147,7 @@ module _ (setup : Setup) (past : Stretch) (old : List ℕ) where
       (one_step (delivery p) choice lines)) →
       next ≡ rest ++ places_after (frames_in_steps (past.steps ++ f.own.steps))
       (frames_of_step lines) → Flows h after setup past old next (suc count)
-  flows_on world after left rest next count p f first few choice lines run is =
+  flows_on {h = h} world after left rest next count p f first few choice lines run is =
       let all = all_left old past.steps f.own.steps in
       let new = places_after (frames_in_steps (past.steps ++ f.own.steps)) (frames_of_step lines)
       in

@@ -22,7 +22,8 @@ use Rattle.client.proofs.StatementRuns.{Goes, goes_next, goes_nowhere, gone}
 module _ {D C : Type 0} {g : Ghosts D} where
   -- the first statements ran, and their text is written
   pub record Prints (h : Carriers C) (world : World D C g) (setup : Setup) (left : List ℕ)
-      (done : List Statement) (places : List ℕ) (before : ℕ) (old new : Option (List ℕ)) : Type 0 where
+      (done : List Statement) (places : List ℕ) (before : ℕ) (old new : Option (List ℕ))
+      : Type 0 where
     pub turns : List StatementResult
     pub past : Stretch
     pub goes : Goes h world setup left done turns past
@@ -34,7 +35,8 @@ module _ {D C : Type 0} {g : Ghosts D} where
 
 module _ {D C : Type 0} {g : Ghosts D} {h : Carriers C} where
   pub prints_none : (world : World D C g) (setup : Setup) (before : ℕ) (out : Option (List ℕ)) →
-      HasRunTo h world setup no_stretch → before ≡ 0 → IsRunSoFar h world (run_of setup no_stretch) →
+      HasRunTo h world setup no_stretch → before ≡ 0 →
+      IsRunSoFar h world (run_of setup no_stretch) →
       HasHistory world (run_of setup no_stretch) → Prints h world setup [] [] [] before out out
   prints_none world setup before out run none so_far history = record {
     turns = [];

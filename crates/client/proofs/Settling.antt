@@ -32,7 +32,7 @@ pub record Settles {D C : Type 0} {g : Ghosts D} (h : Carriers C)
 pub settles_none : {D C : Type 0} {g : Ghosts D} {h : Carriers C}
     (world : World D C g) (setup : Setup) (past : Stretch) (node : ℕ)
     (old : List ℕ) → HasRunTo h world setup past → Settles h world setup past node old old 0
-settles_none world setup past node old run = record {
+settles_none {h = h} world setup past node old run = record {
   own = no_stretch;
   run = subst (λ (s : Stretch). HasRunTo h world setup s) (sym (joined_nothing past)) run;
   events = refl;
@@ -163,7 +163,8 @@ all_worked steps many worked = record {
 
 pub settled_most : {D C : Type 0} {g : Ghosts D} {h : Carriers C}
     (world : World D C g) (setup : Setup) (past : Stretch) (node : ℕ)
-    (old left : List ℕ) (count : ℕ) → Settles h world setup past node old left count → most ≤ count →
+    (old left : List ℕ) (count : ℕ) → Settles h world setup past node old left count →
+    most ≤ count →
     HasSettledSo h world setup past node old left count
 settled_most world setup past node old left count s reached = (
   s.own,

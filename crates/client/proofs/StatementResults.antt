@@ -71,7 +71,8 @@ never_shown world setup past [] = tt
 never_shown world setup past (place ∷ places) = tt
 
 -- what statements have done, by their events
-module _ {D C : Type 0} {g : Ghosts D} {h : Carriers C} (setup : Setup) (past : Stretch) (it : Statement)
+module _ {D C : Type 0} {g : Ghosts D} {h : Carriers C} (setup : Setup) (past : Stretch)
+    (it : Statement)
     (old new : World D C g) (left behind : List ℕ) where
   pub turned_by_event : (event : lab.Event) (choice : Choice) (lines : List Line) →
       it.action ≡ Event event → HasRunTo h new setup
@@ -92,7 +93,7 @@ module _ {D C : Type 0} {g : Ghosts D} {h : Carriers C} (setup : Setup) (past : 
   }
 
   pub turned_by_flow : (count : ℕ) → it.action ≡ Flow →
-      (flowed : HasFlowed new setup past left behind count) →
+      (flowed : HasFlowed h new setup past left behind count) →
       HasTurned h setup past it (record {
         line = it.line;
         events = count;
@@ -114,7 +115,7 @@ module _ {D C : Type 0} {g : Ghosts D} {h : Carriers C} (setup : Setup) (past : 
 
   pub turned_by_settle : (node count : ℕ) (turn : StatementResult) (goes_on : Bool) →
       it.action ≡ Settle node →
-      (settles : HasSettledSo new setup past node left behind count) →
+      (settles : HasSettledSo h new setup past node left behind count) →
       goes_on ≡ has_worked settles.4.last → turn ≡ (record {
         line = it.line;
         events = count;
@@ -154,14 +155,15 @@ module _ {D C : Type 0} {g : Ghosts D} {h : Carriers C} (setup : Setup) (past : 
       quiet false = tt
 
 -- statements without an event
-module _ {D C : Type 0} {g : Ghosts D} {h : Carriers C} (setup : Setup) (past : Stretch) (it : Statement)
+module _ {D C : Type 0} {g : Ghosts D} {h : Carriers C} (setup : Setup) (past : Stretch)
+    (it : Statement)
     (world : World D C g) (left : List ℕ) where
   -- nothing happened
   pub turned_without : (said : Note) → HasRunTo h world setup past →
       IsResultOfAction it.action (left ++ []) [] [] 0 said →
       HasShownNumbers world setup.configs past said → left_after it.action left ≡ left →
-      HasTurned h setup past it (record { line = it.line; events = 0; silent = 0; note = said }) world
-      world left left
+      HasTurned h setup past it
+      (record { line = it.line; events = 0; silent = 0; note = said }) world world left left
   turned_without said run did shows leaves = record {
     own = no_stretch;
     did = record { line = refl; count = refl; each = refl; did = did };

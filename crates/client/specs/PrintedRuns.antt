@@ -46,7 +46,8 @@ module _ {D C : Type 0} {g : Ghosts D} where
   -- behind the first of these statements the world has run one more, and this is a beginning of the
   -- text of that one
   pub record HasRunOneMore (h : Carriers C) (world : World D C g) (setup : Setup)
-      (statements : List Statement) (done : ℕ) (turns : List StatementResult) (all : Stretch) (part : List ℕ) : Type 0 where
+      (statements : List Statement) (done : ℕ) (turns : List StatementResult) (all : Stretch)
+      (part : List ℕ) : Type 0 where
     pub turn : StatementResult
     pub own : Stretch
     pub run : HasRunStatements h world setup (take (suc done) statements) (turns ++ turn ∷ [])

@@ -65,8 +65,9 @@ pub fn run_script<D: Crash + Drop, C: Carrier + Drop, W: Write>(
         script.now.statements.items → OnOk result (IsPrintedRun C.Carrier world.new
         script.now.setup script.now.statements.items (W.contents out.old) (W.contents out.new)) }
     ensures ended { IsReadyToRun C.Carrier world.old script.now.setup
-        script.now.statements.items → IfErr result (λ error. HasEndedEarly C.Carrier error world.new script.now.setup
-        script.now.statements.items (W.contents out.old) (W.contents out.new)) }
+        script.now.statements.items → IfErr result (λ error. HasEndedEarly C.Carrier
+        error world.new script.now.setup script.now.statements.items (W.contents out.old)
+        (W.contents out.new)) }
 {
     let mut left = VecDeque::new(alloc);
     let mut places = Vec::new(alloc);
