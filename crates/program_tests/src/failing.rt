@@ -109,7 +109,11 @@ fn an_output_accepts_a_beginning(rt: HostRuntime) {
 // exactly its text behind those before it.
 #[test]
 fn each_statement_is_flushed(rt: HostRuntime) {
-    let (taken, at, mut err) = (Vec::new(rt.alloc()), Vec::new(rt.alloc()), Vec::new(rt.alloc()));
+    let (taken, at, mut err) = (
+        Vec::new(rt.alloc()),
+        Vec::new(rt.alloc()),
+        Vec::new(rt.alloc()),
+    );
     let (mut input, mut out) = (CHAIN, Flushed { taken, at });
     let status = serve(&rt, WORDS, &mut input, &mut out, &mut err);
     assert!(rt; status == 0 && err.is_empty() && out.taken.as_slice() == CHAIN_TEXT);
