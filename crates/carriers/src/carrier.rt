@@ -1,6 +1,8 @@
 // What carries bytes between the nodes of a chain and their client.
-ghost use Rattle.std.specs.Prelude.{◌↔◌, IfOk};
+ghost use Rattle.std.specs.Prelude.{◌↔◌, IfOk, List};
 ghost use Rattle.carriers.specs.Carriers.{HasLost, IsCarried};
+ghost use Rattle.carriers.specs.Transmissions.{HasCarriedMore, Transmission, carried_lost};
+ghost use Rattle.carriers.specs.Transmissions.{one_transmission};
 
 use crate::LabError;
 use configurations::NodeId;
@@ -23,11 +25,16 @@ pub enum Carried {
 
 /// Carries bytes between the nodes of a chain and their client.
 pub trait Carrier {
-    /// What arrives is what was sent. Without this fact only `lost` says anything.
+    /// What arrives is what was sent. Without this fact only `lost` and `asked` say anything.
     ghost is_faithful: { Self → Type 0 };
 
     /// Whether anything may be lost.
     ghost loses: { Type 0 };
+
+    /// The carrier was asked for exactly these, in this order, and lost exactly so many of them.
+    /// Only `carry` makes this list longer, so of a carrier of which nothing else is known it tells
+    /// what was asked of it. A carrier may leave the list open.
+    ghost has_carried: { Self → List Transmission → Type 0 };
 
     /// Carries these bytes from one peer to another.
     fn carry(
@@ -39,5 +46,7 @@ pub trait Carrier {
     ) -> Result<Carried, LabError>
         ensures faithful { is_faithful self.new ↔ is_faithful self.old }
         ensures carried { is_faithful self.old → IfOk result (IsCarried bytes.now) }
-        ensures lost { IfOk result (λ it. HasLost it → loses) };
+        ensures lost { IfOk result (λ it. HasLost it → loses) }
+        ensures asked { IfOk result (λ it. HasCarriedMore has_carried self.old self.new
+            (one_transmission from to bytes.now (carried_lost it))) };
 }

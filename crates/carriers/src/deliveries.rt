@@ -3,6 +3,7 @@ ghost use Rattle.std.specs.Prelude.{◌≡◌, ◌↔◌, IfOk};
 ghost use Rattle.link_messages.specs.declared.Frame.{Frame};
 ghost use Rattle.link_messages.specs.{IsFrame, frame_bytes};
 ghost use Rattle.carriers.specs.Deliveries.{DeliveryWasLost, IsSentTo, input_of, request_input};
+ghost use Rattle.carriers.specs.Transmissions.{HasCarriedMore, delivery_lost, one_transmission};
 
 use crate::{Carrier, LabError, Peer, Received, send, send_bytes};
 use configurations::NodeId;
@@ -96,6 +97,8 @@ pub fn send_request<C: Carrier>(
     ensures arrives { C.is_faithful carrier.old →
         IfOk result (IsSentTo node (request_input frame)) }
     ensures lost { IfOk result (λ it. DeliveryWasLost it → C.loses) }
+    ensures asked { IfOk result (λ it. HasCarriedMore C.has_carried carrier.old carrier.new
+        (one_transmission Peer.Client (Peer.Node node) (frame_bytes frame) (delivery_lost it))) }
 {
     match send(alloc, carrier, Peer::Client, Peer::Node(node), frame)? {
         Received::Frame(frame) => Ok(Delivery::To(node, request_input(frame))),
@@ -116,6 +119,8 @@ pub fn send_posted<C: Carrier>(
     ensures arrives { (frame : Frame) → IsFrame frame → bytes.now ≡ frame_bytes frame →
         C.is_faithful carrier.old → IfOk result (IsSentTo to (input_of frame)) }
     ensures lost { IfOk result (λ it. DeliveryWasLost it → C.loses) }
+    ensures asked { IfOk result (λ it. HasCarriedMore C.has_carried carrier.old carrier.new
+        (one_transmission (Peer.Node from) (Peer.Node to) bytes.now (delivery_lost it))) }
 {
     match send_bytes(alloc, carrier, Peer::Node(from), Peer::Node(to), bytes)? {
         Received::Frame(frame) => Ok(Delivery::To(to, input_of(frame))),

@@ -11,6 +11,8 @@ impl Carrier for Direct {
 
     ghost loses = { ⊥ };
 
+    ghost has_carried = { λ _ _. Unit {0} };
+
     fn carry(
         &mut self,
         alloc: Global,

@@ -1,6 +1,8 @@
 // Replies as frames, and what arrives of them at the client.
 ghost use Rattle.std.specs.Prelude.{◌≡◌, ◌↔◌, IfOk};
+ghost use Rattle.link_messages.specs.{frame_bytes};
 ghost use Rattle.carriers.specs.Replies.{ReplyArrives, reply_frame, reply_of};
+ghost use Rattle.carriers.specs.Transmissions.{HasCarriedMore, one_transmission, reply_lost};
 
 use crate::{Carrier, LabError, Peer, Received, send};
 use configurations::NodeId;
@@ -79,6 +81,10 @@ pub fn send_reply<C: Carrier>(
 ) -> Result<Option<Reply>, LabError>
     ensures faithful { C.is_faithful carrier.new ↔ C.is_faithful carrier.old }
     ensures arrives { C.is_faithful carrier.old → IfOk result (ReplyArrives C.loses reply) }
+    ensures asked { C.is_faithful carrier.old →
+        IfOk result (λ it. HasCarriedMore C.has_carried carrier.old carrier.new
+        (one_transmission (Peer.Node from) Peer.Client (frame_bytes (reply_frame reply))
+        (reply_lost it))) }
 {
     match send(
         alloc,

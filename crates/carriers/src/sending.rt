@@ -2,6 +2,7 @@
 ghost use Rattle.std.specs.Prelude.{◌≡◌, ◌↔◌, IfOk, IsErr};
 ghost use Rattle.link_messages.specs.{IsFrame, frame_bytes};
 ghost use Rattle.carriers.specs.Carriers.{IsReadFrom, IsReceived, WasLost};
+ghost use Rattle.carriers.specs.Transmissions.{HasCarriedMore, one_transmission, received_lost};
 
 use crate::{Carried, Carrier, LabError, Peer};
 use link_messages::laws::{one_answer, one_spelling};
@@ -57,6 +58,8 @@ pub fn send_bytes<C: Carrier>(
     ensures received { (frame : Frame) → IsFrame frame → bytes.now ≡ frame_bytes frame →
         C.is_faithful carrier.old → IfOk result (IsReceived frame) }
     ensures lost { IfOk result (λ it. WasLost it → C.loses) }
+    ensures asked { IfOk result (λ it. HasCarriedMore C.has_carried carrier.old carrier.new
+        (one_transmission from to bytes.now (received_lost it))) }
 {
     one_spelling(); // law: no two frames have one spelling
     match carrier.carry(alloc, from, to, bytes)? {
@@ -76,6 +79,8 @@ pub fn send<C: Carrier>(
     ensures faithful { C.is_faithful carrier.new ↔ C.is_faithful carrier.old }
     ensures received { C.is_faithful carrier.old → IfOk result (IsReceived frame) }
     ensures lost { IfOk result (λ it. WasLost it → C.loses) }
+    ensures asked { IfOk result (λ it. HasCarriedMore C.has_carried carrier.old carrier.new
+        (one_transmission from to (frame_bytes frame) (received_lost it))) }
 {
     let bytes = write(alloc, &frame)?;
     let got = match carrier.carry(alloc, from, to, &bytes)? {

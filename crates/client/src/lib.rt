@@ -1,4 +1,5 @@
-//! Scripts are run in a world of nodes, and printed statement by statement.
+//! Scripts are run in a world of nodes, and printed statement by statement. What reads scripts is
+//! handed on.
 #![tactic(auto)]
 
 mod printed_run;
@@ -10,5 +11,6 @@ mod writing;
 
 pub use printed_run::run_script;
 pub use run_error::RunError;
+pub use scripts::{Script, ScriptError, ScriptFault, read_script};
 pub use text::fault_name;
 pub use writing::print;

@@ -14,7 +14,8 @@ use Rattle.link_messages.specs.{HasBounds}
 use Rattle.chain_core.specs.declared.Sent.{Sent}
 use Rattle.chain_core.specs.{AreFrames, frame_as}
 use Rattle.lab.specs.declared.delivery.Posted.{Posted}
-use Rattle.lab.specs.Worlds.{PostedRefines, IsPosted}
+use Rattle.lab.specs.Posting.{IsPosted}
+use Rattle.lab.specs.Worlds.{PostedRefines}
 use Rattle.lab.proofs.Places.{place_zero, place_each}
 
 -- ---- addressees
@@ -113,15 +114,15 @@ bounds to (frame.Refused request why) f is numbered = tt
 bounds to (frame.Closed request number) f is numbered = tt
 
 -- the frames that are sent are posted
-pub kept_all : (more : List Posted) (sent : List Sent) (frames : List (ModelFrame BatchContent)) →
-    AllZip IsPosted more sent → AreFrames sent frames → AllByRecursion IsNumbered frames →
-    AllZip PostedRefines more frames
-kept_all [] [] [] posted are numbered = tt
-kept_all [] [] (f ∷ frames) posted are numbered = absurd (cc)
-kept_all [] (s ∷ sent) frames posted are numbered = absurd posted
-kept_all (p ∷ more) [] frames posted are numbered = absurd posted
-kept_all (p ∷ more) (s ∷ sent) [] posted are numbered = absurd (cc)
-kept_all (p ∷ more) (s ∷ sent) (f ∷ frames) posted are numbered =
+pub kept_all : (x : ℕ) (more : List Posted) (sent : List Sent)
+    (frames : List (ModelFrame BatchContent)) → AllZip (IsPosted x) more sent →
+    AreFrames sent frames → AllByRecursion IsNumbered frames → AllZip PostedRefines more frames
+kept_all x [] [] [] posted are numbered = tt
+kept_all x [] [] (f ∷ frames) posted are numbered = absurd (cc)
+kept_all x [] (s ∷ sent) frames posted are numbered = absurd posted
+kept_all x (p ∷ more) [] frames posted are numbered = absurd posted
+kept_all x (p ∷ more) (s ∷ sent) [] posted are numbered = absurd (cc)
+kept_all x (p ∷ more) (s ∷ sent) (f ∷ frames) posted are numbered =
     let first : frame_as s.to s.frame ≡ Some f = cc in
     let others : map (λ (it : Sent). frame_as it.to it.frame) sent ≡ map Some frames = cc in (
       record {
@@ -130,5 +131,5 @@ kept_all (p ∷ more) (s ∷ sent) (f ∷ frames) posted are numbered =
         lawful = posted.0.lawful (bounds s.to s.frame f first numbered.0);
         bytes = posted.0.bytes;
       },
-      kept_all more sent frames posted.1 others numbered.1,
+      kept_all x more sent frames posted.1 others numbered.1,
     )

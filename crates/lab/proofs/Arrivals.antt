@@ -1,13 +1,17 @@
 -- Lines of a node that arrive, one after another.
-use Rattle.std.proofs.Common.{◌≡◌, ◌+◌, Bool, List, [], ◌∷◌, ◌++◌, length, Option, Some}
+use Rattle.std.proofs.Common.{◌≡◌, ℕ, ◌+◌, Bool, List, [], ◌∷◌, ◌++◌, length, Option, Some}
 use Rattle.std.proofs.Common.{None, true, false, refl, sym, ap, subst, ◌∙◌, arith}
-use Rattle.std.proofs.Common.{length-append}
-use Rattle.std.specs.Prelude.{All}
+use Rattle.std.proofs.Common.{length-append, append-nil}
+use Rattle.std.specs.Prelude.{All, not}
 use Rattle.std.proofs.lemmas.List.Elements.{All-from_recursion, All-push}
+use Rattle.link_messages.specs.{frame_bytes}
+use Rattle.carriers.specs.declared.Peer.TheVariants.{Client, Node}
+use Rattle.carriers.specs.{Transmission, one_transmission, reply_frame}
 use Rattle.lab.specs.declared.report.Line.{Line}
 use Rattle.lab.specs.declared.report.Line.TheVariants as line
 use Rattle.lab.specs.Arrivals.{LineArrives, RepliesArrive, as_lines}
 use Rattle.lab.specs.Events.{arrived, reply_count}
+use Rattle.lab.specs.Transmissions.{line_sent, replies_sent}
 
 -- of replies of which each is told whether it arrives, and of one more
 arrived_reply : (told : List Bool) (b : Bool) (lines more : List Line) →
@@ -56,53 +60,86 @@ count_both (other ∷ a) b = count_both a b
 none_told : All (λ (b : Bool). b ≡ true) []
 none_told = All-from_recursion (λ (b : Bool). b ≡ true) [] tt
 
+-- what replies ask for that are told, and then others
+sent_both : (node : ℕ) (told others : List Bool) (lines more : List Line) →
+    length told ≡ reply_count lines →
+    replies_sent node (told ++ others) (lines ++ more)
+    ≡ replies_sent node told lines ++ replies_sent node others more
+sent_both node [] others [] more same = refl
+sent_both node (t ∷ told) others [] more same = absurd (omega (arith, same))
+sent_both node [] others (line.Replied reply ∷ lines) more same = absurd (omega (arith, same))
+sent_both node (t ∷ told) others (line.Replied reply ∷ lines) more same =
+    ap (λ (l : List Transmission).
+    one_transmission (Node node) Client (frame_bytes (reply_frame reply)) (not t) ++ l)
+    (sent_both node told others lines more (omega (arith, same)))
+sent_both node told others (other ∷ lines) more same = sent_both node told others lines more same
+
 -- no lines arrive of none
-pub none_arrive : (loses : Type 0) → RepliesArrive loses [] []
-none_arrive loses = record { told = []; each = refl; kept = refl; all = λ loses_not. none_told }
-
--- one reply more, which was told or not
-reply_more : (loses : Type 0) (given got : List Line) (reply : Line) (b : Bool) →
-    (reply_count (reply ∷ []) ≡ 1) → RepliesArrive loses given got → ((loses → ⊥) → b ≡ true) →
-    RepliesArrive loses (given ++ reply ∷ []) (got ++ arrived (b ∷ []) (reply ∷ []))
-reply_more loses given got reply b is have was = record {
-  told = have.told ++ b ∷ [];
-  each = omega (
-    arith,
-    length-append have.told (b ∷ []),
-    have.each,
-    count_both given (reply ∷ []),
-    is,
-  );
-  kept = ap (λ (l : List Line). l ++ arrived (b ∷ []) (reply ∷ [])) have.kept
-      ∙ sym (arrived_reply have.told b given (reply ∷ []) have.each);
-  all = λ loses_not. All-push (λ (t : Bool). t ≡ true) have.told b (have.all loses_not)
-      (was loses_not);
+pub none_arrive : (loses : Type 0) (asks : List Transmission → Type 0) (node : ℕ) → asks [] →
+    RepliesArrive loses asks node [] []
+none_arrive loses asks node none = record {
+  told = [];
+  each = refl;
+  kept = refl;
+  all = λ loses_not. none_told;
+  asked = none;
 }
 
--- one line more that is no reply
-other_more : (loses : Type 0) (given got : List Line) (other : Line) →
-    (reply_count (other ∷ []) ≡ 0) → (arrived [] (other ∷ []) ≡ other ∷ []) →
-    RepliesArrive loses given got → RepliesArrive loses (given ++ other ∷ []) (got ++ other ∷ [])
-other_more loses given got other is stays have = record {
-  told = have.told;
-  each = omega (arith, have.each, count_both given (other ∷ []), is);
-  kept = ap (λ (l : List Line). l ++ other ∷ []) have.kept
-      ∙ ap (λ (l : List Line). arrived have.told given ++ l) (sym stays)
-      ∙ sym (arrived_other have.told given (other ∷ []) have.each);
-  all = have.all;
-}
+-- One line more of a node, of whose lines so many arrive.
+module _ (loses : Type 0) (asks more_asks : List Transmission → Type 0) (node : ℕ)
+    (given got : List Line) (have : RepliesArrive loses asks node given got) where
+  -- one reply more, which was told or not
+  reply_more : (reply : Line) (b : Bool) → (reply_count (reply ∷ []) ≡ 1) →
+      ((loses → ⊥) → b ≡ true) →
+      ((m : List Transmission) → asks m → more_asks (m ++ replies_sent node (b ∷ []) (reply ∷ [])))
+      → RepliesArrive loses more_asks node (given ++ reply ∷ []) (got ++ arrived (b ∷ [])
+      (reply ∷ []))
+  reply_more reply b is was asked = record {
+    told = have.told ++ b ∷ [];
+    each = omega (
+      arith,
+      length-append have.told (b ∷ []),
+      have.each,
+      count_both given (reply ∷ []),
+      is,
+    );
+    kept = ap (λ (l : List Line). l ++ arrived (b ∷ []) (reply ∷ [])) have.kept
+        ∙ sym (arrived_reply have.told b given (reply ∷ []) have.each);
+    all = λ loses_not. All-push (λ (t : Bool). t ≡ true) have.told b (have.all loses_not)
+        (was loses_not);
+    asked = subst more_asks (sym (sent_both node have.told (b ∷ []) given (reply ∷ []) have.each))
+        (asked (replies_sent node have.told given) have.asked);
+  }
 
--- one line more, of which this arrives
-pub line_more : (loses : Type 0) (given got : List Line) (more : Line) (it : Option Line) →
-    RepliesArrive loses given got → LineArrives loses more it →
-    RepliesArrive loses (given ++ more ∷ []) (got ++ as_lines it)
-line_more loses given got (line.Replied reply) None have is =
-    reply_more loses given got (line.Replied reply) false refl have (λ loses_not.
-    absurd (loses_not is))
-line_more loses given got (line.Replied reply) (Some it) have is =
-    subst (λ (l : Line). RepliesArrive loses (given ++ line.Replied reply ∷ []) (got ++ l ∷ []))
-    (sym is) (reply_more loses given got (line.Replied reply) true refl have (λ _. refl))
-line_more loses given got other None have is = absurd is
-line_more loses given got other (Some it) have is =
-    subst (λ (l : Line). RepliesArrive loses (given ++ other ∷ []) (got ++ l ∷ []))
-    (sym is) (other_more loses given got other refl refl have)
+  -- one line more that is no reply
+  other_more : (other : Line) → (reply_count (other ∷ []) ≡ 0) →
+      (arrived [] (other ∷ []) ≡ other ∷ []) → (replies_sent node [] (other ∷ []) ≡ []) →
+      ((m : List Transmission) → asks m → more_asks (m ++ [])) →
+      RepliesArrive loses more_asks node (given ++ other ∷ []) (got ++ other ∷ [])
+  other_more other is stays none asked = record {
+    told = have.told;
+    each = omega (arith, have.each, count_both given (other ∷ []), is);
+    kept = ap (λ (l : List Line). l ++ other ∷ []) have.kept
+        ∙ ap (λ (l : List Line). arrived have.told given ++ l) (sym stays)
+        ∙ sym (arrived_other have.told given (other ∷ []) have.each);
+    all = have.all;
+    asked = subst more_asks
+        (ap (λ (l : List Transmission). replies_sent node have.told given ++ l) (sym none)
+        ∙ sym (sent_both node have.told [] given (other ∷ []) have.each)
+        ∙ ap (λ (l : List Bool). replies_sent node l (given ++ other ∷ [])) (append-nil have.told))
+        (asked (replies_sent node have.told given) have.asked);
+  }
+
+  -- one line more, of which this arrives
+  pub line_more : (more : Line) (it : Option Line) → LineArrives loses more it →
+      ((m : List Transmission) → asks m → more_asks (m ++ line_sent node more it)) →
+      RepliesArrive loses more_asks node (given ++ more ∷ []) (got ++ as_lines it)
+  line_more (line.Replied reply) None is asked =
+      reply_more (line.Replied reply) false refl (λ loses_not. absurd (loses_not is)) asked
+  line_more (line.Replied reply) (Some it) is asked =
+      subst (λ (l : Line). RepliesArrive loses more_asks node (given ++ line.Replied reply ∷ [])
+      (got ++ l ∷ [])) (sym is) (reply_more (line.Replied reply) true refl (λ _. refl) asked)
+  line_more other None is asked = absurd is
+  line_more other (Some it) is asked =
+      subst (λ (l : Line). RepliesArrive loses more_asks node (given ++ other ∷ []) (got ++ l ∷ []))
+      (sym is) (other_more other refl refl refl asked)

@@ -18,6 +18,7 @@ mod Worlds
 mod WorldSteps
 mod Nodes
 mod Arrivals
+mod Transmissions
 mod TraceLines
 mod Submits
 mod Histories

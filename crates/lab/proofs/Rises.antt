@@ -1,14 +1,16 @@
 -- What was chosen to rise in an event, and that nothing rises in one that is no tend.
-use Rattle.std.proofs.Common.{◌≡◌, ℕ, false, sym, ◌∙◌}
+use Rattle.std.proofs.Common.{◌≡◌, ℕ, Bool, [], true, false, refl, sym, ◌∙◌}
 use Rattle.std.proofs.lemmas.Bool.{false≢true}
 use Rattle.std.specs.Prelude.{Option}
 use Rattle.kv_types.specs.{BatchContent}
 use Rattle.disk.specs.declared.Disk.{Ghosts}
-use Rattle.chain_model.specs.{Outcome}
+use Rattle.chain_model.specs.{Answered, Outcome}
 use Rattle.chain_core.specs.{Machine}
 use Rattle.engine.specs.Tended.{Tended}
+use Rattle.engine.specs.Tended.TheVariants as tended
 use Rattle.node.specs.declared.Output.{Output}
 use Rattle.node.specs.declared.Stop.{Stop as Cause}
+use Rattle.node.specs.declared.Stop.TheVariants.{Disk}
 use Rattle.lab.specs.declared.input.StepOutcome.{StepOutcome}
 use Rattle.lab.specs.declared.input.StepOutcome.TheVariants as done
 use Rattle.lab.specs.declared.event.EventKind.{EventKind}
@@ -49,3 +51,21 @@ no_stop is answer other = cc
 pub no_start : {did : StepOutcome} {epoch count committed : ℕ} →
     did ≡ done.Started epoch count committed → IsNoTend did
 no_start is answer other = cc
+
+-- the choice in an event for which no node does anything, lost or not
+abbrev pub at_rest : Bool → Choice
+at_rest lost = record {
+  went = Answered;
+  struck = false;
+  cause = Disk;
+  tended = tended.Idle;
+  rises = false;
+  gives_up = 0;
+  lost = lost;
+  told = [];
+}
+
+-- where nothing may be lost, nothing was
+pub not_lost : (lost : Bool) → (lost ≡ true → ⊥) → lost ≡ false
+not_lost true none = absurd (none refl)
+not_lost false none = refl

@@ -13,7 +13,7 @@ use Rattle.chain_model.specs.{Configurations, SystemState, first_state, node_of}
 use Rattle.carriers.specs.declared.Carrier.{Ghosts as Carriers}
 use Rattle.carriers.specs.declared.Delivery.{Delivery}
 use Rattle.carriers.specs.declared.Delivery.TheVariants as delivery
-use Rattle.carriers.specs.{DeliveryWasLost}
+use Rattle.carriers.specs.{DeliveryWasLost, HasCarriedMore, delivery_lost}
 use Rattle.lab.specs.declared.delivery.Posted.{Posted}
 use Rattle.lab.specs.declared.event.Event.{Event}
 use Rattle.lab.specs.declared.event.EventKind.{EventKind}
@@ -26,13 +26,16 @@ use Rattle.lab.specs.declared.world.World.{World}
 use Rattle.lab.specs.Events.{NamesNode}
 use Rattle.lab.specs.Arrivals.{RepliesArrive}
 use Rattle.lab.specs.SimNodes.{Choice, HasArrived, StateRefines}
+use Rattle.lab.specs.Posting.{FramesFollow}
 use Rattle.lab.specs.Traces.{modelled_from}
+use Rattle.lab.specs.Transmissions.{frame_sent, replies_sent}
 use Rattle.lab.specs.Worlds.{FollowRun, HasApplied, HasBegunEvent, HasFollowed, HasKept, HasNoNode}
 use Rattle.lab.specs.Worlds.{HasRun, HasStepped, HaveLimits, NodesRefine, RunRefines}
 use Rattle.lab.specs.Worlds.{SimNodeRefines, WorldHasEnded, WorldKeepsLimits, WorldRun}
-use Rattle.lab.specs.Worlds.{event_record, event_records, extended}
+use Rattle.lab.specs.Worlds.{asked_after, event_record, event_records, extended, outcome_after}
 use Rattle.lab.proofs.Growing.{follow_limited, length-steps, nodes-push, run-push}
 use Rattle.lab.proofs.Moves.{limited}
+use Rattle.lab.proofs.Transmissions.{carried_both}
 use Rattle.lab.proofs.Worlds.{AlwaysInOrder, FitsDelivery, Grows, IsNext, lost_after, node_after}
 use Rattle.lab.proofs.Worlds.{nothing_after, refined_after}
 
@@ -117,8 +120,10 @@ module _ {D C : Type 0} {g : Ghosts D} (h : Carriers C) (old begun mid new : Wor
       choice.lost ≡ lost → ((h.loses → ⊥) → HasArrived choice) → h.is_faithful mid.carrier →
       RunRefines mid.nodes.items mid.frames.items (extended past event choice lines) →
       FollowRun past event choice old.nodes.items mid.nodes.items →
-      HasFollowed h old new past event
-  followed_so past run choice lost_so arrives faithful ran follow =
+      FramesFollow (outcome_after past event choice).acted_on old.frames.items mid.frames.items →
+      HasCarriedMore h.has_carried old.carrier mid.carrier
+      (asked_after past old.frames.items event choice) → HasFollowed h old new past event
+  followed_so past run choice lost_so arrives faithful ran follow posts carries =
       let limits = old.limits in
       let cs = past.configs in
       let came = run.came in
@@ -157,6 +162,8 @@ module _ {D C : Type 0} {g : Ghosts D} (h : Carriers C) (old begun mid new : Wor
           };
         };
         nodes = follow;
+        posted = posts;
+        carried = carries;
       })
 
 -- a world ends with an error
@@ -185,6 +192,9 @@ module _ {D C : Type 0} {g : Ghosts D} (h : Carriers C) (in_order : AlwaysInOrde
     (old begun : World D C g) (event : Event) (begins : HasBegunEvent old begun event) (n i : ℕ)
     (long : n ≡ begun.steps.len) (few : n + 1 ≤ MAX_NUMBER) (at : i ≡ n + 1) (found : Delivery)
     (here : IsFoundFor h begun i event.kind found) (may : DeliveryWasLost found → h.loses)
+    (after : C) (asked : HasCarriedMore h.has_carried begun.carrier after
+    (frame_sent begun.frames.items i event.kind (delivery_lost found)))
+    (faithful : h.is_faithful begun.carrier → h.is_faithful after)
     (is_named : NamesNode old.configs event.kind) (past : WorldRun) (run : HasRun h old past) where
   pub next : IsNext past.events i
   next = place_of h old past run n i
@@ -209,78 +219,82 @@ module _ {D C : Type 0} {g : Ghosts D} (h : Carriers C) (in_order : AlwaysInOrde
   names : NamesNode past.configs event.kind
   names = subst (λ (cs : Configurations). NamesNode cs event.kind) run.configs is_named
 
+  -- it was asked for what the event sends
+  asked_so : (lost : Bool) → delivery_lost found ≡ lost →
+      HasCarriedMore h.has_carried old.carrier after (frame_sent posted i event.kind lost)
+  asked_so lost is = subst (λ (b : Bool). HasCarriedMore h.has_carried old.carrier after
+      (frame_sent posted i event.kind b)) is
+      (subst (λ (w : World D C g). HasCarriedMore h.has_carried w.carrier after
+      (frame_sent w.frames.items i event.kind (delivery_lost found))) begins.others asked)
+
+  -- what it is then, where no node did anything
+  abbrev pub idle : World D C g
+  idle = record begun { carrier = after }
+
   -- an event for which no node does anything is applied where its line is kept
-  pub passed_after : (lost : Bool) (line : Line) →
-      Grows in_order past sims posted run.made i next event h.loses lost sims posted (line ∷ []) →
-      (mid new : World D C g) → mid ≡ record begun { carrier = mid.carrier } →
-      (h.is_faithful begun.carrier → h.is_faithful mid.carrier) →
-      HasKept mid new lost (line ∷ []) → HasApplied h old new past event
-  passed_after lost line grows mid new moves faithful keeps =
-      let same : (w : World D C g) → w ≡ record begun { carrier = w.carrier } →
-      (w.nodes.items ≡ sims) × (w.frames.items ≡ posted) =
-      λ w is. (
-        ap (λ (v : World D C g). v.nodes.items) is
-            ∙ ap (λ (v : World D C g). v.nodes.items) begins.others,
-        ap (λ (v : World D C g). v.frames.items) is
-            ∙ ap (λ (v : World D C g). v.frames.items) begins.others,
-      ) in
+  passed_after : (lost : Bool) (line : Line) → delivery_lost found ≡ lost →
+      Grows in_order past sims posted run.made i next event h.loses lost sims posted
+      (frame_sent posted i event.kind lost) (line ∷ []) → (new : World D C g) →
+      HasKept idle new lost (line ∷ []) → HasApplied h old new past event
+  passed_after lost line is grows new keeps =
+      let nodes : idle.nodes.items ≡ sims =
+      ap (λ (v : World D C g). v.nodes.items) begins.others in
+      let frames : idle.frames.items ≡ posted =
+      ap (λ (v : World D C g). v.frames.items) begins.others in
       record {
-        follows = λ _. followed_so h old begun mid new event begins lost (line ∷ [])
-            (moved_so mid moves) keeps
-            (λ has. subst (λ (l : List (SimNode D g)). HaveLimits l old.limits)
-            (sym (same mid moves).0) has)
+        follows = λ _. followed_so h old begun idle new event begins lost (line ∷ []) refl keeps
+            (λ has. subst (λ (l : List (SimNode D g)). HaveLimits l old.limits) (sym nodes) has)
             past run grows.choice grows.lost_so grows.arrives (faithful carried)
-            (subst (λ (l : List (SimNode D g)). RunRefines l mid.frames.items
-            (extended past event grows.choice (line ∷ []))) (sym (same mid moves).0)
+            (subst (λ (l : List (SimNode D g)). RunRefines l idle.frames.items
+            (extended past event grows.choice (line ∷ []))) (sym nodes)
             (subst (λ (l : List Posted). RunRefines sims l
-            (extended past event grows.choice (line ∷ []))) (sym (same mid moves).1) grows.ran))
+            (extended past event grows.choice (line ∷ []))) (sym frames) grows.ran))
             (subst (λ (l : List (SimNode D g)). FollowRun past event grows.choice sims l)
-            (sym (same mid moves).0) grows.nodes);
+            (sym nodes) grows.nodes)
+            (subst (λ (l : List Posted). FramesFollow (outcome_after past event
+            grows.choice).acted_on posted l) (sym frames) grows.frames)
+            (subst (HasCarriedMore h.has_carried old.carrier after) (sym grows.sent)
+            (asked_so lost is));
         nothing = λ other. absurd (other names);
       }
-    where
-      moved_so : (w : World D C g) → w ≡ record begun { carrier = w.carrier } →
-          w ≡ record begun { nodes = w.nodes; frames = w.frames; carrier = w.carrier }
-      moved_so w is = subst (λ (v : World D C g).
-          v ≡ record begun { nodes = v.nodes; frames = v.frames; carrier = v.carrier }) (sym is)
-          refl
 
   -- so is one that has nothing to deliver
-  pub nothing_applied : found ≡ delivery.Nothing → (mid new : World D C g) →
-      mid ≡ record begun { carrier = mid.carrier } →
-      (h.is_faithful begun.carrier → h.is_faithful mid.carrier) →
-      HasKept mid new false (line.Nothing ∷ []) → HasApplied h old new past event
-  nothing_applied is = passed_after false line.Nothing
+  pub nothing_applied : found ≡ delivery.Nothing → (new : World D C g) →
+      HasKept idle new false (line.Nothing ∷ []) → HasApplied h old new past event
+  nothing_applied is = passed_after false line.Nothing (ap delivery_lost is)
       (nothing_after in_order past sims posted run.made i next event h.loses found fits is)
 
   -- and one that was lost
-  pub lost_applied : found ≡ delivery.Lost → (mid new : World D C g) →
-      mid ≡ record begun { carrier = mid.carrier } →
-      (h.is_faithful begun.carrier → h.is_faithful mid.carrier) →
-      HasKept mid new true (line.Lost ∷ []) → HasApplied h old new past event
-  lost_applied is = passed_after true line.Lost
+  pub lost_applied : found ≡ delivery.Lost → (new : World D C g) →
+      HasKept idle new true (line.Lost ∷ []) → HasApplied h old new past event
+  lost_applied is = passed_after true line.Lost (ap delivery_lost is)
       (lost_after in_order past sims posted run.made i next event h.loses found fits is may)
 
   module _ (x : ℕ) (node_input : NodeInput) (is : found ≡ delivery.To x node_input) where
     -- one that is for a node is applied by the node's step, of whose lines so much arrives
     pub delivered_after : (mid new : World D C g) (given lines : List Line) →
         mid ≡ record begun { nodes = mid.nodes; frames = mid.frames; carrier = mid.carrier } →
-        (h.is_faithful begun.carrier → h.is_faithful mid.carrier) →
+        (h.is_faithful after → h.is_faithful mid.carrier) →
         HasStepped begun.nodes.items begun.frames.items x node_input event begun.limits given
-        mid.nodes.items mid.frames.items → (h.is_faithful begun.carrier →
-        RepliesArrive h.loses given lines) →
+        mid.nodes.items mid.frames.items → (h.is_faithful after →
+        RepliesArrive h.loses (HasCarriedMore h.has_carried after mid.carrier) x given lines) →
         HasKept mid new false lines → HasApplied h old new past event
-    delivered_after mid new given lines moves faithful takes arrive keeps =
+    delivered_after mid new given lines moves stays takes arrive keeps =
         let stepped = subst (λ (w : World D C g). HasStepped w.nodes.items w.frames.items x
         node_input event w.limits given mid.nodes.items mid.frames.items) begins.others takes in
-        let heard = arrive carried in
+        let heard = arrive (faithful carried) in
         let grows = refined_after in_order past sims posted run.made i next event h.loses found fits
-        x node_input is old.limits given lines mid.nodes.items mid.frames.items stepped heard in
+        x node_input is (HasCarriedMore h.has_carried after mid.carrier) old.limits given lines
+        mid.nodes.items mid.frames.items stepped heard in
         record {
           follows = λ _. followed_so h old begun mid new event begins false lines moves keeps
               (limited sims x node_input event.fault old.limits stepped.did mid.nodes.items
-              stepped.took) past run grows.choice grows.lost_so grows.arrives (faithful carried)
-              grows.ran grows.nodes;
+              stepped.took) past run grows.choice grows.lost_so grows.arrives
+              (stays (faithful carried)) grows.ran grows.nodes grows.frames
+              (subst (HasCarriedMore h.has_carried old.carrier mid.carrier) (sym grows.sent)
+              (carried_both h.has_carried old.carrier after mid.carrier
+              (frame_sent posted i event.kind false) (replies_sent x heard.told given)
+              (asked_so false (ap delivery_lost is)) heard.asked));
           nothing = λ other. absurd (other names);
         }
 

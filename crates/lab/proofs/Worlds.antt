@@ -1,5 +1,5 @@
 -- A step of a world's node is a step of the model's.
-use Rattle.std.proofs.Common.{◌≡◌, ℕ, ◌+◌, ◌≤◌, List, [], ◌∷◌, ◌++◌, length, get_or, slice_set}
+use Rattle.std.proofs.Common.{◌≡◌, ℕ, suc, ◌+◌, ◌≤◌, List, [], ◌∷◌, ◌++◌, length, get_or, slice_set}
 use Rattle.std.proofs.Common.{Bool, true, false}
 use Rattle.std.proofs.Common.{refl, sym, ap, ap₂, subst, ◌∙◌, arith, append-nil}
 use Rattle.std.proofs.Math.Seq.{map-set_same}
@@ -15,15 +15,13 @@ use Rattle.kv_types.specs.{BatchContent}
 use Rattle.disk.specs.declared.Junk.{Junk}
 use Rattle.chain_model.specs.{Configurations, Lawful, AllDifferent, has, at_epoch}
 use Rattle.chain_model.specs.{Message as ModelFrame, InOrder, SystemEvent as ModelEvent}
-use Rattle.chain_model.specs.{SystemState, Outcome, Answered, reached, first_state, outcome}
+use Rattle.chain_model.specs.{SystemState, Outcome, reached, first_state, outcome}
 use Rattle.chain_model.specs.{state_after, after, nothing}
-use Rattle.node.specs.declared.Stop.TheVariants.{Disk}
 use Rattle.chain_core.specs.{Machine}
 use Rattle.carriers.specs.declared.NodeInput.{NodeInput}
 use Rattle.lab.specs.declared.event.Event.{Event}
 use Rattle.lab.specs.declared.event.EventKind.{EventKind}
 use Rattle.lab.specs.declared.event.EventKind.TheVariants.{Deliver, Notice}
-use Rattle.engine.specs.Tended.TheVariants as tended
 use Rattle.lab.specs.declared.delivery.Posted.{Posted}
 use Rattle.lab.specs.declared.report.Line.{Line}
 use Rattle.lab.specs.declared.report.Line.TheVariants as line
@@ -33,18 +31,20 @@ use Rattle.lab.specs.Events.{reported_lines}
 use Rattle.lab.specs.SimNodes.{StateRefines, Choice, HasArrived, IsUnarmed, disk_in}
 use Rattle.carriers.specs.declared.Delivery.{Delivery}
 use Rattle.carriers.specs.declared.Delivery.TheVariants as delivery
-use Rattle.carriers.specs.{DeliveryWasLost}
+use Rattle.carriers.specs.{DeliveryWasLost, Transmission}
 use Rattle.lab.specs.Arrivals.{RepliesArrive}
 use Rattle.lab.specs.Deliveries.{IsDeliverable, IsDeliveryOf}
 use Rattle.lab.specs.Outcomes.{DiskFits, IsExplained, MarksFit, OutcomeRefines, StateFollows}
 use Rattle.lab.specs.Outcomes.{has_struck_in, sent_by}
 use Rattle.lab.specs.Disks.{DiskFollows, HasGrown, StaysReliable, junk_of}
+use Rattle.lab.specs.Posting.{FramesFollow}
 use Rattle.lab.specs.Traces.{modelled_from}
+use Rattle.lab.specs.Transmissions.{frame_sent, replies_sent, transmissions_of}
 use Rattle.lab.specs.Worlds.{FollowRun, HasNoNode, HasStepped, NodesFollow, PostedRefines}
-use Rattle.lab.specs.Worlds.{RunRefines, SimNodeRefines, WorldRun, extended, frames_in}
-use Rattle.lab.specs.Worlds.{frames_of_step}
+use Rattle.lab.specs.Worlds.{RunRefines, SimNodeRefines, WorldRun, asked_after, extended}
+use Rattle.lab.specs.Worlds.{frames_in, frames_of_step, outcome_after}
 use Rattle.lab.proofs.AnswerLines.{counts_arrived}
-use Rattle.lab.proofs.Posting.{zip_both}
+use Rattle.lab.proofs.Posting.{frames_of, zip_both}
 use Rattle.lab.proofs.Deliveries.{refined, nothing_done, junk_same}
 use Rattle.lab.proofs.Disks.{MayRise, with_disk, all_follow, none_follow, follows, few_more}
 use Rattle.lab.proofs.Disks.{at_most_one, none_armed, stops_so}
@@ -53,7 +53,8 @@ use Rattle.lab.proofs.SimNodes.{ids_of, has_one, refined_at}
 use Rattle.lab.proofs.Growing.{grown, run-push}
 use Rattle.lab.proofs.Addressees.{IsNumbered, addressed, all_numbered, back, kept_all}
 use Rattle.lab.proofs.Moves.{crash_of, honest_of, struck_by, tended_so}
-use Rattle.lab.proofs.Rises.{no_rise}
+use Rattle.lab.proofs.Rises.{at_rest, no_rise, not_lost}
+use Rattle.lab.proofs.Transmissions.{sent_alone, sent_by_both}
 
 -- the delivery that was found is that of the event, by the configurations and the frames that are
 -- posted
@@ -70,24 +71,6 @@ pub record IsNext (events : List Event) (i : ℕ) : Type 0 where
 abbrev pub AlwaysInOrder : Type 0
 AlwaysInOrder = (cs : Configurations) (es : List (ModelEvent BatchContent)) → Lawful cs →
     InOrder cs es
-
--- the choice in an event for which no node does anything, lost or not
-abbrev at_rest : Bool → Choice
-at_rest lost = record {
-  went = Answered;
-  struck = false;
-  cause = Disk;
-  tended = tended.Idle;
-  rises = false;
-  gives_up = 0;
-  lost = lost;
-  told = [];
-}
-
--- where nothing may be lost, nothing was
-not_lost : (lost : Bool) → (lost ≡ true → ⊥) → lost ≡ false
-not_lost true none = absurd (none refl)
-not_lost false none = refl
 
 module _ {D : Type 0} {g : Ghosts D} (in_order : AlwaysInOrder) (past : WorldRun)
     (sims : List (SimNode D g)) (posted : List Posted)
@@ -134,15 +117,24 @@ module _ {D : Type 0} {g : Ghosts D} (in_order : AlwaysInOrder) (past : WorldRun
       has_it kind names brings =
           subst (λ (y : ℕ). has (at_epoch cs 0) y ≡ true) (sym brings.0) names
 
-  -- nodes, frames and lines refine one event more, in which something was chosen, and the nodes
-  -- follow
+  -- nodes, frames and lines refine one event more, in which something was chosen, the nodes and
+  -- the frames follow, and this is asked of the carrier
   pub record Grows (loses : Type 0) (lost : Bool) (now : List (SimNode D g)) (more : List Posted)
-      (lines : List Line) : Type 0 where
+      (asked : List Transmission) (lines : List Line) : Type 0 where
     pub choice : Choice
     pub lost_so : choice.lost ≡ lost
     pub arrives : (loses → ⊥) → HasArrived choice
     pub ran : RunRefines now more (extended past event choice lines)
     pub nodes : FollowRun past event choice sims now
+    pub frames : FramesFollow (outcome_after past event choice).acted_on posted more
+    pub sent : asked_after past posted event choice ≡ asked
+
+  -- what holds by the outcome in the event's place holds behind the run
+  behind : (P : ℕ → Outcome BatchContent → Type 0) (choice : Choice) →
+      P i (outcome w cs (modelled i event.kind choice)) →
+      P (suc (length events)) (outcome_after past event choice)
+  behind P choice is = subst (λ (k : ℕ). P k (outcome w cs (modelled k event.kind choice)))
+      (omega (arith, next.at)) is
 
   -- what follows by the outcome in the next place
   followed : (choice : Choice) (now : List (SimNode D g)) →
@@ -150,16 +142,18 @@ module _ {D : Type 0} {g : Ghosts D} (in_order : AlwaysInOrder) (past : WorldRun
       NodesFollow o.acted_on event choice o sims now) →
       FollowRun past event choice sims now
   followed choice now is =
-      subst (λ (k : ℕ). let o = outcome w cs (modelled k event.kind choice) in
-      NodesFollow o.acted_on event choice o sims now) (omega (arith, next.at)) is
+      behind (λ (k : ℕ) (o : Outcome BatchContent). NodesFollow o.acted_on event choice o sims now)
+      choice is
 
   -- a step of the node refines one event more, of whose lines so much arrives
-  refined_next : (loses : Type 0) (x : ℕ) (node_input : NodeInput) (limits : Limits)
-      (given lines : List Line) (now : List (SimNode D g)) (more : List Posted) →
+  refined_next : (loses : Type 0) (asks : List Transmission → Type 0) (x : ℕ)
+      (node_input : NodeInput) (limits : Limits) (given lines : List Line)
+      (now : List (SimNode D g)) (more : List Posted) →
       IsDeliveryOf cs w.frames i event.kind x node_input →
       HasStepped sims posted x node_input event limits given now more →
-      RepliesArrive loses given lines → Grows loses false now more lines
-  refined_next loses x node_input limits given lines now more brings t heard =
+      (heard : RepliesArrive loses asks x given lines) → Grows loses false now more
+      (frame_sent posted i event.kind false ++ replies_sent x heard.told given) lines
+  refined_next loses asks x node_input limits given lines now more brings t heard =
       let sim = t.took.sim in
       let all = recursion_from_All (SimNodeRefines w.nodes made.disks) sims made.each in
       let old = get_or sims t.took.index sim in
@@ -219,9 +213,9 @@ module _ {D : Type 0} {g : Ghosts D} (in_order : AlwaysInOrder) (past : WorldRun
       out.ends left marked why grows in
       let id : sim.id ≡ x = t.took.id in
       let long = AllZip-long PostedRefines posted w.frames made.frames in
+      let gives_posted = t.traced ∙ out.traced (length posted) in
       let gives : given ≡ lines_of_event (length w.frames) event out.choice o =
-      t.traced ∙ out.traced (length posted)
-      ∙ ap (λ n. lines_of_event n event out.choice o) (sym long) in
+      gives_posted ∙ ap (λ n. lines_of_event n event out.choice o) (sym long) in
       let came = grown past sims posted made i event out.choice now more lines
       next.at (record {
         traced = heard.kept
@@ -240,7 +234,7 @@ module _ {D : Type 0} {g : Ghosts D} (in_order : AlwaysInOrder) (past : WorldRun
         frames = subst (λ (l : List Posted). AllZip PostedRefines l (w.frames ++ o.frames))
             (sym t.sent.whole)
             (zip_both PostedRefines posted t.sent.more w.frames o.frames made.frames
-            (kept_all t.sent.more (sent_by t.did) o.frames t.sent.each out.frames
+            (kept_all x t.sent.more (sent_by t.did) o.frames t.sent.each out.frames
             (sent_numbered out.choice)));
         nodes = ap ids_of t.took.others
             ∙ map-set_same (λ (s : SimNode D g). s.id) sims t.took.index sim sim
@@ -299,6 +293,14 @@ module _ {D : Type 0} {g : Ghosts D} (in_order : AlwaysInOrder) (past : WorldRun
                   (w.nodes x) k old.state sim.state t.did) turn.1
                   (t.took.dispatched.refines x (w.nodes x) before)) out.told out.risen;
             }));
+        frames = behind (λ (k : ℕ) (v : Outcome BatchContent). FramesFollow v.acted_on posted more)
+            out.choice (subst (λ (a : Option (ℕ × Machine)). FramesFollow a posted more)
+            (sym out.came) (frames_of x out.node posted more (sent_by t.did) t.sent));
+        sent = behind (λ (k : ℕ) (v : Outcome BatchContent).
+            transmissions_of posted k event out.choice v
+            ≡ frame_sent posted i event.kind false ++ replies_sent x heard.told given) out.choice
+            (sent_by_both posted i event out.choice o x out.node false heard.told given out.arrives
+            out.came out.heard_so gives_posted);
       }
 
   -- an event that the model has as nothing, with this line
@@ -308,11 +310,12 @@ module _ {D : Type 0} {g : Ghosts D} (in_order : AlwaysInOrder) (past : WorldRun
       (line ∷ [] ≡ reported_lines (length w.frames) event (at_rest lost) nothing) →
       frames_in line ≡ 0 → (lost ≡ true → loses) →
       (lost ≡ true → MayBeLost w.frames event.kind) →
-      Grows loses lost sims posted (line ∷ [])
+      Grows loses lost sims posted (frame_sent posted i event.kind lost) (line ∷ [])
   nothing_next loses lost line none traced silent may fits =
       let choice = at_rest lost in
       let same : after w nothing ≡ state_after cs w (modelled i event.kind choice) =
       ap (after w) (sym none) in
+      let idle = ap (λ (o : Outcome BatchContent). o.acted_on) none in
       let came = grown past sims posted made i event choice sims posted
       (line ∷ []) next.at (record {
         traced = traced ∙ ap (reported_lines (length w.frames) event choice) (sym none);
@@ -334,7 +337,7 @@ module _ {D : Type 0} {g : Ghosts D} (in_order : AlwaysInOrder) (past : WorldRun
         nodes = made.nodes;
         disks = made.disks;
         follow = none_follow event choice (outcome w cs (modelled i event.kind choice)) made.disks
-            (ap (λ (o : Outcome BatchContent). o.acted_on) none);
+            idle;
         few = λ x. omega (arith, made.few x, next.at);
         unarmed = made.unarmed;
         each = subst (λ (v : SystemState BatchContent). All (SimNodeRefines v.nodes made.disks)
@@ -351,7 +354,13 @@ module _ {D : Type 0} {g : Ghosts D} (in_order : AlwaysInOrder) (past : WorldRun
         ran = came;
         nodes = followed choice sims (subst (λ (a : Option (ℕ × Machine)).
             NodesFollow a event choice (outcome w cs (modelled i event.kind choice)) sims sims)
-            (sym (ap (λ (o : Outcome BatchContent). o.acted_on) none)) refl);
+            (sym idle) refl);
+        frames = behind (λ (k : ℕ) (o : Outcome BatchContent).
+            FramesFollow o.acted_on posted posted) choice
+            (subst (λ (a : Option (ℕ × Machine)). FramesFollow a posted posted) (sym idle) refl);
+        sent = behind (λ (k : ℕ) (o : Outcome BatchContent).
+            transmissions_of posted k event choice o ≡ frame_sent posted i event.kind lost) choice
+            (sent_alone posted i event choice (outcome w cs (modelled i event.kind choice)) idle);
       }
 
   -- the same, by what became of an event on its way
@@ -359,7 +368,8 @@ module _ {D : Type 0} {g : Ghosts D} (in_order : AlwaysInOrder) (past : WorldRun
     where
       -- no frame has the place, or no configuration the epoch
       pub nothing_after : found ≡ delivery.Nothing →
-          Grows loses false sims posted (line.Nothing ∷ [])
+          Grows loses false sims posted (frame_sent posted i event.kind false)
+          (line.Nothing ∷ [])
       nothing_after is =
           nothing_next loses false line.Nothing
           (nothing_done cs w i event.kind (at_rest false)
@@ -368,7 +378,7 @@ module _ {D : Type 0} {g : Ghosts D} (in_order : AlwaysInOrder) (past : WorldRun
 
       -- it was lost
       pub lost_after : found ≡ delivery.Lost → (DeliveryWasLost found → loses) →
-          Grows loses true sims posted (line.Lost ∷ [])
+          Grows loses true sims posted (frame_sent posted i event.kind true) (line.Lost ∷ [])
       lost_after is may =
           nothing_next loses true line.Lost refl refl refl
           (λ _. may (subst DeliveryWasLost (sym is) tt))
@@ -381,9 +391,10 @@ module _ {D : Type 0} {g : Ghosts D} (in_order : AlwaysInOrder) (past : WorldRun
         pub node_after : NamesNode cs event.kind → HasNoNode sims x → ⊥
         node_after names none = has_its_node x node_input names brings none
 
-        pub refined_after : (limits : Limits) (given lines : List Line)
-            (now : List (SimNode D g)) (more : List Posted) →
+        pub refined_after : (asks : List Transmission → Type 0) (limits : Limits)
+            (given lines : List Line) (now : List (SimNode D g)) (more : List Posted) →
             HasStepped sims posted x node_input event limits given now more →
-            RepliesArrive loses given lines → Grows loses false now more lines
-        refined_after limits given lines now more t heard =
-            refined_next loses x node_input limits given lines now more brings t heard
+            (heard : RepliesArrive loses asks x given lines) → Grows loses false now more
+            (frame_sent posted i event.kind false ++ replies_sent x heard.told given) lines
+        refined_after asks limits given lines now more t heard =
+            refined_next loses asks x node_input limits given lines now more brings t heard

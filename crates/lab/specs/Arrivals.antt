@@ -1,8 +1,10 @@
 -- What arrives of the lines of a node: its replies may be lost on their way to the client.
-use Rattle.std.specs.Prelude.{◌≡◌, List, [], ◌∷◌, All, Bool, Option, Some, None, length, true}
+use Rattle.std.specs.Prelude.{◌≡◌, ℕ, List, [], ◌∷◌, All, Bool, Option, Some, None, length, true}
+use Rattle.carriers.specs.{Transmission}
 use Rattle.lab.specs.declared.report.Line.{Line}
 use Rattle.lab.specs.declared.report.Line.TheVariants as line
 use Rattle.lab.specs.Events.{arrived, reply_count}
+use Rattle.lab.specs.Transmissions.{replies_sent}
 
 -- the line, if it arrived
 abbrev pub as_lines : Option Line → List Line
@@ -16,9 +18,11 @@ LineArrives loses (line.Replied reply) None = loses
 LineArrives loses given None = ⊥
 
 -- these lines arrive of those that a node gave: of each reply it is told whether it did, and where
--- nothing may be lost each did
-pub record RepliesArrive (loses : Type 0) (given got : List Line) : Type 0 where
+-- nothing may be lost each did; the carrier was asked for each, and lost those that did not
+pub record RepliesArrive (loses : Type 0) (asks : List Transmission → Type 0) (node : ℕ)
+    (given got : List Line) : Type 0 where
   pub told : List Bool
   pub each : length told ≡ reply_count given
   pub kept : got ≡ arrived told given
   pub all : (loses → ⊥) → All (λ b. b ≡ true) told
+  pub asked : asks (replies_sent node told given)

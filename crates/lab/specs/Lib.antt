@@ -1,6 +1,8 @@
 pub mod Events
 pub mod SimNodes
 pub mod Traces
+pub mod Posting
+pub mod Transmissions
 pub mod Disks
 pub mod Arrivals
 pub mod Deliveries
@@ -27,6 +29,7 @@ pub use Rattle.lab.specs.Events.{NamesNode, node_in}
 pub use Rattle.lab.specs.History.{ClientHistory, DisksHold, OneHistory}
 pub use Rattle.lab.specs.Runs.{AreNumbersOf, IsRun, IsRunOver}
 pub use Rattle.lab.specs.SimNodes.{Arrives, Choice}
+pub use Rattle.lab.specs.Transmissions.{transmissions_of}
 pub use Rattle.lab.specs.Worlds.{AreNodesAfter, AreReportsAfter, HasRun, WorldHasLimits, WorldRun}
 pub use Rattle.lab.specs.Worlds.{IsReportOf, MemWorld, ShowsTables, direct_carrier}
 pub use Rattle.lab.specs.Worlds.{frames_of_step, frames_in_steps}

@@ -15,11 +15,11 @@ use Rattle.node.specs.declared.Node.{Node}
 use Rattle.engine.specs.{IsTendAnswer, facts_of, table_count}
 use Rattle.node.specs.{disk_of, engine_of, has_risen}
 use Rattle.link_messages.specs.declared.Frame.{Frame}
-use Rattle.link_messages.specs.{IsFrame, HasBounds, frame_bytes}
+use Rattle.link_messages.specs.{IsFrame, frame_bytes}
 use Rattle.chain_core.specs.{frame_as, Machine}
 use Rattle.carriers.specs.declared.Carrier.{Ghosts as Carriers}
 use Rattle.carriers.specs.declared.Direct.{Direct}
-use Rattle.chain_core.specs.declared.Sent.{Sent}
+use Rattle.carriers.specs.{HasCarriedMore, Transmission}
 use Rattle.carriers.specs.declared.NodeInput.{NodeInput}
 use Rattle.lab.specs.declared.input.StepOutcome.{StepOutcome}
 use Rattle.lab.specs.declared.event.Event.{Event}
@@ -44,6 +44,8 @@ use Rattle.lab.specs.Freshness.{NodesKeepEnough, ReadsAreFresh}
 use Rattle.lab.specs.History.{IsHistory}
 use Rattle.lab.specs.Runs.{RunningRefines}
 use Rattle.lab.specs.Traces.{modelled_from, IsTrace}
+use Rattle.lab.specs.Posting.{FramesFollow, HasPosted}
+use Rattle.lab.specs.Transmissions.{transmissions_of}
 
 -- how many frames a line shows
 abbrev pub frames_in : Line → ℕ
@@ -75,18 +77,6 @@ pub record PostedRefines (posted : Posted) (frame : model_frame.Message BatchCon
   pub lawful : IsFrame it
   pub bytes : posted.bytes.items ≡ frame_bytes it
 
--- a frame that was sent is posted: it is in range where its fields have their bounds
-pub record IsPosted (posted : Posted) (sent : Sent) : Type 0 where
-  pub to : posted.to ≡ sent.to
-  pub bytes : posted.bytes.items ≡ frame_bytes sent.frame
-  pub lawful : HasBounds sent.frame → IsFrame sent.frame
-
--- these frames are posted behind those that were
-pub record HasPosted (old : List Posted) (sent : List Sent) (new : List Posted) : Type 0 where
-  pub more : List Posted
-  pub whole : new ≡ old ++ more
-  pub each : AllZip IsPosted more sent
-
 -- an event as a world keeps it, lost or not
 abbrev pub event_record : Event → Bool → EventRecord
 event_record event lost = record { event = event; lost = lost }
@@ -116,6 +106,17 @@ extended run event choice lines = record {
   choices = run.choices ++ choice ∷ [];
   steps = run.steps ++ lines ∷ [];
 }
+
+-- the outcome of an event in the model, behind a run
+abbrev pub outcome_after : WorldRun → Event → Choice → model_frame.Outcome BatchContent
+outcome_after run event choice = model_frame.outcome
+    (model_frame.reached run.configs (modelled_from 1 run.events run.choices)) run.configs
+    (modelled (suc (length run.events)) event.kind choice)
+
+-- all that an event asked of the carrier, behind a run and these posted frames
+abbrev pub asked_after : WorldRun → List Posted → Event → Choice → List Transmission
+asked_after run posted event choice =
+    transmissions_of posted (suc (length run.events)) event choice (outcome_after run event choice)
 
 module _ {D : Type 0} {g : Ghosts D} where
   -- node x is the node at this index
@@ -182,7 +183,7 @@ module _ {D : Type 0} {g : Ghosts D} where
       : Type 0 where
     pub did : StepOutcome
     pub took : HasMoved sims x node_input event.fault given did now
-    pub sent : HasPosted posted (sent_by did) more
+    pub sent : HasPosted posted x (sent_by did) more
     pub traced : lines ≡ outcome_lines x (epoch_in event.kind) (length posted) did
 
   -- a node that tended, and runs on, did and raised what was chosen
@@ -220,9 +221,7 @@ module _ {D : Type 0} {g : Ghosts D} where
   abbrev pub FollowRun : WorldRun → Event → Choice → List (SimNode D g) → List (SimNode D g) →
       Type 0
   FollowRun run event choice old new =
-      let o = model_frame.outcome
-      (model_frame.reached run.configs (modelled_from 1 run.events run.choices)) run.configs
-      (modelled (suc (length run.events)) event.kind choice) in
+      let o = outcome_after run event choice in
       NodesFollow o.acted_on event choice o old new
 
   -- Nodes, posted frames and lines refine the model's run: how each step went was chosen so, and
@@ -307,18 +306,25 @@ module _ {D C : Type 0} {g : Ghosts D} where
   WorldKeepsLimits old new =
       (limits : Limits) → WorldHasLimits old limits → WorldHasLimits new limits
 
-  -- The world has run one event more, with its lines, and its very nodes follow, as was chosen.
+  -- The world has run one event more, with its lines, and its very nodes follow, as was chosen. The
+  -- frames that were posted for it are of the node that it acted on; and the carrier was asked for
+  -- exactly what the event sends, and lost exactly what was chosen.
   pub record HasFollowed (h : Carriers C) (old new : World D C g) (past : WorldRun)
       (event : Event) : Type 0 where
     pub choice : Choice
     pub lines : List Line
     pub run : HasRun h new (extended past event choice lines)
     pub nodes : FollowRun past event choice old.nodes.items new.nodes.items
+    pub posted : FramesFollow (outcome_after past event choice).acted_on old.frames.items
+        new.frames.items
+    pub carried : HasCarriedMore h.has_carried old.carrier new.carrier
+        (asked_after past old.frames.items event choice)
 
-  -- the run is as it was, and so is each node
+  -- the run is as it was, and so are each node and the carrier
   pub record HasStayed (h : Carriers C) (old new : World D C g) (past : WorldRun) : Type 0 where
     pub run : HasRun h new past
     pub nodes : new.nodes.items ≡ old.nodes.items
+    pub carrier : new.carrier ≡ old.carrier
 
   -- An event was applied if it names a node of the world, or none. Where it names another node, all
   -- stays.
@@ -357,7 +363,11 @@ MemNode = SimNode Slots in_memory
 
 -- what the carrier in memory is: it loses nothing
 abbrev pub direct_carrier : Carriers Direct
-direct_carrier = record { is_faithful = λ carrier. Unit {0}; loses = ⊥ }
+direct_carrier = record {
+  is_faithful = λ carrier. Unit {0};
+  loses = ⊥;
+  has_carried = λ carrier asked. Unit {0};
+}
 
 -- a world of them, of which nothing is lost
 abbrev pub MemWorld : Type 0

@@ -3,9 +3,9 @@ ghost use Rattle.std.specs.Prelude.{◌≡◌, ◌↔◌, ℕ, List, IfOk, Match
 ghost use Rattle.std.specs.List.{AllZip};
 ghost use Rattle.kv_types.specs.{BatchContent};
 ghost use Rattle.chain_model.specs.{Configurations, Message as ModelFrame};
-ghost use Rattle.carriers.specs.{DeliveryWasLost};
-ghost use Rattle.lab.specs.declared.event.EventKind.TheVariants.{Deliver, Notice};
+ghost use Rattle.carriers.specs.{DeliveryWasLost, HasCarriedMore, delivery_lost};
 ghost use Rattle.lab.specs.Deliveries.{HasNoFrame, IsDeliverable, IsPostedAt};
+ghost use Rattle.lab.specs.Transmissions.{frame_sent};
 ghost use Rattle.lab.specs.Worlds.{PostedRefines};
 
 use crate::{Carrier, EventKind, LabError};
@@ -45,8 +45,10 @@ fn delivered<C: Carrier>(
     ensures faithful { C.is_faithful carrier.new ↔ C.is_faithful carrier.old }
     ensures found { (cs : Configurations) (i : ℕ) (frames : List (ModelFrame BatchContent)) →
         AllZip PostedRefines posted.now frames → C.is_faithful carrier.old →
-        IfOk result (IsDeliverable cs frames i (Deliver place)) }
+        IfOk result (IsDeliverable cs frames i (EventKind.Deliver place)) }
     ensures lost { IfOk result (λ it. DeliveryWasLost it → C.loses) }
+    ensures asked { (i : ℕ) → IfOk result (λ it. HasCarriedMore C.has_carried carrier.old
+        carrier.new (frame_sent posted.now i (EventKind.Deliver place) (delivery_lost it))) }
 {
     let Some(posted) = posted_at(posted, place) else {
         return Ok(Delivery::Nothing);
@@ -57,7 +59,7 @@ fn delivered<C: Carrier>(
 // The node that is told of an epoch, and its configuration as an input, where the list has it.
 fn noticed(configs: &Configs, node: NodeId, epoch: Epoch) -> Result<Delivery, LabError>
     ensures found { (i : ℕ) (frames : List (ModelFrame BatchContent)) →
-        IfOk result (IsDeliverable configs.now frames i (Notice node epoch)) }
+        IfOk result (IsDeliverable configs.now frames i (EventKind.Notice node epoch)) }
     ensures kept { IfOk result (λ it. DeliveryWasLost it → ⊥) }
 {
     let Some(config) = configs.at(epoch) else {
@@ -83,6 +85,8 @@ pub fn delivery_of<C: Carrier>(
         AllZip PostedRefines posted.now frames → C.is_faithful carrier.old →
         IfOk result (IsDeliverable configs.now frames request kind.now) }
     ensures lost { IfOk result (λ it. DeliveryWasLost it → C.loses) }
+    ensures asked { IfOk result (λ it. HasCarriedMore C.has_carried carrier.old carrier.new
+        (frame_sent posted.now request kind.now (delivery_lost it))) }
 {
     match kind {
         EventKind::Submit { node, batch } => {

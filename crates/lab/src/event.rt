@@ -136,11 +136,10 @@ impl EventKind {
                 node: *node,
                 batch: batch.clone()?,
             },
-            EventKind::Get { node, key, at } => EventKind::Get {
-                node: *node,
-                key: key.clone()?,
-                at: *at,
-            },
+            EventKind::Get { node, key, at } => {
+                let (node, key, at) = (*node, key.clone()?, *at);
+                EventKind::Get { node, key, at }
+            }
             EventKind::Rows { node, range, at } => {
                 let (node, range, at) = (*node, range.clone()?, *at);
                 EventKind::Rows { node, range, at }

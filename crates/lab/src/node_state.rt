@@ -1,6 +1,5 @@
 // The state of a simulated node, up or down, and how it takes an input.
 ghost use Rattle.std.specs.Prelude.{◌≡◌, ◌↔◌, ◌⊎◌, ◌∷◌, ℕ, Bool, IfOk, IsTrue, None, length};
-ghost use Rattle.kv_types.specs.declared.Limits.{Limits};
 ghost use Rattle.kv_types.specs.{BatchContent};
 ghost use Rattle.chain_model.specs.{Answer, stopped};
 ghost use Rattle.disk.specs.declared.Mark.TheVariants.{Crashed};

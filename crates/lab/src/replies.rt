@@ -1,6 +1,8 @@
 // The replies of a step, as they are carried to the client.
 ghost use Rattle.std.specs.Prelude.{◌≡◌, ◌↔◌, ◌++◌, IfOk, OnOk};
+ghost use Rattle.carriers.specs.{HasCarriedMore};
 ghost use Rattle.lab.specs.Arrivals.{LineArrives, RepliesArrive, as_lines};
+ghost use Rattle.lab.specs.Transmissions.{line_sent};
 
 use crate::report::{Line, Lines};
 use crate::{Carrier, LabError};
@@ -17,12 +19,11 @@ fn carry_line<C: Carrier>(
 ) -> Result<Option<Line>, LabError>
     ensures faithful { C.is_faithful carrier.new ↔ C.is_faithful carrier.old }
     ensures arrives { C.is_faithful carrier.old → IfOk result (LineArrives C.loses line) }
+    ensures asked { C.is_faithful carrier.old → IfOk result (λ it.
+        HasCarriedMore C.has_carried carrier.old carrier.new (line_sent from line it)) }
 {
     match line {
-        Line::Replied(reply) => match send_reply(alloc, carrier, from, reply)? {
-            Some(reply) => Ok(Some(Line::Replied(reply))),
-            None => Ok(None),
-        },
+        Line::Replied(reply) => Ok(send_reply(alloc, carrier, from, reply)?.map(Line::Replied)),
         other => Ok(Some(other)),
     }
 }
@@ -46,7 +47,8 @@ pub fn carry_replies<C: Carrier>(
     lines: Lines,
 ) -> Result<Lines, LabError>
     ensures faithful { C.is_faithful carrier.new ↔ C.is_faithful carrier.old }
-    ensures arrives { C.is_faithful carrier.old → IfOk result (RepliesArrive C.loses lines) }
+    ensures arrives { C.is_faithful carrier.old → IfOk result (RepliesArrive C.loses
+        (HasCarriedMore C.has_carried carrier.old carrier.new) from lines) }
 {
     let lines = lines.into_vec();
     let mut kept = Vec::with_capacity(alloc, lines.len())?;

@@ -1,7 +1,6 @@
 // A simulated node: its id, and its state.
 ghost use Rattle.std.specs.Prelude.{◌≡◌};
 ghost use Rattle.node.specs.{IsReady};
-ghost use Rattle.lab.specs.declared.node_state.NodeState.TheVariants.{Up};
 ghost use Rattle.lab.specs.SimNodes.{StateIsReady};
 
 use crate::node_state::NodeState;
@@ -22,7 +21,7 @@ impl<D: Disk + Drop> SimNode<D> {
     pub fn up(id: NodeId, node: Node<D>) -> SimNode<D>
         requires { IsReady node }
         ensures id { result.id ≡ id }
-        ensures state { result.state ≡ Up node }
+        ensures state { result.state ≡ NodeState.Up node }
     {
         let state = NodeState::Up(node);
         SimNode { id, state }

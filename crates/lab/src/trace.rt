@@ -1,9 +1,8 @@
 // The trace of a step: its lines, and the frames that it posts.
 ghost use Rattle.std.specs.Prelude.{◌≡◌, ◌+◌, [], ◌∷◌, ◌++◌, length, map, IfOk, OnOk};
-ghost use Rattle.lab.specs.declared.report.Line.{Line};
 ghost use Rattle.lab.specs.Outcomes.{adopted_lines, sent_line, sent_lines, outcome_lines, sent_by};
 ghost use Rattle.lab.specs.Events.{dropped_lines};
-ghost use Rattle.lab.specs.Worlds.{HasPosted};
+ghost use Rattle.lab.specs.Posting.{HasPosted};
 
 use crate::delivery::Posted;
 use crate::input::StepOutcome;
@@ -65,7 +64,8 @@ fn post(
     from: NodeId,
     sent: &Sent,
 ) -> Result<(), AllocError>
-    ensures posted { OnOk result (HasPosted frames.old.items (sent.now ∷ []) frames.new.items) }
+    ensures posted { OnOk result
+        (HasPosted frames.old.items from (sent.now ∷ []) frames.new.items) }
     ensures lines { OnOk result (lines.new.items
         ≡ lines.old.items ++ sent_line (length frames.old.items + 1) sent.now ∷ []) }
 {
@@ -84,7 +84,7 @@ fn post_all(
     from: NodeId,
     sent: &[Sent],
 ) -> Result<(), AllocError>
-    ensures posted { OnOk result (HasPosted frames.old.items sent.now frames.new.items) }
+    ensures posted { OnOk result (HasPosted frames.old.items from sent.now frames.new.items) }
     ensures lines { OnOk result (lines.new.items
         ≡ lines.old.items ++ sent_lines (length frames.old.items) sent.now) }
 {
@@ -140,7 +140,8 @@ fn trace_output(
     told: Option<Epoch>,
     output: Output,
 ) -> Result<Vec<Line>, AllocError>
-    ensures posted { OnOk result (HasPosted frames.old.items output.frames.items frames.new.items) }
+    ensures posted { OnOk result
+        (HasPosted frames.old.items id output.frames.items frames.new.items) }
     ensures lines { IfOk result (λ lines. lines.items ≡ dropped_lines output.dropped
         ++ (adopted_lines id told output.dropped
         ++ (sent_lines (length frames.old.items) output.frames.items
@@ -165,7 +166,8 @@ pub fn trace_of(
     told: Option<Epoch>,
     outcome: StepOutcome,
 ) -> Result<Lines, AllocError>
-    ensures posted { OnOk result (HasPosted frames.old.items (sent_by outcome) frames.new.items) }
+    ensures posted { OnOk result
+        (HasPosted frames.old.items id (sent_by outcome) frames.new.items) }
     ensures lines { IfOk result (λ lines.
         lines ≡ outcome_lines id told (length frames.old.items) outcome) }
 {

@@ -6,12 +6,12 @@ ghost use Rattle.chain_model.specs.{Lawful, at_epoch, has};
 ghost use Rattle.lab.specs.SimNodes.{StateHasLimits};
 ghost use Rattle.lab.specs.Runs.{AreNumbersOf, IsRunOver};
 ghost use Rattle.lab.specs.History.{OneHistory};
-ghost use Rattle.lab.specs.Worlds.{AreCreated, HasApplied, HasBegunEvent, HasHistory};
-ghost use Rattle.lab.specs.Worlds.{HasKept, HasNoNode, HasRun, HasStepped, HaveLimits, IsCreated};
-ghost use Rattle.lab.specs.Worlds.{IsIndexOf, IsReportOf, IsRunSoFar, ShowsTables};
-ghost use Rattle.lab.specs.Worlds.{WorldHasEnded, WorldHasLimits, WorldKeepsLimits, WorldRun};
-ghost use Rattle.lab.specs.Worlds.{direct_carrier, empty_run, event_record, event_records};
-ghost use Rattle.lab.specs.Worlds.{frames_in_steps};
+ghost use Rattle.lab.specs.Worlds.{AreCreated, HasApplied, HasBegunEvent, HasHistory, HasKept};
+ghost use Rattle.lab.specs.Worlds.{HasNoNode, HasRun, HasStepped, HaveLimits, IsCreated, IsIndexOf};
+ghost use Rattle.lab.specs.Worlds.{IsReportOf, IsRunSoFar, ShowsTables, WorldHasEnded};
+ghost use Rattle.lab.specs.Worlds.{WorldHasLimits, WorldKeepsLimits, WorldRun, direct_carrier};
+ghost use Rattle.lab.specs.Worlds.{empty_run, event_record, event_records, frames_in_steps};
+ghost use Rattle.lab.specs.Transmissions.{carrier_of};
 
 use crate::delivery::{Posted, delivery_of};
 use crate::event::names_node;
@@ -171,6 +171,7 @@ impl<C: Carrier + Drop> World<MemDisk, C> {
     ) -> Result<World<MemDisk, C>, LabError>
         ensures ran { C.is_faithful carrier →
             IfOk result (λ world. HasRun C.Carrier world (empty_run configs.now)) }
+        ensures carrier { IfOk result (λ world. carrier_of world ≡ carrier) }
         ensures goes_on { IfOk result (λ world. WorldHasEnded world → ⊥) }
         ensures limits { IfOk result (λ world. WorldHasLimits world limits.now) }
     {
@@ -231,6 +232,7 @@ impl<D: Disk + Drop, C: Carrier + Drop> World<D, C> {
         ensures ran { Lawful configs → C.is_faithful carrier →
             AreCreated (at_epoch configs 0) (at_epoch configs 0) limits.now nodes.items →
             HasRun C.Carrier result (empty_run configs) }
+        ensures carrier { carrier_of result ≡ carrier }
         ensures goes_on { WorldHasEnded result → ⊥ }
         ensures limits { HaveLimits nodes.items limits.now → WorldHasLimits result limits.now }
     {

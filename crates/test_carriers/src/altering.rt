@@ -31,6 +31,8 @@ impl Carrier for Altering {
 
     ghost loses = { ⊥ };
 
+    ghost has_carried = { λ _ _. Unit {0} };
+
     fn carry(
         &mut self,
         alloc: Global,

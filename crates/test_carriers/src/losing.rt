@@ -20,6 +20,8 @@ impl Carrier for Losing {
 
     ghost loses = { Unit {0} };
 
+    ghost has_carried = { λ _ _. Unit {0} };
+
     fn carry(
         &mut self,
         alloc: Global,

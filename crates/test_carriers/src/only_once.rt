@@ -40,6 +40,8 @@ impl Carrier for OnlyOnce {
 
     ghost loses = { Unit {0} };
 
+    ghost has_carried = { λ _ _. Unit {0} };
+
     fn carry(
         &mut self,
         alloc: Global,

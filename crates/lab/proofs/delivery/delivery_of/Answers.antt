@@ -1,7 +1,9 @@
 use Rattle.std.proofs.Common.{subst, sym}
 use Rattle.std.specs.Prelude.{IfOk}
+use Rattle.carriers.specs.{HasCarriedMore, delivery_lost}
 use Rattle.lab.specs.declared.event.EventKind.{EventKind}
 use Rattle.lab.specs.Deliveries.{IsDeliverable}
+use Rattle.lab.specs.Transmissions.{frame_sent}
 use Rattle.lab.proofs.delivery.delivery_of.Goals as goal
 
 pub returns-in-Deliver-clause-found : goal.returns-in-Deliver-clause-found
@@ -10,6 +12,13 @@ returns-in-Deliver-clause-found g c = λ frames each faithful.
     IfOk c.delivered.result (IsDeliverable c.args.configs.now frames c.args.request kind))
     (sym c.in-Deliver.is)
     (c.delivered.ensures.found c.args.configs.now c.args.request frames each faithful)
+
+pub returns-in-Deliver-clause-asked : goal.returns-in-Deliver-clause-asked
+returns-in-Deliver-clause-asked g c =
+    subst (λ (kind : EventKind). IfOk c.delivered.result (λ it.
+    HasCarriedMore g.C.Carrier.has_carried c.args.carrier.now c.delivered.new.carrier
+    (frame_sent c.args.posted.now c.args.request kind (delivery_lost it))))
+    (sym c.in-Deliver.is) (c.delivered.ensures.asked c.args.request)
 
 pub returns-in-Notice-clause-found : goal.returns-in-Notice-clause-found
 returns-in-Notice-clause-found g c = λ frames each faithful.

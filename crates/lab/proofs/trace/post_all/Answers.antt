@@ -14,10 +14,10 @@ loop-it-preserved c =
     let kept = c.in_ok-post.ensures.posted in
     let within = c.loop-it-test.true in
     record {
-      kept = posted_next c.args.frames.now.items at.frames.items c.post.new.frames.items sent i x
-          within c.it-item.is at.invariant.kept kept;
+      kept = posted_next c.args.from c.args.frames.now.items at.frames.items
+          c.post.new.frames.items sent i x within c.it-item.is at.invariant.kept kept;
       traced = ap (λ (l : List Line). l ++ sent_lines (length c.post.new.frames.items)
           (drop (i + 1) sent)) c.in_ok-post.ensures.lines
-          ∙ trace_next at.frames.items c.post.new.frames.items sent i x at.lines.items within
-          c.it-item.is kept ∙ at.invariant.traced;
+          ∙ trace_next c.args.from at.frames.items c.post.new.frames.items sent i x at.lines.items
+          within c.it-item.is kept ∙ at.invariant.traced;
     }

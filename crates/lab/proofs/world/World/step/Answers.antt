@@ -4,10 +4,12 @@ use Rattle.std.specs.List.{AllZip}
 use Rattle.std.proofs.lemmas.Bool.{false≢true}
 use Rattle.std.proofs.lemmas.Option.{MatchOption-at_none}
 use Rattle.std.proofs.lemmas.Result.{on_ok_weaker}
+use Rattle.carriers.specs.{HasCarriedMore, delivery_lost}
 use Rattle.lab.specs.declared.delivery.Posted.{Posted}
 use Rattle.lab.specs.declared.report.Line.{Line}
 use Rattle.lab.specs.declared.sim_node.SimNode.{SimNode}
 use Rattle.lab.specs.declared.world.World.{World}
+use Rattle.lab.specs.Transmissions.{frame_sent}
 use Rattle.lab.specs.Worlds.{HasKept, HasNoNode, HaveLimits, IsIndexOf, PostedRefines}
 use Rattle.lab.proofs.Moves.{limited}
 use Rattle.lab.proofs.WorldSteps.{IsFoundFor, delivered_after, ends_so, ends_with, ignored_after}
@@ -26,11 +28,15 @@ returns-in-Nothing-clause-ran g c = λ past run.
     λ faithful frames each. c.in_ok-delivery_of.ensures.found frames
     (subst (λ (l : List Posted). AllZip PostedRefines l frames) (sym c.deref.ensures.value) each)
     faithful in
+    let asked = subst (λ (l : List Posted). HasCarriedMore g.C.Carrier.has_carried begun.carrier
+    c.delivery_of.new.carrier (frame_sent l c.in-Some.request event.kind (delivery_lost found)))
+    c.deref.ensures.value c.in_ok-delivery_of.ensures.asked in
     on_ok_weaker c.keep.result (nothing_applied g.C.Carrier c.in_order.ensures c.args.self.now begun
     event c.in_ok-begin.ensures.begun c.len.result c.in-Some.request c.len.ensures
     c.in-Some.ensures.0 c.in-Some.ensures.1 found here c.in_ok-delivery_of.ensures.lost
-    (c.names_node.ensures.0 c.if-not-names_node.false) past run c.in-Nothing.is mid
-    c.keep.new.self refl c.in_ok-delivery_of.ensures.faithful.1)
+    c.delivery_of.new.carrier asked c.in_ok-delivery_of.ensures.faithful.1
+    (c.names_node.ensures.0 c.if-not-names_node.false) past run c.in-Nothing.is
+    c.keep.new.self)
     (subst (λ (l : List Line). OnOk c.keep.result (HasKept mid c.keep.new.self false l))
     c.in_ok-one_line-in-Nothing.ensures c.keep.ensures.kept)
 
@@ -46,12 +52,16 @@ returns-in-Lost-clause-ran g c = λ past run.
     λ faithful frames each. c.in_ok-delivery_of.ensures.found frames
     (subst (λ (l : List Posted). AllZip PostedRefines l frames) (sym c.deref.ensures.value) each)
     faithful in
+    let asked = subst (λ (l : List Posted). HasCarriedMore g.C.Carrier.has_carried begun.carrier
+    c.delivery_of.new.carrier (frame_sent l c.in-Some.request event.kind (delivery_lost found)))
+    c.deref.ensures.value c.in_ok-delivery_of.ensures.asked in
     on_ok_weaker c.keep-in-Lost.result (lost_applied g.C.Carrier c.in_order.ensures c.args.self.now
     begun
     event c.in_ok-begin.ensures.begun c.len.result c.in-Some.request c.len.ensures
     c.in-Some.ensures.0 c.in-Some.ensures.1 found here c.in_ok-delivery_of.ensures.lost
-    (c.names_node.ensures.0 c.if-not-names_node.false) past run c.in-Lost.is mid
-    c.keep-in-Lost.new.self refl c.in_ok-delivery_of.ensures.faithful.1)
+    c.delivery_of.new.carrier asked c.in_ok-delivery_of.ensures.faithful.1
+    (c.names_node.ensures.0 c.if-not-names_node.false) past run c.in-Lost.is
+    c.keep-in-Lost.new.self)
     (subst (λ (l : List Line). OnOk c.keep-in-Lost.result (HasKept mid c.keep-in-Lost.new.self true
     l))
     c.in_ok-one_line-in-Lost.ensures c.keep-in-Lost.ensures.kept)
@@ -66,9 +76,13 @@ returns-in_default-index_of-clause-ran g c = λ past run.
     λ faithful frames each. c.in_ok-delivery_of.ensures.found frames
     (subst (λ (l : List Posted). AllZip PostedRefines l frames) (sym c.deref.ensures.value) each)
     faithful in
+    let asked = subst (λ (l : List Posted). HasCarriedMore g.C.Carrier.has_carried begun.carrier
+    c.delivery_of.new.carrier (frame_sent l c.in-Some.request event.kind (delivery_lost found)))
+    c.deref.ensures.value c.in_ok-delivery_of.ensures.asked in
     ignored_after g.C.Carrier c.in_order.ensures c.args.self.now begun event
     c.in_ok-begin.ensures.begun c.len.result c.in-Some.request c.len.ensures
     c.in-Some.ensures.0 c.in-Some.ensures.1 found here c.in_ok-delivery_of.ensures.lost
+    c.delivery_of.new.carrier asked c.in_ok-delivery_of.ensures.faithful.1
     (c.names_node.ensures.0 c.if-not-names_node.false) past run c.in-To.id c.in-To.input c.in-To.is
     (subst (λ (l : List (SimNode g.row.D.Denot g.D.Disk)). HasNoNode l c.in-To.id)
     c.deref-2.ensures.value
@@ -109,14 +123,16 @@ returns-clause-ran g c = λ past run.
     λ faithful frames each. c.in_ok-delivery_of.ensures.found frames
     (subst (λ (l : List Posted). AllZip PostedRefines l frames) (sym c.deref.ensures.value) each)
     faithful in
-    let first = c.in_ok-delivery_of.ensures.faithful.1 in
+    let asked = subst (λ (l : List Posted). HasCarriedMore g.C.Carrier.has_carried begun.carrier
+    c.delivery_of.new.carrier (frame_sent l c.in-Some.request event.kind (delivery_lost found)))
+    c.deref.ensures.value c.in_ok-delivery_of.ensures.asked in
     on_ok_weaker c.keep-2.result (delivered_after g.C.Carrier c.in_order.ensures c.args.self.now
     begun event c.in_ok-begin.ensures.begun c.len.result c.in-Some.request c.len.ensures
     c.in-Some.ensures.0 c.in-Some.ensures.1 found here c.in_ok-delivery_of.ensures.lost
+    c.delivery_of.new.carrier asked c.in_ok-delivery_of.ensures.faithful.1
     (c.names_node.ensures.0 c.if-not-names_node.false) past run c.in-To.id c.in-To.input c.in-To.is
     (mid g c) c.keep-2.new.self c.in_ok-lines.lines c.in_ok-lines-2.lines refl
-    (λ faithful. c.in_ok-lines-2.ensures.faithful.1 (first faithful)) c.in_ok-lines.ensures
-    (λ faithful. c.in_ok-lines-2.ensures.arrives (first faithful)))
+    c.in_ok-lines-2.ensures.faithful.1 c.in_ok-lines.ensures c.in_ok-lines-2.ensures.arrives)
     c.keep-2.ensures.kept
 
 pub returns-clause-ends : goal.returns-clause-ends
