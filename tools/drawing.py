@@ -36,6 +36,13 @@ def box(x, y, width, height, style):
     return f'<rect class="{style}" x="{x:.1f}" y="{y:.1f}" {size}/>'
 
 
+def path(places, style, end=""):
+    """A line through places, with an end of its own or none."""
+    marker = f' marker-end="url(#{end}-{style})"' if end else ""
+    ends = "L".join(f"{x:.1f} {y:.1f}" for x, y in places)
+    return f'<path class="{style}" d="M{ends}"{marker}/>'
+
+
 def arrow_head(kind, colour):
     """The head of the arrows of a style."""
     form = 'viewBox="0 0 10 10" refX="10" refY="5" markerWidth="8" markerHeight="8"'
@@ -65,7 +72,8 @@ def boxes_of(root):
 def misplaced(page):
     """The texts of a picture that lie on one another, or not on the paper."""
     root = tree.fromstring(page)
-    boxes, (width, height) = list(boxes_of(root)), (float(root.get(it)) for it in ("width", "height"))
+    boxes = list(boxes_of(root))
+    width, height = (float(root.get(it)) for it in ("width", "height"))
     for at, (words, left, right, top, bottom) in enumerate(boxes):
         if left < 0 or top < 0 or right > width or bottom > height:
             yield f"'{words}' leaves the page"
