@@ -115,8 +115,12 @@ def page_faults(name, page):
     yield from misplaced(page)
 
 
-def end_with(faults):
-    """Prints what is wrong, and how much; ends with status 1 where something is."""
-    faults = list(faults)
+def end_with(tool, faults):
+    """Prints what is wrong, and how much; ends with status 1 where something is, or the look at it
+    fails."""
+    try:
+        faults = list(faults)
+    except (ValueError, OSError) as fault:
+        sys.exit(f"{tool}: {fault}")
     print(*faults, f"{len(faults)} faults", sep="\n")
     sys.exit(1 if faults else 0)
