@@ -1,12 +1,12 @@
 """The test of `draw_run`: some known runs are drawn, and the drawings are read back."""
 
 import collections
-import pathlib
 import re
 import xml.etree.ElementTree as tree
 
-DOCS = pathlib.Path(__file__).resolve().parent.parent / "docs"
-WIDTH, ABOVE, BELOW = 6.63, 9, 2
+from drawing import ROOT, boxes_of, misplaced
+
+DOCS = ROOT / "docs"
 # What the drawing of each run has: arrows by their ends, marks by their shapes, and words.
 RUNS = {
     "frame_twice": {"head": 5, "lost": 1, "dot": 5, "cross": 1, "diamond": 1},
@@ -56,44 +56,22 @@ MISFITS = {
 
 
 def parts_of(page):
-    """The arrows and marks of a page by kind, those of its legend apart, its texts, its size."""
-    root, kinds, boxes = tree.fromstring(page), collections.Counter(), []
-    for group in [root, *root.iterfind("{*}g")]:
-        for it in group:
-            tag, style = it.tag.rpartition("}")[2], it.get("class", "").split(" ")
-            if tag == "text":
-                boxes.append(box_of(it, style))
-            elif group is root and it.get("marker-end"):
-                kinds[it.get("marker-end")[5:].partition("-")[0]] += 1
-            elif group is root and tag == "path":
-                kinds[style[1]] += 1
-    return kinds, boxes, float(root.get("width")), float(root.get("height"))
-
-
-def box_of(it, style):
-    """A text and its box: left, right, top and bottom."""
-    width, x, y = len(it.text) * WIDTH, float(it.get("x")), float(it.get("y"))
-    left = x - width * (1 if "end" in style else 0.5 if "mid" in style else 0)
-    return it.text, left, left + width, y - ABOVE, y + BELOW
-
-
-def misplaced(page):
-    """The texts of a page that lie on one another, or not on the paper."""
-    _, boxes, width, height = parts_of(page)
-    for at, (text, left, right, top, bottom) in enumerate(boxes):
-        if left < 0 or top < 0 or right > width or bottom > height:
-            yield f"'{text}' leaves the page"
-        for other, start, end, high, low in boxes[:at]:
-            if left < end and start < right and top < low and high < bottom:
-                yield f"'{text}' lies on '{other}'"
+    """The arrows and marks of a page by kind, those of its legend apart, and its texts."""
+    root, kinds = tree.fromstring(page), collections.Counter()
+    for it in root:
+        if it.get("marker-end"):
+            kinds[it.get("marker-end")[5:].partition("-")[0]] += 1
+        elif it.tag.endswith("}path"):
+            kinds[it.get("class").split(" ")[1]] += 1
+    return kinds, [words for words, *_ in boxes_of(root)]
 
 
 def faults_of(pages, name):
     """What is wrong with the pages of a known run."""
     kinds, texts = collections.Counter(), []
     for page in pages:
-        kinds += parts_of(page)[0]
-        texts += [box[0] for box in parts_of(page)[1]]
+        more, words = parts_of(page)
+        kinds, texts = kinds + more, texts + words
         yield from misplaced(page)
     for kind in {*kinds, *RUNS[name]}:
         if kinds[kind] != RUNS[name].get(kind, 0):
