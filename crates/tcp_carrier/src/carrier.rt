@@ -4,9 +4,8 @@ ghost use Rattle.std.specs.Prelude.{◌≡◌, true, false};
 use crate::link::{Link, drain};
 use carriers::{Carried, Carrier, LabError, Peer};
 use std::alloc::Global;
-use std::io;
-use std::mem;
 use std::net::{Net, TcpListener, TcpStream};
+use std::{io, mem};
 
 // The connection, and whether the one before was lost.
 #[derive(Drop)]
@@ -37,7 +36,7 @@ impl<R: Net<Listener = TcpListener, Stream = TcpStream>> TcpCarrier<R> {
     }
 
     // The open connection, or a new one. Until it is put back, the connection counts as broken.
-    fn take_link(&mut self) -> io::Result<Link>
+    fn ready_link(&mut self) -> io::Result<Link>
         ensures { self.new.connection ≡ Connection.Broken }
     {
         match mem::replace(&mut self.connection, Connection::Broken) {
@@ -53,7 +52,7 @@ impl<R: Net<Listener = TcpListener, Stream = TcpStream>> TcpCarrier<R> {
         ensures same { result ≡ true → got.new ≡ bytes.now }
         ensures closed { result ≡ false → self.new.connection ≡ Connection.Broken }
     {
-        let Ok(mut link) = self.take_link() else {
+        let Ok(mut link) = self.ready_link() else {
             return false;
         };
         if link.pass(bytes, got).is_err() || *got != *bytes {
