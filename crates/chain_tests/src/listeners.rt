@@ -1,4 +1,8 @@
 // What a carrier over a connection to its own listener loses, where somebody else connects there.
+use crate::answers::is_text;
+use crate::carried::{Act, FLOW, text_of};
+use crate::courses::Step;
+use crate::items::ONE;
 use lab::{Carried, Carrier, Peer};
 use std::alloc::Global;
 use std::io::Write;
@@ -118,4 +122,30 @@ fn a_full_queue_before_the_first_frame(rt: HostRuntime) {
     assert!(rt; !arrives(&rt, rt.alloc(), &mut carrier, FIRST), "lost");
     all_arrive(&rt, rt.alloc(), &mut carrier);
     drop(streams);
+}
+
+// A batch is submitted to a chain of two, again, and read.
+const COURSE: &[Act] = &[
+    Act::Take(Step::Submit(1, ONE)),
+    Act::Take(Step::Submit(1, ONE)),
+    FLOW,
+    Act::Take(Step::Get(1, None)),
+];
+
+// The first submit is lost.
+const COURSE_TEXT: &str = "\
+lost
+#1 1>2 forward 0 1
+#2 2>1 ack 0 1 1
+2: committed 1
+5: value 1 at 1
+1/1 1/1 lost 1
+";
+
+#[test]
+fn a_run_behind_a_closed_connection(rt: HostRuntime) {
+    let (carrier, address) = carrier_at(&rt, rt);
+    drop(connected(&rt, &rt, address));
+    let text = text_of(&rt, rt.alloc(), &[1, 2], carrier, COURSE);
+    is_text(&rt, &text, COURSE_TEXT);
 }
