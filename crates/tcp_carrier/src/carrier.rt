@@ -1,17 +1,17 @@
 // The carrier over a connection to its own listener.
 ghost use Rattle.std.specs.Prelude.{◌≡◌, true, false};
 
-use crate::link::{Link, drain};
+use crate::connection::{Connection, drain};
 use carriers::{Carried, Carrier, LabError, Peer};
 use std::alloc::Global;
 use std::net::{Net, TcpListener, TcpStream};
 use std::{io, mem};
 
-// The connection, and whether the one before was lost.
+// No connection was made yet, one is open, or the last one broke.
 #[derive(Drop)]
-enum Connection {
+enum ConnectionState {
     NotMade,
-    Open(Link),
+    Open(Connection),
     Broken,
 }
 
@@ -21,7 +21,7 @@ enum Connection {
 pub struct TcpCarrier<R> {
     rt: R,
     listener: TcpListener,
-    connection: Connection,
+    state: ConnectionState,
 }
 
 impl<R: Net<Listener = TcpListener, Stream = TcpStream>> TcpCarrier<R> {
@@ -31,34 +31,34 @@ impl<R: Net<Listener = TcpListener, Stream = TcpStream>> TcpCarrier<R> {
         TcpCarrier {
             rt,
             listener,
-            connection: Connection::NotMade,
+            state: ConnectionState::NotMade,
         }
     }
 
-    // The open connection, or a new one. Until it is put back, the connection counts as broken.
-    fn ready_link(&mut self) -> io::Result<Link>
-        ensures { self.new.connection ≡ Connection.Broken }
+    // The open connection, or a new one. Until it is put back, it counts as broken.
+    fn ready_connection(&mut self) -> io::Result<Connection>
+        ensures { self.new.state ≡ ConnectionState.Broken }
     {
-        match mem::replace(&mut self.connection, Connection::Broken) {
-            Connection::Open(link) => return Ok(link),
-            Connection::NotMade => (),
-            Connection::Broken => drain(&self.listener)?,
+        match mem::replace(&mut self.state, ConnectionState::Broken) {
+            ConnectionState::Open(connection) => return Ok(connection),
+            ConnectionState::NotMade => (),
+            ConnectionState::Broken => drain(&self.listener)?,
         }
-        Link::new(&self.rt, &self.listener)
+        Connection::new(&self.rt, &self.listener)
     }
 
     // Passes the bytes through the connection. It stays open only where they came back the same.
     fn pass(&mut self, bytes: &[u8], got: &mut [u8]) -> bool
         ensures same { result ≡ true → got.new ≡ bytes.now }
-        ensures closed { result ≡ false → self.new.connection ≡ Connection.Broken }
+        ensures closed { result ≡ false → self.new.state ≡ ConnectionState.Broken }
     {
-        let Ok(mut link) = self.ready_link() else {
+        let Ok(mut connection) = self.ready_connection() else {
             return false;
         };
-        if link.pass(bytes, got).is_err() || *got != *bytes {
+        if connection.pass(bytes, got).is_err() || *got != *bytes {
             return false;
         }
-        self.connection = Connection::Open(link);
+        self.state = ConnectionState::Open(connection);
         true
     }
 }

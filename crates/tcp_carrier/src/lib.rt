@@ -2,6 +2,6 @@
 #![tactic(auto)]
 
 mod carrier;
-mod link;
+mod connection;
 
 pub use carrier::TcpCarrier;

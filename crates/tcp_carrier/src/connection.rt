@@ -11,25 +11,25 @@ const TIMEOUT_SECONDS: u64 = 2;
 
 /// A connection: the end that connected, which writes, and the end that was accepted, which reads.
 #[derive(Drop)]
-pub struct Link {
+pub struct Connection {
     near: TcpStream,
     far: TcpStream,
 }
 
-impl Link {
+impl Connection {
     /// Connects to this listener, and accepts the first connection that waits there. That is
     /// another one where somebody else connected before.
     pub fn new<R: Net<Listener = TcpListener, Stream = TcpStream>>(
         rt: &R,
         listener: &TcpListener,
-    ) -> io::Result<Link> {
+    ) -> io::Result<Connection> {
         let timeout = Duration::from_secs(TIMEOUT_SECONDS);
         let near = TcpStream::connect_timeout(rt, &listener.local_addr()?, timeout)?;
         near.set_nodelay(true)?;
         near.set_write_timeout(Some(timeout))?;
         let (far, _) = listener.accept()?;
         far.set_read_timeout(Some(timeout))?;
-        Ok(Link { near, far })
+        Ok(Connection { near, far })
     }
 
     /// Writes the bytes in pieces at one end, and reads each piece whole at the other end before
