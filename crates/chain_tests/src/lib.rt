@@ -25,6 +25,8 @@ mod items;
 #[cfg(test)]
 mod large_store;
 #[cfg(test)]
+mod listeners;
+#[cfg(test)]
 mod losses;
 #[cfg(test)]
 mod nodes;
