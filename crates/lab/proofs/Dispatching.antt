@@ -1,4 +1,5 @@
 -- A node that takes an input, by the state that it had.
+use Rattle.std.specs.Global.{Box}
 use Rattle.std.proofs.Common.{◌≡◌, ◌↔◌, ◌⊎◌, ◌∷◌, ℕ, Bool, [], None, Option, true, length}
 use Rattle.std.proofs.Common.{inl, refl, subst, sym, ◌∙◌}
 use Rattle.std.specs.Prelude.{IsSome}
@@ -9,12 +10,12 @@ use Rattle.disk.specs.declared.Junk.{Junk}
 use Rattle.disk.specs.declared.Mark.TheVariants.{Crashed}
 use Rattle.disk.specs.declared.disk.Disk.{Ghosts}
 use Rattle.disk.specs.{HasStruck, IsArmed, IsEnvironmental, IsLastLeft, KeepsDisk, State, fault_of}
-use Rattle.engine.specs.{Facts}
+use Rattle.engine.specs.{Facts, facts_of}
 use Rattle.node.specs.declared.Node.{Node}
 use Rattle.node.specs.declared.Output.{Output}
 use Rattle.node.specs.declared.Stop.{Stop as Cause}
 use Rattle.node.specs.declared.Stop.TheVariants.{Disk, Memory}
-use Rattle.node.specs.{HasLongFile, IsReady, NodeRefines, answer_to_tend}
+use Rattle.node.specs.{HasLongFile, IsReady, NodeRefines, answer_to_tend, engine_of}
 use Rattle.carriers.specs.declared.NodeInput.{NodeInput}
 use Rattle.carriers.specs.declared.NodeInput.TheVariants as to_node
 use Rattle.lab.specs.declared.input.StepOutcome.{StepOutcome}
@@ -25,17 +26,18 @@ use Rattle.lab.specs.Disks.{HasGrown, IsMarkedSo, junk_at_end}
 use Rattle.lab.specs.Events.{line_cause}
 use Rattle.lab.specs.Outcomes.{DiskFits, DropsResting, HasCrashed, HasDispatched, IsAnswerAtRest}
 use Rattle.lab.specs.Outcomes.{IsIgnored, MarksFit, OutcomeRefines, Rests, RestsOn, StateFollows}
-use Rattle.lab.specs.Outcomes.{StopsByItself, TendsNot, has_struck_in, input_junk, tended_in}
+use Rattle.lab.specs.Outcomes.{StopsByItself, TendsNot, has_struck_in, input_junk}
 use Rattle.lab.specs.SimNodes.{IsDown, StateHasLimits, StateIsReady, StateIsSound, StateRefines}
 use Rattle.lab.specs.SimNodes.{disk_in}
 use Rattle.lab.proofs.Faults.{IsSpent, disk_fits, explained, grown_end, idle_in, marked_end, spent}
 use Rattle.lab.proofs.Faults.{stopped_so, struck_at}
 
 -- a node that is up is ready where it says so, and one that is down is
-pub ready_up : {D : Type 0} {g : Ghosts D} (node : Node D g) → IsReady node → StateIsReady (Up node)
+pub ready_up : {D : Type 0} {g : Ghosts D} (node : Box (Node D g)) → IsReady node.value →
+    StateIsReady (Up node)
 ready_up node ready other same =
     let is : node ≡ other = cc in
-    subst (λ (it : Node _ _). IsReady it) is ready
+    subst (λ (it : Box (Node _ _)). IsReady it.value) is ready
 
 pub ready_down : {D : Type 0} (g : Ghosts D) (disk : D) → StateIsReady {g = g} (Down disk)
 ready_down g disk other same = absurd cc
@@ -117,9 +119,10 @@ sound g (Down disk) x n r = r.0
 
 -- a node that tended refines its machine also once it was armed, by the facts that it tells then
 pub tends_armed : {D : Type 0} (g : Ghosts D) (x : ℕ) (n : Machine) (node armed : Node D g) →
-    let m = (tended_in x n (Up node)).node in
+    let m = (answer_to_tend x n (facts_of (engine_of node))).node in
     NodeRefines g.is_honest g.state node x m → NodeRefines g.is_honest g.state armed x m →
-    NodeRefines g.is_honest g.state armed x (tended_in x n (Up armed)).node
+    NodeRefines g.is_honest g.state armed x
+    (answer_to_tend x n (facts_of (engine_of armed))).node
 tends_armed g x n node armed is refines =
     subst (λ (f : Facts). NodeRefines g.is_honest g.state armed x (answer_to_tend x n f).node)
     (is.facts ∙ sym refines.facts) refines
