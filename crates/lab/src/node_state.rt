@@ -92,13 +92,14 @@ fn start<D: Crash + Drop>(
         Ok(mut node) => {
             drop(fault);
             node.arm(&Fault::None);
-            let node = Box::new(alloc, node)?;
+            let (epoch, count, committed) = (node.epoch(), node.count(), node.committed());
+            let state = NodeState::Up(Box::new(alloc, node)?);
             let outcome = StepOutcome::Started {
-                epoch: node.epoch(),
-                count: node.count(),
-                committed: node.committed(),
+                epoch,
+                count,
+                committed,
             };
-            Ok((NodeState::Up(node), outcome))
+            Ok((state, outcome))
         }
         Err((stop, disk)) => Ok(stop_by_itself(disk, stop, fault)),
     }
@@ -107,45 +108,47 @@ fn start<D: Crash + Drop>(
 // A node that is up takes a step, on a disk with this fault.
 fn step<D: Crash + Drop>(
     alloc: Global,
-    mut node: Box<Node<D>>,
+    mut boxed: Box<Node<D>>,
     input: Input,
     fault: Fault,
 ) -> (NodeState<D>, StepOutcome)
-    requires { IsReady node.value }
+    requires { IsReady boxed.value }
     ensures { (limits : Limits) → HasDispatched D.Disk limits fault (NodeInput.Step input)
-        (NodeState.Up node) result.0 result.1 }
+        (NodeState.Up boxed) result.0 result.1 }
 {
     full_logs_are_long::<D>(); // law: where a log is nearly full, a file is long
+    let node = boxed.as_mut();
     node.arm(&fault);
     match node.step(alloc, input) {
         Ok(output) => {
             drop(fault);
             node.arm(&Fault::None);
-            (NodeState::Up(node), StepOutcome::Answered(output))
+            (NodeState::Up(boxed), StepOutcome::Answered(output))
         }
-        Err(stop) => stop_by_itself(Box::into_inner(node).into_disk(), stop, fault),
+        Err(stop) => stop_by_itself(Box::into_inner(boxed).into_disk(), stop, fault),
     }
 }
 
 // A node that is up tends its store, on a disk with this fault.
 fn tend<D: Crash + Drop>(
     alloc: Global,
-    mut node: Box<Node<D>>,
+    mut boxed: Box<Node<D>>,
     fault: Fault,
 ) -> (NodeState<D>, StepOutcome)
-    requires { IsReady node.value }
+    requires { IsReady boxed.value }
     ensures { (limits : Limits) → HasDispatched D.Disk limits fault NodeInput.Tend
-        (NodeState.Up node) result.0 result.1 }
+        (NodeState.Up boxed) result.0 result.1 }
 {
     full_logs_are_long::<D>(); // law: where a log is nearly full, a file is long
+    let node = boxed.as_mut();
     node.arm(&fault);
     match node.tend(alloc) {
         Ok(did) => {
             drop(fault);
             node.arm(&Fault::None);
-            (NodeState::Up(node), StepOutcome::Tended(did))
+            (NodeState::Up(boxed), StepOutcome::Tended(did))
         }
-        Err(stop) => stop_by_itself(Box::into_inner(node).into_disk(), stop, fault),
+        Err(stop) => stop_by_itself(Box::into_inner(boxed).into_disk(), stop, fault),
     }
 }
 

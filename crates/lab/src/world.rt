@@ -64,9 +64,8 @@ fn created_node(
             node.arm(&Fault::None);
             Ok(SimNode::up(id, Box::new(alloc, node)?))
         }
-        Err(refused) => {
+        Err((stop, _disk)) => {
             // A new disk fails at no call that fits, so only memory can be wanting.
-            let stop = refused.0;
             prove!(stop == Stop::Memory);
             Err(LabError::Memory)
         }
