@@ -32,6 +32,10 @@ use Rattle.lab.specs.SimNodes.{disk_in}
 use Rattle.lab.proofs.Faults.{IsSpent, disk_fits, explained, grown_end, idle_in, marked_end, spent}
 use Rattle.lab.proofs.Faults.{stopped_so, struck_at}
 
+-- the box, if it held this node
+abbrev pub holding : {D : Type 0} {g : Ghosts D} → Box (Node D g) → Node D g → Box (Node D g)
+holding boxed own = record { ptr = boxed.ptr; alloc = boxed.alloc; value = own }
+
 -- a node that is up is ready where it says so, and one that is down is
 pub ready_up : {D : Type 0} {g : Ghosts D} (node : Box (Node D g)) → IsReady node.value →
     StateIsReady (Up node)
@@ -50,6 +54,24 @@ pub dispatched_as : {D : Type 0} {g : Ghosts D} {old new : NodeState D g} {did :
 dispatched_as {g = g} {new = new} {did = did} {own = own} limits it {was = was} is state took =
     subst (λ (k : NodeInput). HasDispatched g limits it k was new did) (sym is)
     (subst (λ (m : NodeState _ g). HasDispatched g limits it own m new did) (sym state) took)
+
+-- the same of a node that is up, by the node that its box gives
+pub in_box : {D : Type 0} (g : Ghosts D) (limits : Limits) (it : Fault) (node_input : NodeInput)
+    (old : Box (Node D g)) (own : Node D g) (new : NodeState D g) (did : StepOutcome) →
+    own ≡ old.value → HasDispatched g limits it node_input (Up (holding old own)) new did →
+    HasDispatched g limits it node_input (Up old) new did
+in_box g limits it node_input old own new did is took =
+    subst (λ (v : Node _ g). HasDispatched g limits it node_input (Up (holding old v)) new did)
+    is took
+
+-- .. and of one that came up so, by the node that was put into its box
+pub into_box : {D : Type 0} (g : Ghosts D) (limits : Limits) (it : Fault) (node_input : NodeInput)
+    (old : NodeState D g) (new : Box (Node D g)) (own : Node D g) (did : StepOutcome) →
+    new.value ≡ own → HasDispatched g limits it node_input old (Up (holding new own)) did →
+    HasDispatched g limits it node_input old (Up new) did
+into_box g limits it node_input old new own did is took =
+    subst (λ (v : Node _ g). HasDispatched g limits it node_input old (Up (holding new v)) did)
+    (sym is) took
 
 -- a node that answered and did nothing else has taken its input
 pub answered_only : {D : Type 0} (g : Ghosts D) (limits : Limits) (it : Fault)
