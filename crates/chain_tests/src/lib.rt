@@ -27,6 +27,8 @@ mod large_store;
 #[cfg(test)]
 mod losses;
 #[cfg(test)]
+mod merge_sweep;
+#[cfg(test)]
 mod nodes;
 #[cfg(test)]
 mod one_node;
