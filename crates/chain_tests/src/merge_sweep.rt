@@ -70,12 +70,7 @@ fn limits(rt: &impl Abort, (l0, level, _): Swept) -> Limits {
 
 // Whether the store has the list: its count, the map at each number from the floor on, and each
 // batch that is not trimmed.
-fn has_list(
-    rt: &impl Abort,
-    alloc: Global,
-    engine: &mut Engine<MemDisk>,
-    list: &[Batch],
-) -> bool {
+fn has_list(rt: &impl Abort, alloc: Global, engine: &mut Engine<MemDisk>, list: &[Batch]) -> bool {
     let (floor, count) = (engine.floor().get(), engine.count());
     engine.set_committed(count);
     for number in floor..count.get().saturating_add(1) {

@@ -41,7 +41,12 @@ fn put_rows(
     at: Number,
     backward: bool,
 ) -> Result<()> {
-    write!(text, " / {} {}:", if backward { "back" } else { "rows" }, at.get())?;
+    write!(
+        text,
+        " / {} {}:",
+        if backward { "back" } else { "rows" },
+        at.get()
+    )?;
     match engine.rows(alloc, at, &range(alloc, backward)?) {
         Ok(page) => put_page(alloc, text, &page),
         Err(refusal) => put_refusal(text, refusal),

@@ -65,12 +65,7 @@ fn at_once(alloc: Global, stream: &[u8]) -> Result<Found> {
 }
 
 // Reads the frames that the reader has, up to the first that is incomplete or faulty.
-fn drain(
-    alloc: Global,
-    reader: &mut FrameReader,
-    stream: &[u8],
-    found: &mut Found,
-) -> Result<()> {
+fn drain(alloc: Global, reader: &mut FrameReader, stream: &[u8], found: &mut Found) -> Result<()> {
     for _ in 0..stream.len().saturating_add(1) {
         match reader.next() {
             Ok(Some(frame)) => found.add(alloc, stream, frame)?,
