@@ -2,6 +2,7 @@
 has, and random streams, lawful or damaged.
 """
 
+import collections
 import itertools
 
 GREATEST, LONGEST_FRAME, LAST_EPOCH, MOST_IDS, MOST_REFUSALS = 2**63 - 1, 131_072, 15, 16, 8
@@ -146,15 +147,19 @@ def frames_of(stream):
         stream = stream[4 + length :]
 
 
-class RandomStream:
-    """A random stream, and the sizes of the pieces in which it comes."""
+# A stream, and the sizes of the pieces in which it comes: what they leave comes last.
+Stream = collections.namedtuple("Stream", "content sizes")
 
-    def __init__(self, choice):
-        """The stream that these choices give. Of its fields so many are out of their range."""
+
+class RandomStreams:
+    """Random streams of the same random frames, each damaged and parted in its own way."""
+
+    def __init__(self, choice, count):
+        """So many streams that these choices give. Of their fields so many are out of their range."""
         self.choice, self.strays = choice, choice.choice([0, 0, 0.01, 0.1])
         frames = [self.frame() for _ in range(choice.choice([0, 1, 1, 2, 2, 3, 5]))]
-        self.stream = self.damaged(b"".join(frames))
-        self.sizes = self.pieces()
+        content = b"".join(frames)
+        self.streams = [Stream(self.damaged(content), self.sizes()) for _ in range(count)]
 
     def one_of(self, lawful, stray):
         """One of what is in range, or of what is not."""
@@ -260,11 +265,7 @@ class RandomStream:
                 stream[at] ^= choice.choice([1, 2, 128, choice.randint(1, 255)])
         return bytes(stream)
 
-    def pieces(self):
-        """The sizes of the pieces: what they leave comes last."""
-        choice, left, sizes = self.choice, len(self.stream), []
-        most = choice.choice([1, 2, 4, 16, 64, 1 << 17])
-        while left > 0 and len(sizes) < 200:
-            sizes.append(min(left, choice.randint(0 if len(sizes) % 3 else 1, most)))
-            left -= sizes[-1]
-        return sizes
+    def sizes(self):
+        """The sizes of some pieces, which may be empty."""
+        most = self.choice.choice([1, 2, 4, 16, 64, 1 << 17])
+        return self.choice.choices(range(most + 1), k=self.choice.choice([0, 1, 5, 40]))
