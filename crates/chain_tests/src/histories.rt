@@ -201,9 +201,14 @@ pub fn has_map(
     for name in &KEYS {
         let key = key_of(rt, alloc, *name);
         let found = engine.get(alloc, number, &key).expect(rt, "a read");
-        let want = value_at(first, &key);
-        rows = rows.saturating_add(want.is_some() as usize);
-        if !is_value(found.as_ref(), want.map(|it| it.as_bytes())) {
+        let want = match value_at(first, &key) {
+            Some(value) => {
+                rows = rows.saturating_add(1);
+                Some(value.as_bytes())
+            }
+            None => None,
+        };
+        if !is_value(found.as_ref(), want) {
             return false;
         }
     }

@@ -8,7 +8,7 @@ use crate::sweep::{ALL_WAYS, Course, Way};
 use disk::MemDisk;
 use engine::Engine;
 use kv_types::{Batch, Limits, Number};
-use lab::World;
+use lab::{NodeReport, World};
 use std::alloc::Global;
 use std::process::Abort;
 
@@ -86,8 +86,8 @@ fn has_list(rt: &impl Abort, alloc: Global, engine: &mut Engine<MemDisk>, list: 
 fn check(rt: &impl Abort, alloc: Global, run: Swept, course: Course) {
     let Course { world, taken } = course;
     let mut report = world.finish(alloc).expect(rt, "a report");
-    let node = report.nodes.pop().expect(rt, "a node");
-    let opened = Engine::open(alloc, node.disk, &limits(rt, run));
+    let NodeReport { disk, .. } = report.nodes.pop().expect(rt, "a node");
+    let opened = Engine::open(alloc, disk, &limits(rt, run));
     let mut engine = opened.ok().expect(rt, "a store");
     let list = taken_list(rt, alloc, &taken, &report.steps, engine.count());
     is_so(
