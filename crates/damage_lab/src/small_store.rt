@@ -12,13 +12,10 @@ use std::alloc::Global;
 // An edit: a put, or a deletion where there is no value.
 type Change = (&'static str, Option<&'static str>);
 
-// A value that fills a table of level 1.
-const LONG: &str = "2222222222222222222222222222222222222222";
-
-// Batches 1 and 2, which merge into two tables of level 1.
+// Batches 1 and 2, which merge into level 1.
 static MERGED: [&[Change]; 2] = [
     &[("a", Some("1")), ("b", Some("1")), ("d", Some("1"))],
-    &[("a", Some(LONG)), ("c", Some("2"))],
+    &[("a", Some("2")), ("c", Some("2"))],
 ];
 
 // Batch 3, which is a table of level 0, and still in a log.
