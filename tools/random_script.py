@@ -13,7 +13,7 @@ LENGTHS = {1: 2, 2: 3, 3: 5, 4: 5, 5: 5}
 NOTICES = 8
 # What a limit is at least and at most, if a script has it, and how often one has it.
 LIMITS = {"log": (16, 256, 0.9), "l0": (0, 4, 0.8), "table": (64, 400, 0.7)}
-LIMITS |= {"level": (64, 600, 0.7)}
+LIMITS |= {"level": (64, 600, 0.7), "cache": (1, 8, 0.5)}
 # A script of so many has wide batches, whose merges take several tends; it has so many keys, and
 # so much greater tables.
 WIDE, WIDE_KEYS, WIDER = 12, 400, 10

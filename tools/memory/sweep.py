@@ -2,18 +2,25 @@
 """sweep.py PROGRAM: runs scripts with each request for memory refused.
 
 It is refused alone, and with all later ones. Each outcome must be one of three: the script's
-lines; its lines up to one that ends in `stopped: memory` (what follows is a run with a stopped
-node); or status 1, with `run: memory` or `line N: out of memory` on standard error and no line
-that the script does not print there. Builds refuse.c with cc first. Ends with status 1 if an
-outcome is none of these.
+lines; its lines up to one that ends in `stopped: memory`, behind which what is acknowledged, read
+and opened still is of one list of the submitted batches, in their order; or status 1, with
+`run: memory` or `line N: out of memory` on standard error and no line that the script does not print
+there. Builds refuse.c with cc first. Ends with status 1 if an outcome is none of these.
 """
 
 import collections
+import itertools
 import os
 import re
 import subprocess
 import sys
 import tempfile
+
+sys.dont_write_bytecode = True
+sys.path.insert(0, os.path.dirname(os.path.dirname(os.path.abspath(__file__))))
+from lab_texts import read_script
+from plain_maps import page_of, value_at
+from swept_scripts import MEMORY
 
 SCRIPTS = {
     "a batch and a read": "config 1\nsubmit 1 a=1\nget 1 a\n",
@@ -37,6 +44,7 @@ SCRIPTS = {
     "a notice that a fault strikes": (
         "config 1 2\nconfig 2\nnotice 2 1 !stop 4 01\nstart 2\nsubmit 2 a=1\nget 2 a\n"
     ),
+    **MEMORY,
 }
 REFUSED = re.compile(r"(run: memory|line \d+: out of memory)\n")
 
@@ -59,13 +67,61 @@ def run(program, library, folder, script, settings):
     return done.returncode, done.stdout.splitlines(), done.stderr, requests
 
 
-def outcome(status, lines, error, want):
+def lists_of(statements):
+    """The lists that a run can have: some of the submitted batches, by their lines, in their order."""
+    submits = [line for line, words in statements.items() if words[0] == "submit"]
+    for count in range(len(submits) + 1):
+        yield from itertools.combinations(submits, count)
+
+
+def replies_of(lines):
+    """The line and the text of each reply. A page is one reply, with a line feed behind each row."""
+    rows = ""
+    for it in lines:
+        line, _, text = it.partition(": ")
+        if text.startswith("row "):
+            rows += f"{text}\n"
+        elif text.split(" ")[0] in ("committed", "value", "none", "rows", "opened", "closed"):
+            yield int(line), rows + text
+            rows = ""
+
+
+def is_reply(batches, statements, line, text):
+    """Whether a reply to the statement of a line is of this list."""
+    number = int(re.search(r"(?:at|committed|opened|closed) (\d+)(?: more)?$", text)[1])
+    if number > len(batches):
+        return False
+    words, last = statements[line], text.split("\n")[-1]
+    edits = [statements[it][2:] for it in batches[:number]]
+    if last.startswith("committed"):
+        return batches[number - 1] == line
+    if words[0] == "get":
+        value = value_at(edits, words[2])
+        return text == ("none" if value is None else f"value {value}") + f" at {number}"
+    if words[0] in ("rows", "back"):
+        rows, more = page_of(edits, words[2], words[3], words[0] == "back", int(words[4]))
+        shown = [f"row {key}={value}" for key, value in rows]
+        return text == "\n".join([*shown, f"rows {len(rows)} at {number}{' more' * more}"])
+    return True
+
+
+def has_one_list(script, lines):
+    """Whether there is a list of which all replies are."""
+    statements = {it.line: it.words for it in read_script(script)[1]}
+    replies = list(replies_of(lines))
+    return any(
+        all(is_reply(it, statements, *reply) for reply in replies) for it in lists_of(statements)
+    )
+
+
+def outcome(script, status, lines, error, want):
     if (status, lines, error) == (0, want, ""):
         return "the script's lines"
     if status == 1 and REFUSED.fullmatch(error) and lines == want[: len(lines)]:
         return "refused, status 1"
     stops = [i for i, line in enumerate(lines) if line.endswith("stopped: memory")]
-    if status == 0 and stops and lines[: stops[0]] == want[: stops[0]]:
+    is_stopped = status == 0 and stops and lines[: stops[0]] == want[: stops[0]]
+    if is_stopped and has_one_list(script, lines):
         return "stopped: memory"
     return None
 
@@ -77,7 +133,7 @@ def sweep(program, library, folder, name, script):
         for at in range(1, requests + 2):
             settings = {"REFUSE_AT": str(at), **({"REFUSE_ON": "1"} if on else {})}
             status, lines, error, _ = run(program, library, folder, script, settings)
-            kind = outcome(status, lines, error, want)
+            kind = outcome(script, status, lines, error, want)
             counts[kind] += 1
             if kind is None:
                 wrong.append((at, on, status, lines, error))

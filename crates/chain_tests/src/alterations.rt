@@ -366,3 +366,31 @@ dropped NotForNodes
 fn a_request_that_is_a_reply_now(rt: HostRuntime) {
     all_show(&rt, rt.alloc(), &[1], CLOSES, &KINDS);
 }
+
+// A close of number 1 that is an acknowledgement of it now, at a node without batches: nothing is
+// open behind it, and nothing committed.
+const REPLY: &[Act] = &[
+    Act::Take(Step::Close(1, 1)),
+    Act::Take(Step::Get(1, None)),
+    Act::Take(Step::Submit(1, ONE)),
+    FLOW,
+];
+
+static REPLIES: [Row; 1] = [(
+    0,
+    4,
+    9,
+    "\
+dropped NotForNodes
+2: none at 0
+#1 1>2 forward 0 1
+#2 2>1 ack 0 1 1
+3: committed 1
+1/1 1/1 lost
+",
+)];
+
+#[test]
+fn a_reply_that_comes_to_a_node(rt: HostRuntime) {
+    all_show(&rt, rt.alloc(), &[1, 2], REPLY, &REPLIES);
+}

@@ -1,8 +1,10 @@
 // The list of batches that the disks of a run's nodes have, and what its replies may say of it.
+use crate::answers::is_so;
 use crate::courses::Step;
-use crate::items::Change;
+use crate::items::{Change, batch_of, key_of, number, range_of};
 use disk::MemDisk;
-use kv_types::{Batch, Edit, Key, Page, Value, value_at};
+use engine::Engine;
+use kv_types::{Batch, Edit, Key, Number, Page, Value, value_at};
 use lab::{Line, Lines, NodeReport};
 use manifest::Manifest;
 use node::Reply;
@@ -130,6 +132,110 @@ pub fn is_taken(list: &[Batch], taken: &[Step]) -> bool {
         }
     }
     passed == list.len() as u64
+}
+
+// Whether an event's submit was acknowledged, by the lines of all events.
+fn is_acknowledged(steps: &[Lines], place: u64) -> bool {
+    for lines in steps {
+        for line in lines.as_slice() {
+            match line {
+                Line::Replied(Reply::Committed { request, .. }) if request.get() == place => {
+                    return true;
+                }
+                _ => {}
+            }
+        }
+    }
+    false
+}
+
+// How many submits were acknowledged.
+fn acknowledged(taken: &[Step], steps: &[Lines]) -> u64 {
+    let mut acknowledged: u64 = 0;
+    for (index, step) in taken.iter().enumerate() {
+        let place = (index as u64).saturating_add(1);
+        if matches!(step, Step::Submit(_, _)) && is_acknowledged(steps, place) {
+            acknowledged = acknowledged.saturating_add(1);
+        }
+    }
+    acknowledged
+}
+
+/// The list of a lone node that has so many batches: those that were submitted and acknowledged, and
+/// one at most that a fault struck.
+pub fn taken_list(
+    rt: &impl Abort,
+    alloc: Global,
+    taken: &[Step],
+    steps: &[Lines],
+    count: Number,
+) -> Vec<Batch> {
+    let has_all = count.get() > acknowledged(taken, steps);
+    let mut list = Vec::new(alloc);
+    for (index, step) in taken.iter().enumerate() {
+        let place = (index as u64).saturating_add(1);
+        match step {
+            Step::Submit(_, changes) if has_all || is_acknowledged(steps, place) => {
+                let batch = batch_of(rt, alloc, *changes);
+                list.push(batch).expect(rt, "memory");
+            }
+            _ => {}
+        }
+    }
+    is_so(rt, list.len() as u64 == count.get(), "the batches taken");
+    list
+}
+
+static KEYS: [&str; 3] = ["a", "b", "c"];
+
+/// Whether the store has the map of so many first batches: each key, and the number of its rows.
+pub fn has_map(
+    rt: &impl Abort,
+    alloc: Global,
+    engine: &mut Engine<MemDisk>,
+    list: &[Batch],
+    number: Number,
+) -> bool {
+    let first = list.get(..number.get() as usize).expect(rt, "batches");
+    let mut rows = 0usize;
+    for name in &KEYS {
+        let key = key_of(rt, alloc, *name);
+        let found = engine.get(alloc, number, &key).expect(rt, "a read");
+        let want = match value_at(first, &key) {
+            Some(value) => {
+                rows = rows.saturating_add(1);
+                Some(value.as_bytes())
+            }
+            None => None,
+        };
+        if !is_value(found.as_ref(), want) {
+            return false;
+        }
+    }
+    let range = range_of(rt, alloc, ("", None, false, 9));
+    let page = engine.rows(alloc, number, &range).expect(rt, "rows");
+    page.rows().len() == rows
+}
+
+/// Whether the store has each batch of the list that is not trimmed.
+pub fn has_all_batches(
+    rt: &impl Abort,
+    alloc: Global,
+    engine: &mut Engine<MemDisk>,
+    list: &[Batch],
+) -> bool {
+    for (index, want) in list.iter().enumerate() {
+        let place = number((index as u64).saturating_add(1));
+        if place <= engine.kept() || engine.count() < place {
+            continue;
+        }
+        let batch = engine.batch(alloc, place).expect(rt, "a batch");
+        let bytes = batch.to_bytes(alloc).expect(rt, "memory");
+        if bytes.as_slice() != want.to_bytes(alloc).expect(rt, "memory").as_slice() {
+            return false;
+        }
+    }
+    true
 }
 
 /// What replies may speak of.

@@ -29,6 +29,8 @@ mod listeners;
 #[cfg(test)]
 mod losses;
 #[cfg(test)]
+mod merge_sweep;
+#[cfg(test)]
 mod nodes;
 #[cfg(test)]
 mod one_node;

@@ -186,11 +186,11 @@ fn cause_of(way: Way) -> Option<Stop> {
     }
 }
 
-// A run so far, and the step of each event.
+/// A run so far, and the step of each event.
 #[derive(Drop)]
-struct Course {
-    world: World<MemDisk, Direct>,
-    taken: Vec<Step>,
+pub struct Course {
+    pub world: World<MemDisk, Direct>,
+    pub taken: Vec<Step>,
 }
 
 impl Course {
@@ -219,8 +219,8 @@ impl Course {
         true
     }
 
-    // Takes the steps, that of this index with a fault. Answers whether the fault struck.
-    fn run(
+    /// Takes the steps, that of this index with a fault. Answers whether the fault struck.
+    pub fn run(
         &mut self,
         rt: &impl Abort,
         alloc: Global,

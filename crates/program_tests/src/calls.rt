@@ -55,3 +55,17 @@ pub fn first_silent(rt: &HostRuntime, faults: &[Fault]) -> Option<&'static str> 
 pub fn all_told(rt: &impl Abort, silent: Option<&str>) {
     assert!(rt; silent.is_none(), "{silent:?}");
 }
+
+// What is printed of a script behind a line of its own.
+fn printed_behind(rt: &HostRuntime, line: &[u8], script: &str) -> Result<Vec<u8>, AllocError> {
+    let mut text = line.to_vec(rt.alloc())?;
+    text.extend_from_slice(script.as_bytes())?;
+    Ok(ran(rt, &text).out)
+}
+
+/// Whether a script prints the same lines where each node keeps one block of its tables in memory.
+pub fn prints_by_one_block(rt: &HostRuntime, script: &str) -> Result<bool, AllocError> {
+    let by_one = printed_behind(rt, b"limit cache 1\n", script)?;
+    let by_default = printed_behind(rt, b"# no limit\n", script)?;
+    Ok(by_one.as_slice() == by_default.as_slice() && !by_one.is_empty())
+}

@@ -1,5 +1,5 @@
 // Scripts whose tends merge tables, by the limits that they set.
-use crate::calls::{ran, times};
+use crate::calls::{prints_by_one_block, ran, times};
 use std::alloc::AllocError;
 use std::test::Fail;
 
@@ -49,6 +49,15 @@ fn tends_merge_level_0(rt: HostRuntime) {
     }
 }
 
+#[test]
+fn tends_merge_by_a_cache_of_one_block(rt: HostRuntime) -> Result<(), Fail> {
+    for (script, _out) in MERGES {
+        let is_same = prints_by_one_block(&rt, *script)?;
+        assert!(rt; is_same, "{script}");
+    }
+    Ok(())
+}
+
 // The last line that is printed of three keys, each with a value of 200 bytes, which one merge
 // writes to tables with this target.
 fn written_with_target(rt: &HostRuntime, target: u64) -> Result<Vec<u8>, AllocError> {
@@ -87,5 +96,8 @@ fn a_level_over_its_limit_is_merged(rt: HostRuntime) -> Result<(), Fail> {
         10: node 1 epoch 0 count 2 committed 2 floor 2 kept 2 tables 0 1 1 0 0 0 0\n";
     let outcome = ran(&rt, &script);
     assert!(rt; outcome.prints(out.as_bytes(), b"") && outcome.status == 0);
+    let text = std::str::from_utf8(&script).unwrap_or("");
+    let is_same = prints_by_one_block(&rt, text)?;
+    assert!(rt; is_same, "by one block");
     Ok(())
 }

@@ -1,5 +1,5 @@
 // Pages of rows, both ways, and snapshots.
-use crate::calls::{ran, times};
+use crate::calls::{prints_by_one_block, ran, times};
 use std::alloc::AllocError;
 use std::test::Fail;
 
@@ -91,6 +91,15 @@ fn pages_and_snapshots(rt: HostRuntime) {
             "{script}"
         );
     }
+}
+
+#[test]
+fn pages_by_a_cache_of_one_block(rt: HostRuntime) -> Result<(), Fail> {
+    for (script, _out) in PAGES {
+        let is_same = prints_by_one_block(&rt, *script)?;
+        assert!(rt; is_same, "{script}");
+    }
+    Ok(())
 }
 
 #[test]

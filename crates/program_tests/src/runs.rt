@@ -166,13 +166,13 @@ const RUNS: &[(&str, &str)] = &[
     ),
     // The least and the greatest number of each limit.
     (
-        "limit log 16\nlimit l0 0\nlimit table 64\nlimit level 64\nconfig 1\nget 1 a\n",
-        "6: none at 0\n",
+        "limit log 16\nlimit l0 0\nlimit table 64\nlimit level 64\nlimit cache 1\nconfig 1\nget 1 a\n",
+        "7: none at 0\n",
     ),
     (
         "limit level 1099511627776\nlimit table 1073741824\nlimit l0 64\nlimit log 1073741824\n\
-         config 1\nget 1 a\n",
-        "6: none at 0\n",
+         limit cache 65536\nconfig 1\nget 1 a\n",
+        "7: none at 0\n",
     ),
     // The other limits leave that of a log, before and behind it, and where it is not set.
     (

@@ -4,8 +4,10 @@ use Rattle.std.specs.Prelude.{Option}
 use Rattle.std.specs.Fmt.{decimal}
 use Rattle.std.specs.Str.{bytes_eq}
 use Rattle.kv_types.specs.declared.Limits.{Limits}
+use Rattle.kv_types.specs.declared.bounds.TheConstants.{MAX_CACHE}
 use Rattle.script_words.specs.declared.limits.LimitName.{LimitName}
 use Rattle.script_words.specs.declared.limits.LimitName.TheVariants.{Log, L0, Table, Level}
+use Rattle.script_words.specs.declared.limits.LimitName.TheVariants.{Cache}
 use Rattle.script_words.specs.declared.limits.ScriptLimits.{ScriptLimits}
 
 -- the word of a limit
@@ -14,11 +16,12 @@ limit_word Log = codes "log"
 limit_word L0 = codes "l0"
 limit_word Table = codes "table"
 limit_word Level = codes "level"
+limit_word Cache = codes "cache"
 
 -- the limit of a word, if it is the word of one
 abbrev pub limit_named : List ℕ → Option LimitName
 limit_named word =
-    find (λ name. bytes_eq word (limit_word name)) (Log ∷ L0 ∷ Table ∷ Level ∷ [])
+    find (λ name. bytes_eq word (limit_word name)) (Log ∷ L0 ∷ Table ∷ Level ∷ Cache ∷ [])
 
 -- the least and the greatest number that a limit may be
 abbrev pub limit_range : LimitName → ℕ × ℕ
@@ -26,6 +29,7 @@ limit_range Log = (16, 2 ^ 30)
 limit_range L0 = (0, 64)
 limit_range Table = (64, 2 ^ 30)
 limit_range Level = (64, 2 ^ 40)
+limit_range Cache = (1, MAX_CACHE)
 
 -- a limit may be this number
 abbrev pub is_allowed : LimitName → ℕ → Bool
@@ -34,7 +38,13 @@ is_allowed name number =
 
 -- the limits of a script that sets none
 abbrev pub default_limits : ScriptLimits
-default_limits = record { log = 4194304; l0 = 4; table = 2097152; level = 10485760 }
+default_limits = record {
+  log = 4194304;
+  l0 = 4;
+  table = 2097152;
+  level = 10485760;
+  cache = 256;
+}
 
 -- these limits, but for one that is set
 abbrev pub limits_with : ScriptLimits → LimitName → ℕ → ScriptLimits
@@ -42,6 +52,7 @@ limits_with limits Log number = record limits { log = number }
 limits_with limits L0 number = record limits { l0 = number }
 limits_with limits Table number = record limits { table = number }
 limits_with limits Level number = record limits { level = number }
+limits_with limits Cache number = record limits { cache = number }
 
 -- the words that set a limit
 abbrev pub SetsLimit : List (List ℕ) → LimitName → ℕ → Type 0
@@ -49,8 +60,8 @@ SetsLimit words name number =
     (words ≡ codes "limit" ∷ limit_word name ∷ decimal number ∷ [])
     × (is_allowed name number ≡ true)
 
--- the limits of a store, by those of a script, which can't set the cache
+-- the limits of a store, by those of a script
 abbrev pub AreLimits : ScriptLimits → Limits → Type 0
 AreLimits script limits =
     (limits.log ≡ script.log) × (limits.l0 ≡ script.l0) × (limits.table ≡ script.table)
-    × (limits.level ≡ script.level) × (limits.cache ≡ 256)
+    × (limits.level ≡ script.level) × (limits.cache ≡ script.cache)

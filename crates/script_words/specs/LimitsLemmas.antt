@@ -1,7 +1,7 @@
 -- The words of limits, and the ranges that they keep.
 use Rattle.std.specs.Prelude.{Bool, find, nat_le}
 use Rattle.kv_types.specs.Limits.{IsInRange}
-use Rattle.script_words.specs.declared.limits.LimitName.TheVariants.{L0, Level, Log, Table}
+use Rattle.script_words.specs.declared.limits.LimitName.TheVariants.{Cache, L0, Level, Log, Table}
 use Rattle.script_words.specs.declared.limits.LimitName.{LimitName}
 use Rattle.std.proofs.Common.{List, Some, ap, arith, inl, inr, refl, subst, true, ℕ, ◌<◌, ◌^◌, ◌∷◌}
 use Rattle.std.proofs.Common.{◌≡◌, ◌≤◌, []}
@@ -20,6 +20,7 @@ named_by Log = refl
 named_by L0 = refl
 named_by Table = refl
 named_by Level = refl
+named_by Cache = refl
 
 -- an option has one value
 pub one_name : (a b : LimitName) → Some a ≡ Some b → a ≡ b
@@ -38,7 +39,7 @@ pub word_of_limit : (word : List ℕ) (name : LimitName) → limit_named word �
     → word ≡ limit_word name
 word_of_limit word name is =
     (bytes_eq-Decides word (limit_word name)).0
-    (found_passes (λ it. bytes_eq word (limit_word it)) (Log ∷ L0 ∷ Table ∷ Level ∷ []) name is)
+    (found_passes (λ it. bytes_eq word (limit_word it)) (Log ∷ L0 ∷ Table ∷ Level ∷ Cache ∷ []) name is)
 
 at_least : (a b : ℕ) → nat_le a b ≡ true → a ≤ b
 at_least a b is = grind (arith, nat_tests)
@@ -54,6 +55,7 @@ greatest_is_small Log = omega arith
 greatest_is_small L0 = omega arith
 greatest_is_small Table = omega arith
 greatest_is_small Level = omega arith
+greatest_is_small Cache = omega arith
 
 -- a number that a limit may be is one that a script may name
 pub is_small : (name : LimitName) (number : ℕ) → is_allowed name number ≡ true → number < 2 ^ 63
@@ -62,7 +64,7 @@ is_small name number allowed =
 
 -- each of the limits lies in its range
 abbrev pub HasRanges : ScriptLimits → Type 0
-HasRanges limits = IsInRange limits.log limits.l0 limits.table limits.level 256
+HasRanges limits = IsInRange limits.log limits.l0 limits.table limits.level limits.cache
 
 -- each of the limits lies in its range where one is set
 pub with_ranges : (limits : ScriptLimits) (name : LimitName) (number : ℕ)
@@ -95,4 +97,11 @@ with_ranges limits Level number allowed are = record {
   table_range = are.table_range;
   level_range = within Level number allowed;
   cache_range = are.cache_range;
+}
+with_ranges limits Cache number allowed are = record {
+  log_range = are.log_range;
+  l0_range = are.l0_range;
+  table_range = are.table_range;
+  level_range = are.level_range;
+  cache_range = within Cache number allowed;
 }

@@ -5,6 +5,7 @@ ghost use Rattle.script_words.specs.Limits.{default_limits, is_allowed, limit_na
 ghost use Rattle.script_words.specs.Limits.{AreLimits};
 
 use kv_types::Limits;
+use kv_types::bounds::MAX_CACHE;
 
 /// The name of a limit.
 #[derive(Clone, Copy)]
@@ -17,6 +18,8 @@ pub enum LimitName {
     Table,
     /// Bytes of level 1; each deeper level has ten times the limit of the one above it.
     Level,
+    /// Blocks of tables that a store keeps in memory.
+    Cache,
 }
 
 impl LimitName {
@@ -29,6 +32,7 @@ impl LimitName {
             b"l0" => Some(LimitName::L0),
             b"table" => Some(LimitName::Table),
             b"level" => Some(LimitName::Level),
+            b"cache" => Some(LimitName::Cache),
             _ => None,
         }
     }
@@ -42,17 +46,19 @@ impl LimitName {
             LimitName::L0 => number <= 64,
             LimitName::Table => number >= 64 && number <= 1 << 30,
             LimitName::Level => number >= 64 && number <= 1 << 40,
+            LimitName::Cache => number >= 1 && number <= MAX_CACHE,
         }
     }
 }
 
-/// The limits that a script may set. The cache of a store is no such limit.
+/// The limits that a script may set: all those of a store.
 #[derive(Clone, Copy)]
 pub struct ScriptLimits {
     pub log: u64,
     pub l0: u64,
     pub table: u64,
     pub level: u64,
+    pub cache: u64,
 }
 
 impl Default for ScriptLimits {
@@ -65,6 +71,7 @@ impl Default for ScriptLimits {
             l0: limits.l0,
             table: limits.table,
             level: limits.level,
+            cache: limits.cache,
         }
     }
 }
@@ -79,19 +86,19 @@ impl ScriptLimits {
             LimitName::L0 => self.l0 = number,
             LimitName::Table => self.table = number,
             LimitName::Level => self.level = number,
+            LimitName::Cache => self.cache = number,
         }
         self
     }
 
-    /// The limits of a store, with the default cache.
+    /// The limits of a store.
     pub fn of_store(self) -> Limits
-        requires { IsInRange self.log self.l0 self.table self.level 256 }
+        requires { IsInRange self.log self.l0 self.table self.level self.cache }
         ensures { AreLimits self result }
     {
-        let others = Limits::default();
-        match Limits::new(self.log, self.l0, self.table, self.level, others.cache) {
+        match Limits::new(self.log, self.l0, self.table, self.level, self.cache) {
             Ok(limits) => limits,
-            Err(_) => others,
+            Err(_) => Limits::default(),
         }
     }
 }

@@ -16,7 +16,7 @@ use Rattle.scripts.specs.declared.statement.Action.{Action}
 use Rattle.scripts.specs.declared.statement.Action.TheVariants.{Settle, Show}
 use Rattle.scripts.specs.Reading.{IsOfOneNode}
 use Rattle.script_words.specs.declared.limits.LimitName.{LimitName}
-use Rattle.script_words.specs.declared.limits.LimitName.TheVariants.{Log, L0, Table, Level}
+use Rattle.script_words.specs.declared.limits.LimitName.TheVariants.{Cache, Log, L0, Table, Level}
 use Rattle.script_words.specs.declared.limits.ScriptLimits.{ScriptLimits}
 use Rattle.scripts.specs.declared.setup.Setup.{Setup}
 use Rattle.scripts.specs.declared.statement.ParserState.{ParserState}
@@ -343,6 +343,7 @@ begins_none Log = refl
 begins_none L0 = refl
 begins_none Table = refl
 begins_none Level = refl
+begins_none Cache = refl
 
 -- a limit
 limit_good : (faults : Bool) (limits : ScriptLimits) (name : LimitName) (number : ℕ)

@@ -1,5 +1,5 @@
-// What a node drops and refuses after it adopted a later configuration. All that is dropped leaves
-// the node as one that never got it: its numbers, all outputs behind it, and each byte of its disk.
+// What a node drops and refuses that is new, or that adopted a later configuration. All that is
+// dropped leaves the node as one that never got it: its numbers, all outputs behind it, and each byte of its disk.
 use crate::answers::{holds_at, is_so};
 use crate::items::{ONE, TWO};
 use crate::nodes::lines::{Line, Lines, take, take_all};
@@ -282,6 +282,31 @@ const LAST: Told = Told {
     ],
 };
 
+// A new head of two. What it gets is of no run.
+const NEW: Told = Told {
+    node: 1,
+    ids: &[1, 2],
+    before: &[],
+    dropped: &[
+        (
+            "dropped BadAck",
+            &[Line::Ack(0, 2, 1, 1), Line::Ack(0, 2, 1, 0)],
+        ),
+        ("dropped NotSuccessor", &[Line::Ack(0, 3, 0, 0)]),
+        (
+            "dropped BadNotice",
+            &[Line::Notice(1, &[1, 2]), Line::Notice(1, &[1, 3])],
+        ),
+        ("dropped OldNotice", &[Line::Notice(0, &[1])]),
+    ],
+    behind: &[
+        (21, Line::Submit(ONE), "1>2 forward 0 1"),
+        (22, Line::Get("a", None), "22: none at 0"),
+        (23, Line::Ack(0, 2, 1, 1), "21: committed 1"),
+        (24, Line::Notice(1, &[1]), ""),
+    ],
+};
+
 fn put_number(rt: &impl Abort, left: &mut Vec<u8>, number: u64) {
     left.extend_from_slice(&number.to_be_bytes())
         .expect(rt, "memory");
@@ -343,10 +368,10 @@ impl Told {
     }
 }
 
-static NODES: [Told; 5] = [NEW_HEAD, OLD_HEAD, BETWEEN, TAIL, LAST];
+static NODES: [Told; 6] = [NEW, NEW_HEAD, OLD_HEAD, BETWEEN, TAIL, LAST];
 
 #[test]
-fn what_is_dropped_after_a_notice_changes_nothing(rt: HostRuntime) {
+fn what_is_dropped_changes_nothing(rt: HostRuntime) {
     for (index, told) in NODES.iter().enumerate() {
         let left = told.left(&rt, rt.alloc(), told.dropped);
         let without = told.left(&rt, rt.alloc(), &[]);

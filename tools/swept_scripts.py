@@ -1,0 +1,65 @@
+"""The scripts whose events `sweep_faults` and `memory/sweep.py` sweep, by what happens in them."""
+
+KEYS = [f"k{at:03}" for at in range(256)]
+LONG = "x" * 200
+
+
+def script(*lines):
+    """The text of these lines."""
+    return "".join(f"{line}\n" for line in lines)
+
+
+def wide(value):
+    """A submit of 256 keys."""
+    return "submit 1 " + " ".join(f"{key}={value}" for key in KEYS)
+
+
+BATCH = script("config 1", "submit 1 a=1", "get 1 a")
+
+CHAIN = script("config 1 2 3", "submit 1 a=1", *(f"deliver {place}" for place in (1, 1, 2, 4, 5)))
+
+SNAPSHOT = ["limit log 16", "limit l0 1", "config 1", "submit 1 a=1", "open 1", "tend 1"]
+SNAPSHOT += ["submit 1 a=2", "submit 1 -a", "settle 1", "get 1 a 1", "get 1 a", "show 1"]
+
+CLOSED = [*SNAPSHOT, "close 1 1", "submit 1 a=4", "tend 1", "submit 1 c=1", "settle 1"]
+CLOSED += ["get 1 a 1", "get 1 a", "show 1"]
+
+TABLES = ["limit log 16", "config 1", "submit 1 a=1", "tend 1", "submit 1 b=2", "tend 1"]
+TABLES += ["submit 1 c=3", "tend 1", "submit 1 d=4", "tend 1", "submit 1 a=5", "settle 1"]
+TABLES += ["show 1", "rows 1 @ * 10"]
+
+DEEPER = ["limit log 16", "limit l0 0", "limit level 300", "config 1", f"submit 1 a={LONG}"]
+DEEPER += ["settle 1", "submit 1 -a", "settle 1", "get 1 a", "show 1"]
+
+HEAD = ["config 1 2 3", "config 2 3", "submit 1 a=1", "flow", "notice 2 1", "notice 3 1"]
+HEAD += ["submit 1 a=old", "submit 2 a=new", "flow", "get 3 a", "get 1 a"]
+
+MIDDLE = ["config 1 2 3", "config 1 3", "submit 1 a=1", "flow", "submit 1 b=2", "deliver 5"]
+MIDDLE += ["stop 2", "notice 1 1", "notice 3 1", "tick 1", "flow"]
+
+TAIL = ["config 1 2 3", "config 1 2", "submit 1 a=1", "deliver 1", "notice 1 1", "notice 2 1"]
+TAIL += ["deliver 3"]
+
+PARTS = ["limit log 16", "limit l0 1", "config 1", wide(1), "tend 1", wide(2)]
+PARTS += ["tend 1"] * 3 + ["show 1", "tend 1", "show 1", "tend 1"]
+
+# What `sweep_faults` sweeps.
+FAULTS = {
+    "a batch goes down a chain of three": CHAIN,
+    "a snapshot holds the floor back until it is closed": script(*CLOSED),
+    "five tables are merged": script(*TABLES),
+    "a value goes on to level 2 below its deletion": script(*DEEPER),
+    "the head leaves": script(*HEAD),
+    "the middle node leaves": script(*MIDDLE),
+    "the tail leaves": script(*TAIL),
+    "a merge takes two parts": script(*PARTS),
+}
+
+# What `memory/sweep.py` sweeps besides its own.
+MEMORY = {
+    "a batch alone": BATCH,
+    "a batch down a chain of three": CHAIN,
+    "a snapshot holds the floor back": script(*SNAPSHOT),
+    "five tables are merged": script(*TABLES),
+    "the head leaves": script(*HEAD),
+}
