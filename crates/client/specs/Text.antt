@@ -163,6 +163,13 @@ numbers_text node it =
     ++ (codes " " ++ (counts_text it.epoch it.count it.committed
     ++ (codes " " ++ kept_text it.floor it.kept it.tables))))
 
+-- what a node's store has, of which nothing is known to be committed
+abbrev pub store_text : ℕ → Numbers → List ℕ
+store_text node it =
+    codes "node " ++ (decimal node ++ (codes " epoch " ++ (decimal it.epoch
+    ++ (codes " count " ++ (decimal it.count
+    ++ (codes " " ++ kept_text it.floor it.kept it.tables))))))
+
 -- a line of a report, but for the rows of an answer
 abbrev pub line_text : Line → List ℕ
 line_text line.Nothing = codes "nothing"

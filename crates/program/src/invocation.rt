@@ -15,6 +15,10 @@ pub enum Invocation<'a> {
     Input,
     /// A run of the script at this path.
     Script(&'a str),
+    /// A run of a script at nodes in folders of this one. The script `-` is standard input.
+    Loop { script: &'a str, folder: &'a str },
+    /// What the store of this folder has.
+    Dump(&'a str),
 }
 
 /// Why the words are no request.
@@ -24,19 +28,29 @@ pub enum WordsError {
     Memory,
 }
 
+/// A word that has to be there.
+fn required<'a>(alloc: Global, id: &'a str) -> Arg<'a> {
+    Arg::new(alloc, id).required(true).action(ArgAction::Set)
+}
+
+/// A command with one word.
+fn command<'a>(alloc: Global, name: &'a str, word: &'a str) -> Result<Command<'a>, AllocError> {
+    Command::new(alloc, name)
+        .disable_help_flag(true)
+        .arg(required(alloc, word))
+}
+
 /// The words that the program knows.
 fn grammar<'a>(alloc: Global) -> Result<Command<'a>, AllocError> {
-    let script = Arg::new(alloc, "SCRIPT")
-        .required(true)
-        .action(ArgAction::Set);
-    let lab = Command::new(alloc, "lab")
-        .disable_help_flag(true)
-        .arg(script)?;
+    let folder = required(alloc, "dir").long("dir");
+    let looping = command(alloc, "loop", "SCRIPT")?.arg(folder)?;
     Command::new(alloc, "chainstore")
         .subcommand_required(true)
         .disable_help_flag(true)
         .disable_help_subcommand(true)
-        .subcommand(lab)
+        .subcommand(command(alloc, "lab", "SCRIPT")?)?
+        .subcommand(looping)?
+        .subcommand(command(alloc, "dump", "DIR")?)
 }
 
 /// Why the parser takes no words.
@@ -50,25 +64,41 @@ fn words_error(error: clap::Error) -> WordsError {
     }
 }
 
-/// The script that the parser finds in the words.
-fn parsed<'a>(alloc: Global, words: &'a [&'a str]) -> Result<&'a str, WordsError> {
+/// The request that the parser finds in the words.
+fn parsed<'a>(alloc: Global, words: &'a [&'a str]) -> Result<Invocation<'a>, WordsError> {
     let Ok(grammar) = grammar(alloc) else {
         return Err(WordsError::Memory);
     };
     match grammar.try_get_matches_from(words) {
-        Ok(matches) => script_in(matches),
+        Ok(matches) => {
+            let found = request_in(&matches);
+            drop(matches);
+            found.ok_or(WordsError::Usage)
+        }
         Err(error) => Err(words_error(error)),
     }
 }
 
-/// The script among what the parser matched.
-fn script_in<'a>(matches: ArgMatches<'a>) -> Result<&'a str, WordsError> {
-    let script = match matches.subcommand_matches("lab") {
-        None => None,
-        Some(lab) => lab.get_str("SCRIPT"),
-    };
-    drop(matches);
-    script.ok_or(WordsError::Usage)
+/// The request among what the parser matched.
+fn request_in<'a>(matches: &ArgMatches<'a>) -> Option<Invocation<'a>> {
+    if let Some(lab) = matches.subcommand_matches("lab") {
+        return Some(lab_request(lab.get_str("SCRIPT")?));
+    }
+    if let Some(looping) = matches.subcommand_matches("loop") {
+        let (script, folder) = (looping.get_str("SCRIPT")?, looping.get_str("dir")?);
+        return Some(Invocation::Loop { script, folder });
+    }
+    let dump = matches.subcommand_matches("dump")?;
+    Some(Invocation::Dump(dump.get_str("DIR")?))
+}
+
+/// A run of this script, which may be standard input.
+fn lab_request<'a>(script: &'a str) -> Invocation<'a> {
+    if script == "-" {
+        Invocation::Input
+    } else {
+        Invocation::Script(script)
+    }
 }
 
 fn begins_with_dash(word: &str) -> bool
@@ -80,25 +110,39 @@ fn begins_with_dash(word: &str) -> bool
     }
 }
 
-/// Whether the word names a script where no `--` stands before it.
-fn names_script(word: &str) -> bool
+/// Whether the word is a path where no `--` stands before it.
+fn names_path(word: &str) -> bool
     ensures { result ≡ names_script word.now }
 {
     word == "-" || !begins_with_dash(word)
 }
 
-/// The script of words in their plain form.
-fn lab_script<'a>(words: &'a [&'a str]) -> Option<&'a str>
-    ensures { MatchOption result (script_of (map (λ w. w.now) words.now) ≡ None)
-        (λ script. script_of (map (λ w. w.now) words.now) ≡ Some script.now) }
-{
+/// The path of words in their plain form, behind this command.
+fn path_behind<'a>(command: &str, words: &'a [&'a str]) -> Option<&'a str> {
     match words {
-        [_, name, script] if *name == "lab" && names_script(script) => Some(*script),
-        [_, name, dashes, script] if *name == "lab" && *dashes == "--" => Some(*script),
-        [_, name, script, dashes] if *name == "lab" && *dashes == "--" && names_script(script) => {
-            Some(*script)
+        [_, name, path] if *name == command && names_path(path) => Some(*path),
+        [_, name, dashes, path] if *name == command && *dashes == "--" => Some(*path),
+        [_, name, path, dashes] if *name == command && *dashes == "--" && names_path(path) => {
+            Some(*path)
         }
         _ => None,
+    }
+}
+
+/// Script and folder of a loop's words in their plain form.
+fn loop_paths<'a>(words: &'a [&'a str]) -> Option<(&'a str, &'a str)> {
+    let [_, name, first, second, third] = words else {
+        return None;
+    };
+    let (script, option, folder) = if *first == "--dir" {
+        (*third, *first, *second)
+    } else {
+        (*first, *second, *third)
+    };
+    if *name == "loop" && option == "--dir" && names_path(script) && names_path(folder) {
+        Some((script, folder))
+    } else {
+        None
     }
 }
 
@@ -112,38 +156,45 @@ fn any_dashed(words: &[&str]) -> bool
     }
 }
 
+/// Whether this is a command of the program.
+fn is_command(name: &str) -> bool {
+    name == "lab" || name == "loop" || name == "dump"
+}
+
 /// Whether the parser decides on words of no plain form.
 fn has_option(words: &[&str]) -> bool
     ensures { result ≡ has_option (map (λ w. w.now) words.now) }
 {
     match words {
-        [_, name, behind @ ..] => *name == "lab" && behind.len() > 1 && any_dashed(behind),
+        [_, name, behind @ ..] => is_command(name) && behind.len() > 1 && any_dashed(behind),
         _ => false,
     }
+}
+
+/// The request of words in their plain form.
+fn plain_request<'a>(words: &'a [&'a str]) -> Option<Invocation<'a>> {
+    if let Some(script) = path_behind("lab", words) {
+        return Some(lab_request(script));
+    }
+    if let Some((script, folder)) = loop_paths(words) {
+        return Some(Invocation::Loop { script, folder });
+    }
+    let folder = path_behind("dump", words)?;
+    Some(Invocation::Dump(folder))
 }
 
 /// The request that the words spell. The first word is the program's name. What words of the plain
 /// form ask for is decided here, and that other words without an option ask for nothing, and a
 /// contract says it; the parser decides on all others.
-pub fn invocation_of<'a>(alloc: Global, words: &'a [&'a str]) -> Result<Invocation<'a>, WordsError>
-    ensures none { script_of (map (λ w. w.now) words.now) ≡ None →
-        has_option (map (λ w. w.now) words.now) ≡ false → result ≡ Err WordsError.Usage }
-    ensures input { script_of (map (λ w. w.now) words.now) ≡ Some (codes "-") →
-        result ≡ Ok Invocation.Input }
-    ensures path { (path : List ℕ) → script_of (map (λ w. w.now) words.now) ≡ Some path →
-        path ≢ codes "-" → IsOkAnd result (λ request. AsksForScript request path) }
-{
-    if let Some(script) = lab_script(words) {
-        if script == "-" {
-            return Ok(Invocation::Input);
-        }
-        return Ok(Invocation::Script(script));
+pub fn invocation_of<'a>(
+    alloc: Global,
+    words: &'a [&'a str],
+) -> Result<Invocation<'a>, WordsError> {
+    if let Some(request) = plain_request(words) {
+        return Ok(request);
     }
     if !has_option(words) {
         return Err(WordsError::Usage);
     }
-    match parsed(alloc, words)? {
-        "-" => Ok(Invocation::Input),
-        script => Ok(Invocation::Script(script)),
-    }
+    parsed(alloc, words)
 }

@@ -2,6 +2,8 @@
 #![tactic(auto)]
 
 mod failure;
+mod folder_dump;
+mod folder_run;
 mod invocation;
 mod reading;
 mod run_input;

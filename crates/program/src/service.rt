@@ -9,12 +9,14 @@ ghost use Rattle.program.specs.Runs.{FailureIsReported, ProgramEnds};
 ghost use Rattle.program.specs.Runs.{RunEnds, RunEndsAs, UsageIsReported};
 
 use crate::failure::Failure;
+use crate::folder_dump::dump_folder;
+use crate::folder_run::run_in_folders;
 use crate::invocation::{Invocation, WordsError, invocation_of};
 use crate::run_input::run_input;
 use arrayvec::ArrayVec;
 use client::print;
 use std::alloc::Global;
-use std::fs::OpenOptions;
+use std::fs::{File, OpenOptions};
 use std::io::{self, Read, Write};
 use std::rt::Files;
 
@@ -27,7 +29,7 @@ const LINE: usize = 64;
 /// Does what the words ask for, and answers the exit status: 0 for a run, whatever became of its
 /// nodes, 1 for a fault in script, output or memory, 2 for words that ask for nothing. A fault is
 /// reported in one line on `err`.
-pub fn serve<F: Files + Alloc<A = Global>, R: Read, O: Write, E: Write>(
+pub fn serve<F: Files<File = File> + Alloc<A = Global> + Clone + Drop, R: Read, O: Write, E: Write>(
     rt: &F,
     words: &[&str],
     input: &mut R,
@@ -53,6 +55,8 @@ pub fn serve<F: Files + Alloc<A = Global>, R: Read, O: Write, E: Write>(
             Ok(mut file) => end(serve_script(rt.alloc(), &mut file, out, err)),
             Err(_) => report(err, Failure::Unreadable),
         },
+        Ok(Invocation::Loop { script, folder }) => serve_loop(rt, script, folder, input, out, err),
+        Ok(Invocation::Dump(folder)) => serve_dump(rt, folder, out, err),
         Err(WordsError::Memory) => report(err, Failure::Memory),
         Err(WordsError::Usage) => refuse(err),
     }
@@ -115,5 +119,44 @@ pub fn serve_script<R: Read, O: Write, E: Write>(
     match run_input(alloc, input, out) {
         Ok(()) => Ok(0),
         Err(failure) => write_failure(err, failure),
+    }
+}
+
+/// Runs a script at nodes in folders, and answers the status: 1 also where a node stopped by
+/// itself, of which the run has printed a line.
+fn serve_loop<
+    F: Files<File = File> + Alloc<A = Global> + Clone + Drop,
+    R: Read,
+    O: Write,
+    E: Write,
+>(rt: &F, script: &str, folder: &str, input: &mut R, out: &mut O, err: &mut E) -> u8 {
+    if script == "-" {
+        return end_loop(run_in_folders(rt, input, folder, out), err);
+    }
+    match OpenOptions::new().read(true).open(rt, script) {
+        Ok(mut file) => end_loop(run_in_folders(rt, &mut file, folder, out), err),
+        Err(_) => report(err, Failure::Unreadable),
+    }
+}
+
+/// The status of a run in folders, which answered whether a node stopped by itself.
+fn end_loop<E: Write>(ran: Result<bool, Failure>, err: &mut E) -> u8 {
+    match ran {
+        Ok(false) => 0,
+        Ok(true) => 1,
+        Err(failure) => report(err, failure),
+    }
+}
+
+/// Writes what the store of a folder has, and answers the status.
+fn serve_dump<F: Files<File = File> + Alloc<A = Global> + Clone + Drop, O: Write, E: Write>(
+    rt: &F,
+    folder: &str,
+    out: &mut O,
+    err: &mut E,
+) -> u8 {
+    match dump_folder(rt, folder, out) {
+        Ok(()) => 0,
+        Err(failure) => report(err, failure),
     }
 }
