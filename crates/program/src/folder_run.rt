@@ -2,14 +2,19 @@
 use crate::failure::Failure;
 use crate::run_input::input_script;
 use client::run_script;
-use dir_disk::DirDisk;
+use disk::Crash;
 use folder_nodes::nodes_in;
-use lab::{Direct, Line, Lines, SimNode, World};
+use lab::{Carrier, Line, Lines, World};
 use scripts::Script;
 use std::alloc::Global;
 use std::fs::File;
-use std::io::{Read, Write};
+use std::io::{ErrorKind, Read, Write};
+use std::net::{Net, TcpListener, TcpStream};
 use std::rt::Files;
+use tcp_carrier::TcpCarrier;
+
+/// Any port of this machine's own network.
+const ADDRESS: &str = "127.0.0.1:0";
 
 // Whether the line says that a node stopped by itself.
 fn is_stop(line: &Line) -> bool {
@@ -21,23 +26,25 @@ fn has_stop(steps: &[Lines]) -> bool {
     steps.iter().any(|step| step.as_slice().iter().any(is_stop))
 }
 
-// Runs a script at these nodes, and answers whether one of them stopped by itself.
-fn run_at<R: Files<File = File> + Alloc<A = Global> + Clone + Drop, W: Write>(
-    rt: &R,
+// What carries between the nodes of a run, over a listener of its own.
+fn carrier<N: Net<Listener = TcpListener, Stream = TcpStream> + Clone + Drop>(
+    rt: &N,
+) -> Result<TcpCarrier<N>, Failure> {
+    let own = rt.clone()?;
+    match TcpListener::bind(rt, ADDRESS) {
+        Ok(listener) => Ok(TcpCarrier::new(own, listener)),
+        Err(e) if e.kind() == ErrorKind::OutOfMemory => Err(Failure::Memory),
+        Err(_) => Err(Failure::Network),
+    }
+}
+
+// Runs a script in a world over folders, and answers whether a node stopped by itself.
+fn run_world<D: Crash + Drop, C: Carrier + Drop, W: Write>(
+    alloc: Global,
     script: &Script,
-    nodes: Vec<SimNode<DirDisk<R>>>,
+    mut world: World<D, C>,
     out: &mut W,
 ) -> Result<bool, Failure> {
-    let alloc = rt.alloc();
-    let setup = &script.setup;
-    let configs = match setup.configs.clone(alloc) {
-        Ok(configs) => configs,
-        Err(e) => {
-            drop(nodes);
-            return Err(Failure::from(e));
-        }
-    };
-    let mut world = World::over(alloc, configs, nodes, Direct, &setup.limits);
     let ran = run_script(alloc, script, &mut world, out);
     let stopped = has_stop(world.report());
     world.close();
@@ -47,13 +54,22 @@ fn run_at<R: Files<File = File> + Alloc<A = Global> + Clone + Drop, W: Write>(
 
 /// Reads a script whole, finds its nodes in the folders of this one, runs it at them and writes
 /// what happens, statement by statement. It answers whether a node stopped by itself.
-pub fn run_in_folders<F: Files<File = File> + Alloc<A = Global> + Clone + Drop, R: Read, W: Write>(
+pub fn run_in_folders<F, R: Read, W: Write>(
     rt: &F,
     input: &mut R,
     folder: &str,
     out: &mut W,
-) -> Result<bool, Failure> {
-    let script = input_script(rt.alloc(), input, false)?;
-    let nodes = nodes_in(rt, folder, &script.setup.configs, &script.setup.limits)?;
-    run_at(rt, &script, nodes, out)
+) -> Result<bool, Failure>
+where
+    F: Files<File = File> + Net<Listener = TcpListener, Stream = TcpStream>,
+    F: Alloc<A = Global> + Clone + Drop,
+{
+    let alloc = rt.alloc();
+    let script = input_script(alloc, input, false)?;
+    let setup = &script.setup;
+    let configs = setup.configs.clone(alloc)?;
+    let nodes = nodes_in(rt, folder, &configs, &setup.limits)?;
+    let carrier = carrier(rt)?;
+    let world = World::over(alloc, configs, nodes, carrier, &setup.limits);
+    run_world(alloc, &script, world, out)
 }

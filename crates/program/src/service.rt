@@ -18,6 +18,7 @@ use client::print;
 use std::alloc::Global;
 use std::fs::{File, OpenOptions};
 use std::io::{self, Read, Write};
+use std::net::{Net, TcpListener, TcpStream};
 use std::rt::Files;
 
 /// The line for words that ask for nothing.
@@ -36,6 +37,9 @@ pub fn serve<F: Files<File = File> + Alloc<A = Global> + Clone + Drop, R: Read, 
     out: &mut O,
     err: &mut E,
 ) -> u8
+where
+    F: Files<File = File> + Net<Listener = TcpListener, Stream = TcpStream>,
+    F: Alloc<A = Global> + Clone + Drop,
     ensures input { lab_script (map (λ w. w.now) words.now) ≡ Some (codes "-") →
         RunEndsAs (R.remaining input.old) (O.contents out.old) (O.contents out.new)
         (E.contents err.old) (E.contents err.new) result }
@@ -124,12 +128,18 @@ pub fn serve_script<R: Read, O: Write, E: Write>(
 
 /// Runs a script at nodes in folders, and answers the status: 1 also where a node stopped by
 /// itself, of which the run has printed a line.
-fn serve_loop<
-    F: Files<File = File> + Alloc<A = Global> + Clone + Drop,
-    R: Read,
-    O: Write,
-    E: Write,
->(rt: &F, script: &str, folder: &str, input: &mut R, out: &mut O, err: &mut E) -> u8 {
+fn serve_loop<F, R: Read, O: Write, E: Write>(
+    rt: &F,
+    script: &str,
+    folder: &str,
+    input: &mut R,
+    out: &mut O,
+    err: &mut E,
+) -> u8
+where
+    F: Files<File = File> + Net<Listener = TcpListener, Stream = TcpStream>,
+    F: Alloc<A = Global> + Clone + Drop,
+{
     if script == "-" {
         return end_loop(run_in_folders(rt, input, folder, out), err);
     }
