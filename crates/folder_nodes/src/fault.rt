@@ -1,12 +1,13 @@
 // Why a folder has no node for a run.
 ghost use Rattle.std.specs.Prelude.{◌≡◌};
-ghost use Rattle.folder_nodes.specs.Faults.{disk_stop, lock_stop};
+ghost use Rattle.folder_nodes.specs.Faults.{disk_stop, lock_stop, manifest_stop};
 ghost use Rattle.folder_nodes.specs.declared.fault.FolderError.TheVariants as error;
 ghost use Rattle.node.specs.declared.stop.Stop.TheVariants as stop;
 
 use configurations::NodeId;
 use dir_disk::LockError;
 use disk::DiskError;
+use manifest::ManifestError;
 use node::Stop;
 use std::alloc::{AllocError, AllocFailed};
 
@@ -44,6 +45,20 @@ impl From<DiskError> for FolderError {
         FolderError::Stopped(match cause {
             DiskError::Memory => Stop::Memory,
             DiskError::Failed | DiskError::NoFile | DiskError::Short => Stop::Disk,
+        })
+    }
+}
+
+impl From<ManifestError> for FolderError {
+    ghost from_gives = { λ cause e. e ≡ error.Stopped (manifest_stop cause) };
+
+    // A manifest that was just opened has not failed, so the last is not met.
+    fn from(cause: ManifestError) -> FolderError {
+        FolderError::Stopped(match cause {
+            ManifestError::Disk => Stop::Disk,
+            ManifestError::Memory => Stop::Memory,
+            ManifestError::NotCreated => Stop::NotCreated,
+            ManifestError::Damaged | ManifestError::Failed => Stop::Damaged,
         })
     }
 }

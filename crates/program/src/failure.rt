@@ -3,10 +3,8 @@ ghost use Rattle.std.specs.Prelude.{◌≡◌, Some};
 ghost use Rattle.program.specs.Failures.{failure_of, failure_text};
 ghost use Rattle.program.specs.declared.failure.Failure.TheVariants.{Memory};
 
-use client::{RunError, cause_name, fault_name};
-use dumps::DumpError;
-use folder_nodes::{FolderError, FolderFault};
-use lab::{LabError, Stop};
+use client::{RunError, fault_name};
+use lab::LabError;
 use scripts::ScriptFault;
 use std::alloc::AllocError;
 use std::fmt;
@@ -17,22 +15,8 @@ use std::fmt;
 pub enum Failure {
     Unreadable,
     Script(ScriptFault),
-    /// A node of a run in folders was neither created nor started.
-    Folder(FolderFault),
-    /// A store is not written out, or not whole.
-    Dump(Stop),
     Output,
     Memory,
-    /// There is no listener for what is to be carried.
-    Network,
-}
-
-// Why a folder has no node.
-fn folder_text(error: FolderError) -> &'static str {
-    match error {
-        FolderError::Stopped(cause) => cause_name(cause),
-        FolderError::OtherNode => "other node or configuration",
-    }
 }
 
 impl fmt::Display for Failure {
@@ -45,17 +29,8 @@ impl fmt::Display for Failure {
                 let (line, text) = (fault.line, fault_name(fault.error));
                 write!(f, "line {line}: {text}")
             }
-            Failure::Folder(fault) => {
-                let (id, text) = (fault.id.get(), folder_text(fault.error));
-                write!(f, "folder {id}: {text}")
-            }
-            Failure::Dump(cause) => {
-                let text = cause_name(*cause);
-                write!(f, "dump: {text}")
-            }
             Failure::Output => write!(f, "output: write"),
             Failure::Memory => write!(f, "run: memory"),
-            Failure::Network => write!(f, "run: network"),
         }
     }
 }
@@ -75,21 +50,6 @@ impl From<RunError> for Failure {
         match e {
             RunError::Write => Failure::Output,
             RunError::Memory => Failure::Memory,
-        }
-    }
-}
-
-impl From<FolderFault> for Failure {
-    fn from(fault: FolderFault) -> Failure {
-        Failure::Folder(fault)
-    }
-}
-
-impl From<DumpError> for Failure {
-    fn from(e: DumpError) -> Failure {
-        match e {
-            DumpError::Store(cause) => Failure::Dump(cause),
-            DumpError::Write => Failure::Output,
         }
     }
 }

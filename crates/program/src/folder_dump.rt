@@ -1,5 +1,5 @@
-//! The store of one folder is written out.
-use crate::failure::Failure;
+//! What the store of one folder has is written out.
+use crate::folder_failure::DumpFailure;
 use dir_disk::{DirDisk, Unchanged};
 use dumps::dump_store;
 use lab::Stop;
@@ -16,18 +16,18 @@ fn disk_to_read<F: Files<File = File> + Alloc<A = Global> + Clone + Drop>(
     DirDisk::to_read(rt.clone()?, folder)
 }
 
-/// Writes what the store of a folder has. No file of it is changed.
+/// Writes what the store of a folder has. No file of it is changed, and none is made.
 pub fn dump_folder<F: Files<File = File> + Alloc<A = Global> + Clone + Drop, W: Write>(
     rt: &F,
     folder: &str,
     out: &mut W,
-) -> Result<(), Failure> {
+) -> Result<(), DumpFailure> {
     // An empty path is that of no folder.
     if folder.is_empty() {
-        return Err(Failure::Dump(Stop::NotCreated));
+        return Err(DumpFailure::Store(Stop::NotCreated));
     }
     let Ok(disk) = disk_to_read(rt, folder) else {
-        return Err(Failure::Dump(Stop::Memory));
+        return Err(DumpFailure::Store(Stop::Memory));
     };
     dump_store(rt.alloc(), Unchanged::new(rt.alloc(), disk), out)?;
     Ok(())

@@ -1,9 +1,10 @@
 //! What the program's words ask for.
-ghost use Rattle.std.specs.Prelude.{◌≡◌, ◌≢◌, ℕ, List, false, map, codes, Ok, Err, Some, None};
-ghost use Rattle.std.specs.Prelude.{IsOkAnd, MatchOption};
+ghost use Rattle.std.specs.Prelude.{◌≡◌, ◌≢◌, ℕ, List, false, true, map, codes, Ok, Err, Some, None};
+ghost use Rattle.std.specs.Prelude.{IfOk, IsOkAnd, MatchOption};
 ghost use Rattle.std.specs.List.{list_any};
-ghost use Rattle.program.specs.Invocations.{AsksForScript, lab_script as script_of, is_dashed};
-ghost use Rattle.program.specs.Invocations.{has_option, names_script};
+ghost use Rattle.program.specs.Invocations.{AsksForScript, AsksForNothing, AsksToDump, AsksToLoop};
+ghost use Rattle.program.specs.Invocations.{IsOfCommand, has_option, is_dashed, is_folder, is_named};
+ghost use Rattle.program.specs.Invocations.{loop_paths as loop_paths_of, names_path, path_of};
 
 use clap::error::ErrorKind;
 use clap::{Arg, ArgAction, ArgMatches, Command};
@@ -28,78 +29,7 @@ pub enum WordsError {
     Memory,
 }
 
-/// A word that has to be there.
-fn required<'a>(alloc: Global, id: &'a str) -> Arg<'a> {
-    Arg::new(alloc, id).required(true).action(ArgAction::Set)
-}
-
-/// A command with one word.
-fn command<'a>(alloc: Global, name: &'a str, word: &'a str) -> Result<Command<'a>, AllocError> {
-    Command::new(alloc, name)
-        .disable_help_flag(true)
-        .arg(required(alloc, word))
-}
-
-/// The words that the program knows.
-fn grammar<'a>(alloc: Global) -> Result<Command<'a>, AllocError> {
-    let folder = required(alloc, "dir").long("dir");
-    let looping = command(alloc, "loop", "SCRIPT")?.arg(folder)?;
-    Command::new(alloc, "chainstore")
-        .subcommand_required(true)
-        .disable_help_flag(true)
-        .disable_help_subcommand(true)
-        .subcommand(command(alloc, "lab", "SCRIPT")?)?
-        .subcommand(looping)?
-        .subcommand(command(alloc, "dump", "DIR")?)
-}
-
-/// Why the parser takes no words.
-fn words_error(error: clap::Error) -> WordsError {
-    let is_memory = error.kind() == ErrorKind::OutOfMemory;
-    drop(error);
-    if is_memory {
-        WordsError::Memory
-    } else {
-        WordsError::Usage
-    }
-}
-
-/// The request that the parser finds in the words.
-fn parsed<'a>(alloc: Global, words: &'a [&'a str]) -> Result<Invocation<'a>, WordsError> {
-    let Ok(grammar) = grammar(alloc) else {
-        return Err(WordsError::Memory);
-    };
-    match grammar.try_get_matches_from(words) {
-        Ok(matches) => {
-            let found = request_in(&matches);
-            drop(matches);
-            found.ok_or(WordsError::Usage)
-        }
-        Err(error) => Err(words_error(error)),
-    }
-}
-
-/// The request among what the parser matched.
-fn request_in<'a>(matches: &ArgMatches<'a>) -> Option<Invocation<'a>> {
-    if let Some(lab) = matches.subcommand_matches("lab") {
-        return Some(lab_request(lab.get_str("SCRIPT")?));
-    }
-    if let Some(looping) = matches.subcommand_matches("loop") {
-        let (script, folder) = (looping.get_str("SCRIPT")?, looping.get_str("dir")?);
-        return Some(Invocation::Loop { script, folder });
-    }
-    let dump = matches.subcommand_matches("dump")?;
-    Some(Invocation::Dump(dump.get_str("DIR")?))
-}
-
-/// A run of this script, which may be standard input.
-fn lab_request<'a>(script: &'a str) -> Invocation<'a> {
-    if script == "-" {
-        Invocation::Input
-    } else {
-        Invocation::Script(script)
-    }
-}
+// ---- the words in their plain form
 
 fn begins_with_dash(word: &str) -> bool
     ensures { result ≡ is_dashed word.now }
@@ -112,13 +42,16 @@ fn begins_with_dash(word: &str) -> bool
 
 /// Whether the word is a path where no `--` stands before it.
 fn names_path(word: &str) -> bool
-    ensures { result ≡ names_script word.now }
+    ensures { result ≡ names_path word.now }
 {
     word == "-" || !begins_with_dash(word)
 }
 
 /// The path of words in their plain form, behind this command.
-fn path_behind<'a>(command: &str, words: &'a [&'a str]) -> Option<&'a str> {
+fn path_behind<'a>(command: &str, words: &'a [&'a str]) -> Option<&'a str>
+    ensures { MatchOption result (path_of command.now (map (λ w. w.now) words.now) ≡ None)
+        (λ path. path_of command.now (map (λ w. w.now) words.now) ≡ Some path.now) }
+{
     match words {
         [_, name, path] if *name == command && names_path(path) => Some(*path),
         [_, name, dashes, path] if *name == command && *dashes == "--" => Some(*path),
@@ -129,20 +62,28 @@ fn path_behind<'a>(command: &str, words: &'a [&'a str]) -> Option<&'a str> {
     }
 }
 
+/// Whether two words are an option of a folder, and a path.
+fn is_folder(option: &str, folder: &str) -> bool
+    ensures { result ≡ is_folder option.now folder.now }
+{
+    option == "--dir" && names_path(folder)
+}
+
 /// Script and folder of a loop's words in their plain form.
-fn loop_paths<'a>(words: &'a [&'a str]) -> Option<(&'a str, &'a str)> {
-    let [_, name, first, second, third] = words else {
-        return None;
-    };
-    let (script, option, folder) = if *first == "--dir" {
-        (*third, *first, *second)
-    } else {
-        (*first, *second, *third)
-    };
-    if *name == "loop" && option == "--dir" && names_path(script) && names_path(folder) {
-        Some((script, folder))
-    } else {
-        None
+fn loop_paths<'a>(words: &'a [&'a str]) -> Option<(&'a str, &'a str)>
+    ensures { MatchOption result (loop_paths_of (map (λ w. w.now) words.now) ≡ None)
+        (λ it. loop_paths_of (map (λ w. w.now) words.now) ≡ Some (it.0.now, it.1.now)) }
+{
+    match words {
+        [_, name, option, folder, script]
+            if *name == "loop" && is_folder(option, folder) && names_path(script) => {
+            Some((*script, *folder))
+        }
+        [_, name, script, option, folder]
+            if *name == "loop" && is_folder(option, folder) && names_path(script) => {
+            Some((*script, *folder))
+        }
+        _ => None,
     }
 }
 
@@ -156,45 +97,197 @@ fn any_dashed(words: &[&str]) -> bool
     }
 }
 
-/// Whether this is a command of the program.
-fn is_command(name: &str) -> bool {
-    name == "lab" || name == "loop" || name == "dump"
-}
-
 /// Whether the parser decides on words of no plain form.
 fn has_option(words: &[&str]) -> bool
     ensures { result ≡ has_option (map (λ w. w.now) words.now) }
 {
     match words {
-        [_, name, behind @ ..] => is_command(name) && behind.len() > 1 && any_dashed(behind),
+        [_, _, behind @ ..] => behind.len() > 1 && any_dashed(behind),
         _ => false,
     }
 }
 
-/// The request of words in their plain form.
-fn plain_request<'a>(words: &'a [&'a str]) -> Option<Invocation<'a>> {
-    if let Some(script) = path_behind("lab", words) {
-        return Some(lab_request(script));
+/// Whether the words ask for this command.
+fn is_named(command: &str, words: &[&str]) -> bool
+    ensures { result ≡ is_named command.now (map (λ w. w.now) words.now) }
+{
+    match words {
+        [_, name, ..] => *name == command,
+        _ => false,
     }
-    if let Some((script, folder)) = loop_paths(words) {
-        return Some(Invocation::Loop { script, folder });
-    }
-    let folder = path_behind("dump", words)?;
-    Some(Invocation::Dump(folder))
 }
 
-/// The request that the words spell. The first word is the program's name. What words of the plain
-/// form ask for is decided here, and that other words without an option ask for nothing, and a
-/// contract says it; the parser decides on all others.
-pub fn invocation_of<'a>(
+// ---- the parser
+
+/// A word that has to be there.
+fn required<'a>(alloc: Global, id: &'a str) -> Arg<'a> {
+    Arg::new(alloc, id).required(true).action(ArgAction::Set)
+}
+
+/// A command with one word.
+fn command<'a>(alloc: Global, name: &'a str, word: &'a str) -> Result<Command<'a>, AllocError> {
+    Command::new(alloc, name)
+        .disable_help_flag(true)
+        .arg(required(alloc, word))
+}
+
+/// The grammar of words that ask for this command.
+fn grammar<'a>(alloc: Global, command: Command<'a>) -> Result<Command<'a>, AllocError> {
+    Command::new(alloc, "chainstore")
+        .subcommand_required(true)
+        .disable_help_flag(true)
+        .disable_help_subcommand(true)
+        .subcommand(command)
+}
+
+/// The grammar of words that ask for a command of one path.
+fn path_grammar<'a>(
     alloc: Global,
+    name: &'a str,
+    word: &'a str,
+) -> Result<Command<'a>, AllocError> {
+    grammar(alloc, command(alloc, name, word)?)
+}
+
+/// The grammar of words that ask for a run in folders.
+fn loop_grammar<'a>(alloc: Global) -> Result<Command<'a>, AllocError> {
+    let folder = required(alloc, "dir").long("dir");
+    grammar(alloc, command(alloc, "loop", "SCRIPT")?.arg(folder)?)
+}
+
+/// Why the parser takes no words.
+fn words_error(error: clap::Error) -> WordsError {
+    let is_memory = error.kind() == ErrorKind::OutOfMemory;
+    drop(error);
+    if is_memory {
+        WordsError::Memory
+    } else {
+        WordsError::Usage
+    }
+}
+
+/// What the parser finds in the words.
+fn matches_of<'a>(
+    grammar: Result<Command<'a>, AllocError>,
     words: &'a [&'a str],
-) -> Result<Invocation<'a>, WordsError> {
-    if let Some(request) = plain_request(words) {
-        return Ok(request);
+) -> Result<ArgMatches<'a>, WordsError> {
+    match grammar {
+        Ok(grammar) => grammar.try_get_matches_from(words).map_err(words_error),
+        Err(_) => Err(WordsError::Memory),
+    }
+}
+
+/// The word with this id among what the parser matched behind a command.
+fn found<'a>(matches: &ArgMatches<'a>, command: &str, id: &str) -> Result<&'a str, WordsError> {
+    let word = match matches.subcommand_matches(command) {
+        None => None,
+        Some(inner) => inner.get_str(id),
+    };
+    word.ok_or(WordsError::Usage)
+}
+
+/// The path that the parser finds behind a command.
+fn parsed_path<'a>(
+    alloc: Global,
+    name: &'a str,
+    word: &'a str,
+    words: &'a [&'a str],
+) -> Result<&'a str, WordsError> {
+    let matches = matches_of(path_grammar(alloc, name, word), words)?;
+    let path = found(&matches, name, word);
+    drop(matches);
+    path
+}
+
+/// Script and folder that the parser finds behind `loop`.
+fn parsed_loop<'a>(alloc: Global, words: &'a [&'a str]) -> Result<(&'a str, &'a str), WordsError> {
+    let matches = matches_of(loop_grammar(alloc), words)?;
+    let script = found(&matches, "loop", "SCRIPT");
+    let folder = found(&matches, "loop", "dir");
+    drop(matches);
+    Ok((script?, folder?))
+}
+
+// ---- requests
+
+/// A run of this script, which may be standard input.
+fn script_request<'a>(script: &'a str) -> Invocation<'a>
+    ensures input { script.now ≡ codes "-" → result ≡ Invocation.Input }
+    ensures path { script.now ≢ codes "-" → AsksForScript result script.now }
+{
+    if script == "-" {
+        Invocation::Input
+    } else {
+        Invocation::Script(script)
+    }
+}
+
+/// The path behind this command: of words in their plain form it is found here, and other words
+/// without an option have none.
+fn path_request<'a>(
+    alloc: Global,
+    command: &'a str,
+    word: &'a str,
+    words: &'a [&'a str],
+) -> Result<&'a str, WordsError>
+    ensures none { path_of command.now (map (λ w. w.now) words.now) ≡ None →
+        has_option (map (λ w. w.now) words.now) ≡ false → result ≡ Err WordsError.Usage }
+    ensures path { (path : List ℕ) → path_of command.now (map (λ w. w.now) words.now) ≡ Some path →
+        IsOkAnd result (λ found. found.now ≡ path) }
+{
+    if let Some(path) = path_behind(command, words) {
+        return Ok(path);
     }
     if !has_option(words) {
         return Err(WordsError::Usage);
     }
-    parsed(alloc, words)
+    parsed_path(alloc, command, word, words)
+}
+
+/// Script and folder of a loop's words.
+fn loop_request<'a>(alloc: Global, words: &'a [&'a str]) -> Result<(&'a str, &'a str), WordsError>
+    ensures none { loop_paths_of (map (λ w. w.now) words.now) ≡ None →
+        has_option (map (λ w. w.now) words.now) ≡ false → result ≡ Err WordsError.Usage }
+    ensures paths { (script folder : List ℕ) →
+        loop_paths_of (map (λ w. w.now) words.now) ≡ Some (script, folder) →
+        IsOkAnd result (λ it. (it.0.now ≡ script) × (it.1.now ≡ folder)) }
+{
+    if let Some(paths) = loop_paths(words) {
+        return Ok(paths);
+    }
+    if !has_option(words) {
+        return Err(WordsError::Usage);
+    }
+    parsed_loop(alloc, words)
+}
+
+/// The request that the words spell. The first word is the program's name. What words of a plain
+/// form ask for is decided here, and that other words without an option ask for nothing, and a
+/// contract says it; the parser decides on all others.
+pub fn invocation_of<'a>(alloc: Global, words: &'a [&'a str]) -> Result<Invocation<'a>, WordsError>
+    ensures none { AsksForNothing (map (λ w. w.now) words.now) → result ≡ Err WordsError.Usage }
+    ensures input { path_of (codes "lab") (map (λ w. w.now) words.now) ≡ Some (codes "-") →
+        result ≡ Ok Invocation.Input }
+    ensures path { (path : List ℕ) →
+        path_of (codes "lab") (map (λ w. w.now) words.now) ≡ Some path →
+        path ≢ codes "-" → IsOkAnd result (λ request. AsksForScript request path) }
+    ensures looped { (script folder : List ℕ) →
+        loop_paths_of (map (λ w. w.now) words.now) ≡ Some (script, folder) →
+        IsOkAnd result (λ request. AsksToLoop request script folder) }
+    ensures dumped { (folder : List ℕ) →
+        path_of (codes "dump") (map (λ w. w.now) words.now) ≡ Some folder →
+        IsOkAnd result (λ request. AsksToDump request folder) }
+    ensures named { IfOk result (IsOfCommand (map (λ w. w.now) words.now)) }
+{
+    if is_named("lab", words) {
+        return Ok(script_request(path_request(alloc, "lab", "SCRIPT", words)?));
+    }
+    if is_named("loop", words) {
+        let (script, folder) = loop_request(alloc, words)?;
+        return Ok(Invocation::Loop { script, folder });
+    }
+    if is_named("dump", words) {
+        return Ok(Invocation::Dump(path_request(alloc, "dump", "DIR", words)?));
+    }
+    Err(WordsError::Usage)
 }

@@ -3,7 +3,9 @@
 
 mod failure;
 mod folder_dump;
+mod folder_failure;
 mod folder_run;
+mod folder_service;
 mod invocation;
 mod reading;
 mod run_input;

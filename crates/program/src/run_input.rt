@@ -15,14 +15,14 @@ use scripts::{Script, read_script};
 use std::alloc::Global;
 use std::io::{Read, Write};
 
-/// The script that is read.
+/// The script that is read, in which faults of disks may be spelled, or not.
 pub fn input_script<R: Read>(alloc: Global, input: &mut R, faults: bool) -> Result<Script, Failure>
     ensures found { IfOk result (λ script. IfSome (R.remaining input.old) (λ text.
         IsScript 1 (script_lines text) script.setup script.statements.items)) }
     ensures lawful { OnOk result (IfSome (R.remaining input.old) (λ text.
-        script_fault (start true) 1 (script_lines text) ≡ None)) }
+        script_fault (start faults) 1 (script_lines text) ≡ None)) }
     ensures fault { IfErr result (λ failure. IfSome (R.remaining input.old) (λ text.
-        IsFailureOf text failure)) }
+        IsFailureOf faults text failure)) }
     ensures cause { IfErr result IsOfReading }
     ensures node { IfOk result (λ script.
         All (λ it. Names script.setup.configs it.action) script.statements.items) }

@@ -1,16 +1,16 @@
 //! From the program's words and streams to its exit status.
-ghost use Rattle.std.specs.Prelude.{◌≡◌, ◌≢◌, ℕ, List, false, map, codes, Some, None};
+ghost use Rattle.std.specs.Prelude.{◌≡◌, ◌≢◌, ℕ, List, map, codes, Some, None};
 ghost use Rattle.std.specs.Prelude.{IfOk, OnOk, OnErr, MatchResult};
 ghost use Rattle.std.specs.Io.KnownBytes.{Appends};
 ghost use Rattle.program.specs.Failures.{failure_line};
-ghost use Rattle.program.specs.Invocations.{has_option, lab_script, usage_line};
+ghost use Rattle.program.specs.FolderRuns.{DumpEnds, LoopEndsFor, ProgramEnds};
+ghost use Rattle.program.specs.Invocations.{AsksForNothing, dump_folder, lab_script, loop_paths};
+ghost use Rattle.program.specs.Invocations.{usage_line};
 ghost use Rattle.client.specs.PrintedRuns.{AppendsPart};
-ghost use Rattle.program.specs.Runs.{FailureIsReported, ProgramEnds};
-ghost use Rattle.program.specs.Runs.{RunEnds, RunEndsAs, UsageIsReported};
+ghost use Rattle.program.specs.Runs.{FailureIsReported, RunEnds, RunEndsAs, UsageIsReported};
 
 use crate::failure::Failure;
-use crate::folder_dump::dump_folder;
-use crate::folder_run::run_in_folders;
+use crate::folder_service::{serve_dump, serve_loop};
 use crate::invocation::{Invocation, WordsError, invocation_of};
 use crate::run_input::run_input;
 use arrayvec::ArrayVec;
@@ -29,8 +29,9 @@ const LINE: usize = 64;
 
 /// Does what the words ask for, and answers the exit status: 0 for a run, whatever became of its
 /// nodes, 1 for a fault in script, output or memory, 2 for words that ask for nothing. A fault is
-/// reported in one line on `err`.
-pub fn serve<F: Files<File = File> + Alloc<A = Global> + Clone + Drop, R: Read, O: Write, E: Write>(
+/// reported in one line on `err`. A run in folders ends with status 1 also where a node stopped by
+/// itself.
+pub fn serve<F, R: Read, O: Write, E: Write>(
     rt: &F,
     words: &[&str],
     input: &mut R,
@@ -46,12 +47,23 @@ where
     ensures path { (path : List ℕ) → lab_script (map (λ w. w.now) words.now) ≡ Some path →
         path ≢ codes "-" → (input.new ≡ input.old) × RunEndsAs None (O.contents out.old)
         (O.contents out.new) (E.contents err.old) (E.contents err.new) result }
-    ensures unknown { lab_script (map (λ w. w.now) words.now) ≡ None →
-        has_option (map (λ w. w.now) words.now) ≡ false → (input.new ≡ input.old)
+    ensures unknown { AsksForNothing (map (λ w. w.now) words.now) → (input.new ≡ input.old)
         × UsageIsReported (O.contents out.old) (O.contents out.new) (E.contents err.old)
         (E.contents err.new) result }
-    ensures ends { ProgramEnds (O.contents out.old) (O.contents out.new)
-        (E.contents err.old) (E.contents err.new) result }
+
+    // The words `loop SCRIPT --dir D` in their plain forms.
+    ensures looped { (script folder : List ℕ) →
+        loop_paths (map (λ w. w.now) words.now) ≡ Some (script, folder) →
+        LoopEndsFor script input.old input.new (R.remaining input.old)
+        (O.contents out.old) (O.contents out.new) (E.contents err.old) (E.contents err.new)
+        result }
+    ensures dumped { (folder : List ℕ) →
+        dump_folder (map (λ w. w.now) words.now) ≡ Some folder → (input.new ≡ input.old)
+        × DumpEnds (E.contents err.old) (E.contents err.new) result }
+
+    // All words, by the command that they name.
+    ensures ends { ProgramEnds (map (λ w. w.now) words.now) (O.contents out.old)
+        (O.contents out.new) (E.contents err.old) (E.contents err.new) result }
 {
     match invocation_of(rt.alloc(), words) {
         Ok(Invocation::Input) => end(serve_script(rt.alloc(), input, out, err)),
@@ -123,50 +135,5 @@ pub fn serve_script<R: Read, O: Write, E: Write>(
     match run_input(alloc, input, out) {
         Ok(()) => Ok(0),
         Err(failure) => write_failure(err, failure),
-    }
-}
-
-/// Runs a script at nodes in folders, and answers the status: 1 also where a node stopped by
-/// itself, of which the run has printed a line.
-fn serve_loop<F, R: Read, O: Write, E: Write>(
-    rt: &F,
-    script: &str,
-    folder: &str,
-    input: &mut R,
-    out: &mut O,
-    err: &mut E,
-) -> u8
-where
-    F: Files<File = File> + Net<Listener = TcpListener, Stream = TcpStream>,
-    F: Alloc<A = Global> + Clone + Drop,
-{
-    if script == "-" {
-        return end_loop(run_in_folders(rt, input, folder, out), err);
-    }
-    match OpenOptions::new().read(true).open(rt, script) {
-        Ok(mut file) => end_loop(run_in_folders(rt, &mut file, folder, out), err),
-        Err(_) => report(err, Failure::Unreadable),
-    }
-}
-
-/// The status of a run in folders, which answered whether a node stopped by itself.
-fn end_loop<E: Write>(ran: Result<bool, Failure>, err: &mut E) -> u8 {
-    match ran {
-        Ok(false) => 0,
-        Ok(true) => 1,
-        Err(failure) => report(err, failure),
-    }
-}
-
-/// Writes what the store of a folder has, and answers the status.
-fn serve_dump<F: Files<File = File> + Alloc<A = Global> + Clone + Drop, O: Write, E: Write>(
-    rt: &F,
-    folder: &str,
-    out: &mut O,
-    err: &mut E,
-) -> u8 {
-    match dump_folder(rt, folder, out) {
-        Ok(()) => 0,
-        Err(failure) => report(err, failure),
     }
 }

@@ -102,7 +102,8 @@ impl fmt::Display for NumbersText<'_> {
 pub struct StoreText<'a>(pub NodeId, pub &'a Numbers);
 
 impl fmt::Display for StoreText<'_> {
-    ghost output = { λ it. Some (store_text it.0 it.1.now) };
+    ghost output = { λ it. Some (store_text it.0 it.1.now.epoch it.1.now.count it.1.now.floor
+        it.1.now.kept it.1.now.tables) };
 
     fn fmt<W: fmt::Write>(&self, f: &mut fmt::Formatter<W>) -> fmt::Result {
         let (node, epoch) = (self.0.get(), self.1.epoch.get());
