@@ -11,7 +11,7 @@ use Rattle.kv_types.specs.Pages.{IsPage, Map, PagesAgree, page_of}
 use Rattle.kv_types.specs.{BatchContent, Rows, map_of}
 use Rattle.dumps.specs.Dumped.{AreAllWritten, AreWritten, row_line}
 use Rattle.dumps.specs.Walks.{AreRowsOf, all_from}
-use Rattle.dumps.specs.Walks.IsAt.{First}
+use Rattle.dumps.specs.Walks.StartsPage.{First}
 use Rattle.dumps.proofs.WalksLemmas.{walk_on, walked_all}
 
 appends_none : (out : Option (List ℕ)) → Appends out out []
@@ -64,7 +64,7 @@ module _ (order : IsStrictOrder IsBelow) (agree : PagesAgree) (list : List Batch
   pub all_written : page.more ≡ false → AreAllWritten (map_of list) now old new
   all_written over =
       let all = walked_all order (map_of list) before.all from known before.rows page before.is_all
-          before.walked is_page over in
+      before.walked is_page over in
       record {
         rows = before.rows ++ drop known page.rows;
         is_all = subst (AreRowsOf (map_of list)) (sym all) before.is_all;

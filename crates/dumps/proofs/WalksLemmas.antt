@@ -9,8 +9,8 @@ use Rattle.kv_types.specs.OrderLemmas.{among_from_Contains, among_of_All, rises_
 use Rattle.kv_types.specs.OrderLemmas.{same_list}
 use Rattle.kv_types.specs.Pages.{IsPage, IsRowOf, IsWalk, Map, PrecedesRow}
 use Rattle.kv_types.specs.{Rows}
-use Rattle.dumps.specs.Walks.{AreRowsOf, HasWalked, IsAt, all_from}
-use Rattle.dumps.specs.Walks.IsAt.{Behind, First}
+use Rattle.dumps.specs.Walks.{AreRowsOf, HasReadRows, StartsPage, all_from}
+use Rattle.dumps.specs.Walks.StartsPage.{Behind, First}
 
 -- ---- lists in two parts
 
@@ -50,8 +50,10 @@ module _ (order : IsStrictOrder IsBelow) (map : Map) where
       (λ x y low up. below_not x.key y.key low (inr up)) xs ys
       (rises_from_AllPairs (PrecedesRow false) xs a.ordered)
       (rises_from_AllPairs (PrecedesRow false) ys b.ordered)
-      (λ z h. among_from_Contains ys z (b.all z (among_of_All (IsRowOf map (all_from from)) xs z a.each h)))
-      (λ z h. among_from_Contains xs z (a.all z (among_of_All (IsRowOf map (all_from from)) ys z b.each h)))
+      (λ z h. among_from_Contains ys z
+      (b.all z (among_of_All (IsRowOf map (all_from from)) xs z a.each h)))
+      (λ z h. among_from_Contains xs z
+      (a.all z (among_of_All (IsRowOf map (all_from from)) ys z b.each h)))
 
   -- the rows from one on are the walk from its key on
   walk_from : (before : List Row) (last : Row) (left : List Row) →
@@ -61,15 +63,16 @@ module _ (order : IsStrictOrder IsBelow) (map : Map) where
       let own = rises_right (PrecedesRow false) before (last ∷ left) rises in
       record {
         each = All-among (IsRowOf map (all_from last.key)) (last ∷ left) (λ row h.
-            let of_map = (among_of_All (IsRowOf map (all_from [])) (before ++ last ∷ left) row walk.each
-                (among_right before (last ∷ left) row h)).0 in
+            let of_map = (among_of_All (IsRowOf map (all_from [])) (before ++ last ∷ left) row
+            walk.each
+            (among_right before (last ∷ left) row h)).0 in
             elim h [
               | inl e ↦ (of_map, (inl (ap (λ (r : Row). r.key) e), tt))
               | inr a ↦ (of_map, (inr (own.0 row a), tt))
             ]);
         all = λ row is.
             let among = among_from_Contains (before ++ last ∷ left) row
-                (walk.all row (is.0, (from_least row.key, tt))) in
+            (walk.all row (is.0, (from_least row.key, tt))) in
             Contains-among (last ∷ left) row (elim (among_cases before (last ∷ left) row among) [
               | inl a ↦ absurd (below_not row.key last.key
                   (across (PrecedesRow false) before (last ∷ left) row last rises a (inl refl))
@@ -138,12 +141,12 @@ add_rows all before last left [] behind more split same ends = record {
 }
 add_rows all before last left (row ∷ rows) behind more split same ends =
     let whole : before ++ last ∷ left ≡ before ++ last ∷ (rows ++ behind) =
-        ap (λ l. before ++ last ∷ l) (sym (ap tail_of same)) in
+    ap (λ l. before ++ last ∷ l) (sym (ap tail_of same)) in
     let parts : (before ++ last ∷ []) ++ (rows ++ behind)
-        ≡ ((before ++ last ∷ []) ++ rows) ++ behind =
-        sym (append_assoc (before ++ last ∷ []) rows behind) in
+    ≡ ((before ++ last ∷ []) ++ rows) ++ behind =
+    sym (append_assoc (before ++ last ∷ []) rows behind) in
     let joins : (before ++ last ∷ []) ++ rows ≡ before ++ row ∷ rows =
-        push before last rows ∙ ap (λ r. before ++ r ∷ rows) (sym (ap (head_of last) same)) in
+    push before last rows ∙ ap (λ r. before ++ r ∷ rows) (sym (ap (head_of last) same)) in
     record {
       left = behind;
       split = split ∙ whole ∙ sym (push before last (rows ++ behind)) ∙ parts;
@@ -153,36 +156,36 @@ add_rows all before last left (row ∷ rows) behind more split same ends =
 
 -- one page more
 add_page : (order : IsStrictOrder IsBelow) (map : Map) (all : List Row) (from : List ℕ) (known : ℕ)
-    (rows : List Row) (page : Rows) → AreRowsOf map all → HasWalked all from known rows →
+    (rows : List Row) (page : Rows) → AreRowsOf map all → HasReadRows all from known rows →
     IsPage map (all_from from) page → Adds all rows known page
 add_page order map all from known rows page are walked is =
     cases from known rows walked.at walked.left walked.split is
   where
-    cases : (from : List ℕ) (known : ℕ) (rows : List Row) → IsAt from known rows →
+    cases : (from : List ℕ) (known : ℕ) (rows : List Row) → StartsPage from known rows →
         (left : List Row) → all ≡ rows ++ left → IsPage map (all_from from) page →
         Adds all rows known page
     cases _ _ _ First left split is = add_first order map all page are is
     cases _ _ _ (Behind before last) left split is =
         let whole = split ∙ push before last left in
         let same = one_walk order map last.key (page.rows ++ is.left) (last ∷ left) is.walk
-            (walk_from order map before last left (subst (AreRowsOf map) whole are)) in
+        (walk_from order map before last left (subst (AreRowsOf map) whole are)) in
         add_rows all before last left page.rows is.left page.more whole same
         (none_left page.more is.left is.more)
 
 -- where the next page begins
 pub walk_on : (order : IsStrictOrder IsBelow) (map : Map) (all : List Row) (from : List ℕ)
     (known : ℕ) (rows : List Row) (page : Rows) (last : Row) (front : List Row) →
-    AreRowsOf map all → HasWalked all from known rows → IsPage map (all_from from) page →
-    page.rows ≡ front ++ last ∷ [] → HasWalked all last.key 1 (rows ++ drop known page.rows)
+    AreRowsOf map all → HasReadRows all from known rows → IsPage map (all_from from) page →
+    page.rows ≡ front ++ last ∷ [] → HasReadRows all last.key 1 (rows ++ drop known page.rows)
 walk_on order map all from known rows page last front are walked is ends =
     let adds = add_page order map all from known rows page are walked is in
     let join = adds.joined (λ none. no_end front (sym ends ∙ none)) in
     let at : rows ++ drop known page.rows ≡ (join.0 ++ front) ++ last ∷ [] =
-        join.1 ∙ ap (λ l. join.0 ++ l) ends ∙ sym (append_assoc join.0 front (last ∷ [])) in
+    join.1 ∙ ap (λ l. join.0 ++ l) ends ∙ sym (append_assoc join.0 front (last ∷ [])) in
     record {
       left = adds.left;
       split = adds.split;
-      at = subst (IsAt last.key 1) (sym at) (Behind (join.0 ++ front) last);
+      at = subst (StartsPage last.key 1) (sym at) (Behind (join.0 ++ front) last);
     }
   where
     no_end : (front : List Row) → front ++ last ∷ [] ≡ [] → ⊥
@@ -192,7 +195,7 @@ walk_on order map all from known rows page last front are walked is ends =
 -- no page is left
 pub walked_all : (order : IsStrictOrder IsBelow) (map : Map) (all : List Row) (from : List ℕ)
     (known : ℕ) (rows : List Row) (page : Rows) →
-    AreRowsOf map all → HasWalked all from known rows → IsPage map (all_from from) page →
+    AreRowsOf map all → HasReadRows all from known rows → IsPage map (all_from from) page →
     page.more ≡ false → rows ++ drop known page.rows ≡ all
 walked_all order map all from known rows page are walked is over =
     let adds = add_page order map all from known rows page are walked is in

@@ -8,7 +8,7 @@ use Rattle.kv_types.specs.Pages.{Map}
 use Rattle.kv_types.specs.{BatchContent, map_of}
 use Rattle.engine.specs.{Facts}
 use Rattle.client.specs.Text.{printed_row, store_text}
-use Rattle.dumps.specs.Walks.{AreRowsOf, HasWalked}
+use Rattle.dumps.specs.Walks.{AreRowsOf, HasReadRows}
 
 -- the line of a row
 abbrev pub row_line : Row → List ℕ
@@ -30,7 +30,7 @@ pub record AreWritten (map : Map) (from : List ℕ) (known count : ℕ) (old new
   pub all : List Row
   pub rows : List Row
   pub is_all : AreRowsOf map all
-  pub walked : HasWalked all from known rows
+  pub walked : HasReadRows all from known rows
   pub counted : count ≡ length rows
   pub wrote : Appends old new (flat_map row_line rows)
 

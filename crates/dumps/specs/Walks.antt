@@ -15,12 +15,12 @@ AreRowsOf map rows = IsWalk map (all_from []) rows
 
 -- where the next page begins behind these rows: at the least key, where none was read, or at the
 -- last row that was read, which it has again
-pub data IsAt : List ℕ → ℕ → List Row → Type 0 where
-  First : IsAt [] 0 []
-  Behind : (before : List Row) (last : Row) → IsAt last.key 1 (before ++ last ∷ [])
+pub data StartsPage : List ℕ → ℕ → List Row → Type 0 where
+  First : StartsPage [] 0 []
+  Behind : (before : List Row) (last : Row) → StartsPage last.key 1 (before ++ last ∷ [])
 
 -- these rows were read, the first of them all
-pub record HasWalked (all : List Row) (from : List ℕ) (known : ℕ) (rows : List Row) : Type 0 where
+pub record HasReadRows (all : List Row) (from : List ℕ) (known : ℕ) (rows : List Row) : Type 0 where
   pub left : List Row
   pub split : all ≡ rows ++ left
-  pub at : IsAt from known rows
+  pub at : StartsPage from known rows

@@ -1,10 +1,15 @@
 -- The node of a disk whose slots were looked at first.
-use Rattle.std.proofs.Common.{◌≡◌, ◌⊎◌, ◌↔◌, ◌<◌, inl, inr, ℕ, List, length, refl, sym, ap, subst}
-use Rattle.std.proofs.Common.{◌∙◌, IsTrue, Bool}
+use Rattle.std.proofs.Common.{◌≡◌, ◌⊎◌, ◌↔◌, ◌<◌, get_or, inl, inr, ℕ, List, length, refl, sym, ap, subst}
+use Rattle.std.proofs.Common.{◌∙◌, All, IsSome, IsTrue, Bool, false, true, true≢false}
+use Rattle.std.specs.Prelude.{Result, Ok, Err, IfErr}
+use Rattle.std.proofs.lemmas.List.Elements.{All-contains_itself}
 use Rattle.std.proofs.Math.Path.{fun_ext}
 use Rattle.std.proofs.lemmas.Bool.{cases_eq}
 use Rattle.disk.specs.declared.Disk.{Ghosts}
-use Rattle.disk.specs.{Contents, IsCrashOutcome, IsStill, LeavesSince, State, contents, seen}
+use Rattle.disk.specs.{Contents, IsCrashOutcome, IsEnvironmental, IsStill, State, contents, seen}
+use Rattle.disk.specs.Calls.{ListsFiles}
+use Rattle.disk.specs.declared.error.DiskError.{DiskError}
+use Rattle.disk.specs.declared.error.DiskError.TheVariants as device
 use Rattle.disk.specs.MomentsLemmas.{join, weaker}
 use Rattle.disk.specs.StepsLemmas.{read_is_outcome}
 use Rattle.disk.specs.StillLemmas.{still_more}
@@ -16,7 +21,18 @@ use Rattle.manifest.specs.Holds.{SparesOthers}
 use Rattle.manifest.specs.Laws.{VersionsAreCreated}
 use Rattle.node.specs.{DiskRefines, DiskRefinesOneOf}
 use Rattle.node.specs.Outputs.{AlwaysRefines}
-use Rattle.folder_nodes.specs.Finding.{IsOwn, IsOwnVersion, NamesOwn}
+use Rattle.manifest.specs.Manifests.{ManifestRefusal}
+use Rattle.manifest.specs.declared.error.ManifestError.{ManifestError}
+use Rattle.manifest.specs.declared.error.ManifestError.TheVariants as manifest
+use Rattle.node.specs.declared.node.Node.{Node}
+use Rattle.node.specs.declared.stop.Stop.{Stop}
+use Rattle.node.specs.declared.stop.Stop.TheVariants as stop
+use Rattle.folder_nodes.specs.Faults.{disk_stop, manifest_stop}
+use Rattle.folder_nodes.specs.Finding.{CreatesAgain, CreatesIn, FindsOwn, HasOnlyFirstFiles}
+use Rattle.folder_nodes.specs.Finding.{IsFirstFile, IsForEnvironment, IsOwn, IsOwnVersion, NamesOwn}
+use Rattle.folder_nodes.specs.Finding.{StartsAs}
+use Rattle.folder_nodes.specs.declared.fault.FolderError.{FolderError}
+use Rattle.folder_nodes.specs.declared.fault.FolderError.TheVariants.{Stopped}
 
 -- ---- the version
 
@@ -100,3 +116,81 @@ pub still_on : {D : Type 0} (g : Ghosts D) (old mid new : D) → (g.is_honest ol
     → IsStill g old mid → IsStill g mid new → IsStill g old new
 still_on g old mid new keeps first second = λ honest.
     still_more (first honest) (second (keeps honest))
+
+-- ---- files
+
+-- where each file is one that a creation makes, so is each of the list
+all_first : (disk : State) (files : List ℕ) → ListsFiles disk files →
+    HasOnlyFirstFiles (contents disk) → All IsFirstFile files
+all_first disk files lists only = λ i d within.
+    only.files (get_or files i d) ((lists.exact (get_or files i d)).0
+    (All-contains_itself files i d within))
+
+-- where one is not, the disk has more than a creation leaves
+pub not_first : (disk : State) (files : List ℕ) (first : Bool) → ListsFiles disk files →
+    IsTrue first ↔ All IsFirstFile files → first ≡ false →
+    IsTrue false ↔ HasOnlyFirstFiles (contents disk)
+not_first disk files first lists told over = (
+  λ yes. absurd (true≢false (sym yes)),
+  λ only. absurd (true≢false (sym (told.1 (all_first disk files lists only)) ∙ over)),
+)
+
+-- ---- causes
+
+pub env_stopped : (cause : Stop) (e : FolderError) → e ≡ Stopped cause →
+    IsEnvironmental stop.Disk stop.Memory cause → IsForEnvironment e
+env_stopped cause e is (inl device) = inl (is ∙ ap Stopped device)
+env_stopped cause e is (inr memory) = inr (is ∙ ap Stopped memory)
+
+-- the numbers of the files were refused for the environment
+pub env_listed : (cause : DiskError) (e : FolderError) → e ≡ Stopped (disk_stop cause) →
+    (cause ≡ device.Failed) ⊎ (cause ≡ device.Memory) → IsForEnvironment e
+env_listed cause e is (inl failed) = inl (is ∙ ap (λ c. Stopped (disk_stop c)) failed)
+env_listed cause e is (inr memory) = inr (is ∙ ap (λ c. Stopped (disk_stop c)) memory)
+
+-- a manifest that is represented was refused for the environment
+pub env_opened : VersionsAreCreated → (cause : ManifestError) (e : FolderError) (left : Contents)
+    (x : ℕ) (n : Machine) → e ≡ Stopped (manifest_stop cause) → ManifestRefusal cause left →
+    DiskRefines left x n → IsForEnvironment e
+env_opened created manifest.Disk e left x n is why read = inl is
+env_opened created manifest.Memory e left x n is why read = inr is
+env_opened created manifest.Failed e left x n is why read = absurd why
+env_opened created manifest.NotCreated e left x n is why read =
+    absurd (is_created created left x n read why)
+env_opened created manifest.Damaged e left x n is why read =
+    absurd (why.1 (record { id = x; version = read.version }) read.manifest)
+
+-- ---- answers
+
+module _ {D : Type 0} {g : Ghosts D} where
+  -- an own node that is started is found
+  pub finds : (configs : Configurations) (id x : ℕ) (n : Machine)
+      (result : Result (Node D g) (FolderError × D)) → StartsAs x n result →
+      IsOwn configs id x n → FindsOwn configs id x n result
+  finds configs id x n (Ok node) starts own = (own, starts)
+  finds configs id x n (Err refused) starts own = inl starts
+
+  -- a node is created where nothing else is
+  pub creates_again : (configs : Configurations) (id : ℕ) (left : Contents)
+      (result : Result (Node D g) (FolderError × D)) → CreatesIn configs id result →
+      HasOnlyFirstFiles left → CreatesAgain configs id left result
+  creates_again configs id left (Ok node) creates only = (only, creates)
+  creates_again configs id left (Err refused) creates only = inl creates
+
+  -- what is refused behind a call that leaves nothing new
+  pub later_still : (old mid : D) (result : Result (Node D g) (FolderError × D)) →
+      IsStill g old mid → (g.is_honest old → g.is_honest mid) →
+      IfErr result (λ refused. (IsForEnvironment refused.0 → ⊥) → IsStill g mid refused.1) →
+      IfErr result (λ refused. (IsForEnvironment refused.0 → ⊥) → IsStill g old refused.1)
+  later_still old mid (Ok node) still keeps later = tt
+  later_still old mid (Err refused) still keeps later =
+      λ other. still_on g old mid refused.1 keeps still (later other)
+
+  -- a creation is refused for the environment alone
+  pub created_still : (old : D) (configs : Configurations) (id : ℕ)
+      (result : Result (Node D g) (FolderError × D)) →
+      (g.is_honest old → CreatesIn configs id result) →
+      IfErr result (λ refused. (IsForEnvironment refused.0 → ⊥) → IsStill g old refused.1)
+  created_still old configs id (Ok node) creates = tt
+  created_still old configs id (Err refused) creates =
+      λ other honest. absurd (other (creates honest))

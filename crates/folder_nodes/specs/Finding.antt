@@ -58,9 +58,9 @@ IsForEnvironment = IsEnvironmental (Stopped stop.Disk) (Stopped stop.Memory)
 
 module _ {D : Type 0} {g : Ghosts D} where
   -- the disk that a call received: the node has it, or the refusal returns it
-  abbrev pub disk_behind : Result (Node D g) (FolderError × D) → D
-  disk_behind (Ok node) = disk_of node
-  disk_behind (Err refused) = refused.1
+  abbrev pub disk_left : Result (Node D g) (FolderError × D) → D
+  disk_left (Ok node) = disk_of node
+  disk_left (Err refused) = refused.1
 
   -- the node with this id as it is created in the first configuration
   abbrev pub IsCreatedIn : Configurations → ℕ → Node D g → Type 0

@@ -10,10 +10,10 @@ ghost use Rattle.node.specs.{DiskRefines, DiskRefinesOneOf, IsReady, node_limits
 ghost use Rattle.node.specs.Outputs.{AlwaysRefines};
 ghost use Rattle.folder_nodes.specs.Finding.{CreatesAgain, CreatesIn, FindsOwn, HasOnlyFirstFiles};
 ghost use Rattle.folder_nodes.specs.Finding.{IsFirstFile, IsForEnvironment, IsOwnVersion, NamesOwn};
-ghost use Rattle.folder_nodes.specs.Finding.{StartsAs, disk_behind};
+ghost use Rattle.folder_nodes.specs.Finding.{StartsAs, disk_left};
 
 use crate::fault::FolderError;
-use configurations::{Configs, Epoch, NodeId};
+use configurations::{Config, Configs, Epoch, NodeId};
 use disk::{Disk, DiskError};
 use kv_types::Limits;
 use manifest::laws::version_is_one;
@@ -49,7 +49,8 @@ fn is_half_created<D: Disk>(disk: &mut D) -> Result<bool, DiskError>
     match disk.length(FIRST_LOG) {
         Ok(length) => Ok(length <= 1),
         Err(DiskError::NoFile) => Ok(true),
-        Err(e) => Err(e),
+        Err(DiskError::Memory) => Err(DiskError::Memory),
+        Err(_) => Err(DiskError::Failed),
     }
 }
 
@@ -94,6 +95,13 @@ fn created_again<D: Disk + Drop>(
     }
 }
 
+// Whether two configurations are the same.
+fn are_same(config: &Config, other: &Config) -> bool
+    ensures { IsTrue result ↔ config.now ≡ other.now }
+{
+    config.ids() == other.ids()
+}
+
 // Whether a version is of the node with this id, in a configuration of the list.
 fn is_own(version: &StoreVersion, id: NodeId, configs: &Configs) -> bool
     ensures { IsTrue result ↔ IsOwnVersion configs.now id version.now }
@@ -102,7 +110,7 @@ fn is_own(version: &StoreVersion, id: NodeId, configs: &Configs) -> bool
         return false;
     };
     match configs.at(epoch) {
-        Some(config) => version.id == id && version.config.ids() == config.ids(),
+        Some(config) => version.id == id && are_same(&version.config, config),
         None => false,
     }
 }
@@ -136,7 +144,7 @@ fn started<D: Disk + Drop>(
         DiskRefines (contents (D.state disk)) x n → StartsAs x n result }
     ensures any_moment { (x : ℕ) (n m : Machine) → D.is_honest disk →
         DiskRefinesOneOf (D.state disk) x n m →
-        AlwaysRefines D.Disk disk (disk_behind result) x n m }
+        AlwaysRefines D.Disk disk (disk_left result) x n m }
     ensures refused { IfErr result (λ refused. (IsForEnvironment refused.0 → ⊥) →
         IsStill D.Disk disk refused.1) }
     ensures works { IfOk result IsReady }
@@ -149,9 +157,9 @@ fn started<D: Disk + Drop>(
 }
 
 /// The node with this id over a disk: it is started, and has to be in a configuration of the list.
-/// Where no slot is open, and there is nothing but what a creation that was cut short may have left,
-/// it is created in the first configuration, without batches; so it is on a disk without files. A
-/// refusal returns the disk; of another node it changes nothing.
+/// Where no slot is open, and there is nothing but what a creation that was cut short may have
+/// left, it is created in the first configuration, without batches; so it is on a disk without
+/// files. A refusal returns the disk; of another node it changes nothing.
 pub fn node_over<D: Disk + Drop>(
     alloc: Global,
     mut disk: D,
@@ -168,7 +176,7 @@ pub fn node_over<D: Disk + Drop>(
     // since: no node that was created is created again.
     ensures any_moment { (x : ℕ) (n m : Machine) → D.is_honest disk →
         DiskRefinesOneOf (D.state disk) x n m →
-        AlwaysRefines D.Disk disk (disk_behind result) x n m }
+        AlwaysRefines D.Disk disk (disk_left result) x n m }
 
     // What is refused for what the disk has is left as it was.
     ensures refused { IfErr result (λ refused. (IsForEnvironment refused.0 → ⊥) →

@@ -1,2 +1,3 @@
-pub mod Wholes
 pub mod Beginnings
+pub mod Dispatch
+pub mod Wholes

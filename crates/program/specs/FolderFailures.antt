@@ -28,6 +28,7 @@ loop_failure_text Network = codes "run: network"
 abbrev pub dump_failure_text : DumpFailure → List ℕ
 dump_failure_text (dumped.Store cause) = codes "dump: " ++ cause_text cause
 dump_failure_text dumped.Output = codes "output: write"
+dump_failure_text dumped.Memory = codes "run: memory"
 
 -- the failure that is reported of a store that was not written out whole for this
 abbrev pub dump_failure_of : DumpError → DumpFailure

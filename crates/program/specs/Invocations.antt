@@ -1,11 +1,11 @@
 -- The program's words in their plain forms.
-use Rattle.std.specs.Prelude.{◌≡◌, ◌×◌, ℕ, Bool, true, false, ◌==◌, ◌&&◌, ◌||◌, not}
+use Rattle.std.specs.Prelude.{◌≡◌, ℕ, Bool, false, ◌==◌, ◌&&◌, ◌||◌, not}
 use Rattle.std.specs.Prelude.{if◌then◌else◌, List, [], ◌∷◌, ◌++◌, codes}
 use Rattle.std.specs.Prelude.{Option, Some, None}
 use Rattle.std.specs.List.{list_any}
 use Rattle.std.specs.Str.{bytes_eq}
 use Rattle.program.specs.declared.invocation.Invocation.{Invocation}
-use Rattle.program.specs.declared.invocation.Invocation.TheVariants.{Dump, Input, Loop, Script}
+use Rattle.program.specs.declared.invocation.Invocation.TheVariants.{Input, Script}
 
 -- ---- words
 
@@ -19,7 +19,7 @@ is_dashed (b ∷ bs) = b == 45
 abbrev pub names_path : List ℕ → Bool
 names_path word = bytes_eq word (codes "-") || not (is_dashed word)
 
--- words that ask for this command
+-- words that name this command
 abbrev pub is_named : List ℕ → List (List ℕ) → Bool
 is_named command (program ∷ name ∷ words) = bytes_eq name command
 is_named command _ = false
@@ -59,17 +59,20 @@ loop_paths (program ∷ name ∷ first ∷ second ∷ third ∷ []) =
     else None
 loop_paths _ = None
 
--- two words or more behind the command, one of which begins with -
-abbrev pub has_option : List (List ℕ) → Bool
-has_option (program ∷ name ∷ first ∷ second ∷ words) = list_any is_dashed (first ∷ second ∷ words)
-has_option _ = false
+-- words that name this command, with two words or more behind it, one of which begins with -
+abbrev pub has_option : List ℕ → List (List ℕ) → Bool
+has_option command (program ∷ name ∷ first ∷ second ∷ words) =
+    bytes_eq name command && list_any is_dashed (first ∷ second ∷ words)
+has_option command _ = false
 
--- words that ask for no command, or have no plain form of the one that they ask for, and no option
-abbrev pub AsksForNothing : List (List ℕ) → Type 0
-AsksForNothing words =
-    (lab_script words ≡ None) × (dump_folder words ≡ None) × (loop_paths words ≡ None)
-    × (has_option words && (is_named (codes "lab") words || is_named (codes "loop") words
-    || is_named (codes "dump") words) ≡ false)
+-- words that have no plain form of a command, and no option behind one
+pub record AsksForNothing (words : List (List ℕ)) : Type 0 where
+  pub lab : lab_script words ≡ None
+  pub loop : loop_paths words ≡ None
+  pub dump : dump_folder words ≡ None
+  pub lab_option : has_option (codes "lab") words ≡ false
+  pub loop_option : has_option (codes "loop") words ≡ false
+  pub dump_option : has_option (codes "dump") words ≡ false
 
 -- ---- requests
 
@@ -77,29 +80,6 @@ AsksForNothing words =
 abbrev pub AsksForScript : Invocation → List ℕ → Type 0
 AsksForScript Input path = ⊥
 AsksForScript (Script word) path = word.now ≡ path
-AsksForScript (Loop script folder) path = ⊥
-AsksForScript (Dump folder) path = ⊥
-
--- a request for the run of this script in folders of this one
-abbrev pub AsksToLoop : Invocation → List ℕ → List ℕ → Type 0
-AsksToLoop Input script folder = ⊥
-AsksToLoop (Script word) script folder = ⊥
-AsksToLoop (Loop first second) script folder = (first.now ≡ script) × (second.now ≡ folder)
-AsksToLoop (Dump word) script folder = ⊥
-
--- a request for what the store of this folder has
-abbrev pub AsksToDump : Invocation → List ℕ → Type 0
-AsksToDump Input folder = ⊥
-AsksToDump (Script word) folder = ⊥
-AsksToDump (Loop first second) folder = ⊥
-AsksToDump (Dump word) folder = word.now ≡ folder
-
--- what the words ask for is of the command that they name
-abbrev pub IsOfCommand : List (List ℕ) → Invocation → Type 0
-IsOfCommand words Input = is_named (codes "lab") words ≡ true
-IsOfCommand words (Script word) = is_named (codes "lab") words ≡ true
-IsOfCommand words (Loop script folder) = is_named (codes "loop") words ≡ true
-IsOfCommand words (Dump folder) = is_named (codes "dump") words ≡ true
 
 -- the line for words that ask for nothing
 abbrev pub usage_line : List ℕ

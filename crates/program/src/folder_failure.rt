@@ -30,6 +30,8 @@ pub enum DumpFailure {
     /// The store was not opened, or not read to its end.
     Store(Stop),
     Output,
+    /// Memory was wanting for the words.
+    Memory,
 }
 
 /// Why a folder has no node.
@@ -67,6 +69,7 @@ impl fmt::Display for DumpFailure {
                 write!(f, "dump: {text}")
             }
             DumpFailure::Output => write!(f, "output: write"),
+            DumpFailure::Memory => write!(f, "run: memory"),
         }
     }
 }

@@ -1,25 +1,21 @@
 //! What the program's words ask for.
-ghost use Rattle.std.specs.Prelude.{◌≡◌, ◌≢◌, ℕ, List, false, true, map, codes, Ok, Err, Some, None};
-ghost use Rattle.std.specs.Prelude.{IfOk, IsOkAnd, MatchOption};
+ghost use Rattle.std.specs.Prelude.{◌≡◌, ◌≢◌, ℕ, List, false, map, codes, Ok, Err, Some, None};
+ghost use Rattle.std.specs.Prelude.{IsOkAnd, MatchOption};
 ghost use Rattle.std.specs.List.{list_any};
-ghost use Rattle.program.specs.Invocations.{AsksForScript, AsksForNothing, AsksToDump, AsksToLoop};
-ghost use Rattle.program.specs.Invocations.{IsOfCommand, has_option, is_dashed, is_folder, is_named};
-ghost use Rattle.program.specs.Invocations.{loop_paths as loop_paths_of, names_path, path_of};
+ghost use Rattle.program.specs.Invocations.{AsksForScript, has_option, is_dashed, is_folder};
+ghost use Rattle.program.specs.Invocations.{is_named, lab_script, names_path, path_of};
+ghost use Rattle.program.specs.Invocations.{loop_paths as loop_paths_of};
 
 use clap::error::ErrorKind;
 use clap::{Arg, ArgAction, ArgMatches, Command};
 use std::alloc::{AllocError, Global};
 
-/// What the words ask for.
+/// What words that name `lab` ask for.
 pub enum Invocation<'a> {
     /// A run of the script on standard input.
     Input,
     /// A run of the script at this path.
     Script(&'a str),
-    /// A run of a script at nodes in folders of this one. The script `-` is standard input.
-    Loop { script: &'a str, folder: &'a str },
-    /// What the store of this folder has.
-    Dump(&'a str),
 }
 
 /// Why the words are no request.
@@ -97,18 +93,18 @@ fn any_dashed(words: &[&str]) -> bool
     }
 }
 
-/// Whether the parser decides on words of no plain form.
-fn has_option(words: &[&str]) -> bool
-    ensures { result ≡ has_option (map (λ w. w.now) words.now) }
+/// Whether the parser decides on words that name this command and have no plain form.
+fn has_option(command: &str, words: &[&str]) -> bool
+    ensures { result ≡ has_option command.now (map (λ w. w.now) words.now) }
 {
     match words {
-        [_, _, behind @ ..] => behind.len() > 1 && any_dashed(behind),
+        [_, name, behind @ ..] => *name == command && behind.len() > 1 && any_dashed(behind),
         _ => false,
     }
 }
 
-/// Whether the words ask for this command.
-fn is_named(command: &str, words: &[&str]) -> bool
+/// Whether the words name this command.
+pub fn is_named(command: &str, words: &[&str]) -> bool
     ensures { result ≡ is_named command.now (map (λ w. w.now) words.now) }
 {
     match words {
@@ -210,44 +206,37 @@ fn parsed_loop<'a>(alloc: Global, words: &'a [&'a str]) -> Result<(&'a str, &'a 
 
 // ---- requests
 
-/// A run of this script, which may be standard input.
-fn script_request<'a>(script: &'a str) -> Invocation<'a>
-    ensures input { script.now ≡ codes "-" → result ≡ Invocation.Input }
-    ensures path { script.now ≢ codes "-" → AsksForScript result script.now }
-{
-    if script == "-" {
-        Invocation::Input
-    } else {
-        Invocation::Script(script)
-    }
-}
-
 /// The path behind this command: of words in their plain form it is found here, and other words
-/// without an option have none.
-fn path_request<'a>(
+/// without an option have none, and a contract says it; the parser decides on all others.
+pub fn path_request<'a>(
     alloc: Global,
     command: &'a str,
     word: &'a str,
     words: &'a [&'a str],
 ) -> Result<&'a str, WordsError>
     ensures none { path_of command.now (map (λ w. w.now) words.now) ≡ None →
-        has_option (map (λ w. w.now) words.now) ≡ false → result ≡ Err WordsError.Usage }
+        has_option command.now (map (λ w. w.now) words.now) ≡ false →
+        result ≡ Err WordsError.Usage }
     ensures path { (path : List ℕ) → path_of command.now (map (λ w. w.now) words.now) ≡ Some path →
         IsOkAnd result (λ found. found.now ≡ path) }
 {
     if let Some(path) = path_behind(command, words) {
         return Ok(path);
     }
-    if !has_option(words) {
+    if !has_option(command, words) {
         return Err(WordsError::Usage);
     }
     parsed_path(alloc, command, word, words)
 }
 
-/// Script and folder of a loop's words.
-fn loop_request<'a>(alloc: Global, words: &'a [&'a str]) -> Result<(&'a str, &'a str), WordsError>
+/// Script and folder of words that name `loop`, found as a path is.
+pub fn loop_request<'a>(
+    alloc: Global,
+    words: &'a [&'a str],
+) -> Result<(&'a str, &'a str), WordsError>
     ensures none { loop_paths_of (map (λ w. w.now) words.now) ≡ None →
-        has_option (map (λ w. w.now) words.now) ≡ false → result ≡ Err WordsError.Usage }
+        has_option (codes "loop") (map (λ w. w.now) words.now) ≡ false →
+        result ≡ Err WordsError.Usage }
     ensures paths { (script folder : List ℕ) →
         loop_paths_of (map (λ w. w.now) words.now) ≡ Some (script, folder) →
         IsOkAnd result (λ it. (it.0.now ≡ script) × (it.1.now ≡ folder)) }
@@ -255,39 +244,24 @@ fn loop_request<'a>(alloc: Global, words: &'a [&'a str]) -> Result<(&'a str, &'a
     if let Some(paths) = loop_paths(words) {
         return Ok(paths);
     }
-    if !has_option(words) {
+    if !has_option("loop", words) {
         return Err(WordsError::Usage);
     }
     parsed_loop(alloc, words)
 }
 
-/// The request that the words spell. The first word is the program's name. What words of a plain
-/// form ask for is decided here, and that other words without an option ask for nothing, and a
-/// contract says it; the parser decides on all others.
+/// The request of words that name `lab`. The first word is the program's name.
 pub fn invocation_of<'a>(alloc: Global, words: &'a [&'a str]) -> Result<Invocation<'a>, WordsError>
-    ensures none { AsksForNothing (map (λ w. w.now) words.now) → result ≡ Err WordsError.Usage }
-    ensures input { path_of (codes "lab") (map (λ w. w.now) words.now) ≡ Some (codes "-") →
+    ensures none { lab_script (map (λ w. w.now) words.now) ≡ None →
+        has_option (codes "lab") (map (λ w. w.now) words.now) ≡ false →
+        result ≡ Err WordsError.Usage }
+    ensures input { lab_script (map (λ w. w.now) words.now) ≡ Some (codes "-") →
         result ≡ Ok Invocation.Input }
-    ensures path { (path : List ℕ) →
-        path_of (codes "lab") (map (λ w. w.now) words.now) ≡ Some path →
+    ensures path { (path : List ℕ) → lab_script (map (λ w. w.now) words.now) ≡ Some path →
         path ≢ codes "-" → IsOkAnd result (λ request. AsksForScript request path) }
-    ensures looped { (script folder : List ℕ) →
-        loop_paths_of (map (λ w. w.now) words.now) ≡ Some (script, folder) →
-        IsOkAnd result (λ request. AsksToLoop request script folder) }
-    ensures dumped { (folder : List ℕ) →
-        path_of (codes "dump") (map (λ w. w.now) words.now) ≡ Some folder →
-        IsOkAnd result (λ request. AsksToDump request folder) }
-    ensures named { IfOk result (IsOfCommand (map (λ w. w.now) words.now)) }
 {
-    if is_named("lab", words) {
-        return Ok(script_request(path_request(alloc, "lab", "SCRIPT", words)?));
+    match path_request(alloc, "lab", "SCRIPT", words)? {
+        "-" => Ok(Invocation::Input),
+        script => Ok(Invocation::Script(script)),
     }
-    if is_named("loop", words) {
-        let (script, folder) = loop_request(alloc, words)?;
-        return Ok(Invocation::Loop { script, folder });
-    }
-    if is_named("dump", words) {
-        return Ok(Invocation::Dump(path_request(alloc, "dump", "DIR", words)?));
-    }
-    Err(WordsError::Usage)
 }

@@ -1,24 +1,21 @@
-//! From the program's words and streams to its exit status.
-ghost use Rattle.std.specs.Prelude.{◌≡◌, ◌≢◌, ℕ, List, map, codes, Some, None};
+//! From the words `lab SCRIPT` and streams to the exit status.
+ghost use Rattle.std.specs.Prelude.{◌≡◌, ◌≢◌, ℕ, List, false, map, codes, Some, None};
 ghost use Rattle.std.specs.Prelude.{IfOk, OnOk, OnErr, MatchResult};
 ghost use Rattle.std.specs.Io.KnownBytes.{Appends};
 ghost use Rattle.program.specs.Failures.{failure_line};
-ghost use Rattle.program.specs.FolderRuns.{DumpEnds, LoopEndsFor, ProgramEnds};
-ghost use Rattle.program.specs.Invocations.{AsksForNothing, dump_folder, lab_script, loop_paths};
-ghost use Rattle.program.specs.Invocations.{usage_line};
+ghost use Rattle.program.specs.Invocations.{has_option, lab_script, usage_line};
 ghost use Rattle.client.specs.PrintedRuns.{AppendsPart};
-ghost use Rattle.program.specs.Runs.{FailureIsReported, RunEnds, RunEndsAs, UsageIsReported};
+ghost use Rattle.program.specs.Runs.{FailureIsReported, LabOrUsage};
+ghost use Rattle.program.specs.Runs.{RunEnds, RunEndsAs, UsageIsReported};
 
 use crate::failure::Failure;
-use crate::folder_service::{serve_dump, serve_loop};
 use crate::invocation::{Invocation, WordsError, invocation_of};
 use crate::run_input::run_input;
 use arrayvec::ArrayVec;
 use client::print;
 use std::alloc::Global;
-use std::fs::{File, OpenOptions};
+use std::fs::OpenOptions;
 use std::io::{self, Read, Write};
-use std::net::{Net, TcpListener, TcpStream};
 use std::rt::Files;
 
 /// The line for words that ask for nothing.
@@ -27,43 +24,28 @@ const USAGE: &str = "usage: chainstore lab SCRIPT | loop SCRIPT --dir D | dump D
 /// The most bytes of a line that reports a failure: no line has as many.
 const LINE: usize = 64;
 
-/// Does what the words ask for, and answers the exit status: 0 for a run, whatever became of its
-/// nodes, 1 for a fault in script, output or memory, 2 for words that ask for nothing. A fault is
-/// reported in one line on `err`. A run in folders ends with status 1 also where a node stopped by
-/// itself.
-pub fn serve<F, R: Read, O: Write, E: Write>(
+/// Does what words ask for that name `lab`, and answers the exit status: 0 for a run, whatever
+/// became of its nodes, 1 for a fault in script, output or memory, 2 for words that ask for nothing.
+/// A fault is reported in one line on `err`.
+pub fn serve_lab<F: Files + Alloc<A = Global>, R: Read, O: Write, E: Write>(
     rt: &F,
     words: &[&str],
     input: &mut R,
     out: &mut O,
     err: &mut E,
 ) -> u8
-where
-    F: Files<File = File> + Net<Listener = TcpListener, Stream = TcpStream>,
-    F: Alloc<A = Global> + Clone + Drop,
     ensures input { lab_script (map (λ w. w.now) words.now) ≡ Some (codes "-") →
         RunEndsAs (R.remaining input.old) (O.contents out.old) (O.contents out.new)
         (E.contents err.old) (E.contents err.new) result }
     ensures path { (path : List ℕ) → lab_script (map (λ w. w.now) words.now) ≡ Some path →
         path ≢ codes "-" → (input.new ≡ input.old) × RunEndsAs None (O.contents out.old)
         (O.contents out.new) (E.contents err.old) (E.contents err.new) result }
-    ensures unknown { AsksForNothing (map (λ w. w.now) words.now) → (input.new ≡ input.old)
+    ensures unknown { lab_script (map (λ w. w.now) words.now) ≡ None →
+        has_option (codes "lab") (map (λ w. w.now) words.now) ≡ false → (input.new ≡ input.old)
         × UsageIsReported (O.contents out.old) (O.contents out.new) (E.contents err.old)
         (E.contents err.new) result }
-
-    // The words `loop SCRIPT --dir D` in their plain forms.
-    ensures looped { (script folder : List ℕ) →
-        loop_paths (map (λ w. w.now) words.now) ≡ Some (script, folder) →
-        LoopEndsFor script input.old input.new (R.remaining input.old)
-        (O.contents out.old) (O.contents out.new) (E.contents err.old) (E.contents err.new)
-        result }
-    ensures dumped { (folder : List ℕ) →
-        dump_folder (map (λ w. w.now) words.now) ≡ Some folder → (input.new ≡ input.old)
-        × DumpEnds (E.contents err.old) (E.contents err.new) result }
-
-    // All words, by the command that they name.
-    ensures ends { ProgramEnds (map (λ w. w.now) words.now) (O.contents out.old)
-        (O.contents out.new) (E.contents err.old) (E.contents err.new) result }
+    ensures ends { LabOrUsage (O.contents out.old) (O.contents out.new)
+        (E.contents err.old) (E.contents err.new) result }
 {
     match invocation_of(rt.alloc(), words) {
         Ok(Invocation::Input) => end(serve_script(rt.alloc(), input, out, err)),
@@ -71,8 +53,6 @@ where
             Ok(mut file) => end(serve_script(rt.alloc(), &mut file, out, err)),
             Err(_) => report(err, Failure::Unreadable),
         },
-        Ok(Invocation::Loop { script, folder }) => serve_loop(rt, script, folder, input, out, err),
-        Ok(Invocation::Dump(folder)) => serve_dump(rt, folder, out, err),
         Err(WordsError::Memory) => report(err, Failure::Memory),
         Err(WordsError::Usage) => refuse(err),
     }
