@@ -1,4 +1,5 @@
 -- A node that takes an input, by the state that it had.
+use Rattle.std.specs.Global.{Box}
 use Rattle.std.proofs.Common.{◌≡◌, ◌↔◌, ◌⊎◌, ◌∷◌, ℕ, Bool, [], None, Option, true, length}
 use Rattle.std.proofs.Common.{inl, refl, subst, sym, ◌∙◌}
 use Rattle.std.specs.Prelude.{IsSome}
@@ -9,12 +10,12 @@ use Rattle.disk.specs.declared.Junk.{Junk}
 use Rattle.disk.specs.declared.Mark.TheVariants.{Crashed}
 use Rattle.disk.specs.declared.disk.Disk.{Ghosts}
 use Rattle.disk.specs.{HasStruck, IsArmed, IsEnvironmental, IsLastLeft, KeepsDisk, State, fault_of}
-use Rattle.engine.specs.{Facts}
+use Rattle.engine.specs.{Facts, facts_of}
 use Rattle.node.specs.declared.Node.{Node}
 use Rattle.node.specs.declared.Output.{Output}
 use Rattle.node.specs.declared.Stop.{Stop as Cause}
 use Rattle.node.specs.declared.Stop.TheVariants.{Disk, Memory}
-use Rattle.node.specs.{HasLongFile, IsReady, NodeRefines, answer_to_tend}
+use Rattle.node.specs.{HasLongFile, IsReady, NodeRefines, answer_to_tend, engine_of}
 use Rattle.carriers.specs.declared.NodeInput.{NodeInput}
 use Rattle.carriers.specs.declared.NodeInput.TheVariants as to_node
 use Rattle.lab.specs.declared.input.StepOutcome.{StepOutcome}
@@ -25,17 +26,22 @@ use Rattle.lab.specs.Disks.{HasGrown, IsMarkedSo, junk_at_end}
 use Rattle.lab.specs.Events.{line_cause}
 use Rattle.lab.specs.Outcomes.{DiskFits, DropsResting, HasCrashed, HasDispatched, IsAnswerAtRest}
 use Rattle.lab.specs.Outcomes.{IsIgnored, MarksFit, OutcomeRefines, Rests, RestsOn, StateFollows}
-use Rattle.lab.specs.Outcomes.{StopsByItself, TendsNot, has_struck_in, input_junk, tended_in}
+use Rattle.lab.specs.Outcomes.{StopsByItself, TendsNot, has_struck_in, input_junk}
 use Rattle.lab.specs.SimNodes.{IsDown, StateHasLimits, StateIsReady, StateIsSound, StateRefines}
 use Rattle.lab.specs.SimNodes.{disk_in}
 use Rattle.lab.proofs.Faults.{IsSpent, disk_fits, explained, grown_end, idle_in, marked_end, spent}
 use Rattle.lab.proofs.Faults.{stopped_so, struck_at}
 
+-- the box, if it held this node
+abbrev pub holding : {D : Type 0} {g : Ghosts D} → Box (Node D g) → Node D g → Box (Node D g)
+holding boxed own = record { ptr = boxed.ptr; alloc = boxed.alloc; value = own }
+
 -- a node that is up is ready where it says so, and one that is down is
-pub ready_up : {D : Type 0} {g : Ghosts D} (node : Node D g) → IsReady node → StateIsReady (Up node)
+pub ready_up : {D : Type 0} {g : Ghosts D} (node : Box (Node D g)) → IsReady node.value →
+    StateIsReady (Up node)
 ready_up node ready other same =
     let is : node ≡ other = cc in
-    subst (λ (it : Node _ _). IsReady it) is ready
+    subst (λ (it : Box (Node _ _)). IsReady it.value) is ready
 
 pub ready_down : {D : Type 0} (g : Ghosts D) (disk : D) → StateIsReady {g = g} (Down disk)
 ready_down g disk other same = absurd cc
@@ -48,6 +54,24 @@ pub dispatched_as : {D : Type 0} {g : Ghosts D} {old new : NodeState D g} {did :
 dispatched_as {g = g} {new = new} {did = did} {own = own} limits it {was = was} is state took =
     subst (λ (k : NodeInput). HasDispatched g limits it k was new did) (sym is)
     (subst (λ (m : NodeState _ g). HasDispatched g limits it own m new did) (sym state) took)
+
+-- the same of a node that is up, by the node that its box gives
+pub in_box : {D : Type 0} (g : Ghosts D) (limits : Limits) (it : Fault) (node_input : NodeInput)
+    (old : Box (Node D g)) (own : Node D g) (new : NodeState D g) (did : StepOutcome) →
+    own ≡ old.value → HasDispatched g limits it node_input (Up (holding old own)) new did →
+    HasDispatched g limits it node_input (Up old) new did
+in_box g limits it node_input old own new did is took =
+    subst (λ (v : Node _ g). HasDispatched g limits it node_input (Up (holding old v)) new did)
+    is took
+
+-- .. and of one that came up so, by the node that was put into its box
+pub into_box : {D : Type 0} (g : Ghosts D) (limits : Limits) (it : Fault) (node_input : NodeInput)
+    (old : NodeState D g) (new : Box (Node D g)) (own : Node D g) (did : StepOutcome) →
+    new.value ≡ own → HasDispatched g limits it node_input old (Up (holding new own)) did →
+    HasDispatched g limits it node_input old (Up new) did
+into_box g limits it node_input old new own did is took =
+    subst (λ (v : Node _ g). HasDispatched g limits it node_input old (Up (holding new v)) did)
+    (sym is) took
 
 -- a node that answered and did nothing else has taken its input
 pub answered_only : {D : Type 0} (g : Ghosts D) (limits : Limits) (it : Fault)
@@ -117,9 +141,10 @@ sound g (Down disk) x n r = r.0
 
 -- a node that tended refines its machine also once it was armed, by the facts that it tells then
 pub tends_armed : {D : Type 0} (g : Ghosts D) (x : ℕ) (n : Machine) (node armed : Node D g) →
-    let m = (tended_in x n (Up node)).node in
+    let m = (answer_to_tend x n (facts_of (engine_of node))).node in
     NodeRefines g.is_honest g.state node x m → NodeRefines g.is_honest g.state armed x m →
-    NodeRefines g.is_honest g.state armed x (tended_in x n (Up armed)).node
+    NodeRefines g.is_honest g.state armed x
+    (answer_to_tend x n (facts_of (engine_of armed))).node
 tends_armed g x n node armed is refines =
     subst (λ (f : Facts). NodeRefines g.is_honest g.state armed x (answer_to_tend x n f).node)
     (is.facts ∙ sym refines.facts) refines

@@ -69,7 +69,7 @@ no_longer (left ∷ before) = omega arith
 -- no fault strikes a node that stays as it is
 pub idle_in : {D : Type 0} (g : Ghosts D) (it : Fault) (old : NodeState D g) →
     has_struck_in g.past it (disk_in old) old ≡ false
-idle_in g it (Up node) = idle it (length (g.past (disk_of node)))
+idle_in g it (Up node) = idle it (length (g.past (disk_of node.value)))
 idle_in g it (Down disk) =
     idle_by it (length (g.past disk)) (length (before_crash (g.past disk)))
     (no_longer (g.past disk))

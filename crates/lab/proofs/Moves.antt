@@ -1,4 +1,5 @@
 -- A node of a world that took an input, between the others.
+use Rattle.std.specs.Global.{Box}
 use Rattle.std.proofs.Common.{◌≡◌, ℕ, zero, suc, ◌<◌, List, [], ◌∷◌, arith, length, get_or}
 use Rattle.std.proofs.Common.{slice_set, Bool, inl, inr, true}
 use Rattle.std.proofs.Common.{refl, sym, ap, subst, ◌∙◌}
@@ -52,10 +53,10 @@ honest_of (Up node) x n is = is.honest
 honest_of (Down disk) x n is = is.0
 
 -- a running node that was stopped is down, and its disk is a crash of the one that it had
-pub crash_of : {D : Type 0} {g : Ghosts D} (junk : Junk) (own : Node D g) (old new : NodeState D g)
-    → g.is_honest (disk_in old) → old ≡ Up own →
+pub crash_of : {D : Type 0} {g : Ghosts D} (junk : Junk) (own : Box (Node D g))
+    (old new : NodeState D g) → g.is_honest (disk_in old) → old ≡ Up own →
     StateFollows g.is_honest g.state g.failures g.past old (to_node.Stop junk) new →
-    IsCrashOf g.state g.failures g.past junk (disk_of own) (disk_in new)
+    IsCrashOf g.state g.failures g.past junk (disk_of own.value) (disk_in new)
 crash_of {D = D} {g = g} junk own old new honest runs follows =
     crashed new (subst (λ (m : NodeState D g).
     StateFollows g.is_honest g.state g.failures g.past m
@@ -63,8 +64,8 @@ crash_of {D = D} {g = g} junk own old new honest runs follows =
     (subst (λ (m : NodeState D g). g.is_honest (disk_in m)) runs honest))
   where
     crashed : (left : NodeState D g)
-        → HasCrashed g.state g.failures g.past junk (disk_of own) left →
-        IsCrashOf g.state g.failures g.past junk (disk_of own) (disk_in left)
+        → HasCrashed g.state g.failures g.past junk (disk_of own.value) left →
+        IsCrashOf g.state g.failures g.past junk (disk_of own.value) (disk_in left)
     crashed (Up other) has = absurd has
     crashed (Down disk) has = has
 
@@ -74,20 +75,21 @@ pub tended_so : {D : Type 0} {g : Ghosts D} (it : Fault) (struck : Bool) (x : �
     StateRefines g.is_honest g.state old x n → HasTended g.is_honest g.state it struck x n old new
     did →
     TellsChosen choice did → RaisesAsTold x n new choice did →
-    (was now : Node D g) → old ≡ Up was → new ≡ Up now → TendsAsChosen choice was now
+    (was now : Box (Node D g)) → old ≡ Up was → new ≡ Up now →
+    TendsAsChosen choice was.value now.value
 tended_so {D = D} {g = g} it struck x n old new did choice before (Tends up is told) chose risen
     was now ran runs =
     let answer = told.0 in
     let said : choice.tended ≡ answer = subst (λ (d : StepOutcome). TellsChosen choice d) told.1
     chose in
-    let facts : facts_of (engine_of was) ≡ facts_for x n =
+    let facts : facts_of (engine_of was.value) ≡ facts_for x n =
     (subst (λ (m : NodeState D g). StateRefines g.is_honest g.state m x n) ran before).facts in
     record {
       did = subst (λ (d : Tended). IsTendedAnswer (Up was) (Up now) d) (sym said)
           (subst (λ (m : NodeState D g). IsTendedAnswer (Up was) m answer) runs
           (subst (λ (m : NodeState D g). IsTendedAnswer m new answer) ran told.2));
       rises = risen answer told.1 ∙ ap (rises_in x n) runs
-          ∙ ap (λ (f : Facts). has_risen f (facts_of (engine_of now))) (sym facts);
+          ∙ ap (λ (f : Facts). has_risen f (facts_of (engine_of now.value))) (sym facts);
     }
 tended_so {D = D} {g = g} it struck x n old new did choice before (Halts up stop gives_up is) chose
     risen was now ran runs =

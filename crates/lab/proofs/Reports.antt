@@ -90,7 +90,7 @@ pub disk_represents : {D : Type 0} {g : Ghosts D} → ((node : Node D g) (x : �
     NodeRefines g.is_honest g.state node x n → DiskAlwaysRefines (g.state (disk_of node)) x n) →
     (new : NodeState D g) (x : ℕ) (n : Machine) → StateRefines g.is_honest g.state new x n →
     DiskAlwaysRefines (g.state (disk_in new)) x n
-disk_represents law (Up node) x n is = law node x n is
+disk_represents law (Up node) x n is = law node.value x n is
 disk_represents law (Down disk) x n is = is.1
 
 module _ {D : Type 0} {g : Ghosts D} (sims : List (SimNode D g)) (posted : List Posted)

@@ -1,4 +1,5 @@
 -- A tend of a simulated node, as an event of the model: what rose in it, and what was given up.
+use Rattle.std.specs.Global.{Box}
 use Rattle.std.proofs.Common.{◌≡◌, ℕ, Bool, true, false, inl, inr, refl, sym, ap, subst, ◌∙◌}
 use Rattle.std.proofs.Common.{arith, List, Some}
 use Rattle.std.proofs.lemmas.Bool.{cond-true, cond-false, false≢true}
@@ -96,11 +97,11 @@ module _ {D : Type 0} {g : Ghosts D} (cs : Configurations) (w : SystemState Batc
         no_rise (Tend x) choice o (rises, gives_up)
 
     -- the node ran, and its facts say what rose
-    tends_so : (now : Node D g) (answer : Tended) → new ≡ Up now → machine.running ≡ true →
+    tends_so : (now : Box (Node D g)) (answer : Tended) → new ≡ Up now → machine.running ≡ true →
         StateRefines g.is_honest g.state (Up now) x (tended_in x machine (Up now)).node →
         did ≡ done.Tended answer → IsOutcome cs w i x (Tend x) it struck heard new did
     tends_so now answer is_up up is traced =
-        let facts = facts_of (engine_of now) in
+        let facts = facts_of (engine_of now.value) in
         let rises = has_risen (facts_for x machine) facts in
         let choice = chosen_tend Answered Disk answer rises (given_up rises facts.kept) in
         let same = same_tend machine rises facts.kept in
@@ -115,7 +116,7 @@ module _ {D : Type 0} {g : Ghosts D} (cs : Configurations) (w : SystemState Batc
         (sym traced) (silent_traced rises))
       where
         silent_traced : (rises : Bool) →
-            let facts = facts_of (engine_of now) in
+            let facts = facts_of (engine_of now.value) in
             IsTraced x (with_fault (Tend x) it)
             (chosen_tend Answered Disk answer rises (given_up rises facts.kept))
             (done.Tended answer) (answers x (tend machine rises facts.kept))

@@ -89,7 +89,7 @@ HasAnswered did P = (output : Output) × (did ≡ done.Answered output) × P out
 -- the states that a node's disk had when its step ended: one of a node that is down has crashed
 -- since
 abbrev pub past_in : {D : Type 0} {g : Ghosts D} → (D → List State) → NodeState D g → List State
-past_in past (Up node) = past (disk_of node)
+past_in past (Up node) = past (disk_of node.value)
 past_in past (Down disk) = before_crash (past disk)
 
 -- whether the fault struck a call of a node's disk
@@ -133,19 +133,20 @@ pub data HasHandled {D : Type 0} {g : Ghosts D} (is_honest : D → Type 0) (stat
 -- a node that was up, and is, tells what its tend did
 abbrev pub IsTendedAnswer : {D : Type 0} {g : Ghosts D} → NodeState D g → NodeState D g → Tended
     → Type 0
-IsTendedAnswer (Up old) (Up new) answer = IsTendAnswer (engine_of old) (engine_of new) answer
+IsTendedAnswer (Up old) (Up new) answer =
+    IsTendAnswer (engine_of old.value) (engine_of new.value) answer
 IsTendedAnswer (Up old) (Down disk) answer = ⊥
 IsTendedAnswer (Down disk) new answer = ⊥
 
 -- whether a node that was machine n has raised its floor in a tend, by the facts that it tells now
 abbrev pub rises_in : {D : Type 0} {g : Ghosts D} → ℕ → Machine → NodeState D g → Bool
-rises_in x n (Up node) = has_risen (facts_for x n) (facts_of (engine_of node))
+rises_in x n (Up node) = has_risen (facts_for x n) (facts_of (engine_of node.value))
 rises_in x n (Down disk) = false
 
 -- the answer of machine n to a tend, by the facts that its node tells now
 abbrev pub tended_in : {D : Type 0} {g : Ghosts D} → ℕ → Machine → NodeState D g
     → Answer BatchContent
-tended_in x n (Up node) = answer_to_tend x n (facts_of (engine_of node))
+tended_in x n (Up node) = answer_to_tend x n (facts_of (engine_of node.value))
 tended_in x n (Down disk) = silent n
 
 -- a tend: the node ran as its facts say, and tells what it did; or it stopped by itself, as before
@@ -304,7 +305,7 @@ StateFollows is_honest state failures past (Up node) (to_node.BadFrame why) new 
 StateFollows is_honest state failures past (Up node) to_node.Tend new = Unit {0}
 StateFollows is_honest state failures past (Up node) to_node.Start new = new ≡ Up node
 StateFollows is_honest state failures past (Up node) (to_node.Stop junk) new =
-    is_honest (disk_of node) → HasCrashed state failures past junk (disk_of node) new
+    is_honest (disk_of node.value) → HasCrashed state failures past junk (disk_of node.value) new
 StateFollows is_honest state failures past (Down disk) (to_node.Step inp) new = new ≡ Down disk
 StateFollows is_honest state failures past (Down disk) (to_node.BadFrame why) new = new ≡ Down disk
 StateFollows is_honest state failures past (Down disk) to_node.Tend new = new ≡ Down disk

@@ -1,4 +1,5 @@
 -- Simulated nodes: what a running or stopped one refines, and what the code may choose in a step.
+use Rattle.std.specs.Global.{Box}
 use Rattle.std.specs.Prelude.{◌≡◌, ℕ, All, Bool, List, None, false, true}
 use Rattle.kv_types.specs.declared.Limits.{Limits}
 use Rattle.disk.specs.{IsReliable, Marks, Slots, State, fault_of, past_states, state_of}
@@ -14,7 +15,7 @@ use Rattle.lab.specs.declared.node_state.NodeState.TheVariants.{Up, Down}
 
 -- the disk that a node owns, or that is left of one that is down
 abbrev pub disk_in : {D : Type 0} {g : Ghosts D} → NodeState D g → D
-disk_in (Up node) = disk_of node
+disk_in (Up node) = disk_of node.value
 disk_in (Down disk) = disk
 
 -- the node is down
@@ -24,11 +25,11 @@ IsDown (Down disk) = Unit {0}
 
 -- a step of it may follow, if it is up
 abbrev pub StateIsReady : {D : Type 0} {g : Ghosts D} → NodeState D g → Type 0
-StateIsReady {D} {g} new = (node : Node D g) → new ≡ Up node → IsReady node
+StateIsReady {D} {g} new = (node : Box (Node D g)) → new ≡ Up node → IsReady node.value
 
 -- it has these limits, if it is up
 abbrev pub StateHasLimits : {D : Type 0} {g : Ghosts D} → NodeState D g → Limits → Type 0
-StateHasLimits (Up node) limits = node_limits node ≡ limits
+StateHasLimits (Up node) limits = node_limits node.value ≡ limits
 StateHasLimits (Down disk) limits = Unit {0}
 
 -- the disk of a node that is down is honest, and represents machine n as node x
@@ -39,12 +40,13 @@ DownRefines is_honest state disk x n =
 -- a running node refines machine n as node x, or the disk of one that is down does
 abbrev pub StateRefines : {D : Type 0} {g : Ghosts D} → (D → Type 0) → (D → State) → NodeState D g
     → ℕ → Machine → Type 0
-StateRefines is_honest state (Up node) x n = NodeRefines is_honest state node x n
+StateRefines is_honest state (Up node) x n = NodeRefines is_honest state node.value x n
 StateRefines is_honest state (Down disk) x n = DownRefines is_honest state disk x n
 
 -- a running node refines some machine, or the disk of one that is down is honest
 abbrev pub StateIsSound : {D : Type 0} (g : Ghosts D) → NodeState D g → Type 0
-StateIsSound g (Up node) = (x : ℕ) × (n : Machine) × NodeRefines g.is_honest g.state node x n
+StateIsSound g (Up node) =
+    (x : ℕ) × (n : Machine) × NodeRefines g.is_honest g.state node.value x n
 StateIsSound g (Down disk) = g.is_honest disk
 
 -- what the code may choose in a step: how it went, whether the event's fault struck in it, why the

@@ -1,4 +1,5 @@
 -- A world of simulated nodes, and the run of the model that it refines.
+use Rattle.std.specs.Global.{Box}
 use Rattle.std.specs.Prelude.{◌≡◌, ℕ, suc, ◌+◌, ◌≤◌, List, [], ◌∷◌, ◌++◌, length, map}
 use Rattle.std.specs.Prelude.{Bool, MatchOption, Option, Some, None}
 use Rattle.std.specs.Prelude.{All, true, false, ◌≢◌, ◌<◌, get_or, slice_index, slice_set}
@@ -38,8 +39,7 @@ use Rattle.lab.specs.SimNodes.{Arrives, Choice, StateRefines, disk_in, in_memory
 use Rattle.lab.specs.SimNodes.{StateHasLimits, IsDown, IsUnarmed}
 use Rattle.lab.specs.Events.{NamesNode, epoch_in, modelled}
 use Rattle.lab.specs.Outcomes.{HasDispatched, outcome_lines, sent_by}
-use Rattle.lab.specs.Disks.{AreDisksAfter, DiskFollows, HaveDisks, IsNewDisk, IsDiskOf}
-use Rattle.lab.specs.Disks.{IsCrashOf}
+use Rattle.lab.specs.Disks.{AreDisksAfter, DiskFollows, HaveDisks, IsCrashOf, IsDiskOf, IsNewDisk}
 use Rattle.lab.specs.Freshness.{NodesKeepEnough, ReadsAreFresh}
 use Rattle.lab.specs.History.{IsHistory}
 use Rattle.lab.specs.Runs.{RunningRefines}
@@ -154,7 +154,7 @@ module _ {D : Type 0} {g : Ghosts D} where
   -- the node is up, and the numbers say how many tables each level of its store has
   abbrev pub HasTablesIn : NodeState D g → Numbers → Type 0
   HasTablesIn (Up node) numbers = (level : ℕ) → level < 7 →
-      slice_index numbers.tables level ≡ table_count (engine_of node) level
+      slice_index numbers.tables level ≡ table_count (engine_of node.value) level
   HasTablesIn (Down disk) numbers = ⊥
 
   -- the numbers are those of node x, which is up: they say how many tables it has
@@ -187,10 +187,9 @@ module _ {D : Type 0} {g : Ghosts D} where
     pub traced : lines ≡ outcome_lines x (epoch_in event.kind) (length posted) did
 
   -- a node that tended, and runs on, did and raised what was chosen
-  pub record TendsAsChosen (choice : Choice) (was now : Node D g) : Type 0
-    where
-      pub did : IsTendAnswer (engine_of was) (engine_of now) choice.tended
-      pub rises : choice.rises ≡ has_risen (facts_of (engine_of was)) (facts_of (engine_of now))
+  pub record TendsAsChosen (choice : Choice) (was now : Node D g) : Type 0 where
+    pub did : IsTendAnswer (engine_of was) (engine_of now) choice.tended
+    pub rises : choice.rises ≡ has_risen (facts_of (engine_of was)) (facts_of (engine_of now))
 
   -- An event acted on node x, which is machine n after it, and the disk that the node has follows
   -- from the one that it had. Every other node is as it was.
@@ -204,12 +203,13 @@ module _ {D : Type 0} {g : Ghosts D} where
     pub disk : DiskFollows g event choice o n
         (disk_in (get_or old index sim).state) (disk_in sim.state)
     -- a stop of a running node leaves a crash of its disk with the junk
-    pub stops : (junk : Junk) → event.kind ≡ Stop x junk → (was : Node D g) →
+    pub stops : (junk : Junk) → event.kind ≡ Stop x junk → (was : Box (Node D g)) →
         (get_or old index sim).state ≡ Up was →
-        IsCrashOf g.state g.failures g.past junk (disk_of was) (disk_in sim.state)
+        IsCrashOf g.state g.failures g.past junk (disk_of was.value) (disk_in sim.state)
     -- a tend of a running node that did not stop tells what it did, and what has risen
-    pub tends : event.kind ≡ Tend x → (was now : Node D g) →
-        (get_or old index sim).state ≡ Up was → sim.state ≡ Up now → TendsAsChosen choice was now
+    pub tends : event.kind ≡ Tend x → (was now : Box (Node D g)) →
+        (get_or old index sim).state ≡ Up was → sim.state ≡ Up now →
+        TendsAsChosen choice was.value now.value
 
   -- the nodes follow from those before, by the node that the event acted on
   abbrev pub NodesFollow : Option (ℕ × Machine) → Event → Choice → model_frame.Outcome BatchContent

@@ -22,7 +22,7 @@ fn left_of(node: SimNode<MemDisk>) -> NodeReport
     match state {
         NodeState::Up(node) => {
             let running = Some(node.numbers());
-            let disk = node.into_disk();
+            let disk = Box::into_inner(node).into_disk();
             NodeReport { id, disk, running }
         }
         NodeState::Down(disk) => NodeReport {

@@ -20,10 +20,10 @@ use node::laws::full_logs_are_long;
 use node::{DropReason, Input, Node, Stop};
 use std::alloc::{AllocError, Global};
 
-/// A node that is up, or the disk of one that is down.
+/// A node that is up, in a box so that no event copies it, or the disk of one that is down.
 #[derive(Drop)]
 pub enum NodeState<D: Disk + Drop> {
-    Up(Node<D>),
+    Up(Box<Node<D>>),
     Down(D),
 }
 
@@ -77,74 +77,78 @@ fn stop_by_itself<D: Crash + Drop>(disk: D, stop: Stop, fault: Fault) -> (NodeSt
     (crash(disk, junk), StepOutcome::Stopped(cause))
 }
 
-// A node that was down starts, on a disk with this fault.
+// A node that was down starts, on a disk with this fault. Refused where memory runs out for it.
 fn start<D: Crash + Drop>(
     alloc: Global,
     mut disk: D,
     fault: Fault,
     limits: &Limits,
-) -> (NodeState<D>, StepOutcome)
-    ensures { HasDispatched D.Disk limits.now fault NodeInput.Start (NodeState.Down disk)
-        result.0 result.1 }
+) -> Result<(NodeState<D>, StepOutcome), AllocError>
+    ensures { IfOk result (λ it. HasDispatched D.Disk limits.now fault NodeInput.Start
+        (NodeState.Down disk) it.0 it.1) }
 {
     disk.arm(&fault);
     match Node::start(alloc, disk, limits) {
         Ok(mut node) => {
             drop(fault);
             node.arm(&Fault::None);
+            let (epoch, count, committed) = (node.epoch(), node.count(), node.committed());
+            let state = NodeState::Up(Box::new(alloc, node)?);
             let outcome = StepOutcome::Started {
-                epoch: node.epoch(),
-                count: node.count(),
-                committed: node.committed(),
+                epoch,
+                count,
+                committed,
             };
-            (NodeState::Up(node), outcome)
+            Ok((state, outcome))
         }
-        Err((stop, disk)) => stop_by_itself(disk, stop, fault),
+        Err((stop, disk)) => Ok(stop_by_itself(disk, stop, fault)),
     }
 }
 
 // A node that is up takes a step, on a disk with this fault.
 fn step<D: Crash + Drop>(
     alloc: Global,
-    mut node: Node<D>,
+    mut boxed: Box<Node<D>>,
     input: Input,
     fault: Fault,
 ) -> (NodeState<D>, StepOutcome)
-    requires { IsReady node }
+    requires { IsReady boxed.value }
     ensures { (limits : Limits) → HasDispatched D.Disk limits fault (NodeInput.Step input)
-        (NodeState.Up node) result.0 result.1 }
+        (NodeState.Up boxed) result.0 result.1 }
 {
     full_logs_are_long::<D>(); // law: where a log is nearly full, a file is long
+    let node = boxed.as_mut();
     node.arm(&fault);
     match node.step(alloc, input) {
         Ok(output) => {
             drop(fault);
             node.arm(&Fault::None);
-            (NodeState::Up(node), StepOutcome::Answered(output))
+            (NodeState::Up(boxed), StepOutcome::Answered(output))
         }
-        Err(stop) => stop_by_itself(node.into_disk(), stop, fault),
+        Err(stop) => stop_by_itself(Box::into_inner(boxed).into_disk(), stop, fault),
     }
 }
 
 // A node that is up tends its store, on a disk with this fault.
 fn tend<D: Crash + Drop>(
     alloc: Global,
-    mut node: Node<D>,
+    mut boxed: Box<Node<D>>,
     fault: Fault,
 ) -> (NodeState<D>, StepOutcome)
-    requires { IsReady node }
+    requires { IsReady boxed.value }
     ensures { (limits : Limits) → HasDispatched D.Disk limits fault NodeInput.Tend
-        (NodeState.Up node) result.0 result.1 }
+        (NodeState.Up boxed) result.0 result.1 }
 {
     full_logs_are_long::<D>(); // law: where a log is nearly full, a file is long
+    let node = boxed.as_mut();
     node.arm(&fault);
     match node.tend(alloc) {
         Ok(did) => {
             drop(fault);
             node.arm(&Fault::None);
-            (NodeState::Up(node), StepOutcome::Tended(did))
+            (NodeState::Up(boxed), StepOutcome::Tended(did))
         }
-        Err(stop) => stop_by_itself(node.into_disk(), stop, fault),
+        Err(stop) => stop_by_itself(Box::into_inner(boxed).into_disk(), stop, fault),
     }
 }
 
@@ -160,7 +164,7 @@ fn dispatch_down<D: Crash + Drop>(
         HasDispatched D.Disk limits.now fault input.now (NodeState.Down disk) it.0 it.1) }
 {
     if let NodeInput::Start = input {
-        return Ok(start(alloc, disk, fault, limits));
+        return start(alloc, disk, fault, limits);
     }
     drop(fault);
     let output = output_at_rest(alloc, input)?;
@@ -200,7 +204,7 @@ impl<D: Crash + Drop> NodeState<D> {
             }
             NodeInput::Stop(junk) => {
                 drop(fault);
-                let state = crash(node.into_disk(), junk);
+                let state = crash(Box::into_inner(node).into_disk(), junk);
                 Ok((state, StepOutcome::Stopped(None)))
             }
         }

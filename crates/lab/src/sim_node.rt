@@ -17,9 +17,9 @@ pub struct SimNode<D: Disk + Drop> {
 }
 
 impl<D: Disk + Drop> SimNode<D> {
-    /// A node that is up, with this id.
-    pub fn up(id: NodeId, node: Node<D>) -> SimNode<D>
-        requires { IsReady node }
+    /// A node that is up, with this id. It stays in this box while it is up.
+    pub fn up(id: NodeId, node: Box<Node<D>>) -> SimNode<D>
+        requires { IsReady node.value }
         ensures id { result.id ≡ id }
         ensures state { result.state ≡ NodeState.Up node }
     {

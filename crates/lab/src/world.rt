@@ -62,14 +62,10 @@ fn created_node(
     match Node::create(alloc, disk, id, config, limits) {
         Ok(mut node) => {
             node.arm(&Fault::None);
-            Ok(SimNode {
-                id,
-                state: NodeState::Up(node),
-            })
+            Ok(SimNode::up(id, Box::new(alloc, node)?))
         }
-        Err(refused) => {
+        Err((stop, _disk)) => {
             // A new disk fails at no call that fits, so only memory can be wanting.
-            let stop = refused.0;
             prove!(stop == Stop::Memory);
             Err(LabError::Memory)
         }

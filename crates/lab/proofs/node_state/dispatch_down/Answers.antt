@@ -1,4 +1,5 @@
 use Rattle.std.proofs.Common.{sym, subst}
+use Rattle.std.specs.Prelude.{IfOk}
 use Rattle.carriers.specs.declared.NodeInput.{NodeInput}
 use Rattle.lab.specs.declared.node_state.NodeState.TheVariants.{Down}
 use Rattle.lab.specs.Outcomes.{HasDispatched}
@@ -7,8 +8,9 @@ use Rattle.lab.proofs.node_state.dispatch_down.Goals as goal
 
 pub returns-in-Start : goal.returns-in-Start
 returns-in-Start g c =
-    subst (λ (k : NodeInput). HasDispatched g.D.Disk c.args.limits.now c.args.fault k
-    (Down c.args.disk) c.start.result.0 c.start.result.1) (sym c.in-Start.is) c.start.ensures
+    subst (λ (k : NodeInput). IfOk c.start.result
+    (λ it. HasDispatched g.D.Disk c.args.limits.now c.args.fault k (Down c.args.disk) it.0 it.1))
+    (sym c.in-Start.is) c.start.ensures
 
 pub returns : goal.returns
 returns g c =

@@ -7,43 +7,47 @@ use Rattle.carriers.specs.declared.NodeInput.TheVariants as to_node
 use Rattle.lab.specs.declared.node_state.NodeState.TheVariants.{Down}
 use Rattle.lab.specs.SimNodes.{StateRefines}
 use Rattle.lab.specs.Outcomes.{Starts, Fails}
-use Rattle.lab.proofs.Dispatching.{halted, halts_so, honest_left}
+use Rattle.lab.proofs.Dispatching.{halted, halts_so, honest_left, into_box}
 use Rattle.lab.proofs.Faults.{grown_since, marked_so, same_state}
 use Rattle.lab.proofs.node_state.start.Goals as goal
 
-pub returns-in-Ok : goal.returns-in-Ok
-returns-in-Ok g c = record {
-  ready = search rules;
-  refines = λ x n r.
-      let represents = subst (λ (s : State). DiskAlwaysRefines s x n)
-      (same_state (c.arm.ensures.same r.0)) r.1 in
-      let disk = g.D.Disk.state c.arm.new.self in
-      let began = c.in-Ok.ensures.started x n (c.arm.ensures.honest.1 r.0)
-      (represents (contents disk) (λ file. read_is_outcome (disk file))) in
-      let runs = c.arm-in-Ok.ensures.refines x (started x n) began in
-      Starts r.2 runs (rw (
-        c.epoch.ensures x (started x n) runs,
-        c.count.ensures x (started x n) runs,
-        c.committed.ensures x (started x n) runs,
-      ) refl);
-  disk = search rules;
-  only = search rules;
-  follows = tt;
-  grows = λ x n r.
-      let armed = c.arm.ensures in
-      let represents = subst (λ (s : State). DiskAlwaysRefines s x n)
-      (same_state (armed.same r.0)) r.1
-      in
-      let leaves = c.in-Ok.ensures.any_moment x n n (armed.honest.1 r.0)
-      (λ left now. inl (represents left now)) in
-      grown_since g.D.Disk _ c.args.disk c.arm.new.self _ _ armed.past leaves
-      c.arm-in-Ok.ensures.armed.past;
-  marked = λ honest.
-      inr (marked_so g.D.Disk c.args.fault c.args.disk false c.arm.new.self _ _ _ _ _ c.arm.ensures
-      c.in-Ok.ensures.kept c.arm-in-Ok.ensures.armed honest);
-  forgets = search rules;
-  limits = search rules;
-}
+pub returns-in_ok-new-in-Ok : goal.returns-in_ok-new-in-Ok
+returns-in_ok-new-in-Ok g c =
+    let boxed = c.in_ok-new-in-Ok in
+    into_box g.D.Disk c.args.limits.now c.args.fault to_node.Start (Down c.args.disk) boxed.field-0
+    c.arm-in-Ok.new.self _ boxed.ensures.ok (record {
+      ready = search rules;
+      refines = λ x n r.
+          let represents = subst (λ (s : State). DiskAlwaysRefines s x n)
+          (same_state (c.arm.ensures.same r.0)) r.1 in
+          let disk = g.D.Disk.state c.arm.new.self in
+          let began = c.in-Ok.ensures.started x n (c.arm.ensures.honest.1 r.0)
+          (represents (contents disk) (λ file. read_is_outcome (disk file))) in
+          let runs = c.arm-in-Ok.ensures.refines x (started x n) began in
+          Starts r.2 runs (rw (
+            c.epoch-epoch.ensures x (started x n) runs,
+            c.count-count.ensures x (started x n) runs,
+            c.committed-committed.ensures x (started x n) runs,
+          ) refl);
+      disk = search (rules, c.arm.ensures, c.in-Ok.ensures, c.arm-in-Ok.ensures);
+      only = search rules;
+      follows = tt;
+      grows = λ x n r.
+          let armed = c.arm.ensures in
+          let represents = subst (λ (s : State). DiskAlwaysRefines s x n)
+          (same_state (armed.same r.0)) r.1
+          in
+          let leaves = c.in-Ok.ensures.any_moment x n n (armed.honest.1 r.0)
+          (λ left now. inl (represents left now)) in
+          grown_since g.D.Disk _ c.args.disk c.arm.new.self _ _ armed.past leaves
+          c.arm-in-Ok.ensures.armed.past;
+      marked = λ honest.
+          inr (marked_so g.D.Disk c.args.fault c.args.disk false c.arm.new.self _ _ _ _ _
+          c.arm.ensures
+          c.in-Ok.ensures.kept c.arm-in-Ok.ensures.armed honest);
+      forgets = search rules;
+      limits = search rules;
+    })
 
 pub returns-in-Err : goal.returns-in-Err
 returns-in-Err g c =

@@ -1,8 +1,9 @@
 use Rattle.std.specs.Prelude.{IsErrOf}
-use Rattle.std.proofs.Common.{false, Err, Result, inr, refl, sym, ap, subst, rules}
+use Rattle.std.proofs.Common.{false, ◌∙◌, Err, Result, inr, refl, sym, ap, subst, rules}
 use Rattle.chain_core.specs.{answer_to}
 use Rattle.disk.specs.{KeepsDisk, State}
 use Rattle.node.specs.declared.Stop.TheVariants as stop
+use Rattle.node.specs.declared.Node.{Node}
 use Rattle.node.specs.declared.Output.{Output}
 use Rattle.node.specs.declared.Stop.{Stop as Cause}
 use Rattle.node.specs.{HasLongFile, IsNearlyFull, IsOwned, StopRefines}
@@ -10,49 +11,56 @@ use Rattle.node.specs.{disk_of, engine_of}
 use Rattle.carriers.specs.declared.NodeInput.TheVariants as to_node
 use Rattle.lab.specs.declared.node_state.NodeState.TheVariants.{Up}
 use Rattle.lab.specs.Outcomes.{Answers, Ends}
-use Rattle.lab.proofs.Dispatching.{halted, halts_so}
+use Rattle.lab.proofs.Dispatching.{halted, halts_so, holding, in_box}
 use Rattle.lab.proofs.Faults.{grown_since, marked_so, same_state}
 use Rattle.lab.proofs.node_state.step.Goals as goal
 
 pub returns-in-Ok : goal.returns-in-Ok
-returns-in-Ok g c = λ limits. record {
-  ready = search rules;
-  refines = λ x n r.
-      let a = (c.in-Ok.ensures.ends x n (c.arm.ensures.refines x n r)).done in
-      Answers r.core.running (c.arm-in-Ok.ensures.refines x _ a.runs) (
-        c.in-Ok.output,
-        refl,
-        record {
-          dropped = a.dropped;
-          frames = a.frames;
-          replied = a.replied;
-        },
-      );
-  disk = search rules;
-  only = search rules;
-  follows = tt;
-  grows = λ x n r.
-      let ended = c.in-Ok.ensures.ends x n (c.arm.ensures.refines x n r) in
-      grown_since g.D.Disk _ (disk_of c.args.node) (disk_of c.arm.new.self) _ _
-      c.arm.ensures.armed.past ended.any_moment c.arm-in-Ok.ensures.armed.past;
-  marked = λ honest.
-      inr (marked_so g.D.Disk c.args.fault (disk_of c.args.node) false
-      (disk_of c.arm.new.self) _ _ _ _ _
-      c.arm.ensures.armed c.in-Ok.ensures.kept.disk c.arm-in-Ok.ensures.armed honest);
-  forgets = search rules;
-  limits = search rules;
-}
+returns-in-Ok g c = λ limits.
+    let own = c.as_mut-node.result.now in
+    in_box g.D.Disk limits c.args.fault (to_node.Step c.args.input) c.args.boxed own _ _
+    c.as_mut-node.ensures.value (record {
+      ready = search rules;
+      refines = λ x n r.
+          let a = (c.in-Ok.ensures.ends x n (c.arm.ensures.refines x n r)).done in
+          Answers r.core.running (c.arm-in-Ok.ensures.refines x _ a.runs) (
+            c.in-Ok.output,
+            refl,
+            record {
+              dropped = a.dropped;
+              frames = a.frames;
+              replied = a.replied;
+            },
+          );
+      disk = search rules;
+      only = search rules;
+      follows = tt;
+      grows = λ x n r.
+          let ended = c.in-Ok.ensures.ends x n (c.arm.ensures.refines x n r) in
+          grown_since g.D.Disk _ (disk_of own) (disk_of c.arm.new.self) _ _
+          c.arm.ensures.armed.past ended.any_moment c.arm-in-Ok.ensures.armed.past;
+      marked = λ honest.
+          inr (marked_so g.D.Disk c.args.fault (disk_of own) false
+          (disk_of c.arm.new.self) _ _ _ _ _
+          c.arm.ensures.armed c.in-Ok.ensures.kept.disk c.arm-in-Ok.ensures.armed honest);
+      forgets = search rules;
+      limits = search rules;
+    })
 
 pub returns-in-Err : goal.returns-in-Err
 returns-in-Err g c = λ limits.
     let ended : Result Output Cause = Err c.in-Err.stop in
     let full = IsNearlyFull (engine_of c.arm.new.self) in
-    let same = sym c.into_disk.ensures.disk in
+    let own = c.as_mut-node.result.now in
+    let disk = c.into_disk.ensures.disk ∙ ap (λ (it : Node _ _). disk_of it) c.into_inner.ensures in
+    let same = sym disk in
     let kept = subst (λ d. KeepsDisk g.D.Disk (disk_of c.arm.new.self) d
     (IsErrOf ended stop.Disk) full
     IsOwned) same c.in-Err.ensures.kept.disk in
     let e = c.stop_by_itself.ensures in
-    halted g.D.Disk c.args.fault (Up c.args.node) c.stop_by_itself.result.0
+    in_box g.D.Disk limits c.args.fault (to_node.Step c.args.input) c.args.boxed own _ _
+    c.as_mut-node.ensures.value
+    (halted g.D.Disk c.args.fault (Up (holding c.args.boxed own)) c.stop_by_itself.result.0
     c.stop_by_itself.result.1 (disk_of c.arm.new.self) c.into_disk.result c.in-Err.stop
     (IsErrOf ended stop.Disk) full IsOwned c.arm.ensures.armed kept (λ fails. cc)
     (λ is. ap (λ (e : Cause). Err e) is) e.told e.crashes limits (to_node.Step c.args.input) refl
@@ -61,7 +69,7 @@ returns-in-Err g c = λ limits.
     let a = answer_to x n c.args.input in
     let ends = c.in-Err.ensures.ends x n (c.arm.ensures.refines x n r) in
     Ends r.core.running
-    (halts_so g.D.Disk c.args.fault (Up c.args.node) c.stop_by_itself.result.0
+    (halts_so g.D.Disk c.args.fault (Up (holding c.args.boxed own)) c.stop_by_itself.result.0
     c.stop_by_itself.result.1 (disk_of c.arm.new.self) c.into_disk.result c.in-Err.stop
     (IsErrOf ended stop.Disk) full IsOwned c.arm.ensures.armed kept (λ fails. cc)
     (λ is. ap (λ (e : Cause). Err e) is) e.told e.crashes r.honest ends.done)
@@ -73,5 +81,5 @@ returns-in-Err g c = λ limits.
     (c.arm.ensures.refines sound.0 sound.1 sound.2) why)) tt
     (λ x n r.
     let ends = c.in-Err.ensures.ends x n (c.arm.ensures.refines x n r) in
-    grown_since g.D.Disk _ (disk_of c.args.node) (disk_of c.arm.new.self) _ c.into_disk.result
-    c.arm.ensures.armed.past ends.any_moment (ap g.D.Disk.past c.into_disk.ensures.disk))
+    grown_since g.D.Disk _ (disk_of own) (disk_of c.arm.new.self) _ c.into_disk.result
+    c.arm.ensures.armed.past ends.any_moment (ap g.D.Disk.past disk)))

@@ -1,10 +1,11 @@
 use Rattle.std.specs.Prelude.{IsErrOf}
-use Rattle.std.proofs.Common.{◌⊎◌, Err, Result, inl, inr, refl, sym, ap, subst, rules}
+use Rattle.std.proofs.Common.{◌⊎◌, ◌∙◌, Err, Result, inl, inr, refl, sym, ap, subst, rules}
 use Rattle.std.proofs.Common.{true, false}
 use Rattle.chain_model.specs.Rules.{tend}
 use Rattle.disk.specs.{KeepsDisk, State}
 use Rattle.engine.specs.{IsAdrift, raised_facts}
 use Rattle.engine.specs.Tended.{Tended}
+use Rattle.node.specs.declared.Node.{Node}
 use Rattle.node.specs.declared.Stop.TheVariants as stop
 use Rattle.node.specs.declared.Stop.{Stop as Cause}
 use Rattle.node.specs.{HasLongFile, IsNearlyFull, IsOwned, StopRefines}
@@ -12,36 +13,39 @@ use Rattle.node.specs.{disk_of, engine_of}
 use Rattle.carriers.specs.declared.NodeInput.TheVariants as to_node
 use Rattle.lab.specs.declared.node_state.NodeState.TheVariants.{Up}
 use Rattle.lab.specs.Outcomes.{Halts, Tends}
-use Rattle.lab.proofs.Dispatching.{halted, halts_so, tends_armed}
+use Rattle.lab.proofs.Dispatching.{halted, halts_so, holding, in_box, tends_armed}
 use Rattle.lab.proofs.Faults.{grown_since, marked_so, same_state}
 use Rattle.lab.proofs.node_state.tend.Goals as goal
 
 pub returns-in-Ok : goal.returns-in-Ok
-returns-in-Ok g c = λ limits. record {
-  ready = search rules;
-  refines = λ x n r.
-      let a = (c.in-Ok.ensures.ends x n (c.arm.ensures.refines x n r)).done in
-      Tends r.core.running (tends_armed g.D.Disk x n _ _ a.0
-      (c.arm-in-Ok.ensures.refines x _ a.0)) (
-        _,
-        refl,
-        (c.arm-in-Ok.ensures.tends (engine_of c.args.node) c.in-Ok.did).1 (
-            (c.arm.ensures.tends (engine_of c.tend.new.self) c.in-Ok.did).0 a.1),
-      );
-  disk = search rules;
-  only = search rules;
-  follows = tt;
-  grows = λ x n r.
-      let ended = c.in-Ok.ensures.ends x n (c.arm.ensures.refines x n r) in
-      grown_since g.D.Disk _ (disk_of c.args.node) (disk_of c.arm.new.self) _ _
-      c.arm.ensures.armed.past ended.any_moment c.arm-in-Ok.ensures.armed.past;
-  marked = λ honest.
-      inr (marked_so g.D.Disk c.args.fault (disk_of c.args.node) false
-      (disk_of c.arm.new.self) _ _ _ _ _
-      c.arm.ensures.armed c.in-Ok.ensures.kept c.arm-in-Ok.ensures.armed honest);
-  forgets = search rules;
-  limits = search rules;
-}
+returns-in-Ok g c = λ limits.
+    let own = c.as_mut-node.result.now in
+    in_box g.D.Disk limits c.args.fault to_node.Tend c.args.boxed own _ _
+    c.as_mut-node.ensures.value (record {
+      ready = search rules;
+      refines = λ x n r.
+          let a = (c.in-Ok.ensures.ends x n (c.arm.ensures.refines x n r)).done in
+          Tends r.core.running (tends_armed g.D.Disk x n _ _ a.0
+          (c.arm-in-Ok.ensures.refines x _ a.0)) (
+            _,
+            refl,
+            (c.arm-in-Ok.ensures.tends (engine_of own) c.in-Ok.did).1 (
+                (c.arm.ensures.tends (engine_of c.tend.new.self) c.in-Ok.did).0 a.1),
+          );
+      disk = search rules;
+      only = search rules;
+      follows = tt;
+      grows = λ x n r.
+          let ended = c.in-Ok.ensures.ends x n (c.arm.ensures.refines x n r) in
+          grown_since g.D.Disk _ (disk_of own) (disk_of c.arm.new.self) _ _
+          c.arm.ensures.armed.past ended.any_moment c.arm-in-Ok.ensures.armed.past;
+      marked = λ honest.
+          inr (marked_so g.D.Disk c.args.fault (disk_of own) false
+          (disk_of c.arm.new.self) _ _ _ _ _
+          c.arm.ensures.armed c.in-Ok.ensures.kept c.arm-in-Ok.ensures.armed honest);
+      forgets = search rules;
+      limits = search rules;
+    })
 
 pub returns-in-Err : goal.returns-in-Err
 returns-in-Err g c = λ limits.
@@ -49,12 +53,16 @@ returns-in-Err g c = λ limits.
     -- why a device that works may fail
     let may : Type 0 = IsNearlyFull (engine_of c.arm.new.self)
     ⊎ IsAdrift g.D.Disk (engine_of c.arm.new.self) in
-    let same = sym c.into_disk.ensures.disk in
+    let own = c.as_mut-node.result.now in
+    let disk = c.into_disk.ensures.disk ∙ ap (λ (it : Node _ _). disk_of it) c.into_inner.ensures in
+    let same = sym disk in
     let kept = subst (λ d. KeepsDisk g.D.Disk (disk_of c.arm.new.self) d
     (IsErrOf ended stop.Disk) may
     IsOwned) same c.in-Err.ensures.kept in
     let e = c.stop_by_itself.ensures in
-    halted g.D.Disk c.args.fault (Up c.args.node) c.stop_by_itself.result.0
+    in_box g.D.Disk limits c.args.fault to_node.Tend c.args.boxed own _ _
+    c.as_mut-node.ensures.value
+    (halted g.D.Disk c.args.fault (Up (holding c.args.boxed own)) c.stop_by_itself.result.0
     c.stop_by_itself.result.1 (disk_of c.arm.new.self) c.into_disk.result c.in-Err.stop
     (IsErrOf ended stop.Disk) may IsOwned c.arm.ensures.armed kept (λ fails. cc)
     (λ is. ap (λ (e : Cause). Err e) is) e.told e.crashes limits to_node.Tend refl
@@ -62,7 +70,7 @@ returns-in-Err g c = λ limits.
     (λ x n r.
     let ends = c.in-Err.ensures.ends x n (c.arm.ensures.refines x n r) in
     Halts r.core.running
-    (halts_so g.D.Disk c.args.fault (Up c.args.node) c.stop_by_itself.result.0
+    (halts_so g.D.Disk c.args.fault (Up (holding c.args.boxed own)) c.stop_by_itself.result.0
     c.stop_by_itself.result.1 (disk_of c.arm.new.self) c.into_disk.result c.in-Err.stop
     (IsErrOf ended stop.Disk) may IsOwned c.arm.ensures.armed kept (λ fails. cc)
     (λ is. ap (λ (e : Cause). Err e) is) e.told e.crashes r.honest ends.done)
@@ -71,7 +79,7 @@ returns-in-Err g c = λ limits.
     (subst g.D.Disk.is_honest same ends.honest)
     (subst (λ d. StopRefines (g.D.Disk.state d) x n
     (tend n true (raised_facts (engine_of c.arm.new.self)).kept)) same ends.any_moment.now)))
-    (λ sound why. elim why as (λ _. HasLongFile (g.D.Disk.state (disk_of c.args.node))) [
+    (λ sound why. elim why as (λ _. HasLongFile (g.D.Disk.state (disk_of own))) [
       | inl full ↦ subst (λ (s : State). HasLongFile s)
           (sym (same_state (c.arm.ensures.armed.same sound.2.honest)))
           (c.full_logs_are_long.ensures c.arm.new.self sound.0 sound.1
@@ -81,5 +89,5 @@ returns-in-Err g c = λ limits.
     ]) tt
     (λ x n r.
     let ends = c.in-Err.ensures.ends x n (c.arm.ensures.refines x n r) in
-    grown_since g.D.Disk _ (disk_of c.args.node) (disk_of c.arm.new.self) _ c.into_disk.result
-    c.arm.ensures.armed.past ends.any_moment (ap g.D.Disk.past c.into_disk.ensures.disk))
+    grown_since g.D.Disk _ (disk_of own) (disk_of c.arm.new.self) _ c.into_disk.result
+    c.arm.ensures.armed.past ends.any_moment (ap g.D.Disk.past disk)))

@@ -23,7 +23,7 @@ loop-line-preserved g c =
           subst (λ (l : List Line). RepliesArrive g.C.Carrier.loses
           (HasCarriedMore has_carried c.args.carrier.now c.carry_line.new.carrier) node
           (at.yielded ++ given ∷ []) l)
-          (sym c.in_ok-keep_line.ensures)
+          (sym {A = List Line} c.in_ok-keep_line.ensures)
           (line_more g.C.Carrier.loses
           (HasCarriedMore has_carried c.args.carrier.now at.carrier)
           (HasCarriedMore has_carried c.args.carrier.now c.carry_line.new.carrier) node

@@ -1,20 +1,38 @@
-use Rattle.std.proofs.Common.{None, ◌∷◌, ◌∙◌, ℕ, ap, ap₂, length, sym}
+use Rattle.std.proofs.Common.{◌≡◌, None, ◌∷◌, ◌∙◌, ℕ, ap, ap₂, length, subst, sym}
 use Rattle.chain_model.specs.{created}
 use Rattle.disk.specs.declared.Mark.TheVariants.{Armed}
-use Rattle.disk.specs.{Marks}
+use Rattle.disk.specs.{Marks, Slots}
+use Rattle.node.specs.declared.Node.{Node}
+use Rattle.node.specs.{NodeRefines, disk_of}
+use Rattle.lab.specs.declared.node_state.NodeState.{NodeState}
+use Rattle.lab.specs.Disks.{IsNewDisk}
+use Rattle.lab.specs.SimNodes.{StateRefines, disk_in, in_memory}
 use Rattle.lab.proofs.world.created_node.Goals as goal
 
--- the node was created, and its disk armed with no fault
-pub returns-in-Ok-clause-created : goal.returns-in-Ok-clause-created
-returns-in-Ok-clause-created c =
+-- the node was created, its disk armed with no fault, and it was put into a box
+pub returns-in_ok-new-in-Ok-clause-created : goal.returns-in_ok-new-in-Ok-clause-created
+returns-in_ok-new-in-Ok-clause-created c =
     let armed = c.arm.ensures.armed in
     let kept = c.in-Ok.ensures.kept in
+    let n = created c.args.config.now in
+    let held = c.in_ok-new-in-Ok.ensures.ok in
+    let up = sym c.up.ensures.state in
+    let refines = subst (λ (it : Node Slots _).
+    NodeRefines in_memory.is_honest in_memory.state it c.args.id n) (sym held)
+    (c.arm.ensures.refines c.args.id n (c.in-Ok.ensures.created tt)) in
+    let disk : disk_of c.arm.new.self ≡ disk_in c.up.result.state =
+    ap (λ (it : Node Slots _). disk_of it) (sym held)
+    ∙ ap (λ (m : NodeState Slots _). disk_in m) up in
     record {
-      is = c.arm.ensures.refines c.args.id (created c.args.config.now) (c.in-Ok.ensures.created tt);
-      count = armed.count ∙ (kept.count (λ fails. absurd fails) ∙ c.new-disk.ensures.count);
-      marked = record {
+      is = subst (λ (x : ℕ). StateRefines in_memory.is_honest in_memory.state c.up.result.state x n)
+          (sym c.up.ensures.id)
+          (subst (λ (m : NodeState Slots _).
+          StateRefines in_memory.is_honest in_memory.state m c.args.id n) up refines);
+      count = ap (λ (d : Slots). d.failures) (sym disk) ∙ (armed.count
+          ∙ (kept.count (λ fails. absurd fails) ∙ c.new-disk.ensures.count));
+      marked = subst (λ (d : Slots). IsNewDisk in_memory d) disk (record {
         marked = armed.marks tt ∙ ap₂ (λ (n : ℕ) (l : Marks). (n, Armed None) ∷ l)
             (ap length (sym armed.past)) (kept.fault ∙ c.new-disk.ensures.marks);
         last = armed.last tt;
-      };
+      });
     }

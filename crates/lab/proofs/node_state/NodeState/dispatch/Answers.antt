@@ -11,7 +11,8 @@ use Rattle.lab.specs.SimNodes.{StateRefines, disk_in}
 use Rattle.lab.specs.Outcomes.{Drops, HasCrashed, HasDispatched, RunsOn, Stops}
 use Rattle.lab.proofs.Dispatching.{answered_only, dispatched_as, ready_up}
 use Rattle.lab.proofs.Faults.{before_is, crash_grows}
-use Rattle.node.specs.{disk_of}
+use Rattle.node.specs.declared.Node.{Node}
+use Rattle.node.specs.{NodeRefines, disk_of}
 use Rattle.lab.proofs.node_state.NodeState.dispatch.Goals as goal
 
 -- a node that is down takes it
@@ -54,41 +55,44 @@ returns-in-Start g c =
 -- the disk crashed with the junk
 pub returns-in-Stop : goal.returns-in-Stop
 returns-in-Stop g c =
-    let same = sym c.into_disk.ensures.disk in
+    let left = c.into_disk.ensures.disk ∙ ap (λ (it : Node _ _). disk_of it) c.into_inner.ensures in
+    let same = sym left in
     let e = c.crash-state.ensures in
     let new = c.crash-state.result in
     let junk = c.in-Stop.junk in
     let node = c.in-Up.node in
-    let crashed = λ (honest : g.D.Disk.is_honest (disk_of node)).
+    let crashed = λ (honest : g.D.Disk.is_honest (disk_of node.value)).
     subst (λ d. HasCrashed g.D.Disk.state g.D.Disk.failures g.D.Disk.past junk d new)
-    c.into_disk.ensures.disk (e.crashes (subst g.D.Disk.is_honest same honest)) in
+    left (e.crashes (subst g.D.Disk.is_honest same honest)) in
     dispatched_as {g = g.D.Disk} {old = Up node} {new = new} {did = done.Stopped None}
     c.args.limits.now c.args.fault c.in-Stop.is c.in-Up.is (record {
       ready = e.ready;
       refines = λ x n r.
-          let rests = c.into_disk.ensures.rests x n r in
-          let left = elim (e.refines x n (silent n) (subst g.D.Disk.is_honest same r.honest)
+          let own = subst (λ (it : Node _ _). NodeRefines g.D.Disk.is_honest g.D.Disk.state it x n)
+          (sym c.into_inner.ensures) r in
+          let rests = c.into_disk.ensures.rests x n own in
+          let stopped_now = elim (e.refines x n (silent n) (subst g.D.Disk.is_honest same r.honest)
           (λ after now. inl (rests after now))) as
           (λ _. StateRefines g.D.Disk.is_honest g.D.Disk.state new x (stopped n)) [
             | inl before ↦ before
             | inr behind ↦ behind
           ] in
-          Stops r.core.running left refl;
+          Stops r.core.running stopped_now refl;
       disk = crashed;
       only = λ sound reliable stops. absurd cc;
       follows = crashed;
-      grows = λ x n r. crash_grows g.D.Disk junk (disk_of node) (disk_of node) new
+      grows = λ x n r. crash_grows g.D.Disk junk (disk_of node.value) (disk_of node.value) new
           (crashed r.honest) ([], refl);
       marked = λ honest.
           let so = e.marked (subst g.D.Disk.is_honest same honest) in
           let before = subst (λ d. IsMarkedSo g.D.Disk.state g.D.Disk.past g.D.Disk.marks
           ((length (g.D.Disk.past d), Crashed junk) ∷ g.D.Disk.marks d) (disk_in new))
-          c.into_disk.ensures.disk so in
+          left so in
           inr (record {
             marked = before.marked ∙ ap (λ (n : ℕ). (n, Crashed junk)
-                ∷ g.D.Disk.marks (disk_of node))
-                (ap length (before_is g.D.Disk c.args.fault (disk_of node) junk
-                (disk_of node) new (crashed honest)));
+                ∷ g.D.Disk.marks (disk_of node.value))
+                (ap length (before_is g.D.Disk c.args.fault (disk_of node.value) junk
+                (disk_of node.value) new (crashed honest)));
             last = before.last;
           });
       forgets = λ honest _. e.forgets (subst g.D.Disk.is_honest same honest);

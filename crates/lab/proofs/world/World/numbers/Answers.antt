@@ -2,11 +2,15 @@ use Rattle.std.proofs.Common.{◌≡◌, ◌∙◌, List, ℕ, subst, sym, true}
 use Rattle.std.proofs.lemmas.List.{get_or_default}
 use Rattle.std.proofs.lemmas.Option.{MatchOption-at_none}
 use Rattle.chain_model.specs.{has, node_of}
+use Rattle.node.specs.declared.Node.{Node}
+use Rattle.node.specs.{NodeRefines}
 use Rattle.lab.specs.declared.node_state.NodeState.{NodeState}
+use Rattle.lab.specs.declared.node_state.NodeState.TheVariants.{Up}
 use Rattle.lab.specs.declared.sim_node.SimNode.{SimNode}
 use Rattle.lab.specs.SimNodes.{StateRefines}
 use Rattle.lab.specs.Traces.{modelled_from}
 use Rattle.lab.specs.Worlds.{HasNoNode, HasTablesIn, IsIndexOf}
+use Rattle.lab.proofs.Dispatching.{holding}
 use Rattle.lab.proofs.SimNodes.{has_one, refined_of}
 use Rattle.lab.proofs.world.World.numbers.Goals as goal
 
@@ -30,8 +34,13 @@ returns-in-Up-clause-run g c = λ past run there.
     (refined_of machines run.made.disks c.args.self.now.nodes.items c.in-Some.index x
     c.index.result.now (subst (λ (l : List (SimNode g.row.D.Denot g.D.Disk)).
     IsIndexOf l c.in-Some.index x) c.deref.ensures.value c.in-Some.ensures) c.index.ensures
-    run.made.each) in
-    (up.core.running, c.numbers.ensures.refines x (machines x) up)
+    run.made.each) in (
+      up.core.running,
+      c.numbers.ensures.refines x (machines x)
+          (subst (λ (it : Node g.row.D.Denot g.D.Disk).
+          NodeRefines g.D.Disk.is_honest g.D.Disk.state it x (machines x))
+          (sym c.deref-in-Up.ensures) up),
+    )
 
 pub returns-in-Up-clause-tables : goal.returns-in-Up-clause-tables
 returns-in-Up-clause-tables g c =
@@ -47,7 +56,10 @@ returns-in-Up-clause-tables g c =
           HasTablesIn s.state c.numbers.result)
           (c.index.ensures ∙ get_or_default sims i sim other at.within)
           (subst (λ (m : NodeState g.row.D.Denot g.D.Disk). HasTablesIn m c.numbers.result)
-          (sym c.in-Up.is) c.numbers.ensures.tables);
+          (sym c.in-Up.is)
+          (subst (λ (it : Node g.row.D.Denot g.D.Disk). HasTablesIn
+          (Up (holding c.in-Up.node it)) c.numbers.result) c.deref-in-Up.ensures
+          c.numbers.ensures.tables));
     }
 
 pub returns-in-Down-clause-run : goal.returns-in-Down-clause-run
