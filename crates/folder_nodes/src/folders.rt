@@ -1,8 +1,12 @@
 // The nodes of a list of configurations, each in a folder of its own.
+ghost use Rattle.std.specs.Prelude.{IfOk};
+ghost use Rattle.node.specs.{IsReady};
+
 use crate::fault::{FolderError, FolderFault};
 use crate::finding::node_over;
 use configurations::{Configs, NodeId};
 use dir_disk::DirDisk;
+use disk::Disk;
 use kv_types::Limits;
 use lab::SimNode;
 use node::{Node, Stop};
@@ -43,7 +47,9 @@ fn node_in<R: Files<File = File> + Alloc<A = Global> + Clone + Drop>(
     id: NodeId,
     configs: &Configs,
     limits: &Limits,
-) -> Result<Node<DirDisk<R>>, FolderError> {
+) -> Result<Node<DirDisk<R>>, FolderError>
+    ensures { IfOk result IsReady }
+{
     let disk = locked_disk(rt, folder, id)?;
     match node_over(rt.alloc(), disk, id, configs, limits) {
         Ok(node) => Ok(node),
@@ -55,12 +61,15 @@ fn node_in<R: Files<File = File> + Alloc<A = Global> + Clone + Drop>(
 }
 
 // One node more, as a world takes it.
-fn add_node<R: Files<File = File> + Alloc<A = Global> + Clone + Drop>(
-    nodes: &mut Vec<SimNode<DirDisk<R>>>,
+fn add_node<D: Disk + Drop>(
+    alloc: Global,
+    nodes: &mut Vec<SimNode<D>>,
     id: NodeId,
-    node: Node<DirDisk<R>>,
-) -> Result<(), FolderError> {
-    nodes.push(SimNode::up(id, node))?;
+    node: Node<D>,
+) -> Result<(), FolderError>
+    requires { IsReady node }
+{
+    nodes.push(SimNode::up(id, Box::new(alloc, node)?))?;
     Ok(())
 }
 
@@ -73,11 +82,12 @@ pub fn nodes_in<R: Files<File = File> + Alloc<A = Global> + Clone + Drop>(
     configs: &Configs,
     limits: &Limits,
 ) -> Result<Vec<SimNode<DirDisk<R>>>, FolderFault> {
-    let mut nodes = Vec::new(rt.alloc());
+    let alloc = rt.alloc();
+    let mut nodes = Vec::new(alloc);
     for id in configs.first().ids() {
         let id = *id;
         let added = match node_in(rt, folder, id, configs, limits) {
-            Ok(node) => add_node(&mut nodes, id, node),
+            Ok(node) => add_node(alloc, &mut nodes, id, node),
             Err(error) => Err(error),
         };
         if let Err(error) = added {

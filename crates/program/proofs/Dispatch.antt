@@ -90,8 +90,8 @@ loop_names (program ∷ name ∷ a ∷ b ∷ []) h = absurd h
 loop_names (program ∷ name ∷ a ∷ b ∷ c ∷ []) h = else_there (bytes_eq name (codes "loop")) _ h
 loop_names (program ∷ name ∷ a ∷ b ∷ c ∷ d ∷ words) h = absurd h
 
-pub loop_is_named : (words : List (List ℕ)) (paths : List ℕ × List ℕ) → loop_paths words ≡ Some paths
-    → is_named (codes "loop") words ≡ true
+pub loop_is_named : (words : List (List ℕ)) (paths : List ℕ × List ℕ) →
+    loop_paths words ≡ Some paths → is_named (codes "loop") words ≡ true
 loop_is_named words paths e = loop_names words (there (loop_paths words) paths e)
 
 -- ---- ends

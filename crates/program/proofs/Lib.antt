@@ -1,3 +1,4 @@
 pub mod Beginnings
 pub mod Dispatch
+pub mod FolderEnds
 pub mod Wholes

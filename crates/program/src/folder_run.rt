@@ -1,5 +1,6 @@
 //! A script is run at nodes in folders.
 ghost use Rattle.std.specs.Prelude.{◌≡◌, ◌⊎◌, false, IfErr, IfOk, IfSome, None};
+ghost use Rattle.std.specs.List.{list_any};
 ghost use Rattle.script_words.specs.Lines.{script_lines};
 ghost use Rattle.scripts.specs.Faults.{script_fault, start};
 ghost use Rattle.client.specs.PrintedRuns.{IsReadyToRun};
@@ -52,15 +53,25 @@ fn is_stop(line: &Line) -> bool
     }
 }
 
+/// Whether one of these lines says that a node stopped by itself.
+fn has_stop_line(lines: &[Line]) -> bool
+    ensures { result ≡ list_any is_stop lines.now }
+{
+    for line in lines {
+        if is_stop(line) {
+            return true;
+        }
+    }
+    false
+}
+
 /// Whether a node stopped by itself in one of the steps.
 fn has_stop(steps: &[Lines]) -> bool
     ensures { result ≡ has_stop steps.now }
 {
     for step in steps {
-        for line in step.as_slice() {
-            if is_stop(line) {
-                return true;
-            }
+        if has_stop_line(step.as_slice()) {
+            return true;
         }
     }
     false

@@ -25,8 +25,8 @@ const USAGE: &str = "usage: chainstore lab SCRIPT | loop SCRIPT --dir D | dump D
 const LINE: usize = 64;
 
 /// Does what words ask for that name `lab`, and answers the exit status: 0 for a run, whatever
-/// became of its nodes, 1 for a fault in script, output or memory, 2 for words that ask for nothing.
-/// A fault is reported in one line on `err`.
+/// became of its nodes, 1 for a fault in script, output or memory, 2 for words that ask for
+/// nothing. A fault is reported in one line on `err`.
 pub fn serve_lab<F: Files + Alloc<A = Global>, R: Read, O: Write, E: Write>(
     rt: &F,
     words: &[&str],

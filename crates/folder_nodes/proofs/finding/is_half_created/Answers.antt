@@ -8,7 +8,8 @@ returns-in_err-files-clause-still g c = λ honest.
     still_same (still (g.D.Disk.state c.args.disk.now) (g.D.Disk.past c.args.disk.now))
     (c.files.ensures.passes honest).moment (c.files.ensures.kept.disk.files honest)
 
-pub returns-then-not-are_first_files-clause-still : goal.returns-then-not-are_first_files-clause-still
+pub returns-then-not-are_first_files-clause-still :
+    goal.returns-then-not-are_first_files-clause-still
 returns-then-not-are_first_files-clause-still g c = λ honest.
     still_same (still (g.D.Disk.state c.args.disk.now) (g.D.Disk.past c.args.disk.now))
     (c.files.ensures.passes honest).moment (c.files.ensures.kept.disk.files honest)
