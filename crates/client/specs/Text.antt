@@ -163,6 +163,13 @@ numbers_text node it =
     ++ (codes " " ++ (counts_text it.epoch it.count it.committed
     ++ (codes " " ++ kept_text it.floor it.kept it.tables))))
 
+-- what a store of this node has, of which nothing is known to be committed
+abbrev pub store_text : (node epoch count floor kept : ℕ) → List ℕ → List ℕ
+store_text node epoch count floor kept tables =
+    codes "node " ++ (decimal node ++ (codes " epoch " ++ (decimal epoch
+    ++ (codes " count " ++ (decimal count
+    ++ (codes " " ++ kept_text floor kept tables))))))
+
 -- a line of a report, but for the rows of an answer
 abbrev pub line_text : Line → List ℕ
 line_text line.Nothing = codes "nothing"

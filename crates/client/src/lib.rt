@@ -12,5 +12,5 @@ mod writing;
 pub use printed_run::run_script;
 pub use run_error::RunError;
 pub use scripts::{Script, ScriptError, ScriptFault, read_script};
-pub use text::fault_name;
+pub use text::{RowText, StoreText, cause_name, fault_name};
 pub use writing::print;

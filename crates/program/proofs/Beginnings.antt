@@ -53,13 +53,13 @@ fault_read (Some xs) (Some ys) text consumed faulty =
     }
 
 -- what is reported of a text that shows the fault of the whole
-pub reported_input : (old : Option (List ℕ)) (text : List ℕ) (f : ScriptFault) →
+pub reported_input : (faults : Bool) (old : Option (List ℕ)) (text : List ℕ) (f : ScriptFault) →
     IfSome old (λ whole. IsEnough whole text) →
-    IsReported true (script_lines text) f.line f.error →
-    IfSome old (λ t. IsFailureOf t (Script f))
-reported_input None text f enough r = tt
-reported_input (Some whole) text f enough r =
-    reported_enough true whole text f.line f.error enough r
+    IsReported faults (script_lines text) f.line f.error →
+    IfSome old (λ t. IsFailureOf faults t (Script f))
+reported_input faults None text f enough r = tt
+reported_input faults (Some whole) text f enough r =
+    reported_enough faults whole text f.line f.error enough r
 
 pub of_reading : (failure : Failure) → IsOfInput failure → IsOfReading failure
 of_reading Unreadable cause = tt
@@ -67,10 +67,10 @@ of_reading (Script f) cause = tt
 of_reading Output cause = absurd cause
 of_reading Memory cause = tt
 
-pub not_read : (old : Option (List ℕ)) (failure : Failure) → IsOfInput failure →
-    IfSome old (λ text. IsFailureOf text failure)
-not_read None failure cause = tt
-not_read (Some text) Unreadable cause = tt
-not_read (Some text) (Script f) cause = absurd cause
-not_read (Some text) Output cause = absurd cause
-not_read (Some text) Memory cause = tt
+pub not_read : (faults : Bool) (old : Option (List ℕ)) (failure : Failure) → IsOfInput failure →
+    IfSome old (λ text. IsFailureOf faults text failure)
+not_read faults None failure cause = tt
+not_read faults (Some text) Unreadable cause = tt
+not_read faults (Some text) (Script f) cause = absurd cause
+not_read faults (Some text) Output cause = absurd cause
+not_read faults (Some text) Memory cause = tt

@@ -1,2 +1,4 @@
-pub mod Wholes
 pub mod Beginnings
+pub mod Dispatch
+pub mod FolderEnds
+pub mod Wholes

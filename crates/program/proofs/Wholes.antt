@@ -88,7 +88,7 @@ failed_run text old new setup statements f spelled fault (inr (is, inr cut)) =
 
 -- a script that was not read
 pub failed_reading : (text out : Option (List ℕ)) (f : Failure) → IsOfReading f
-    → IfSome text (λ t. IsFailureOf t f) → RunHasFailed text out out f
+    → IfSome text (λ t. IsFailureOf true t f) → RunHasFailed text out out f
 failed_reading text out Unreadable is cause = record {
   cause = cause;
   untouched = λ _ _. refl;

@@ -1,5 +1,5 @@
 -- Why a run ends early, and the line that says so.
-use Rattle.std.specs.Prelude.{ℕ, true, List, [], ◌∷◌, ◌++◌, codes}
+use Rattle.std.specs.Prelude.{ℕ, Bool, List, [], ◌∷◌, ◌++◌, codes}
 use Rattle.std.specs.Fmt.{decimal}
 use Rattle.program.specs.declared.failure.Failure.{Failure}
 use Rattle.program.specs.declared.failure.Failure.TheVariants.{Unreadable, Script, Output}
@@ -27,12 +27,12 @@ abbrev pub failure_line : Failure → List ℕ
 failure_line failure = failure_text failure ++ 10 ∷ []
 
 -- a fault of the script is the least of its first faulty line, or want of memory at a line that was
--- begun
-abbrev pub IsFailureOf : List ℕ → Failure → Type 0
-IsFailureOf text (Script f) = IsReported true (script_lines text) f.line f.error
-IsFailureOf text Unreadable = Unit {0}
-IsFailureOf text Output = Unit {0}
-IsFailureOf text Memory = Unit {0}
+-- begun; faults of disks may be spelled, or not
+abbrev pub IsFailureOf : Bool → List ℕ → Failure → Type 0
+IsFailureOf faults text (Script f) = IsReported faults (script_lines text) f.line f.error
+IsFailureOf faults text Unreadable = Unit {0}
+IsFailureOf faults text Output = Unit {0}
+IsFailureOf faults text Memory = Unit {0}
 
 -- a script is refused for these alone, before anything runs
 abbrev pub IsOfReading : Failure → Type 0

@@ -1,3 +1,5 @@
 pub mod Failures
+pub mod FolderFailures
 pub mod Invocations
 pub mod Runs
+pub mod FolderRuns

@@ -59,7 +59,7 @@ IsCutShortText error text old new =
 -- a beginning of that of the next one, which was run. Where memory was wanted, nothing is written,
 -- or the text of some first statements. For any other failure nothing is written.
 pub record RunHasFailed (text old new : Option (List ℕ)) (failure : Failure) : Type 0 where
-  pub cause : IfSome text (λ t. IsFailureOf t failure)
+  pub cause : IfSome text (λ t. IsFailureOf true t failure)
   pub untouched : failure ≢ Output → failure ≢ Memory → new ≡ old
   pub output : failure ≡ Output → IsCutShortText run.Write text old new
   pub memory : failure ≡ Memory → (new ≡ old) ⊎ IsCutShortText run.Memory text old new
@@ -102,9 +102,9 @@ pub record UsageIsReported (old_out new_out old_err new_err : Option (List ℕ))
     pub untouched : new_out ≡ old_out
     pub told : AppendsPart old_err new_err usage_line
 
--- how the program ends, whatever it read
-abbrev pub ProgramEnds : Option (List ℕ) → Option (List ℕ) → Option (List ℕ) → Option (List ℕ)
+-- how the words `lab ..` end, and those that name no command, whatever was read
+abbrev pub LabOrUsage : Option (List ℕ) → Option (List ℕ) → Option (List ℕ) → Option (List ℕ)
     → ℕ → Type 0
-ProgramEnds old_out new_out old_err new_err answer =
+LabOrUsage old_out new_out old_err new_err answer =
     RunEndsAs None old_out new_out old_err new_err answer
     ⊎ UsageIsReported old_out new_out old_err new_err answer

@@ -2,14 +2,15 @@
 ghost use Rattle.std.specs.Prelude.{◌≡◌, ◌≢◌, ℕ, List, false, map, codes, Ok, Err, Some, None};
 ghost use Rattle.std.specs.Prelude.{IsOkAnd, MatchOption};
 ghost use Rattle.std.specs.List.{list_any};
-ghost use Rattle.program.specs.Invocations.{AsksForScript, lab_script as script_of, is_dashed};
-ghost use Rattle.program.specs.Invocations.{has_option, names_script};
+ghost use Rattle.program.specs.Invocations.{AsksForScript, has_option, is_dashed, is_folder};
+ghost use Rattle.program.specs.Invocations.{is_named, lab_script, names_path, path_of};
+ghost use Rattle.program.specs.Invocations.{loop_paths as loop_paths_of};
 
 use clap::error::ErrorKind;
 use clap::{Arg, ArgAction, ArgMatches, Command};
 use std::alloc::{AllocError, Global};
 
-/// What the words ask for.
+/// What words that name `lab` ask for.
 pub enum Invocation<'a> {
     /// A run of the script on standard input.
     Input,
@@ -24,52 +25,7 @@ pub enum WordsError {
     Memory,
 }
 
-/// The words that the program knows.
-fn grammar<'a>(alloc: Global) -> Result<Command<'a>, AllocError> {
-    let script = Arg::new(alloc, "SCRIPT")
-        .required(true)
-        .action(ArgAction::Set);
-    let lab = Command::new(alloc, "lab")
-        .disable_help_flag(true)
-        .arg(script)?;
-    Command::new(alloc, "chainstore")
-        .subcommand_required(true)
-        .disable_help_flag(true)
-        .disable_help_subcommand(true)
-        .subcommand(lab)
-}
-
-/// Why the parser takes no words.
-fn words_error(error: clap::Error) -> WordsError {
-    let is_memory = error.kind() == ErrorKind::OutOfMemory;
-    drop(error);
-    if is_memory {
-        WordsError::Memory
-    } else {
-        WordsError::Usage
-    }
-}
-
-/// The script that the parser finds in the words.
-fn parsed<'a>(alloc: Global, words: &'a [&'a str]) -> Result<&'a str, WordsError> {
-    let Ok(grammar) = grammar(alloc) else {
-        return Err(WordsError::Memory);
-    };
-    match grammar.try_get_matches_from(words) {
-        Ok(matches) => script_in(matches),
-        Err(error) => Err(words_error(error)),
-    }
-}
-
-/// The script among what the parser matched.
-fn script_in<'a>(matches: ArgMatches<'a>) -> Result<&'a str, WordsError> {
-    let script = match matches.subcommand_matches("lab") {
-        None => None,
-        Some(lab) => lab.get_str("SCRIPT"),
-    };
-    drop(matches);
-    script.ok_or(WordsError::Usage)
-}
+// ---- the words in their plain form
 
 fn begins_with_dash(word: &str) -> bool
     ensures { result ≡ is_dashed word.now }
@@ -80,23 +36,48 @@ fn begins_with_dash(word: &str) -> bool
     }
 }
 
-/// Whether the word names a script where no `--` stands before it.
-fn names_script(word: &str) -> bool
-    ensures { result ≡ names_script word.now }
+/// Whether the word is a path where no `--` stands before it.
+fn names_path(word: &str) -> bool
+    ensures { result ≡ names_path word.now }
 {
     word == "-" || !begins_with_dash(word)
 }
 
-/// The script of words in their plain form.
-fn lab_script<'a>(words: &'a [&'a str]) -> Option<&'a str>
-    ensures { MatchOption result (script_of (map (λ w. w.now) words.now) ≡ None)
-        (λ script. script_of (map (λ w. w.now) words.now) ≡ Some script.now) }
+/// The path of words in their plain form, behind this command.
+fn path_behind<'a>(command: &str, words: &'a [&'a str]) -> Option<&'a str>
+    ensures { MatchOption result (path_of command.now (map (λ w. w.now) words.now) ≡ None)
+        (λ path. path_of command.now (map (λ w. w.now) words.now) ≡ Some path.now) }
 {
     match words {
-        [_, name, script] if *name == "lab" && names_script(script) => Some(*script),
-        [_, name, dashes, script] if *name == "lab" && *dashes == "--" => Some(*script),
-        [_, name, script, dashes] if *name == "lab" && *dashes == "--" && names_script(script) => {
-            Some(*script)
+        [_, name, path] if *name == command && names_path(path) => Some(*path),
+        [_, name, dashes, path] if *name == command && *dashes == "--" => Some(*path),
+        [_, name, path, dashes] if *name == command && *dashes == "--" && names_path(path) => {
+            Some(*path)
+        }
+        _ => None,
+    }
+}
+
+/// Whether two words are an option of a folder, and a path.
+fn is_folder(option: &str, folder: &str) -> bool
+    ensures { result ≡ is_folder option.now folder.now }
+{
+    option == "--dir" && names_path(folder)
+}
+
+/// Script and folder of a loop's words in their plain form.
+fn loop_paths<'a>(words: &'a [&'a str]) -> Option<(&'a str, &'a str)>
+    ensures { MatchOption result (loop_paths_of (map (λ w. w.now) words.now) ≡ None)
+        (λ it. loop_paths_of (map (λ w. w.now) words.now) ≡ Some (it.0.now, it.1.now)) }
+{
+    match words {
+        [_, name, option, folder, script]
+            if *name == "loop" && is_folder(option, folder) && names_path(script) => {
+            Some((*script, *folder))
+        }
+        [_, name, script, option, folder]
+            if *name == "loop" && is_folder(option, folder) && names_path(script) => {
+            Some((*script, *folder))
         }
         _ => None,
     }
@@ -112,37 +93,174 @@ fn any_dashed(words: &[&str]) -> bool
     }
 }
 
-/// Whether the parser decides on words of no plain form.
-fn has_option(words: &[&str]) -> bool
-    ensures { result ≡ has_option (map (λ w. w.now) words.now) }
+/// Whether the parser decides on words that name this command and have no plain form.
+fn has_option(command: &str, words: &[&str]) -> bool
+    ensures { result ≡ has_option command.now (map (λ w. w.now) words.now) }
 {
     match words {
-        [_, name, behind @ ..] => *name == "lab" && behind.len() > 1 && any_dashed(behind),
+        [_, name, behind @ ..] => *name == command && behind.len() > 1 && any_dashed(behind),
         _ => false,
     }
 }
 
-/// The request that the words spell. The first word is the program's name. What words of the plain
-/// form ask for is decided here, and that other words without an option ask for nothing, and a
-/// contract says it; the parser decides on all others.
-pub fn invocation_of<'a>(alloc: Global, words: &'a [&'a str]) -> Result<Invocation<'a>, WordsError>
-    ensures none { script_of (map (λ w. w.now) words.now) ≡ None →
-        has_option (map (λ w. w.now) words.now) ≡ false → result ≡ Err WordsError.Usage }
-    ensures input { script_of (map (λ w. w.now) words.now) ≡ Some (codes "-") →
-        result ≡ Ok Invocation.Input }
-    ensures path { (path : List ℕ) → script_of (map (λ w. w.now) words.now) ≡ Some path →
-        path ≢ codes "-" → IsOkAnd result (λ request. AsksForScript request path) }
+/// Whether the words name this command.
+pub fn is_named(command: &str, words: &[&str]) -> bool
+    ensures { result ≡ is_named command.now (map (λ w. w.now) words.now) }
 {
-    if let Some(script) = lab_script(words) {
-        if script == "-" {
-            return Ok(Invocation::Input);
-        }
-        return Ok(Invocation::Script(script));
+    match words {
+        [_, name, ..] => *name == command,
+        _ => false,
     }
-    if !has_option(words) {
+}
+
+// ---- the parser
+
+/// A word that has to be there.
+fn required<'a>(alloc: Global, id: &'a str) -> Arg<'a> {
+    Arg::new(alloc, id).required(true).action(ArgAction::Set)
+}
+
+/// A command with one word.
+fn command<'a>(alloc: Global, name: &'a str, word: &'a str) -> Result<Command<'a>, AllocError> {
+    Command::new(alloc, name)
+        .disable_help_flag(true)
+        .arg(required(alloc, word))
+}
+
+/// The grammar of words that ask for this command.
+fn grammar<'a>(alloc: Global, command: Command<'a>) -> Result<Command<'a>, AllocError> {
+    Command::new(alloc, "chainstore")
+        .subcommand_required(true)
+        .disable_help_flag(true)
+        .disable_help_subcommand(true)
+        .subcommand(command)
+}
+
+/// The grammar of words that ask for a command of one path.
+fn path_grammar<'a>(
+    alloc: Global,
+    name: &'a str,
+    word: &'a str,
+) -> Result<Command<'a>, AllocError> {
+    grammar(alloc, command(alloc, name, word)?)
+}
+
+/// The grammar of words that ask for a run in folders.
+fn loop_grammar<'a>(alloc: Global) -> Result<Command<'a>, AllocError> {
+    let folder = required(alloc, "dir").long("dir");
+    grammar(alloc, command(alloc, "loop", "SCRIPT")?.arg(folder)?)
+}
+
+/// Why the parser takes no words.
+fn words_error(error: clap::Error) -> WordsError {
+    let is_memory = error.kind() == ErrorKind::OutOfMemory;
+    drop(error);
+    if is_memory {
+        WordsError::Memory
+    } else {
+        WordsError::Usage
+    }
+}
+
+/// What the parser finds in the words.
+fn matches_of<'a>(
+    grammar: Result<Command<'a>, AllocError>,
+    words: &'a [&'a str],
+) -> Result<ArgMatches<'a>, WordsError> {
+    match grammar {
+        Ok(grammar) => grammar.try_get_matches_from(words).map_err(words_error),
+        Err(_) => Err(WordsError::Memory),
+    }
+}
+
+/// The word with this id among what the parser matched behind a command.
+fn found<'a>(matches: &ArgMatches<'a>, command: &str, id: &str) -> Result<&'a str, WordsError> {
+    let word = match matches.subcommand_matches(command) {
+        None => None,
+        Some(inner) => inner.get_str(id),
+    };
+    word.ok_or(WordsError::Usage)
+}
+
+/// The path that the parser finds behind a command.
+fn parsed_path<'a>(
+    alloc: Global,
+    name: &'a str,
+    word: &'a str,
+    words: &'a [&'a str],
+) -> Result<&'a str, WordsError> {
+    let matches = matches_of(path_grammar(alloc, name, word), words)?;
+    let path = found(&matches, name, word);
+    drop(matches);
+    path
+}
+
+/// Script and folder that the parser finds behind `loop`.
+fn parsed_loop<'a>(alloc: Global, words: &'a [&'a str]) -> Result<(&'a str, &'a str), WordsError> {
+    let matches = matches_of(loop_grammar(alloc), words)?;
+    let script = found(&matches, "loop", "SCRIPT");
+    let folder = found(&matches, "loop", "dir");
+    drop(matches);
+    Ok((script?, folder?))
+}
+
+// ---- requests
+
+/// The path behind this command: of words in their plain form it is found here, and other words
+/// without an option have none, and a contract says it; the parser decides on all others.
+pub fn path_request<'a>(
+    alloc: Global,
+    command: &'a str,
+    word: &'a str,
+    words: &'a [&'a str],
+) -> Result<&'a str, WordsError>
+    ensures none { path_of command.now (map (λ w. w.now) words.now) ≡ None →
+        has_option command.now (map (λ w. w.now) words.now) ≡ false →
+        result ≡ Err WordsError.Usage }
+    ensures path { (path : List ℕ) → path_of command.now (map (λ w. w.now) words.now) ≡ Some path →
+        IsOkAnd result (λ found. found.now ≡ path) }
+{
+    if let Some(path) = path_behind(command, words) {
+        return Ok(path);
+    }
+    if !has_option(command, words) {
         return Err(WordsError::Usage);
     }
-    match parsed(alloc, words)? {
+    parsed_path(alloc, command, word, words)
+}
+
+/// Script and folder of words that name `loop`, found as a path is.
+pub fn loop_request<'a>(
+    alloc: Global,
+    words: &'a [&'a str],
+) -> Result<(&'a str, &'a str), WordsError>
+    ensures none { loop_paths_of (map (λ w. w.now) words.now) ≡ None →
+        has_option (codes "loop") (map (λ w. w.now) words.now) ≡ false →
+        result ≡ Err WordsError.Usage }
+    ensures paths { (script folder : List ℕ) →
+        loop_paths_of (map (λ w. w.now) words.now) ≡ Some (script, folder) →
+        IsOkAnd result (λ it. (it.0.now ≡ script) × (it.1.now ≡ folder)) }
+{
+    if let Some(paths) = loop_paths(words) {
+        return Ok(paths);
+    }
+    if !has_option("loop", words) {
+        return Err(WordsError::Usage);
+    }
+    parsed_loop(alloc, words)
+}
+
+/// The request of words that name `lab`. The first word is the program's name.
+pub fn invocation_of<'a>(alloc: Global, words: &'a [&'a str]) -> Result<Invocation<'a>, WordsError>
+    ensures none { lab_script (map (λ w. w.now) words.now) ≡ None →
+        has_option (codes "lab") (map (λ w. w.now) words.now) ≡ false →
+        result ≡ Err WordsError.Usage }
+    ensures input { lab_script (map (λ w. w.now) words.now) ≡ Some (codes "-") →
+        result ≡ Ok Invocation.Input }
+    ensures path { (path : List ℕ) → lab_script (map (λ w. w.now) words.now) ≡ Some path →
+        path ≢ codes "-" → IsOkAnd result (λ request. AsksForScript request path) }
+{
+    match path_request(alloc, "lab", "SCRIPT", words)? {
         "-" => Ok(Invocation::Input),
         script => Ok(Invocation::Script(script)),
     }

@@ -1,12 +1,18 @@
 //! What the program does: it reads a script, runs it at a chain's nodes, and prints what happens.
 #![tactic(auto)]
 
+mod dispatch;
 mod failure;
+mod folder_dump;
+mod folder_failure;
+mod folder_run;
+mod folder_service;
 mod invocation;
 mod reading;
 mod run_input;
 mod service;
 
+pub use dispatch::serve;
 pub use failure::Failure;
 pub use scripts::{ScriptError, ScriptFault};
-pub use service::{refuse, report, serve, serve_script};
+pub use service::{refuse, report, serve_script};

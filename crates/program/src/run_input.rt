@@ -15,20 +15,20 @@ use scripts::{Script, read_script};
 use std::alloc::Global;
 use std::io::{Read, Write};
 
-/// The script that is read.
-fn input_script<R: Read>(alloc: Global, input: &mut R) -> Result<Script, Failure>
+/// The script that is read, in which faults of disks may be spelled, or not.
+pub fn input_script<R: Read>(alloc: Global, input: &mut R, faults: bool) -> Result<Script, Failure>
     ensures found { IfOk result (λ script. IfSome (R.remaining input.old) (λ text.
         IsScript 1 (script_lines text) script.setup script.statements.items)) }
     ensures lawful { OnOk result (IfSome (R.remaining input.old) (λ text.
-        script_fault (start true) 1 (script_lines text) ≡ None)) }
+        script_fault (start faults) 1 (script_lines text) ≡ None)) }
     ensures fault { IfErr result (λ failure. IfSome (R.remaining input.old) (λ text.
-        IsFailureOf text failure)) }
+        IsFailureOf faults text failure)) }
     ensures cause { IfErr result IsOfReading }
     ensures node { IfOk result (λ script.
         All (λ it. Names script.setup.configs it.action) script.statements.items) }
 {
     let text = reading::script_text(alloc, input)?;
-    match read_script(alloc, &text, true) {
+    match read_script(alloc, &text, faults) {
         Ok(script) => Ok(script),
         Err(fault) => Err(Failure::Script(fault)),
     }
@@ -61,7 +61,7 @@ pub fn run_input<R: Read, W: Write>(
     ensures failed { IfErr result
         (RunHasFailed (R.remaining input.old) (W.contents out.old) (W.contents out.new)) }
 {
-    let script = input_script(alloc, input)?;
+    let script = input_script(alloc, input, true)?;
     let ran = run_in_memory(alloc, &script, out);
     drop(script);
     ran

@@ -1,11 +1,11 @@
-//! From the program's words and streams to its exit status.
+//! From the words `lab SCRIPT` and streams to the exit status.
 ghost use Rattle.std.specs.Prelude.{◌≡◌, ◌≢◌, ℕ, List, false, map, codes, Some, None};
 ghost use Rattle.std.specs.Prelude.{IfOk, OnOk, OnErr, MatchResult};
 ghost use Rattle.std.specs.Io.KnownBytes.{Appends};
 ghost use Rattle.program.specs.Failures.{failure_line};
 ghost use Rattle.program.specs.Invocations.{has_option, lab_script, usage_line};
 ghost use Rattle.client.specs.PrintedRuns.{AppendsPart};
-ghost use Rattle.program.specs.Runs.{FailureIsReported, ProgramEnds};
+ghost use Rattle.program.specs.Runs.{FailureIsReported, LabOrUsage};
 ghost use Rattle.program.specs.Runs.{RunEnds, RunEndsAs, UsageIsReported};
 
 use crate::failure::Failure;
@@ -24,10 +24,10 @@ const USAGE: &str = "usage: chainstore lab SCRIPT | loop SCRIPT --dir D | dump D
 /// The most bytes of a line that reports a failure: no line has as many.
 const LINE: usize = 64;
 
-/// Does what the words ask for, and answers the exit status: 0 for a run, whatever became of its
-/// nodes, 1 for a fault in script, output or memory, 2 for words that ask for nothing. A fault is
-/// reported in one line on `err`.
-pub fn serve<F: Files + Alloc<A = Global>, R: Read, O: Write, E: Write>(
+/// Does what words ask for that name `lab`, and answers the exit status: 0 for a run, whatever
+/// became of its nodes, 1 for a fault in script, output or memory, 2 for words that ask for
+/// nothing. A fault is reported in one line on `err`.
+pub fn serve_lab<F: Files + Alloc<A = Global>, R: Read, O: Write, E: Write>(
     rt: &F,
     words: &[&str],
     input: &mut R,
@@ -41,10 +41,10 @@ pub fn serve<F: Files + Alloc<A = Global>, R: Read, O: Write, E: Write>(
         path ≢ codes "-" → (input.new ≡ input.old) × RunEndsAs None (O.contents out.old)
         (O.contents out.new) (E.contents err.old) (E.contents err.new) result }
     ensures unknown { lab_script (map (λ w. w.now) words.now) ≡ None →
-        has_option (map (λ w. w.now) words.now) ≡ false → (input.new ≡ input.old)
+        has_option (codes "lab") (map (λ w. w.now) words.now) ≡ false → (input.new ≡ input.old)
         × UsageIsReported (O.contents out.old) (O.contents out.new) (E.contents err.old)
         (E.contents err.new) result }
-    ensures ends { ProgramEnds (O.contents out.old) (O.contents out.new)
+    ensures ends { LabOrUsage (O.contents out.old) (O.contents out.new)
         (E.contents err.old) (E.contents err.new) result }
 {
     match invocation_of(rt.alloc(), words) {

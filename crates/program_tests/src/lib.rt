@@ -8,9 +8,17 @@ mod chains;
 #[cfg(test)]
 mod configs;
 #[cfg(test)]
+mod dumps;
+#[cfg(test)]
 mod failing;
 #[cfg(test)]
 mod faults;
+#[cfg(test)]
+mod folders;
+#[cfg(test)]
+mod loop_stops;
+#[cfg(test)]
+mod loops;
 #[cfg(test)]
 mod merges;
 #[cfg(test)]

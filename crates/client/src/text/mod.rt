@@ -7,5 +7,7 @@ mod rows;
 mod shown;
 mod spelled;
 
-pub use names::fault_name;
+pub use names::{cause_name, fault_name};
 pub use printing::{add_places, print_result};
+pub use rows::RowText;
+pub use shown::StoreText;

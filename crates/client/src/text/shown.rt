@@ -1,7 +1,7 @@
 //! The text of a node's numbers.
 ghost use Rattle.std.specs.Prelude.{◌≡◌, Some};
 ghost use Rattle.std.specs.List.{flat_map};
-ghost use Rattle.client.specs.Text.{counts_text, kept_text, numbers_text, spaced};
+ghost use Rattle.client.specs.Text.{counts_text, kept_text, numbers_text, spaced, store_text};
 
 use lab::{NodeId, Numbers};
 use std::fmt;
@@ -94,5 +94,20 @@ impl fmt::Display for NumbersText<'_> {
         let counts = CountsText::of(self.1);
         let kept = KeptText::of(self.1);
         write!(f, "node {node} {counts} {kept}")
+    }
+}
+
+/// The numbers of a store of a node, which need not run: what it knows to be committed is left out.
+#[derive(Clone, Copy)]
+pub struct StoreText<'a>(pub NodeId, pub &'a Numbers);
+
+impl fmt::Display for StoreText<'_> {
+    ghost output = { λ it. Some (store_text it.0 it.1.now.epoch it.1.now.count it.1.now.floor
+        it.1.now.kept it.1.now.tables) };
+
+    fn fmt<W: fmt::Write>(&self, f: &mut fmt::Formatter<W>) -> fmt::Result {
+        let (node, epoch) = (self.0.get(), self.1.epoch.get());
+        let (count, kept) = (self.1.count.get(), KeptText::of(self.1));
+        write!(f, "node {node} epoch {epoch} count {count} {kept}")
     }
 }

@@ -4,8 +4,8 @@ use Rattle.program.proofs.run_input.input_script.Goals as goal
 
 pub returns-in_err-text-clause-fault : goal.returns-in_err-text-clause-fault
 returns-in_err-text-clause-fault g c =
-    let failed = not_read (g.R.Read.remaining c.args.input.now) c.in_err-text.field-0.0
-    c.in_err-text.ensures.cause in
+    let failed = not_read c.args.faults (g.R.Read.remaining c.args.input.now)
+    c.in_err-text.field-0.0 c.in_err-text.ensures.cause in
     search (rules, failed)
 
 pub returns-in_err-text-clause-cause : goal.returns-in_err-text-clause-cause
@@ -15,8 +15,8 @@ returns-in_err-text-clause-cause g c =
 
 pub returns-clause-fault : goal.returns-clause-fault
 returns-clause-fault g c =
-    reported_input (g.R.Read.remaining c.args.input.now) c.in_ok-text.text.items c.in-Err.fault
-    c.in_ok-text.ensures.read (rw (
+    reported_input c.args.faults (g.R.Read.remaining c.args.input.now) c.in_ok-text.text.items
+    c.in-Err.fault c.in_ok-text.ensures.read (rw (
       c.deref.ensures.value,
       c.in-Err.is,
     ) at c.read_script.ensures.fault)

@@ -1,7 +1,7 @@
 use Rattle.std.proofs.Common.{inl, refl}
 use Rattle.program.specs.declared.failure.Failure.TheVariants.{Memory, Unreadable}
 use Rattle.program.proofs.Wholes.{answered, answered_any, reported}
-use Rattle.program.proofs.service.serve.Goals as goal
+use Rattle.program.proofs.service.serve_lab.Goals as goal
 
 pub returns-in-Ok-Input-clause-input : goal.returns-in-Ok-Input-clause-input
 returns-in-Ok-Input-clause-input g c = λ _.

@@ -1,0 +1,2 @@
+mod RowWalkLemmas
+mod WalksLemmas

@@ -1,0 +1,119 @@
+// The rows of a store, page by page in the order of their keys.
+ghost use Rattle.std.specs.Prelude.{◌≡◌, ◌∷◌, ◌++◌, [], List, drop, take, IfOk, OnOk};
+ghost use Rattle.std.specs.List.{flat_map};
+ghost use Rattle.kv_types.specs.{BatchContent, map_of};
+ghost use Rattle.kv_types.specs.Pages.{page_of};
+ghost use Rattle.engine.specs.{EngineReads};
+ghost use Rattle.dumps.specs.Walks.{all_from};
+ghost use Rattle.dumps.specs.Dumped.{AreAllWritten, row_line};
+
+use crate::dump_error::DumpError;
+use client::{RowText, print};
+use disk::Disk;
+use engine::Engine;
+use kv_types::bounds::MAX_ROWS;
+use kv_types::laws::{byte_order_is_strict, pages_agree};
+use kv_types::{Key, Number, Page, Range, Row};
+use node::Stop;
+use std::alloc::{AllocError, Global};
+use std::io::Write;
+
+// The least key.
+fn least_key(alloc: Global) -> Result<Key, DumpError>
+    ensures { IfOk result (λ key. key ≡ []) }
+{
+    match Key::new(Vec::new(alloc)) {
+        Ok(key) => Ok(key),
+        Err(_) => Err(DumpError::Store(Stop::Memory)),
+    }
+}
+
+// The page of the keys from this one on.
+fn page_from<D: Disk + Drop>(
+    alloc: Global,
+    engine: &mut Engine<D>,
+    at: Number,
+    from: Key,
+) -> Result<Page, DumpError>
+    ensures page { (list : List BatchContent) → EngineReads D.Disk engine.old list →
+        IfOk result (λ page. page ≡ page_of (take at list) (all_from from)) }
+    ensures reads { (list : List BatchContent) → EngineReads D.Disk engine.old list →
+        OnOk result (EngineReads D.Disk engine.new list) }
+{
+    let Ok(range) = Range::new(from, None, false, MAX_ROWS) else {
+        return Err(DumpError::Store(Stop::Memory));
+    };
+    match engine.rows(alloc, at, &range) {
+        Ok(page) => Ok(page),
+        Err(e) => Err(DumpError::from(e)),
+    }
+}
+
+// Makes the text of these rows, in place of what stood there.
+fn make_text(rows: &[Row], text: &mut Vec<u8>) -> Result<(), AllocError>
+    ensures { OnOk result (text.new.items ≡ flat_map row_line rows.now) }
+{
+    text.clear();
+    for row in rows {
+        let line = RowText(row);
+        if writeln!(text, "{line}").is_err() {
+            return Err(AllocError);
+        }
+    }
+    Ok(())
+}
+
+// The rows behind the first so many.
+fn behind(rows: &[Row], count: usize) -> &[Row]
+    ensures { result.now ≡ drop count rows.now }
+{
+    match rows.get(count..) {
+        Some(behind) => behind,
+        None => &[],
+    }
+}
+
+// The key of the last row.
+fn last_key(rows: &[Row]) -> Result<Key, DumpError>
+    ensures { IfOk result (λ key. (front : List Row) × (last : Row)
+        × (rows.now ≡ front ++ last ∷ []) × (key ≡ last.key)) }
+{
+    match rows.split_last() {
+        Some((last, _front)) => Ok(last.key.clone()?),
+        None => Err(DumpError::Store(Stop::Damaged)),
+    }
+}
+
+/// Writes all rows at a number, and answers how many. The rows of a page are flushed before the
+/// next page is read. Each page but the first begins with the last row of the one before it.
+pub fn write_rows<D: Disk + Drop, W: Write>(
+    alloc: Global,
+    engine: &mut Engine<D>,
+    at: Number,
+    out: &mut W,
+) -> Result<u64, DumpError>
+    ensures { (list : List BatchContent) → EngineReads D.Disk engine.old list →
+        IfOk result (λ count. AreAllWritten (map_of (take at list)) count
+        (W.contents out.old) (W.contents out.new)) }
+{
+    byte_order_is_strict(); // law: byte order is a strict order of all keys
+    pages_agree(); // law: the page as a function is the page of a map
+    let mut text = Vec::new(alloc);
+    let (mut from, mut known, mut count) = (least_key(alloc)?, 0, 0u64);
+    for _ in 0..u64::MAX {
+        let page = page_from(alloc, engine, at, from)?;
+        let rows = behind(page.rows(), known);
+        make_text(rows, &mut text)?;
+        print(&text, out)?;
+        let Some(more) = count.checked_add(rows.len() as u64) else {
+            return Err(DumpError::Store(Stop::Memory));
+        };
+        count = more;
+        if !page.has_more() {
+            return Ok(count);
+        }
+        from = last_key(page.rows())?;
+        known = 1;
+    }
+    Err(DumpError::Store(Stop::Memory))
+}

@@ -1,0 +1,112 @@
+// A store is opened and written out.
+ghost use Rattle.std.specs.Prelude.{◌≡◌, ℕ, List, OnOk};
+ghost use Rattle.std.specs.Io.KnownBytes.{Appends};
+ghost use Rattle.disk.specs.{contents};
+ghost use Rattle.kv_types.specs.{BatchContent};
+ghost use Rattle.engine.specs.{EngineReads, Facts, FilesRepresent, facts_of, look_ups};
+ghost use Rattle.dumps.specs.Dumped.{IsDumpOf, count_line, store_line};
+
+use crate::dump_error::DumpError;
+use crate::row_walk::write_rows;
+use client::{StoreText, print};
+use disk::Disk;
+use engine::Engine;
+use kv_types::{Limits, Number};
+use node::{Numbers, Stop};
+use std::alloc::Global;
+use std::io::Write;
+
+// The numbers of an engine.
+fn numbers_of<D: Disk + Drop>(engine: &Engine<D>) -> Numbers
+    ensures epoch { result.epoch ≡ (look_ups engine.now).facts.epoch }
+    ensures count { result.count ≡ (look_ups engine.now).count }
+    ensures floor { result.floor ≡ (look_ups engine.now).facts.floor }
+    ensures kept { result.kept ≡ (look_ups engine.now).facts.kept }
+{
+    Numbers {
+        epoch: engine.epoch(),
+        count: engine.count(),
+        committed: engine.committed(),
+        floor: engine.floor(),
+        kept: engine.kept(),
+        tables: engine.tables(),
+    }
+}
+
+// Writes the line of the engine's numbers.
+fn write_numbers<D: Disk + Drop, W: Write>(
+    alloc: Global,
+    engine: &Engine<D>,
+    out: &mut W,
+) -> Result<(), DumpError>
+    ensures { OnOk result ((tables : List ℕ) × Appends (W.contents out.old) (W.contents out.new)
+        (store_line (look_ups engine.now).facts (look_ups engine.now).count tables)) }
+{
+    let mut text = Vec::new(alloc);
+    let numbers = numbers_of(engine);
+    let line = StoreText(engine.id(), &numbers);
+    if writeln!(text, "{line}").is_err() {
+        return Err(DumpError::Store(Stop::Memory));
+    }
+    print(&text, out)?;
+    Ok(())
+}
+
+// Writes how many rows there are, and at which number.
+fn write_count<W: Write>(
+    alloc: Global,
+    count: u64,
+    at: Number,
+    out: &mut W,
+) -> Result<(), DumpError>
+    ensures { OnOk result
+        (Appends (W.contents out.old) (W.contents out.new) (count_line count at)) }
+{
+    let mut text = Vec::new(alloc);
+    let at = at.get();
+    if writeln!(text, "rows {count} at {at}").is_err() {
+        return Err(DumpError::Store(Stop::Memory));
+    }
+    print(&text, out)?;
+    Ok(())
+}
+
+// Writes the numbers of an engine, all rows at its count, and how many they are.
+fn write_store<D: Disk + Drop, W: Write>(
+    alloc: Global,
+    engine: &mut Engine<D>,
+    out: &mut W,
+) -> Result<(), DumpError>
+    ensures { (list : List BatchContent) → EngineReads D.Disk engine.old list → OnOk result
+        (IsDumpOf (facts_of engine.old) list (W.contents out.old) (W.contents out.new)) }
+{
+    write_numbers(alloc, engine, out)?;
+    let at = engine.count();
+    engine.set_committed(at);
+    let count = write_rows(alloc, engine, at, out)?;
+    write_count(alloc, count, at, out)
+}
+
+/// Opens the store of a disk, and writes its numbers, all rows at its count in the order of their
+/// keys, and how many they are. The rows of a page are flushed before the next page is read, so
+/// after an error the text of the first ones may be out.
+pub fn dump_store<D: Disk + Drop, W: Write>(
+    alloc: Global,
+    disk: D,
+    out: &mut W,
+) -> Result<(), DumpError>
+    ensures { (facts : Facts) (list : List BatchContent) → D.is_honest disk →
+        FilesRepresent facts list (contents (D.state disk)) → OnOk result
+        (IsDumpOf facts list (W.contents out.old) (W.contents out.new)) }
+{
+    let mut engine = match Engine::open(alloc, disk, &Limits::default()) {
+        Ok(engine) => engine,
+        Err((e, disk)) => {
+            drop(disk);
+            return Err(DumpError::from(e));
+        }
+    };
+    let written = write_store(alloc, &mut engine, out);
+    drop(engine);
+    written
+}

@@ -1,0 +1,98 @@
+// The nodes of a list of configurations, each in a folder of its own.
+ghost use Rattle.std.specs.Prelude.{IfOk};
+ghost use Rattle.node.specs.{IsReady};
+
+use crate::fault::{FolderError, FolderFault};
+use crate::finding::node_over;
+use configurations::{Configs, NodeId};
+use dir_disk::DirDisk;
+use disk::Disk;
+use kv_types::Limits;
+use lab::SimNode;
+use node::{Node, Stop};
+use std::alloc::Global;
+use std::fs::{self, File};
+use std::io::{self, ErrorKind};
+use std::rt::Files;
+
+// Why a folder was not made.
+fn cause(e: io::Error) -> FolderError {
+    match e.kind() {
+        ErrorKind::OutOfMemory => FolderError::Stopped(Stop::Memory),
+        _ => FolderError::Stopped(Stop::Disk),
+    }
+}
+
+// The disk of a node's folder. The folder is made where it is absent, and locked.
+fn locked_disk<R: Files<File = File> + Alloc<A = Global> + Clone + Drop>(
+    rt: &R,
+    folder: &str,
+    id: NodeId,
+) -> Result<DirDisk<R>, FolderError> {
+    // An empty path is that of no folder.
+    if folder.is_empty() {
+        return Err(FolderError::Stopped(Stop::Disk));
+    }
+    let path = format!(in rt.alloc(); "{folder}/{}", id.get())?;
+    fs::create_dir_all(rt, path.as_str()).map_err(cause)?;
+    let mut disk = DirDisk::new(rt.clone()?, path.as_str())?;
+    disk.lock()?;
+    Ok(disk)
+}
+
+// The node of one folder.
+fn node_in<R: Files<File = File> + Alloc<A = Global> + Clone + Drop>(
+    rt: &R,
+    folder: &str,
+    id: NodeId,
+    configs: &Configs,
+    limits: &Limits,
+) -> Result<Node<DirDisk<R>>, FolderError>
+    ensures { IfOk result IsReady }
+{
+    let disk = locked_disk(rt, folder, id)?;
+    match node_over(rt.alloc(), disk, id, configs, limits) {
+        Ok(node) => Ok(node),
+        Err((error, disk)) => {
+            drop(disk);
+            Err(error)
+        }
+    }
+}
+
+// One node more, as a world takes it.
+fn add_node<D: Disk + Drop>(
+    alloc: Global,
+    nodes: &mut Vec<SimNode<D>>,
+    id: NodeId,
+    node: Node<D>,
+) -> Result<(), FolderError>
+    requires { IsReady node }
+{
+    nodes.push(SimNode::up(id, Box::new(alloc, node)?))?;
+    Ok(())
+}
+
+/// The nodes of the first configuration in its order, each in the folder that has its id for its
+/// name. They are found one after another, and the first fault ends that. Nothing is undone: the
+/// nodes before it stay in their folders, as they were created or started.
+pub fn nodes_in<R: Files<File = File> + Alloc<A = Global> + Clone + Drop>(
+    rt: &R,
+    folder: &str,
+    configs: &Configs,
+    limits: &Limits,
+) -> Result<Vec<SimNode<DirDisk<R>>>, FolderFault> {
+    let alloc = rt.alloc();
+    let mut nodes = Vec::new(alloc);
+    for id in configs.first().ids() {
+        let id = *id;
+        let added = match node_in(rt, folder, id, configs, limits) {
+            Ok(node) => add_node(alloc, &mut nodes, id, node),
+            Err(error) => Err(error),
+        };
+        if let Err(error) = added {
+            return Err(FolderFault { id, error });
+        }
+    }
+    Ok(nodes)
+}

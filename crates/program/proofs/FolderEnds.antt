@@ -1,0 +1,111 @@
+-- How a run in folders ends.
+use Rattle.std.proofs.Common.{◌≡◌, ◌⊎◌, inl, inr, ℕ, Bool, Option, None, Some, refl, sym, subst}
+use Rattle.std.proofs.Common.{false, List}
+use Rattle.std.specs.Prelude.{Result, Ok, Err, IfErr, IfOk, IfSome, MatchResult}
+use Rattle.disk.specs.declared.disk.Disk.{Ghosts}
+use Rattle.carriers.specs.declared.Carrier.{Ghosts as Carriers}
+use Rattle.lab.specs.declared.world.World.{World}
+use Rattle.client.specs.declared.run_error.RunError.{RunError}
+use Rattle.client.specs.declared.run_error.RunError.TheVariants as run
+use Rattle.client.specs.PrintedRuns.{AppendsPart, HasEndedEarly}
+use Rattle.script_words.specs.Lines.{script_lines}
+use Rattle.scripts.specs.Faults.{script_fault, start}
+use Rattle.scripts.specs.declared.setup.Setup.{Setup}
+use Rattle.scripts.specs.declared.statement.Statement.{Statement}
+use Rattle.program.specs.declared.failure.Failure.{Failure}
+use Rattle.program.specs.declared.failure.Failure.TheVariants.{Memory, Output}
+use Rattle.program.specs.declared.folder_failure.LoopFailure.{LoopFailure}
+use Rattle.program.specs.declared.folder_failure.LoopFailure.TheVariants.{Folder, Network, Run}
+use Rattle.program.specs.Failures.{IsFailureOf, failure_of}
+use Rattle.program.specs.FolderFailures.{IsLoopFailureOf, loop_failure_line}
+use Rattle.program.specs.FolderRuns.{EndsEarly, LoopEnds, LoopHasFailed, stopped_status}
+
+-- ---- a run in a world
+
+pub ends_early : {D C : Type 0} {g : Ghosts D} (h : Carriers C) (world : World D C g) (setup : Setup)
+    (statements : List Statement) (old new : Option (List ℕ)) (error : RunError) →
+    HasEndedEarly h error world setup statements old new →
+    EndsEarly g h setup statements old new (failure_of error)
+ends_early h world setup statements old new run.Write ended =
+    record { world = world; ended = ended }
+ends_early h world setup statements old new run.Memory ended =
+    record { world = world; ended = ended }
+
+pub output_or_memory : (error : RunError) →
+    (failure_of error ≡ Output) ⊎ (failure_of error ≡ Memory)
+output_or_memory run.Write = inl refl
+output_or_memory run.Memory = inr refl
+
+-- ---- a run in folders
+
+any_text : (text : Option (List ℕ)) (f : LoopFailure) → ((t : List ℕ) → IsLoopFailureOf t f) →
+    IfSome text (λ t. IsLoopFailureOf t f)
+any_text None f is = tt
+any_text (Some t) f is = is t
+
+-- the script was refused
+pub not_a_script : (text out : Option (List ℕ)) (f : Failure) →
+    IfSome text (λ t. IsFailureOf false t f) → LoopHasFailed text out out (Run f)
+not_a_script text out f cause = record { cause = cause; untouched = λ _. refl }
+
+-- the run did not begin, for another cause
+pub not_begun : (text out : Option (List ℕ)) (f : LoopFailure) →
+    ((t : List ℕ) → IsLoopFailureOf t f) → LoopHasFailed text out out f
+not_begun text out f is = record { cause = any_text text f is; untouched = λ _. refl }
+
+-- the run ended early
+pub cut_short : (text old new : Option (List ℕ)) (f : Failure) → (f ≡ Output) ⊎ (f ≡ Memory) →
+    LoopHasFailed text old new (Run f)
+cut_short text old new f (inl is) =
+    subst (λ (x : Failure). LoopHasFailed text old new (Run x)) (sym is) (record {
+      cause = any_text text (Run Output) (λ t. tt);
+      untouched = λ before. absurd before;
+    })
+cut_short text old new f (inr is) =
+    subst (λ (x : Failure). LoopHasFailed text old new (Run x)) (sym is) (record {
+      cause = any_text text (Run Memory) (λ t. tt);
+      untouched = λ before. absurd before;
+    })
+
+-- ---- the status
+
+-- a run whose status is answered
+pub loop_ended : (ran : Result Bool LoopFailure) (answer : ℕ)
+    (text old_out new_out old_err new_err : Option (List ℕ)) →
+    MatchResult ran (λ stopped. (answer ≡ stopped_status stopped) × (new_err ≡ old_err))
+    (λ failure. (answer ≡ 1) × AppendsPart old_err new_err (loop_failure_line failure)) →
+    IfOk ran (λ _. IfSome text (λ t. script_fault (start false) 1 (script_lines t) ≡ None)) →
+    IfErr ran (LoopHasFailed text old_out new_out) →
+    LoopEnds text old_out new_out old_err new_err answer
+loop_ended (Ok stopped) answer text old_out new_out old_err new_err is lawful failed =
+    inl (record { lawful = lawful; stopped = stopped; status = is.0; quiet = is.1 })
+loop_ended (Err failure) answer text old_out new_out old_err new_err is lawful failed =
+    inr (record { status = is.0; failure = failure; failed = failed; told = is.1 })
+
+-- whatever was read
+pub of_any_loop : (text old_out new_out old_err new_err : Option (List ℕ)) (answer : ℕ) →
+    LoopEnds text old_out new_out old_err new_err answer →
+    LoopEnds None old_out new_out old_err new_err answer
+of_any_loop text old_out new_out old_err new_err answer (inl ran) = inl (record {
+  lawful = tt;
+  stopped = ran.stopped;
+  status = ran.status;
+  quiet = ran.quiet;
+})
+of_any_loop text old_out new_out old_err new_err answer (inr fails) = inr (record {
+  status = fails.status;
+  failure = fails.failure;
+  failed = record { cause = tt; untouched = fails.failed.untouched };
+  told = fails.told;
+})
+
+-- nothing was run
+pub loop_reported : (failure : LoopFailure) (out old_err new_err : Option (List ℕ)) (answer : ℕ) →
+    answer ≡ 1 → AppendsPart old_err new_err (loop_failure_line failure) →
+    LoopEnds None out out old_err new_err answer
+loop_reported failure out old_err new_err answer one told = inr (record {
+  status = one;
+  failure = failure;
+  failed = record { cause = tt; untouched = λ _. refl };
+  told = told;
+})

@@ -1,0 +1,163 @@
+-- Runs in folders and what is written of one: how they end.
+use Rattle.std.specs.Prelude.{◌≡◌, ◌≢◌, ◌⊎◌, ℕ, Bool, true, false, List, Option, codes}
+use Rattle.std.specs.Prelude.{Some, None, IfSome, if◌then◌else◌}
+use Rattle.std.specs.List.{list_any}
+use Rattle.std.specs.Io.KnownBytes.{Appends}
+use Rattle.disk.specs.declared.disk.Disk.{Ghosts}
+use Rattle.carriers.specs.declared.Carrier.{Ghosts as Carriers}
+use Rattle.lab.specs.declared.Line.{Line}
+use Rattle.lab.specs.declared.Line.TheVariants as line
+use Rattle.lab.specs.declared.world.World.{World}
+use Rattle.client.specs.declared.run_error.RunError.{RunError}
+use Rattle.client.specs.declared.run_error.RunError.TheVariants as run
+use Rattle.client.specs.declared.statement_result.StatementResult.{StatementResult}
+use Rattle.client.specs.PrintedRuns.{AppendsPart, HasEndedEarly, HasRunStatements}
+use Rattle.client.specs.ScriptRuns.{Stretch}
+use Rattle.client.specs.Text.{run_text}
+use Rattle.script_words.specs.Lines.{script_lines}
+use Rattle.scripts.specs.Faults.{script_fault, start}
+use Rattle.scripts.specs.declared.setup.Setup.{Setup}
+use Rattle.scripts.specs.declared.statement.Statement.{Statement}
+use Rattle.program.specs.declared.failure.Failure.{Failure}
+use Rattle.program.specs.declared.failure.Failure.TheVariants.{Memory, Output, Script, Unreadable}
+use Rattle.program.specs.declared.folder_failure.DumpFailure.{DumpFailure}
+use Rattle.program.specs.declared.folder_failure.LoopFailure.{LoopFailure}
+use Rattle.program.specs.declared.folder_failure.LoopFailure.TheVariants.{Folder, Network, Run}
+use Rattle.program.specs.FolderFailures.{IsLoopFailureOf, dump_failure_line, loop_failure_line}
+use Rattle.program.specs.Invocations.{is_named}
+use Rattle.program.specs.Runs.{LabOrUsage, UsageIsReported}
+
+-- ---- nodes that stop by themselves
+
+-- the line says that a node stopped by itself
+abbrev pub is_stop : Line → Bool
+is_stop (line.Stopped node (Some cause)) = true
+is_stop (line.Stopped node None) = false
+is_stop line.Nothing = false
+is_stop line.Lost = false
+is_stop (line.Dropped reason) = false
+is_stop (line.Started node epoch count committed) = false
+is_stop (line.Adopted node epoch) = false
+is_stop (line.Forwarded place from to epoch number) = false
+is_stop (line.Acknowledged place from to epoch committed have) = false
+is_stop (line.Replied reply) = false
+is_stop (line.Tended did) = false
+
+-- a node stopped by itself in one of the steps
+abbrev pub has_stop : List (List Line) → Bool
+has_stop steps = list_any (list_any is_stop) steps
+
+-- the status of a run: 1 where a node stopped by itself
+abbrev pub stopped_status : Bool → ℕ
+stopped_status stopped = if stopped then 1 else 0
+
+-- ---- a run in a world over any disks
+
+-- The statements were run in a world, exactly their text was written, and this is whether a node
+-- stopped by itself.
+pub record IsRunThatStops {D C : Type 0} (g : Ghosts D) (h : Carriers C) (setup : Setup)
+    (statements : List Statement) (old new : Option (List ℕ)) (stopped : Bool) : Type 0 where
+  pub world : World D C g
+  pub turns : List StatementResult
+  pub all : Stretch
+  pub run : HasRunStatements h world setup statements turns all
+  pub wrote : Appends old new (run_text turns all.steps)
+  pub stops : stopped ≡ has_stop all.steps
+
+-- a run of the statements in some world ended early for this
+pub record IsCutShortIn {D C : Type 0} (g : Ghosts D) (h : Carriers C) (error : RunError)
+    (setup : Setup) (statements : List Statement) (old new : Option (List ℕ)) : Type 0 where
+  pub world : World D C g
+  pub ended : HasEndedEarly h error world setup statements old new
+
+-- how a run in a world fails: where the output takes no more, within the text of a statement; where
+-- memory is wanted, behind the text of some first statements
+abbrev pub EndsEarly : {D C : Type 0} → Ghosts D → Carriers C → Setup → List Statement →
+    Option (List ℕ) → Option (List ℕ) → Failure → Type 0
+EndsEarly g h setup statements old new Output = IsCutShortIn g h run.Write setup statements old new
+EndsEarly g h setup statements old new Memory = IsCutShortIn g h run.Memory setup statements old new
+EndsEarly g h setup statements old new Unreadable = ⊥
+EndsEarly g h setup statements old new (Script fault) = ⊥
+
+-- ---- a run in folders
+
+-- the run did not begin
+abbrev pub IsBeforeRun : LoopFailure → Type 0
+IsBeforeRun (Run Unreadable) = Unit {0}
+IsBeforeRun (Run (Script fault)) = Unit {0}
+IsBeforeRun (Run Output) = ⊥
+IsBeforeRun (Run Memory) = ⊥
+IsBeforeRun (Folder fault) = Unit {0}
+IsBeforeRun Network = Unit {0}
+
+-- why a run in folders fails: a fault of the script is the one that it has, and where the run did
+-- not begin nothing is written
+pub record LoopHasFailed (text old new : Option (List ℕ)) (failure : LoopFailure) : Type 0 where
+  pub cause : IfSome text (λ t. IsLoopFailureOf t failure)
+  pub untouched : IsBeforeRun failure → new ≡ old
+
+-- what was read, where that is known, is a script without a fault, and it was run
+pub record LoopIsRun (text old_err new_err : Option (List ℕ)) (answer : ℕ) : Type 0 where
+  pub lawful : IfSome text (λ t. script_fault (start false) 1 (script_lines t) ≡ None)
+  pub stopped : Bool
+  pub status : answer ≡ stopped_status stopped
+  pub quiet : new_err ≡ old_err
+
+-- the run failed, and the line that says why was told, or a beginning of it
+pub record LoopIsReported (text old_out new_out old_err new_err : Option (List ℕ)) (answer : ℕ)
+    : Type 0 where
+  pub status : answer ≡ 1
+  pub failure : LoopFailure
+  pub failed : LoopHasFailed text old_out new_out failure
+  pub told : AppendsPart old_err new_err (loop_failure_line failure)
+
+-- how a run in folders ends
+abbrev pub LoopEnds : (text old_out new_out old_err new_err : Option (List ℕ)) → ℕ → Type 0
+LoopEnds text old_out new_out old_err new_err answer =
+    LoopIsRun text old_err new_err answer
+    ⊎ LoopIsReported text old_out new_out old_err new_err answer
+
+-- how the words `loop ..` end
+abbrev pub LoopOrUsage : (old_out new_out old_err new_err : Option (List ℕ)) → ℕ → Type 0
+LoopOrUsage old_out new_out old_err new_err answer =
+    LoopEnds None old_out new_out old_err new_err answer
+    ⊎ UsageIsReported old_out new_out old_err new_err answer
+
+-- ---- what is written of a folder
+
+-- it was not written out whole, and the line that says why was told, or a beginning of it
+pub record DumpIsReported (old_err new_err : Option (List ℕ)) (answer : ℕ) : Type 0 where
+  pub status : answer ≡ 1
+  pub failure : DumpFailure
+  pub told : AppendsPart old_err new_err (dump_failure_line failure)
+
+-- how that ends
+abbrev pub DumpEnds : (old_err new_err : Option (List ℕ)) → ℕ → Type 0
+DumpEnds old_err new_err answer =
+    ((answer ≡ 0) × (new_err ≡ old_err)) ⊎ DumpIsReported old_err new_err answer
+
+-- how the words `dump ..` end
+abbrev pub DumpOrUsage : (old_out new_out old_err new_err : Option (List ℕ)) → ℕ → Type 0
+DumpOrUsage old_out new_out old_err new_err answer =
+    DumpEnds old_err new_err answer ⊎ UsageIsReported old_out new_out old_err new_err answer
+
+-- ---- the program
+
+-- how the words `loop SCRIPT --dir D` end: of the script `-` standard input is read, and else it is
+-- left as it was
+pub record LoopEndsFor {R : Type 0} (script : List ℕ) (old_input new_input : R)
+    (text old_out new_out old_err new_err : Option (List ℕ)) (answer : ℕ) : Type 0 where
+  pub input : script ≡ codes "-" → LoopEnds text old_out new_out old_err new_err answer
+  pub path : script ≢ codes "-" → (new_input ≡ old_input)
+      × LoopEnds None old_out new_out old_err new_err answer
+
+-- how the program ends, whatever it read: as the command does that its words name, or else as words
+-- that ask for nothing
+pub record ProgramEnds (words : List (List ℕ)) (old_out new_out old_err new_err : Option (List ℕ))
+    (answer : ℕ) : Type 0 where
+  pub loop : is_named (codes "loop") words ≡ true →
+      LoopOrUsage old_out new_out old_err new_err answer
+  pub dump : is_named (codes "dump") words ≡ true →
+      DumpOrUsage old_out new_out old_err new_err answer
+  pub other : is_named (codes "loop") words ≡ false → is_named (codes "dump") words ≡ false →
+      LabOrUsage old_out new_out old_err new_err answer

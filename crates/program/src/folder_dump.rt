@@ -1,0 +1,34 @@
+//! What the store of one folder has is written out.
+use crate::folder_failure::DumpFailure;
+use dir_disk::{DirDisk, Unchanged};
+use dumps::dump_store;
+use lab::Stop;
+use std::alloc::{AllocError, Global};
+use std::fs::File;
+use std::io::Write;
+use std::rt::Files;
+
+/// The folder as a disk that is only read.
+fn disk_to_read<F: Files<File = File> + Alloc<A = Global> + Clone + Drop>(
+    rt: &F,
+    folder: &str,
+) -> Result<DirDisk<F>, AllocError> {
+    DirDisk::to_read(rt.clone()?, folder)
+}
+
+/// Writes what the store of a folder has. No file of it is changed, and none is made.
+pub fn dump_folder<F: Files<File = File> + Alloc<A = Global> + Clone + Drop, W: Write>(
+    rt: &F,
+    folder: &str,
+    out: &mut W,
+) -> Result<(), DumpFailure> {
+    // An empty path is that of no folder.
+    if folder.is_empty() {
+        return Err(DumpFailure::Store(Stop::NotCreated));
+    }
+    let Ok(disk) = disk_to_read(rt, folder) else {
+        return Err(DumpFailure::Store(Stop::Memory));
+    };
+    dump_store(rt.alloc(), Unchanged::new(rt.alloc(), disk), out)?;
+    Ok(())
+}

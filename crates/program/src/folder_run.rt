@@ -1,0 +1,128 @@
+//! A script is run at nodes in folders.
+ghost use Rattle.std.specs.Prelude.{◌≡◌, ◌⊎◌, false, IfErr, IfOk, IfSome, None};
+ghost use Rattle.std.specs.List.{list_any};
+ghost use Rattle.script_words.specs.Lines.{script_lines};
+ghost use Rattle.scripts.specs.Faults.{script_fault, start};
+ghost use Rattle.client.specs.PrintedRuns.{IsReadyToRun};
+ghost use Rattle.program.specs.FolderRuns.{EndsEarly, IsRunThatStops, LoopHasFailed, has_stop};
+ghost use Rattle.program.specs.FolderRuns.{is_stop};
+ghost use Rattle.program.specs.declared.failure.Failure.TheVariants.{Memory, Output};
+ghost use Rattle.program.specs.declared.folder_failure.LoopFailure.TheVariants.{Network, Run};
+
+use crate::failure::Failure;
+use crate::folder_failure::LoopFailure;
+use crate::run_input::input_script;
+use client::run_script;
+use disk::Crash;
+use folder_nodes::nodes_in;
+use lab::{Carrier, Line, Lines, World};
+use scripts::Script;
+use std::alloc::Global;
+use std::fs::File;
+use std::io::{ErrorKind, Read, Write};
+use std::net::{Net, TcpListener, TcpStream};
+use std::rt::Files;
+use tcp_carrier::TcpCarrier;
+
+/// Any free port of this machine's own network.
+const ADDRESS: &str = "127.0.0.1:0";
+
+/// What carries between the nodes of a run, over a listener of its own.
+fn carrier<N>(rt: &N) -> Result<TcpCarrier<N>, LoopFailure>
+where
+    N: Net<Listener = TcpListener, Stream = TcpStream> + Clone + Drop,
+    ensures { IfErr result (λ failure. (failure ≡ Run Memory) ⊎ (failure ≡ Network)) }
+{
+    let Ok(own) = rt.clone() else {
+        return Err(LoopFailure::Run(Failure::Memory));
+    };
+    match TcpListener::bind(rt, ADDRESS) {
+        Ok(listener) => Ok(TcpCarrier::new(own, listener)),
+        Err(e) if e.kind() == ErrorKind::OutOfMemory => Err(LoopFailure::Run(Failure::Memory)),
+        Err(_) => Err(LoopFailure::Network),
+    }
+}
+
+/// Whether the line says that a node stopped by itself.
+fn is_stop(line: &Line) -> bool
+    ensures { result ≡ is_stop line.now }
+{
+    match line {
+        Line::Stopped { cause: Some(_), .. } => true,
+        _ => false,
+    }
+}
+
+/// Whether one of these lines says that a node stopped by itself.
+fn has_stop_line(lines: &[Line]) -> bool
+    ensures { result ≡ list_any is_stop lines.now }
+{
+    for line in lines {
+        if is_stop(line) {
+            return true;
+        }
+    }
+    false
+}
+
+/// Whether a node stopped by itself in one of the steps.
+fn has_stop(steps: &[Lines]) -> bool
+    ensures { result ≡ has_stop steps.now }
+{
+    for step in steps {
+        if has_stop_line(step.as_slice()) {
+            return true;
+        }
+    }
+    false
+}
+
+/// Runs a script in a world that has run nothing yet, and answers whether a node stopped by itself.
+fn run_world<D: Crash + Drop, C: Carrier + Drop, W: Write>(
+    alloc: Global,
+    script: &Script,
+    mut world: World<D, C>,
+    out: &mut W,
+) -> Result<bool, Failure>
+    ensures run { IsReadyToRun C.Carrier world script.now.setup script.now.statements.items →
+        IfOk result (IsRunThatStops D.Disk C.Carrier script.now.setup
+        script.now.statements.items (W.contents out.old) (W.contents out.new)) }
+    ensures failed { IsReadyToRun C.Carrier world script.now.setup script.now.statements.items →
+        IfErr result (EndsEarly D.Disk C.Carrier script.now.setup script.now.statements.items
+        (W.contents out.old) (W.contents out.new)) }
+    ensures cause { IfErr result (λ failure. (failure ≡ Output) ⊎ (failure ≡ Memory)) }
+{
+    let ran = run_script(alloc, script, &mut world, out);
+    let stopped = has_stop(world.report());
+    world.close();
+    ran?;
+    Ok(stopped)
+}
+
+/// Reads a script whole, finds its nodes in the folders of this one, runs it at them and writes
+/// what happens, statement by statement. It answers whether a node stopped by itself.
+pub fn run_in_folders<F, R: Read, W: Write>(
+    rt: &F,
+    input: &mut R,
+    folder: &str,
+    out: &mut W,
+) -> Result<bool, LoopFailure>
+where
+    F: Files<File = File> + Net<Listener = TcpListener, Stream = TcpStream>,
+    F: Alloc<A = Global> + Clone + Drop,
+    ensures lawful { IfOk result (λ _. IfSome (R.remaining input.old) (λ text.
+        script_fault (start false) 1 (script_lines text) ≡ None)) }
+    ensures failed { IfErr result
+        (LoopHasFailed (R.remaining input.old) (W.contents out.old) (W.contents out.new)) }
+{
+    let alloc = rt.alloc();
+    let script = input_script(alloc, input, false)?;
+    let setup = &script.setup;
+    let Ok(configs) = setup.configs.clone(alloc) else {
+        return Err(LoopFailure::Run(Failure::Memory));
+    };
+    let nodes = nodes_in(rt, folder, &configs, &setup.limits)?;
+    let carrier = carrier(rt)?;
+    let world = World::over(alloc, configs, nodes, carrier, &setup.limits);
+    Ok(run_world(alloc, &script, world, out)?)
+}
