@@ -39,7 +39,8 @@ pub word_of_limit : (word : List ℕ) (name : LimitName) → limit_named word �
     → word ≡ limit_word name
 word_of_limit word name is =
     (bytes_eq-Decides word (limit_word name)).0
-    (found_passes (λ it. bytes_eq word (limit_word it)) (Log ∷ L0 ∷ Table ∷ Level ∷ Cache ∷ []) name is)
+    (found_passes (λ it. bytes_eq word (limit_word it))
+    (Log ∷ L0 ∷ Table ∷ Level ∷ Cache ∷ []) name is)
 
 at_least : (a b : ℕ) → nat_le a b ≡ true → a ≤ b
 at_least a b is = grind (arith, nat_tests)
