@@ -161,8 +161,8 @@ fn acknowledged(taken: &[Step], steps: &[Lines]) -> u64 {
     acknowledged
 }
 
-/// The list of a lone node that has so many batches: those that were submitted and acknowledged, and
-/// one at most that a fault struck.
+/// The list of a lone node that has so many batches: those that were submitted and acknowledged,
+/// and one at most that a fault struck.
 pub fn taken_list(
     rt: &impl Abort,
     alloc: Global,

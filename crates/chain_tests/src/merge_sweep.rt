@@ -1,5 +1,5 @@
-// A fault at every call of the disk in every event of a node whose tends merge: its replies, and what
-// its disk has at the end, are those of one list of batches.
+// A fault at every call of the disk in every event of a node whose tends merge: its replies, and
+// what its disk has at the end, are those of one list of batches.
 use crate::answers::is_so;
 use crate::courses::{Step, configs};
 use crate::histories::{History, has_all_batches, has_map, taken_list};

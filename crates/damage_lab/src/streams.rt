@@ -6,19 +6,19 @@ use std::str::Split;
 
 // What was read of a stream: its frames, the bytes that they spell, and the fault behind them.
 #[derive(Clone, Copy)]
-struct Found {
+struct StreamAnswer {
     frames: u64,
     bytes: usize,
     fault: Option<FrameError>,
 }
 
-const NOTHING: Found = Found {
+const NOTHING: StreamAnswer = StreamAnswer {
     frames: 0,
     bytes: 0,
     fault: None,
 };
 
-impl Found {
+impl StreamAnswer {
     // One frame more. Its spelling has to be what stands next in the stream.
     fn add(&mut self, alloc: Global, stream: &[u8], frame: Frame) -> Result<()> {
         let spelled = write(alloc, &frame)?;
@@ -48,7 +48,7 @@ impl Found {
 }
 
 // What is read of a stream that is there at once.
-fn at_once(alloc: Global, stream: &[u8]) -> Result<Found> {
+fn at_once(alloc: Global, stream: &[u8]) -> Result<StreamAnswer> {
     let mut found = NOTHING;
     for _ in 0..stream.len() {
         let rest = stream.get(found.bytes..).unwrap_or_default();
@@ -65,7 +65,12 @@ fn at_once(alloc: Global, stream: &[u8]) -> Result<Found> {
 }
 
 // Reads the frames that the reader has, up to the first that is incomplete or faulty.
-fn drain(alloc: Global, reader: &mut FrameReader, stream: &[u8], found: &mut Found) -> Result<()> {
+fn drain(
+    alloc: Global,
+    reader: &mut FrameReader,
+    stream: &[u8],
+    found: &mut StreamAnswer,
+) -> Result<()> {
     for _ in 0..stream.len().saturating_add(1) {
         match reader.next() {
             Ok(Some(frame)) => found.add(alloc, stream, frame)?,
@@ -81,7 +86,7 @@ fn drain(alloc: Global, reader: &mut FrameReader, stream: &[u8], found: &mut Fou
 
 // What is read of a stream that comes in pieces of these sizes, and last what is left. A fault has
 // to stay.
-fn in_pieces(alloc: Global, stream: &[u8], sizes: &[usize]) -> Result<Found> {
+fn in_pieces(alloc: Global, stream: &[u8], sizes: &[usize]) -> Result<StreamAnswer> {
     let (mut reader, mut found) = (FrameReader::new(alloc), NOTHING);
     let mut rest = stream;
     for size in sizes {
@@ -104,8 +109,8 @@ fn sizes_of(alloc: Global, words: Split<'_, char>) -> Result<Vec<usize>> {
     Ok(sizes)
 }
 
-/// Of the stream that the first word spells in hexadecimal, what is read at once, and what in pieces
-/// of the sizes that the other words are.
+/// Of the stream that the first word spells in hexadecimal, what is read at once, and what in
+/// pieces of the sizes that the other words are.
 pub fn answer_to(alloc: Global, mut words: Split<'_, char>) -> Result<String> {
     let stream = hex::decode(alloc, words.next().context("no stream")?.as_bytes())?;
     let sizes = sizes_of(alloc, words)?;

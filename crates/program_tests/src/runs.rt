@@ -166,7 +166,8 @@ const RUNS: &[(&str, &str)] = &[
     ),
     // The least and the greatest number of each limit.
     (
-        "limit log 16\nlimit l0 0\nlimit table 64\nlimit level 64\nlimit cache 1\nconfig 1\nget 1 a\n",
+        "limit log 16\nlimit l0 0\nlimit table 64\nlimit level 64\nlimit cache 1\nconfig 1\n\
+         get 1 a\n",
         "7: none at 0\n",
     ),
     (

@@ -1,5 +1,6 @@
 // What a node drops and refuses that is new, or that adopted a later configuration. All that is
-// dropped leaves the node as one that never got it: its numbers, all outputs behind it, and each byte of its disk.
+// dropped leaves the node as one that never got it: its numbers, all outputs behind it, and each
+// byte of its disk.
 use crate::answers::{holds_at, is_so};
 use crate::items::{ONE, TWO};
 use crate::nodes::lines::{Line, Lines, take, take_all};
