@@ -1,2 +1,3 @@
 mod RowWalkLemmas
+mod StoreDumpLemmas
 mod WalksLemmas
