@@ -84,8 +84,8 @@ def script_of_batches(chain):
     ids = chain.told.ids
     lines = ["config " + " ".join(ids)]
     for at in range(3):
-        lines += [f"submit {ids[0]} k{at}=last{at} a{at}={'v' * 40}{at}", "flow"]
-    return "\n".join([*lines, f"get {ids[0]} k0", f"rows {ids[2]} k0 k3 9", f"get {ids[2]} b", ""])
+        lines += [f"submit {ids[0]} z{at}=last{at} a{at}={'v' * 40}{at}", "flow"]
+    return "\n".join([*lines, f"get {ids[0]} z0", f"rows {ids[2]} z0 z3 9", f"get {ids[2]} b", ""])
 
 
 # ---- folders
@@ -198,8 +198,8 @@ def places_of(lines, word):
 
 
 def replace(trial, lines, word, old, new):
-    """In a line of a kind, the last old text is a new one."""
-    at = trial.choice.choice(places_of(lines, word))
+    """In a line of a kind that has it, the last old text is a new one."""
+    at = trial.choice.choice([it for it in places_of(lines, word) if old in lines[it]])
     head, _, tail = lines[at].rpartition(old)
     lines[at] = head + new + tail
 

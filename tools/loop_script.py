@@ -10,6 +10,17 @@ LIMITS = {"log": (16, 6_000), "l0": (0, 3), "table": (64, 6_000), "level": (64, 
 LONGEST = 400
 
 
+# So many batches a tick sends at most.
+MOST_SENT = 16
+
+
+def catching_up(ids, batches):
+    """A script behind which each node has all of so many batches, whatever it lacks."""
+    ticks = [f"tick {it}" for it in ids]
+    rounds = batches // MOST_SENT + 2
+    return "\n".join(["config " + " ".join(ids), *[*ticks, "flow"] * rounds, ""])
+
+
 class LoopScript:
     """A script of a chain. The same seed gives the same."""
 
