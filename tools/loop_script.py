@@ -8,6 +8,9 @@ VERBS |= {"rows": 3, "back": 3, "open": 2, "close": 2, "restart": 1, "show": 2}
 # What a limit is at least and at most.
 LIMITS = {"log": (16, 6_000), "l0": (0, 3), "table": (64, 6_000), "level": (64, 20_000)}
 LONGEST = 400
+# A wide script has so many keys more, tables and logs that are so much longer, and in so many of its
+# batches so many edits: its merges take several tends.
+WIDE_KEYS, WIDER, WIDE_EDITS, OFTEN = 700, 8, 200, 0.3
 
 
 # So many batches a tick sends at most.
@@ -24,18 +27,23 @@ def catching_up(ids, batches):
 class LoopScript:
     """A script of a chain. The same seed gives the same."""
 
-    def __init__(self, seed, ids, statements):
+    def __init__(self, seed, ids, statements, is_wide=False):
         """Of so many statements, behind which all nodes get what they may lack."""
-        self.choice, self.ids = random.Random(seed), ids
+        self.choice, self.ids, self.is_wide = random.Random(seed), ids, is_wide
         self.submits, self.seed = 0, seed
-        limits = [f"limit {name} {self.choice.randint(*LIMITS[name])}" for name in LIMITS]
-        self.lines = [*limits, "config " + " ".join(ids), *self.whole()]
+        self.lines = [*self.limits(), "config " + " ".join(ids), *self.whole()]
         verbs, weights = list(VERBS), list(VERBS.values())
         for _ in range(statements):
             verb = self.choice.choices(verbs, weights)[0]
             self.lines += getattr(self, verb)()
         self.lines += self.whole()
         self.text = "\n".join(self.lines) + "\n"
+
+    def limits(self):
+        """Small limits."""
+        for name, bounds in LIMITS.items():
+            number = self.choice.randint(*bounds)
+            yield f"limit {name} {number * WIDER if self.is_wide and name != 'l0' else number}"
 
     def whole(self):
         """The nodes show what they have, and send what others may lack."""
@@ -62,6 +70,9 @@ class LoopScript:
         """A batch for the head."""
         self.submits += 1
         edits = [self.edit() for _ in range(self.choice.choice([1, 1, 1, 2, 2, 3, 8]))]
+        if self.is_wide and self.choice.random() < OFTEN:
+            places = self.choice.sample(range(WIDE_KEYS), WIDE_EDITS)
+            edits = [f"-w{it}" if it % 5 == 0 else f"w{it}={len(self.lines)}" for it in places]
         return [" ".join(["submit", self.ids[0], *edits])]
 
     def flow(self):
