@@ -254,13 +254,17 @@ LINES += (leave_out_row, add_value, stop_damaged)
 # ---- programs
 
 
-def wrapped(trial, fault):
-    """A program that does something else behind a dump."""
-    path = os.path.join(trial.room, "program")
-    with open(path, "w", encoding="utf-8") as file:
-        file.write(WRAPPED.format(program=trial.chain.program, fault=fault))
-    os.chmod(path, stat.S_IRWXU)
-    return path
+def with_fault(fault):
+    """A change: the program does something else behind a dump."""
+
+    def change(trial, chain):
+        path = os.path.join(trial.room, "program")
+        with open(path, "w", encoding="utf-8") as file:
+            file.write(WRAPPED.format(program=chain.program, fault=fault))
+        os.chmod(path, stat.S_IRWXU)
+        chain.program = path
+
+    return change
 
 
 def self_test(chain, room):
@@ -268,13 +272,7 @@ def self_test(chain, room):
     trial, holds = Trial(chain, room), True
     rows = [(change.__doc__, trial.finds, change) for change in FOLDERS]
     rows += [(change.__doc__, trial.finds_line, change) for change in LINES]
-    for name, fault in PROGRAMS.items():
-        program = wrapped
-
-        def change(trial, other, fault=fault):
-            other.program = program(trial, fault)
-
-        rows.append((name, trial.finds, change))
+    rows += [(name, trial.finds, with_fault(fault)) for name, fault in PROGRAMS.items()]
     for name, finds, change in rows:
         found = sum(finds(change) for _ in range(TRIES))
         holds = holds and found == TRIES
