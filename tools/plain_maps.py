@@ -9,6 +9,18 @@ from lab_texts import bytes_of, key_of
 MOST_BYTES, ROW = 98_304, 4
 
 
+def change_of(edit):
+    """The key and the value of an edit, as bytes. A deletion has no value."""
+    value = None if edit[:1] == "-" else bytes_of(edit.partition("=")[2])
+    return bytes_of(key_of(edit)), value
+
+
+def rows_of(changes):
+    """The rows that changes leave, one after another, in the order of the keys."""
+    values = dict(changes)
+    return [(key, values[key]) for key in sorted(values) if values[key] is not None]
+
+
 def value_at(batches, key):
     """The word of the value that a key has after these batches of edits, or None."""
     value = None
