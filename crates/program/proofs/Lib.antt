@@ -1,4 +1,4 @@
 pub mod Beginnings
-pub mod Dispatch
+pub mod Commands
 pub mod FolderEnds
 pub mod Wholes
