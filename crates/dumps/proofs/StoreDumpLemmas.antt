@@ -22,7 +22,8 @@ pub is_dump : (facts : Facts) (list : List BatchContent) (at count : ℕ) (table
 is_dump facts list at count tables old first second new is numbers rows counts =
     let text = flat_map row_line rows.rows in
     let whole = appends_more old first new (store_line facts at tables)
-    (text ++ count_line count at) numbers (appends_more first second new text (count_line count at) rows.wrote counts) in
+    (text ++ count_line count at) numbers
+    (appends_more first second new text (count_line count at) rows.wrote counts) in
     let counted : count_line count at ≡ count_line (length rows.rows) (length list) =
     ap (λ n. count_line n at) rows.counted ∙ ap (count_line (length rows.rows)) is in
     record {
