@@ -15,6 +15,10 @@ mod carried;
 #[cfg(test)]
 mod courses;
 #[cfg(test)]
+mod embedded;
+#[cfg(test)]
+mod embedded_example;
+#[cfg(test)]
 mod example;
 #[cfg(test)]
 mod faults;

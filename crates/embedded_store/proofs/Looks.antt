@@ -1,0 +1,54 @@
+-- Looks at a disk, one behind another.
+use Rattle.std.proofs.Common.{◌≡◌}
+use Rattle.std.specs.Prelude.{◌↔◌}
+use Rattle.disk.specs.declared.Disk.{Ghosts}
+use Rattle.disk.specs.{AlwaysLeaves, Contents, IsCrashOutcome, IsSame, KeepsDisk, OnlyLeaves, Passes}
+use Rattle.disk.specs.MomentsLemmas.{join, weaker}
+use Rattle.disk.specs.StillLemmas.{still, still_more, still_same}
+use Rattle.engine.specs.KeepingLemmas.{kept_as, kept_behind, same_then_same}
+use Rattle.embedded_store.specs.Finding.{OnlyLooks}
+
+module _ {D : Type 0} (g : Ghosts D) where
+  -- one call that changes nothing
+  pub looks_once : {failed : Type 0} (old new : D) → KeepsDisk g old new failed ⊥ IsSame →
+      (g.is_honest old → Passes (g.past old) (g.state old) (g.past new) (g.state new)) →
+      OnlyLooks g old new failed
+  looks_once old new kept passes = record {
+    kept = kept;
+    still = λ honest. still_same (still (g.state old) (g.past old)) (passes honest)
+        (kept.files honest);
+  }
+
+  -- a look whose failure is told in other words
+  pub looks_as : {failed told : Type 0} (old new : D) → (failed ↔ told) →
+      OnlyLooks g old new failed → OnlyLooks g old new told
+  looks_as old new same looks = record {
+    kept = kept_as g same (λ a b is. is) looks.kept;
+    still = looks.still;
+  }
+
+  -- a look that did not fail, and one behind it
+  pub looks_behind : {failed told : Type 0} (old mid new : D) → OnlyLooks g old mid failed →
+      (failed → ⊥) → OnlyLooks g mid new told → OnlyLooks g old new told
+  looks_behind old mid new first works later = record {
+    kept = kept_behind g same_then_same first.kept works later.kept;
+    still = λ honest. still_more (first.still honest)
+        (later.still (first.kept.honest.1 honest));
+  }
+
+  -- a look leaves what was left before
+  pub look_leaves : {failed : Type 0} (P : Contents → Type 0) (old new : D) →
+      OnlyLooks g old new failed → g.is_honest old → OnlyLeaves P (g.state old) →
+      AlwaysLeaves g old new P
+  look_leaves P old new looks honest only =
+      weaker (IsCrashOutcome (g.state old)) P (g.state old) (g.past old) (g.state new)
+      (g.past new) (λ left at. only left at) (looks.still honest)
+
+  -- what a call leaves behind a look, both leave
+  pub leaves_behind : {failed : Type 0} (P : Contents → Type 0) (old mid new : D) →
+      OnlyLooks g old mid failed → g.is_honest old → OnlyLeaves P (g.state old) →
+      (OnlyLeaves P (g.state mid) → AlwaysLeaves g mid new P) → AlwaysLeaves g old new P
+  leaves_behind P old mid new looks honest only run =
+      let first = look_leaves P old mid looks honest only in
+      join P (g.state old) (g.state mid) (g.state new) (g.past old) (g.past mid) (g.past new)
+      first (run first.now)
