@@ -164,7 +164,11 @@ fn each_number_has_its_map(rt: HostRuntime) {
     let mut store = opened(rt, alloc, MemDisk::new(alloc));
     for batch in 1..=60u64 {
         write(rt, alloc, &mut store, batch);
-        holds_at(rt, batch as usize, agrees(rt, alloc, &mut store, None, batch));
+        holds_at(
+            rt,
+            batch as usize,
+            agrees(rt, alloc, &mut store, None, batch),
+        );
         holds_at(rt, batch as usize, shows_all(rt, alloc, &mut store, batch));
         if batch % 7 == 0 {
             store = stopped(rt, alloc, store, batch / 7);
@@ -172,7 +176,11 @@ fn each_number_has_its_map(rt: HostRuntime) {
     }
     for at in 0..=60u64 {
         let at_number = Some(number(at));
-        holds_at(rt, at as usize, agrees(rt, alloc, &mut store, at_number, at));
+        holds_at(
+            rt,
+            at as usize,
+            agrees(rt, alloc, &mut store, at_number, at),
+        );
     }
 }
 
@@ -191,7 +199,11 @@ fn a_snapshot_is_read_until_it_is_released(rt: HostRuntime) {
     is_so(rt, snapshot == number(20), "at the newest number");
     fill(rt, alloc, &mut store, 21, 60);
     is_so(rt, store.floor() == snapshot, "the floor rises to it alone");
-    is_so(rt, agrees(rt, alloc, &mut store, Some(snapshot), 20), "its map");
+    is_so(
+        rt,
+        agrees(rt, alloc, &mut store, Some(snapshot), 20),
+        "its map",
+    );
     is_so(rt, shows_all(rt, alloc, &mut store, 20), "its rows");
     let early = refusal(rt, alloc, &mut store, 19) == Some(EngineError::TooOld);
     is_so(rt, early, "a number below the floor");
@@ -203,7 +215,11 @@ fn a_snapshot_is_read_until_it_is_released(rt: HostRuntime) {
     fill(rt, alloc, &mut store, 61, 90);
     let old = refusal(rt, alloc, &mut store, 20) == Some(EngineError::TooOld);
     is_so(rt, old, "its number is too old");
-    is_so(rt, agrees(rt, alloc, &mut store, None, 90), "the newest map");
+    is_so(
+        rt,
+        agrees(rt, alloc, &mut store, None, 90),
+        "the newest map",
+    );
 }
 
 // ---- a stop at each call of the disk
@@ -248,7 +264,11 @@ fn outlives(rt: &impl Abort, alloc: Global, call: u64, place: u64) -> bool {
     disk.crash(junk_at(rt, alloc, place));
     let mut store = opened(rt, alloc, disk);
     let count = store.count().get();
-    is_so(rt, count == written || count == written.saturating_add(1), "its list");
+    is_so(
+        rt,
+        count == written || count == written.saturating_add(1),
+        "its list",
+    );
     is_so(rt, agrees(rt, alloc, &mut store, None, count), "its map");
     write(rt, alloc, &mut store, count.saturating_add(1));
     has_struck
@@ -273,7 +293,11 @@ fn is_made_again(rt: &impl Abort, alloc: Global, call: u64, place: u64) -> bool 
     let Err((error, mut disk)) = EmbeddedStore::over(alloc, disk, &limits(rt)) else {
         return false;
     };
-    is_so(rt, error == OpenError::Store(EngineError::Disk), "the device");
+    is_so(
+        rt,
+        error == OpenError::Store(EngineError::Disk),
+        "the device",
+    );
     disk.crash(junk_at(rt, alloc, place));
     let mut store = opened(rt, alloc, disk);
     is_so(rt, store.count() == Number::ZERO, "no batches");
@@ -297,7 +321,11 @@ fn are_made_again(rt: &impl Abort, alloc: Global, place: u64) -> bool {
 fn a_creation_that_stops_is_made_again(rt: HostRuntime) {
     let (rt, alloc) = (&rt, rt.alloc());
     for place in 0..3u64 {
-        is_so(rt, are_made_again(rt, alloc, place), "the calls of a creation");
+        is_so(
+            rt,
+            are_made_again(rt, alloc, place),
+            "the calls of a creation",
+        );
     }
 }
 
@@ -324,7 +352,13 @@ fn disk_with(rt: &impl Abort, alloc: Global, file: u64, bytes: &[u8]) -> MemDisk
 // The disk of a node of a chain of two.
 fn node_disk(rt: &impl Abort, alloc: Global) -> MemDisk {
     let config = config_of(rt, alloc, &[1, 2]);
-    let made = Engine::create(alloc, MemDisk::new(alloc), id_of(rt, 1), &config, &limits(rt));
+    let made = Engine::create(
+        alloc,
+        MemDisk::new(alloc),
+        id_of(rt, 1),
+        &config,
+        &limits(rt),
+    );
     made.ok().expect(rt, "an engine").into_disk()
 }
 
@@ -341,17 +375,33 @@ fn an_opening_creates_over_nothing_that_is_there(rt: HostRuntime) {
     let (rt, alloc) = (&rt, rt.alloc());
     let not_created = Some(OpenError::Store(EngineError::NotCreated));
     let disk = disk_with(rt, alloc, 7, b"");
-    is_so(rt, refused(rt, alloc, disk, &[7]) == not_created, "a fourth file");
+    is_so(
+        rt,
+        refused(rt, alloc, disk, &[7]) == not_created,
+        "a fourth file",
+    );
     let disk = disk_with(rt, alloc, 3, b"\x01\x00");
-    is_so(rt, refused(rt, alloc, disk, &[3]) == not_created, "a record");
+    is_so(
+        rt,
+        refused(rt, alloc, disk, &[3]) == not_created,
+        "a record",
+    );
     let disk = disk_with(rt, alloc, 3, b"\x01");
-    is_so(rt, refused(rt, alloc, disk, &[]).is_none(), "a log without one");
+    is_so(
+        rt,
+        refused(rt, alloc, disk, &[]).is_none(),
+        "a log without one",
+    );
     let disk = node_disk(rt, alloc);
     let of_chain = refused(rt, alloc, disk, &[1, 2, 3]) == Some(OpenError::OfChain);
     is_so(rt, of_chain, "a node of a chain");
     let disk = disk_without_log(rt, alloc);
     let damaged = Some(OpenError::Store(EngineError::Damaged));
-    is_so(rt, refused(rt, alloc, disk, &[1, 2]) == damaged, "a store without its log");
+    is_so(
+        rt,
+        refused(rt, alloc, disk, &[1, 2]) == damaged,
+        "a store without its log",
+    );
 }
 
 #[test]

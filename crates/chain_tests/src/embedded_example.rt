@@ -1,34 +1,38 @@
 //! The example of the README: a store in a folder, with a put, a get, a snapshot, a walk and a tend;
 //! and that a folder has one user at a time.
-use crate::answers::{is_so, is_text};
+use crate::answers::is_so;
 use embedded_store::{EmbeddedStore, OpenError};
-use kv_types::{Batch, Edit, Key, Limits, Number, Range, Value};
+use kv_types::{Batch, Edit, Key, KvError, Limits, Number, Page, Range, Value};
+use std::alloc::Global;
 use std::process::Abort;
 use std::test::Fail;
 use std::{env, fs};
 
 // README begins
-/// Puts `Ada` to the key `name`, deletes the key again, and walks over what was there before.
-fn put_and_walk(rt: &HostRuntime, folder: &str) -> Result<String, Fail> {
+/// A batch that puts this text to the key.
+fn put(alloc: Global, key: &Key, text: &[u8]) -> Result<Batch, KvError> {
+    let value = Value::new(text.to_vec(alloc)?)?;
+    Batch::new(vec![in alloc; Edit::Put(key.clone()?, value)]?)
+}
+
+/// Writes twice, and reads what the key has now, and all rows that were there before.
+fn write_and_read(
+    rt: &HostRuntime,
+    folder: &str,
+    key: &Key,
+) -> Result<(Option<Value>, Page), Fail> {
     let alloc = rt.alloc();
     let mut store = EmbeddedStore::open(rt, folder, &Limits::default())?;
-    let key = Key::new(b"name".to_vec(alloc)?)?;
-    let put = Edit::Put(key.clone()?, Value::new(b"Ada".to_vec(alloc)?)?);
-    store.write(alloc, &Batch::new(vec![in alloc; put]?)?)?;
+    store.write(alloc, &put(alloc, key, b"Ada")?)?;
     let snapshot = store.snapshot()?;
-
-    let delete = Edit::Delete(key.clone()?);
-    store.write(alloc, &Batch::new(vec![in alloc; delete]?)?)?;
-    let newest = store.get(alloc, &key, None)?;
-    let mut text = format!(in alloc; "there now: {}\n", newest.is_some())?;
+    store.write(alloc, &put(alloc, key, b"Grace")?)?;
+    let now = store.get(alloc, key, None)?;
 
     let all = Range::new(Key::new(Vec::new(alloc))?, None, false, 100)?;
-    for row in store.rows(alloc, &all, Some(snapshot))?.rows() {
-        writeln!(text, "before: {:?} {:?}", row.key.as_bytes(), row.value.as_bytes())?;
-    }
+    let before = store.rows(alloc, &all, Some(snapshot))?;
     store.release(snapshot)?;
     store.tend(alloc)?;
-    Ok(text)
+    Ok((now, before))
 }
 // README ends
 
@@ -47,16 +51,29 @@ fn remove_folder(rt: &impl Abort, host: &HostRuntime, path: &str) {
     }
 }
 
-const WANT: &str = "\
-there now: false
-before: [110, 97, 109, 101] [65, 100, 97]
-";
+// Whether the page has one row, of this key and this value.
+fn is_page(page: &Page, key: &Key, value: &[u8]) -> bool {
+    match page.rows() {
+        [row] => row.key.as_bytes() == key.as_bytes() && row.value.as_bytes() == value,
+        _ => false,
+    }
+}
 
 #[test]
-fn what_was_there_before_is_walked_over(rt: HostRuntime) -> Result<(), Fail> {
+fn what_was_there_before_is_read(rt: HostRuntime) -> Result<(), Fail> {
     let folder = absent_folder(&rt, &rt, "embedded_example");
-    let text = put_and_walk(&rt, folder.as_str())?;
-    is_text(&rt, text.as_str(), WANT);
+    let key = Key::new(b"name".to_vec(rt.alloc())?)?;
+    let (now, before) = write_and_read(&rt, folder.as_str(), &key)?;
+    is_so(
+        &rt,
+        now.is_some_and(|it| it.as_bytes() == b"Grace"),
+        "the newest value",
+    );
+    is_so(
+        &rt,
+        is_page(&before, &key, b"Ada"),
+        "the rows of the snapshot",
+    );
     remove_folder(&rt, &rt, folder.as_str());
     Ok(())
 }
@@ -67,7 +84,11 @@ fn a_folder_has_one_user(rt: HostRuntime) {
     let path = folder.as_str();
     let first = EmbeddedStore::open(&rt, path, &Limits::default());
     let mut store = first.ok().expect(&rt, "a store");
-    is_so(&rt, store.snapshot().ok() == Some(Number::ZERO), "no batches");
+    is_so(
+        &rt,
+        store.snapshot().ok() == Some(Number::ZERO),
+        "no batches",
+    );
     let second = EmbeddedStore::open(&rt, path, &Limits::default());
     is_so(&rt, second.err() == Some(OpenError::InUse), "it is in use");
     drop(store);

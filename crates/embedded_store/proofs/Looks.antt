@@ -1,11 +1,17 @@
 -- Looks at a disk, one behind another.
-use Rattle.std.proofs.Common.{◌≡◌}
-use Rattle.std.specs.Prelude.{◌↔◌}
+use Rattle.std.proofs.Common.{◌≡◌, ℕ, List, Option, None, Some, true, refl}
+use Rattle.std.specs.Prelude.{◌↔◌, ◌≤◌, IfSome, IsErrAnd, IsErrOf, IsNone, IsSome, IsTrue, length}
+use Rattle.std.specs.Prelude.{Result, Ok, Err}
+use Rattle.std.specs.List.{All, Contains}
+use Rattle.std.proofs.lemmas.List.Elements.{All-contains, All-contains_itself, All-weaker}
 use Rattle.disk.specs.declared.Disk.{Ghosts}
-use Rattle.disk.specs.{AlwaysLeaves, Contents, IsCrashOutcome, IsSame, KeepsDisk, OnlyLeaves, Passes}
+use Rattle.disk.specs.{AlwaysLeaves, Contents, IsCrashOutcome, IsSame, KeepsDisk, OnlyLeaves}
+use Rattle.disk.specs.{Passes, State, contents}
 use Rattle.disk.specs.MomentsLemmas.{join, weaker}
 use Rattle.disk.specs.StillLemmas.{still, still_more, still_same}
 use Rattle.engine.specs.KeepingLemmas.{kept_as, kept_behind, same_then_same}
+use Rattle.disk.specs.Calls.{ListsFiles}
+use Rattle.embedded_store.specs.Finding.{HasNoRecord, HasOnlyCreationFiles, IsCreationFile}
 use Rattle.embedded_store.specs.Finding.{OnlyLooks}
 
 module _ {D : Type 0} (g : Ghosts D) where
@@ -52,3 +58,30 @@ module _ {D : Type 0} (g : Ghosts D) where
       let first = look_leaves P old mid looks honest only in
       join P (g.state old) (g.state mid) (g.state new) (g.past old) (g.past mid) (g.past new)
       first (run first.now)
+
+-- an error that is passed on is the same one
+pub same_error : {T U E : Type 0} (called : Result T E) (e x : E) (result : Result U E) →
+    called ≡ Err e → IsErrAnd result (λ s. s ≡ e) → IsErrOf called x ↔ IsErrOf result x
+same_error called e x (Ok y) is told = absurd told
+same_error called e x (Err s) is told = (λ fails. cc, λ fails. cc)
+
+-- an absent log has no record
+pub none_is_free : (file : Option (List ℕ)) → IsNone file →
+    IsTrue true ↔ IfSome file (λ bytes. length bytes ≤ 1)
+none_is_free None none = (λ is. tt, λ free. refl)
+none_is_free (Some bytes) none = absurd none
+
+-- files that are all of a creation, and a log without a record, are what a creation makes
+pub only_creation_files : (disk : State) (files : List ℕ) → ListsFiles disk files →
+    All IsCreationFile files → HasNoRecord (contents disk) → HasOnlyCreationFiles (contents disk)
+only_creation_files disk files lists all log = record {
+  files = λ file some. All-contains IsCreationFile files file all ((lists.exact file).1 some);
+  log = log;
+}
+
+-- and what a creation makes has no other files
+pub all_of_creation : (disk : State) (files : List ℕ) → ListsFiles disk files →
+    HasOnlyCreationFiles (contents disk) → All IsCreationFile files
+all_of_creation disk files lists only =
+    All-weaker (Contains files) IsCreationFile
+    (λ file there. only.files file ((lists.exact file).0 there)) files (All-contains_itself files)

@@ -1,5 +1,5 @@
 -- Reads at a number, or at the newest one.
-use Rattle.std.proofs.Common.{◌≡◌, ℕ, ◌<◌, List, [], ◌∷◌, length, take, Bool, true, false, eqb, cond}
+use Rattle.std.proofs.Common.{◌≡◌, ℕ, ◌<◌, ◌≤◌, List, [], ◌∷◌, length, take, Bool, true, false, eqb, cond}
 use Rattle.std.proofs.Common.{Option, None, Some, ap, arith, inl, inr, refl, ◌∙◌}
 use Rattle.std.specs.Prelude.{◌⊎◌, Result, Ok, Err, IfErr}
 use Rattle.std.specs.List.{All}
@@ -25,7 +25,7 @@ pub none_below : (floor committed at : ℕ) (snapshots : List ℕ) →
     All (IsReadable floor committed) snapshots → at < floor → is_open at snapshots ≡ false
 none_below floor committed at [] each low = refl
 none_below floor committed at (first ∷ later) each low =
-    let here = (each 0 first (omega arith)).0 in
+    let here : floor ≤ first = (each 0 first (omega arith)).0 in
     let apart : eqb at first ≡ false = grind (arith, nat_tests) in
     rw apart (none_below floor committed at later
     (All-tail (IsReadable floor committed) first later each) low)
@@ -36,16 +36,16 @@ IsRefusal told at e = IsEnvironmental engine.Disk engine.Memory e
     ⊎ ((e ≡ engine.TooOld) × (at < told.facts.floor))
     ⊎ ((e ≡ engine.NotCommitted) × (told.committed < at))
 
-refused_at : {T : Type 0} (told : LookUps) (at : ℕ) (e : EngineError) →
+refused_at : (T : Type 0) (told : LookUps) (at : ℕ) (e : EngineError) →
     IsReadableAnswer {T = T} told at (Err e) → (e ≡ engine.Damaged → ⊥) → (e ≡ engine.Failed → ⊥) →
     IsRefusal told at e
-refused_at told at engine.Disk answer sound works = inl (inl refl)
-refused_at told at engine.Damaged answer sound works = absurd (sound refl)
-refused_at told at engine.Memory answer sound works = inl (inr refl)
-refused_at told at engine.Failed answer sound works = absurd (works refl)
-refused_at told at engine.TooOld answer sound works = inr (inl (refl, answer))
-refused_at told at engine.NotCommitted answer sound works = inr (inr (refl, answer))
-refused_at told at _ answer sound works = absurd answer
+refused_at T told at engine.Disk answer sound works = inl (inl refl)
+refused_at T told at engine.Damaged answer sound works = absurd (sound refl)
+refused_at T told at engine.Memory answer sound works = inl (inr refl)
+refused_at T told at engine.Failed answer sound works = absurd (works refl)
+refused_at T told at engine.TooOld answer sound works = inr (inl (refl, answer))
+refused_at T told at engine.NotCommitted answer sound works = inr (inr (refl, answer))
+refused_at T told at _ answer sound works = absurd answer
 
 refused_as : (told : LookUps) (at : Option ℕ) (e : EngineError) → AreOrdered told →
     told.committed ≡ told.count → IsRefusal told (read_number told at) e → IsReadRefusal told at e
@@ -67,5 +67,5 @@ pub read_refused : {T : Type 0} (told : LookUps) (at : Option ℕ) (result : Res
     (result ≡ Err engine.Failed → ⊥) → IfErr result (IsReadRefusal told at)
 read_refused told at (Ok x) ordered all answer sound works = tt
 read_refused {T = T} told at (Err e) ordered all answer sound works =
-    refused_as told at e ordered all (refused_at {T = T} told (read_number told at) e answer
+    refused_as told at e ordered all (refused_at T told (read_number told at) e answer
     (λ is. sound (ap (λ d. Err d) is)) (λ is. works (ap (λ d. Err d) is)))

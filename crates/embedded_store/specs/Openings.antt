@@ -51,9 +51,9 @@ module _ {D : Type 0} {g : Ghosts D} where
   disk_of_opening (Err refused) = refused.1
 
   -- the store tells these facts, and holds the list
-  pub record IsStoreOf (facts : Facts) (list : List BatchContent) (store : EmbeddedStore D g)
+  pub record IsStoreOf (known : Facts) (list : List BatchContent) (store : EmbeddedStore D g)
       : Type 0 where
-    pub facts : facts_of (store_engine store) ≡ facts
+    pub facts : facts_of (store_engine store) ≡ known
     pub holds : HoldsBatches g store list
 
   -- Files of these facts and the list open as a store that holds the list, or the device or memory

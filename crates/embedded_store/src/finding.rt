@@ -1,8 +1,8 @@
 // Whether a disk may have a new store: nothing but what a creation that was cut short leaves.
-ghost use Rattle.std.specs.Prelude.{◌≡◌, ◌↔◌, IfOk, IsErrOf, IsTrue};
+ghost use Rattle.std.specs.Prelude.{◌↔◌, IsErrOf, IsTrue};
 ghost use Rattle.std.specs.List.{All};
-ghost use Rattle.disk.specs.{IsEnvironmental, contents};
-ghost use Rattle.disk.specs.declared.error.DiskError.TheVariants.{Failed, Memory};
+ghost use Rattle.disk.specs.{contents};
+ghost use Rattle.disk.specs.declared.error.DiskError.TheVariants.{Failed};
 ghost use Rattle.embedded_store.specs.Finding.{FindsWhether, HasNoRecord, HasOnlyCreationFiles};
 ghost use Rattle.embedded_store.specs.Finding.{IsCreationFile, OnlyLooks};
 
@@ -11,16 +11,18 @@ use disk::{Disk, DiskError};
 /// The file of a store's first log. The two files before it are the slots of the manifest.
 const FIRST_LOG: u64 = 3;
 
+// Whether this is a file that a creation makes.
+fn is_creation_file(file: u64) -> bool
+    ensures { IsTrue result ↔ IsCreationFile file }
+{
+    1 <= file && file <= FIRST_LOG
+}
+
 // Whether these are files that a creation makes, and no others.
 fn are_creation_files(files: &[u64]) -> bool
     ensures { IsTrue result ↔ All IsCreationFile files.now }
 {
-    for file in files {
-        if *file < 1 || FIRST_LOG < *file {
-            return false;
-        }
-    }
-    true
+    files.iter().all(|file| is_creation_file(*file))
 }
 
 // Whether the first log has no record, also where it is absent.
@@ -32,7 +34,10 @@ fn has_no_record<D: Disk>(disk: &mut D) -> Result<bool, DiskError>
     match disk.length(FIRST_LOG) {
         Ok(length) => Ok(length <= 1),
         Err(DiskError::NoFile) => Ok(true),
-        Err(e) => Err(e),
+        Err(DiskError::Failed) => Err(DiskError::Failed),
+        // No file is shorter than nothing, so only memory is wanting.
+        Err(DiskError::Short) => Err(DiskError::Memory),
+        Err(DiskError::Memory) => Err(DiskError::Memory),
     }
 }
 

@@ -1,5 +1,7 @@
 // The store of a disk: opened, or created where nothing was created yet.
-ghost use Rattle.std.specs.Prelude.{◌≡◌, ◌↔◌, IfOk, IsTrue, IsErrOf};
+ghost use Rattle.std.specs.Prelude.{◌≡◌, ◌↔◌, Err, IfOk, IsFalse, IsTrue};
+ghost use Rattle.engine.specs.EngineError.TheVariants.{NotCreated};
+ghost use Rattle.embedded_store.specs.declared.error.OpenError.TheVariants.{Store};
 ghost use Rattle.disk.specs.{contents};
 ghost use Rattle.embedded_store.specs.Finding.{HasOnlyCreationFiles};
 ghost use Rattle.embedded_store.specs.Openings.{CreatesStore, IsOwnStore, IsStoreOver};
@@ -20,8 +22,8 @@ use std::alloc::{AllocError, Global};
 fn store_over<D: Disk + Drop>(mut engine: Engine<D>) -> EmbeddedStore<D>
     ensures { IsStoreOver engine result }
 {
-    let count = engine.count();
-    engine.set_committed(count);
+    let all = engine.count();
+    engine.set_committed(all);
     EmbeddedStore { engine }
 }
 
@@ -55,8 +57,27 @@ fn created<D: Disk + Drop>(
     }
 }
 
-// The store of a disk. Where none was created, one is, if nothing is there but what a creation may
+// Creates the store of a disk on which none was created, if nothing is there but what a creation may
 // have left that was cut short.
+fn created_if_free<D: Disk + Drop>(
+    alloc: Global,
+    disk: D,
+    limits: &Limits,
+    is_free: bool,
+) -> Result<EmbeddedStore<D>, (OpenError, D)>
+    ensures kept { KeepsOpenedDisk D.Disk disk result }
+    ensures created { D.is_honest disk → IsTrue is_free → CreatesStore result }
+    ensures refused { IsFalse is_free → result ≡ Err (Store NotCreated, disk) }
+    ensures fresh { IfOk result (IsFreshStore limits.now) }
+{
+    if is_free {
+        created(alloc, disk, limits)
+    } else {
+        Err((OpenError::Store(EngineError::NotCreated), disk))
+    }
+}
+
+// The store of a disk, opened, or created if the disk is free for one.
 fn opened_or_created<D: Disk + Drop>(
     alloc: Global,
     disk: D,
@@ -73,13 +94,10 @@ fn opened_or_created<D: Disk + Drop>(
     version_is_one(); // law: files that represent a version are of a store that was created
     match Engine::open(alloc, disk, limits) {
         Ok(engine) => own(engine),
-        Err((e, disk)) => {
-            if is_free && e == EngineError::NotCreated {
-                created(alloc, disk, limits)
-            } else {
-                Err((OpenError::from(e), disk))
-            }
-        }
+        Err((e, disk)) => match e {
+            EngineError::NotCreated => created_if_free(alloc, disk, limits, is_free),
+            _ => Err((OpenError::from(e), disk)),
+        },
     }
 }
 

@@ -19,7 +19,7 @@ pub struct EmbeddedStore<D: Disk + Drop> {
 }
 
 impl<D: Disk + Drop> EmbeddedStore<D> {
-    ghost use Rattle.std.specs.Prelude.{◌≡◌, ◌⊎◌, ◌∷◌, ◌++◌, List, length};
+    ghost use Rattle.std.specs.Prelude.{◌≡◌, ◌⊎◌, ◌≤◌, ◌∷◌, ◌++◌, [], List, length};
     ghost use Rattle.std.specs.Prelude.{IfErr, IfOk, MatchResult};
     ghost use Rattle.kv_types.specs.declared.bounds.TheConstants.{MAX_NUMBER};
     ghost use Rattle.kv_types.specs.{BatchContent, map_of};
