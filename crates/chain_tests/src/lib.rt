@@ -19,6 +19,8 @@ mod embedded;
 #[cfg(test)]
 mod embedded_example;
 #[cfg(test)]
+mod embedded_openings;
+#[cfg(test)]
 mod example;
 #[cfg(test)]
 mod faults;

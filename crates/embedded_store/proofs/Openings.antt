@@ -11,14 +11,14 @@ use Rattle.engine.specs.EngineError.TheVariants as engine
 use Rattle.engine.specs.EngineError.{EngineError}
 use Rattle.engine.specs.declared.Engine.{Engine}
 use Rattle.engine.specs.KeepingLemmas.{kept_as, neither}
-use Rattle.engine.specs.{ExplainsRefusal, Facts, FilesRepresent, IsEngineOf, IsJustOpened, IsNotCreated}
-use Rattle.engine.specs.{IsOneOf}
+use Rattle.engine.specs.{ExplainsRefusal, Facts, FilesRepresent, IsEngineOf, IsJustOpened}
+use Rattle.engine.specs.{IsNotCreated, IsOneOf}
 use Rattle.engine.specs.{IsOpened, IsOwned, LookUps, OpensAs, engine_disk, facts_of, look_ups}
 use Rattle.embedded_store.specs.declared.error.OpenError.{OpenError}
 use Rattle.embedded_store.specs.declared.error.OpenError.TheVariants.{OfChain, Store}
 use Rattle.embedded_store.specs.declared.store.EmbeddedStore.{EmbeddedStore}
 use Rattle.embedded_store.specs.Finding.{HasOnlyCreationFiles, OnlyLooks}
-use Rattle.embedded_store.specs.Openings.{CreatesStore, ExplainsOpening, IsCutShort, IsOpenedFrom}
+use Rattle.embedded_store.specs.Openings.{CreatesStore, ExplainsOpening, WasCutShort, IsOpenedFrom}
 use Rattle.embedded_store.specs.Openings.{IsOwnStore, IsStoreOver, KeepsOpenedDisk, OpensContents}
 use Rattle.embedded_store.specs.Openings.{IsForEnvironment, StandsAlone, disk_of_opening}
 use Rattle.embedded_store.specs.Stores.{IsFreshStore, store_disk, store_engine}
@@ -66,11 +66,13 @@ module _ {D : Type 0} (g : Ghosts D) where
       IsOwnStore engine result → OpensContents g disk left result
   own_opens disk left engine (Ok store) found opens created leaves is = record {
     opened = λ facts list files.
-        let it = found facts list files in
-        (subst StandsAlone it.facts is.0, record {
-          facts = same_facts engine store is.1 ∙ it.facts;
-          holds = is.1.stays.holds list it.holds;
-        });
+        let it = found facts list files in (
+          subst StandsAlone it.facts is.0,
+          record {
+            facts = same_facts engine store is.1 ∙ it.facts;
+            holds = is.1.stays.holds list it.holds;
+          },
+        );
     created = λ cut. absurd (created cut.0);
     told = inl (opened_from left engine store is.1 opens);
     any_moment = λ facts list facts' list' only.
@@ -79,8 +81,11 @@ module _ {D : Type 0} (g : Ghosts D) where
   }
   own_opens disk left engine (Err refused) found opens created leaves is = record {
     opened = λ facts list files.
-        inr (is.0, λ alone.
-        is.1 (subst StandsAlone (sym (found facts list files).facts) alone));
+        inr (
+          is.0,
+          λ alone.
+              is.1 (subst StandsAlone (sym (found facts list files).facts) alone),
+        );
     created = λ cut. absurd (created cut.0);
     told = subst (ExplainsOpening left) (sym is.0) tt;
     any_moment = λ facts list facts' list' only.
@@ -118,7 +123,7 @@ module _ {D : Type 0} (g : Ghosts D) where
 
   -- what was created there, where a creation may have been cut short
   created_from : (left : Contents) (result : Result (EmbeddedStore D g) (OpenError × D)) →
-      IsCutShort left → CreatesStore result →
+      WasCutShort left → CreatesStore result →
       MatchResult result (IsOpenedFrom left) (λ refused. ExplainsOpening left refused.0)
   created_from left (Ok store) cut holds = inr (cut, holds)
   created_from left (Err refused) cut external = external_explains left refused.0 external

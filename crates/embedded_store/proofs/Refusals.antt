@@ -11,7 +11,7 @@ use Rattle.embedded_store.specs.declared.error.OpenError.{OpenError}
 use Rattle.embedded_store.specs.declared.error.OpenError.TheVariants.{Store}
 use Rattle.embedded_store.specs.Errors.{disk_refusal}
 use Rattle.embedded_store.specs.Finding.{HasOnlyCreationFiles}
-use Rattle.embedded_store.specs.Openings.{ExplainsOpening, IsCutShort, IsForEnvironment}
+use Rattle.embedded_store.specs.Openings.{ExplainsOpening, WasCutShort, IsForEnvironment}
 
 -- a refusal of the engine is for the device exactly where its cause is
 pub store_told : (e : EngineError) (s : OpenError) → s ≡ Store e →
@@ -55,7 +55,7 @@ explained left _ why taken = absurd why
 
 -- and where a creation was cut short, it is refused for the environment alone
 pub refused_externally : (left : Contents) (e : EngineError) → ExplainsRefusal e left →
-    (e ≡ engine.NotCreated → HasOnlyCreationFiles left → ⊥) → IsCutShort left →
+    (e ≡ engine.NotCreated → HasOnlyCreationFiles left → ⊥) → WasCutShort left →
     IsEnvironmental engine.Disk engine.Memory e
 refused_externally left engine.Disk why taken cut = inl refl
 refused_externally left engine.Damaged why taken cut = absurd (why.created cut.0)

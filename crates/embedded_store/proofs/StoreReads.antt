@@ -1,5 +1,5 @@
 -- Reads at a number, or at the newest one.
-use Rattle.std.proofs.Common.{◌≡◌, ℕ, ◌<◌, ◌≤◌, List, [], ◌∷◌, length, take, Bool, true, false, eqb, cond}
+use Rattle.std.proofs.Common.{◌≡◌, ℕ, ◌<◌, ◌≤◌, List, [], ◌∷◌, length, take, false, eqb}
 use Rattle.std.proofs.Common.{Option, None, Some, ap, arith, inl, inr, refl, ◌∙◌}
 use Rattle.std.specs.Prelude.{◌⊎◌, Result, Ok, Err, IfErr}
 use Rattle.std.specs.List.{All}
@@ -55,8 +55,12 @@ refused_as told None e ordered all (inr (inl old)) =
 refused_as told None e ordered all (inr (inr late)) = absurd (omega (arith, late.1, all))
 refused_as told (Some at) e ordered all (inl external) = inl external
 refused_as told (Some at) e ordered all (inr (inl old)) =
-    inr (inl (old.0, old.1, none_below told.facts.floor told.committed at told.snapshots
-    ordered.snapshots.each old.1))
+    inr (inl (
+      old.0,
+      old.1,
+      none_below told.facts.floor told.committed at told.snapshots
+          ordered.snapshots.each old.1,
+    ))
 refused_as told (Some at) e ordered all (inr (inr late)) =
     inr (inr (late.0, omega (arith, late.1, all)))
 

@@ -21,8 +21,8 @@ StandsAlone facts = IsAloneAs facts.id facts.ids
 
 -- A creation that was cut short may have left this: no slot is open, and nothing else is there. So
 -- no batch is; and so it is of a disk without files.
-abbrev pub IsCutShort : Contents → Type 0
-IsCutShort left = IsNotCreated left × HasOnlyCreationFiles left
+abbrev pub WasCutShort : Contents → Type 0
+WasCutShort left = IsNotCreated left × HasOnlyCreationFiles left
 
 -- refused for the device or for want of memory
 abbrev pub IsForEnvironment : OpenError → Type 0
@@ -58,9 +58,9 @@ module _ {D : Type 0} {g : Ghosts D} where
 
   -- Files of these facts and the list open as a store that holds the list, or the device or memory
   -- refuses that; or the store is one of a chain.
-  abbrev pub OpensFor : Facts → List BatchContent → Result (EmbeddedStore D g) (OpenError × D) →
+  abbrev pub OpensAsStore : Facts → List BatchContent → Result (EmbeddedStore D g) (OpenError × D) →
       Type 0
-  OpensFor facts list result =
+  OpensAsStore facts list result =
       MatchResult result (λ store. StandsAlone facts × IsStoreOf facts list store)
       (λ refused. IsForEnvironment refused.0
       ⊎ ((refused.0 ≡ OfChain) × (StandsAlone facts → ⊥)))
@@ -75,7 +75,7 @@ module _ {D : Type 0} {g : Ghosts D} where
   -- have left that was cut short, and then the store has no batches
   abbrev pub IsOpenedFrom : Contents → EmbeddedStore D g → Type 0
   IsOpenedFrom left store =
-      IsOpened left (store_engine store) ⊎ (IsCutShort left × HoldsBatches g store [])
+      IsOpened left (store_engine store) ⊎ (WasCutShort left × HoldsBatches g store [])
 
   -- the store is the one over this engine, all of whose batches are committed
   pub record IsStoreOver (engine : Engine D g) (store : EmbeddedStore D g) : Type 0 where
@@ -110,9 +110,9 @@ module _ {D : Type 0} (g : Ghosts D) where
       (result : Result (EmbeddedStore D g) (OpenError × D)) : Type 0 where
     -- a store that is there is opened
     pub opened : (facts : Facts) (list : List BatchContent) → FilesRepresent facts list left →
-        OpensFor facts list result
+        OpensAsStore facts list result
     -- what a creation left that was cut short is created anew
-    pub created : IsCutShort left → CreatesStore result
+    pub created : WasCutShort left → CreatesStore result
     -- a store says what it was made of, and a refusal why it is none
     pub told : MatchResult result (IsOpenedFrom left) (λ refused. ExplainsOpening left refused.0)
     -- no store that was created is created again

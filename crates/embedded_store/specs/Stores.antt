@@ -38,8 +38,8 @@ first_batches (Some at) list = take at list
 -- ---- a write
 
 -- one batch more, which is committed
-abbrev pub with_written : LookUps → LookUps
-with_written told = record told { count = told.count + 1; committed = told.count + 1 }
+abbrev pub with_one_written : LookUps → LookUps
+with_one_written told = record told { count = told.count + 1; committed = told.count + 1 }
 
 -- what a write of this batch promises
 pub record WritesBatch {D : Type 0} (g : Ghosts D) (old new : EmbeddedStore D g)

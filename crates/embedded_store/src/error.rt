@@ -20,8 +20,8 @@ pub enum OpenError {
     /// The files are those of a node of a chain of others.
     #[error("the store of a chain's node")]
     OfChain,
-    /// For the device, for want of memory, or for the files: `Damaged`, and `NotCreated` where there
-    /// are some, and none of them is a store's.
+    /// For the device, for want of memory, or for the files: `Damaged`, and `NotCreated` where no
+    /// store was created, and something is there.
     #[error("{0}")]
     Store(EngineError),
 }

@@ -33,11 +33,7 @@ impl<R: Files<File = File> + Alloc<A = Global> + Clone + Drop> EmbeddedStore<Dir
 
     /// The store of the folder at this path, which is made where it is absent, and locked until the
     /// store is dropped. It is opened, or created where nothing was created yet, as by `over`.
-    pub fn open(
-        rt: &R,
-        path: &str,
-        limits: &Limits,
-    ) -> Result<EmbeddedStore<DirDisk<R>>, OpenError>
+    pub fn open(rt: &R, path: &str, limits: &Limits) -> Result<EmbeddedStore<DirDisk<R>>, OpenError>
         ensures { IfOk result (IsFreshStore limits.now) }
     {
         let disk = locked_folder(rt, path)?;

@@ -57,8 +57,8 @@ fn created<D: Disk + Drop>(
     }
 }
 
-// Creates the store of a disk on which none was created, if nothing is there but what a creation may
-// have left that was cut short.
+// Creates the store of a disk on which none was created, if nothing is there but what a creation
+// may have left that was cut short.
 fn created_if_free<D: Disk + Drop>(
     alloc: Global,
     disk: D,
@@ -102,8 +102,8 @@ fn opened_or_created<D: Disk + Drop>(
 }
 
 impl<D: Disk + Drop> EmbeddedStore<D> {
-    /// The store of a disk. Where no slot is open, and there is nothing but what a creation that was
-    /// cut short may have left, a store without batches is created; so it is on a disk without
+    /// The store of a disk. Where no slot is open, and there is nothing but what a creation that
+    /// was cut short may have left, a store without batches is created; so it is on a disk without
     /// files. A refusal returns the disk.
     pub fn over(
         alloc: Global,

@@ -34,7 +34,7 @@ impl<D: Disk + Drop> EmbeddedStore<D> {
     ghost use Rattle.engine.specs.EngineError.TheVariants.{Disk, Exhausted, Memory};
     ghost use Rattle.embedded_store.specs.Stores.{HoldsBatches, IsReadRefusal, IsSnapshotRefusal};
     ghost use Rattle.embedded_store.specs.Stores.{WritesBatch, first_batches, read_number, whether};
-    ghost use Rattle.embedded_store.specs.Stores.{store_disk, store_engine, with_written};
+    ghost use Rattle.embedded_store.specs.Stores.{store_disk, store_engine, with_one_written};
 
     // The number that is read.
     fn number_of(&self, at: Option<Number>) -> Number
@@ -54,7 +54,8 @@ impl<D: Disk + Drop> EmbeddedStore<D> {
         ensures changes { WritesBatch D.Disk self.old self.new batch.now result }
         ensures told { MatchResult result
             (λ n. (n ≡ (look_ups (store_engine self.new)).count)
-            × (look_ups (store_engine self.new) ≡ with_written (look_ups (store_engine self.old))))
+            × (look_ups (store_engine self.new)
+            ≡ with_one_written (look_ups (store_engine self.old))))
             (λ _. look_ups (store_engine self.new) ≡ look_ups (store_engine self.old)) }
         ensures refused { (list : List BatchContent) → HoldsBatches D.Disk self.old list →
             IfErr result (λ e. IsEnvironmental Disk Memory e
@@ -83,8 +84,8 @@ impl<D: Disk + Drop> EmbeddedStore<D> {
         self.engine.get(alloc, at, key)
     }
 
-    /// The rows of a range at a number, or at the newest one: the longest beginning of its walk that
-    /// keeps both limits, and whether more are left.
+    /// The rows of a range at a number, or at the newest one: the longest beginning of its walk
+    /// that keeps both limits, and whether more are left.
     pub fn rows(
         &mut self,
         alloc: Global,

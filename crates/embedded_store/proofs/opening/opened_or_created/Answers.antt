@@ -1,9 +1,10 @@
-use Rattle.std.proofs.Common.{◌≡◌, ◌∙◌, subst, sym}
+use Rattle.std.proofs.Common.{◌≡◌, subst}
 use Rattle.disk.specs.{contents}
-use Rattle.engine.specs.EngineError.TheVariants.{Disk, NotCreated}
-use Rattle.engine.specs.KeepingLemmas.{kept_as, kept_behind}
+use Rattle.engine.specs.EngineError.{EngineError}
+use Rattle.engine.specs.KeepingLemmas.{kept_as}
 use Rattle.engine.specs.{ExplainsRefusal}
-use Rattle.embedded_store.proofs.Openings.{free_opens, own_fresh, own_kept, own_opens, refused_opens}
+use Rattle.embedded_store.proofs.Openings.{free_opens, own_fresh, own_kept, own_opens}
+use Rattle.embedded_store.proofs.Openings.{refused_opens}
 use Rattle.embedded_store.proofs.Refusals.{store_told}
 use Rattle.embedded_store.proofs.opening.opened_or_created.Goals as goal
 
@@ -28,36 +29,30 @@ returns-in-Ok-clause-fresh g c =
     c.own.ensures
 
 -- a creation, if the disk is free
-pub returns-in-Err-in-NotCreated-clause-kept : goal.returns-in-Err-in-NotCreated-clause-kept
-returns-in-Err-in-NotCreated-clause-kept g c =
-    kept_behind g.D.Disk (λ a b d owned kept. tt) c.in-Err.ensures.kept
-    (λ fails. let no : NotCreated ≡ Disk = sym c.in-NotCreated.is ∙ fails in cc)
-    c.created_if_free.ensures.kept
-
-pub returns-in-Err-in-NotCreated-clause-opens : goal.returns-in-Err-in-NotCreated-clause-opens
-returns-in-Err-in-NotCreated-clause-opens g c = λ honest.
+pub returns-in-NotCreated-clause-opens : goal.returns-in-NotCreated-clause-opens
+returns-in-NotCreated-clause-opens g c = λ honest.
     let left = contents (g.D.Disk.state c.args.disk) in
     free_opens g.D.Disk c.args.disk c.in-Err.disk c.args.is_free c.in-Err.e
     c.created_if_free.result c.in-NotCreated.is (c.requires honest)
     (λ facts list files. (c.in-Err.ensures.opened facts list honest).whole files)
-    (subst (λ e. ExplainsRefusal e left) c.in-NotCreated.is (c.in-Err.ensures.told honest))
-    c.reads_are_outcomes.ensures
+    (subst (λ (e : EngineError). ExplainsRefusal e left) c.in-NotCreated.is
+    (c.in-Err.ensures.told honest)) c.reads_are_outcomes.ensures
     (λ facts list facts' list' only.
     (c.in-Err.ensures.any_moment facts list facts' list' honest).whole only)
     (c.created_if_free.ensures.created (c.in-Err.ensures.kept.honest.1 honest))
     c.created_if_free.ensures.refused
 
 -- the engine's refusal
-pub returns-in-Err-in_default-clause-kept : goal.returns-in-Err-in_default-clause-kept
-returns-in-Err-in_default-clause-kept g c =
-    kept_as g.D.Disk (store_told c.in-Err.e c.from.result c.from.ensures) (λ a b owned. tt)
-    c.in-Err.ensures.kept
-
-pub returns-in-Err-in_default-clause-opens : goal.returns-in-Err-in_default-clause-opens
-returns-in-Err-in_default-clause-opens g c = λ honest.
-    refused_opens g.D.Disk c.args.disk c.in-Err.disk (contents (g.D.Disk.state c.args.disk))
-    c.in-Err.e c.from.result c.from.ensures
-    (λ facts list files. (c.in-Err.ensures.opened facts list honest).whole files)
-    (c.in-Err.ensures.told honest) (λ same only. c.in_default.not-NotCreated same)
-    (λ facts list facts' list' only.
-    (c.in-Err.ensures.any_moment facts list facts' list' honest).whole only)
+pub returns-in_default : goal.returns-in_default
+returns-in_default g c = record {
+  kept = kept_as g.D.Disk (store_told c.in-Err.e c.from.result c.from.ensures) (λ a b owned. tt)
+      c.in-Err.ensures.kept;
+  opens = λ honest.
+      refused_opens g.D.Disk c.args.disk c.in-Err.disk
+      (contents (g.D.Disk.state c.args.disk)) c.in-Err.e c.from.result c.from.ensures
+      (λ facts list files. (c.in-Err.ensures.opened facts list honest).whole files)
+      (c.in-Err.ensures.told honest) (λ same only. c.in_default.not-NotCreated same)
+      (λ facts list facts' list' only.
+      (c.in-Err.ensures.any_moment facts list facts' list' honest).whole only);
+  fresh = tt;
+}

@@ -28,9 +28,11 @@ returns-in-Ok-clause-opens g c = λ honest.
 pub returns-in-Err-clause-kept : goal.returns-in-Err-clause-kept
 returns-in-Err-clause-kept g c =
     let told = look_told c.in-Err.e c.from.result c.from.ensures in
-    kept_as g.D.Disk
-    (λ fails. told.0 (let same : c.in-Err.e ≡ Failed = cc in same), λ fails. ap (λ d. Err d)
-    (told.1 fails)) (λ a b same. tt) c.in-Err.ensures.looks.kept
+    kept_as g.D.Disk (
+      λ fails. told.0 (let same : c.in-Err.e ≡ Failed = cc in same),
+      λ fails. ap (λ d. Err d)
+          (told.1 fails),
+    ) (λ a b same. tt) c.in-Err.ensures.looks.kept
 
 pub returns-in-Err-clause-opens : goal.returns-in-Err-clause-opens
 returns-in-Err-clause-opens g c = λ honest.

@@ -1,6 +1,7 @@
 use Rattle.std.proofs.Common.{◌≡◌, ◌++◌, ◌∷◌, [], ap, arith, List, subst, sym, ℕ, ◌∙◌}
 use Rattle.kv_types.specs.{BatchContent}
-use Rattle.engine.specs.{IsOldOrNewSince, LookUps, facts_of, look_ups, with_committed, with_one_more}
+use Rattle.engine.specs.{IsOldOrNewSince, LookUps, facts_of, look_ups, with_committed}
+use Rattle.engine.specs.{with_one_more}
 use Rattle.embedded_store.specs.Stores.{store_disk, store_engine}
 use Rattle.embedded_store.proofs.StoreWrites.{kept_on}
 use Rattle.embedded_store.proofs.store.EmbeddedStore.write.Goals as goal
@@ -23,7 +24,7 @@ returns-clause-told g c =
     let n = told.1 ∙ ap (λ (l : LookUps). l.count) told.0 in (
       told.1 ∙ sym (ap (λ (l : LookUps). l.count) known),
       known ∙ ap (λ (l : LookUps). with_committed l c.in_ok-number.number) told.0
-      ∙ ap (λ (k : ℕ). with_committed (with_one_more old) k) n,
+          ∙ ap (λ (k : ℕ). with_committed (with_one_more old) k) n,
     )
 
 -- what the engine promises of the append, the store does of the write
