@@ -66,7 +66,7 @@ fn what_was_there_before_is_read(rt: HostRuntime) -> Result<(), Fail> {
     let (now, before) = write_and_read(&rt, folder.as_str(), &key)?;
     is_so(
         &rt,
-        now.is_some_and(|it| it.as_bytes() == b"Grace"),
+        now.is_some_and(|it| it.as_bytes() == b"Grace".as_slice()),
         "the newest value",
     );
     is_so(
