@@ -1,0 +1,230 @@
+-- The stores of engines that were opened or created.
+use Rattle.std.proofs.Common.{◌≡◌, ap, inl, inr, refl, subst, sym, ℕ, Bool, false, List, true, ◌∙◌}
+use Rattle.std.proofs.Math.Path.{fun_ext}
+use Rattle.std.specs.Prelude.{◌⊎◌, ◌↔◌, Result, Ok, Err, IfOk, IsFalse, IsTrue, MatchResult}
+use Rattle.kv_types.specs.declared.Limits.{Limits}
+use Rattle.kv_types.specs.{BatchContent}
+use Rattle.disk.specs.declared.Disk.{Ghosts}
+use Rattle.disk.specs.{AlwaysLeaves, Contents, IsCrashOutcome, IsEnvironmental, KeepsDisk}
+use Rattle.disk.specs.{OnlyLeaves, State, contents}
+use Rattle.engine.specs.EngineError.TheVariants as engine
+use Rattle.engine.specs.EngineError.{EngineError}
+use Rattle.engine.specs.declared.Engine.{Engine}
+use Rattle.engine.specs.KeepingLemmas.{kept_as, neither}
+use Rattle.engine.specs.{ExplainsRefusal, Facts, FilesRepresent, IsEngineOf, IsJustOpened}
+use Rattle.engine.specs.{IsNotCreated, IsOneOf}
+use Rattle.engine.specs.{IsOpened, IsOwned, LookUps, OpensAs, engine_disk, facts_of, look_ups}
+use Rattle.embedded_store.specs.declared.error.OpenError.{OpenError}
+use Rattle.embedded_store.specs.declared.error.OpenError.TheVariants.{OfChain, Store}
+use Rattle.embedded_store.specs.declared.store.EmbeddedStore.{EmbeddedStore}
+use Rattle.embedded_store.specs.Finding.{HasOnlyCreationFiles, OnlyLooks}
+use Rattle.embedded_store.specs.Openings.{CreatesStore, ExplainsOpening, WasCutShort, IsOpenedFrom}
+use Rattle.embedded_store.specs.Openings.{IsOwnStore, IsStoreOver, KeepsOpenedDisk, OpensContents}
+use Rattle.embedded_store.specs.Openings.{IsForEnvironment, StandsAlone, disk_of_opening}
+use Rattle.embedded_store.specs.Stores.{IsFreshStore, store_disk, store_engine}
+use Rattle.embedded_store.proofs.Looks.{leaves_behind, look_leaves}
+use Rattle.embedded_store.proofs.Refusals.{external_explains, explained, not_external}
+use Rattle.embedded_store.proofs.Refusals.{refused_externally, store_external}
+
+module _ {D : Type 0} (g : Ghosts D) where
+  -- ---- the store of an engine
+
+  -- what the engine kept of a disk, its store or the refusal does
+  pub own_kept : {failed : Type 0} (disk : D) (engine : Engine D g)
+      (result : Result (EmbeddedStore D g) (OpenError × D)) →
+      KeepsDisk g disk (engine_disk engine) failed ⊥ IsOwned → (failed → ⊥) →
+      IsOwnStore engine result → KeepsOpenedDisk g disk result
+  own_kept {failed = failed} disk engine (Ok store) kept works is =
+      kept_as g (neither works (λ none. absurd none)) (λ a b same. same)
+      (subst (λ (d : D). KeepsDisk g disk d failed ⊥ IsOwned) (sym is.1.disk) kept)
+  own_kept {failed = failed} disk engine (Err refused) kept works is =
+      kept_as g (neither works (λ fails. cc (is.0, fails))) (λ a b same. same)
+      (subst (λ (d : D). KeepsDisk g disk d failed ⊥ IsOwned) (sym is.2) kept)
+
+  -- a store over an engine tells its facts
+  pub same_facts : (engine : Engine D g) (store : EmbeddedStore D g) → IsStoreOver engine store →
+      facts_of (store_engine store) ≡ facts_of engine
+  same_facts engine store is = ap (λ (l : LookUps). l.facts) is.told
+
+  -- and its files open as it
+  pub opened_from : (left : Contents) (engine : Engine D g) (store : EmbeddedStore D g) →
+      IsStoreOver engine store → IsOpened left engine → IsOpened left (store_engine store)
+  opened_from left engine store is opens =
+      subst (λ (k : ℕ). OpensAs left (facts_of (store_engine store)) k)
+      (sym (ap (λ (l : LookUps). l.count) is.told))
+      (subst (λ (f : Facts). OpensAs left f (look_ups engine).count)
+      (sym (same_facts engine store is)) opens)
+
+  -- what an engine that was opened promises, its store or the refusal does
+  pub own_opens : (disk : D) (left : Contents) (engine : Engine D g)
+      (result : Result (EmbeddedStore D g) (OpenError × D)) →
+      ((facts : Facts) (list : List BatchContent) → FilesRepresent facts list left →
+      IsEngineOf g facts list engine) → IsOpened left engine → (IsNotCreated left → ⊥) →
+      ((facts : Facts) (list : List BatchContent) (facts' : Facts) (list' : List BatchContent) →
+      OnlyLeaves (IsOneOf facts list facts' list') (g.state disk) →
+      AlwaysLeaves g disk (engine_disk engine) (IsOneOf facts list facts' list')) →
+      IsOwnStore engine result → OpensContents g disk left result
+  own_opens disk left engine (Ok store) found opens created leaves is = record {
+    opened = λ facts list files.
+        let it = found facts list files in (
+          subst StandsAlone it.facts is.0,
+          record {
+            facts = same_facts engine store is.1 ∙ it.facts;
+            holds = is.1.stays.holds list it.holds;
+          },
+        );
+    created = λ cut. absurd (created cut.0);
+    told = inl (opened_from left engine store is.1 opens);
+    any_moment = λ facts list facts' list' only.
+        subst (λ (d : D). AlwaysLeaves g disk d (IsOneOf facts list facts' list'))
+        (sym is.1.disk) (leaves facts list facts' list' only);
+  }
+  own_opens disk left engine (Err refused) found opens created leaves is = record {
+    opened = λ facts list files.
+        inr (
+          is.0,
+          λ alone.
+              is.1 (subst StandsAlone (sym (found facts list files).facts) alone),
+        );
+    created = λ cut. absurd (created cut.0);
+    told = subst (ExplainsOpening left) (sym is.0) tt;
+    any_moment = λ facts list facts' list' only.
+        subst (λ (d : D). AlwaysLeaves g disk d (IsOneOf facts list facts' list'))
+        (sym is.2) (leaves facts list facts' list' only);
+  }
+
+  -- the store of an engine that was just opened is fresh
+  pub own_fresh : (given : Limits) (engine : Engine D g)
+      (result : Result (EmbeddedStore D g) (OpenError × D)) → IsJustOpened given engine →
+      IsOwnStore engine result → IfOk result (IsFreshStore given)
+  own_fresh given engine (Ok store) just is = record {
+    works = λ ended. just.works (is.1.stays.ended.0 ended);
+    limits = ap (λ (l : LookUps). l.limits) is.1.told ∙ just.limits;
+    snapshots = ap (λ (l : LookUps). l.snapshots) is.1.told ∙ just.snapshots;
+  }
+  own_fresh given engine (Err refused) just is = tt
+
+  -- ---- a store that was not created
+
+  -- no store is there, so none is lost
+  none_there : (left : Contents) (e : EngineError) → e ≡ engine.NotCreated →
+      ((facts : Facts) (list : List BatchContent) → FilesRepresent facts list left →
+      IsEnvironmental engine.Disk engine.Memory e) →
+      (facts : Facts) (list : List BatchContent) → FilesRepresent facts list left → ⊥
+  none_there left e is refuses facts list files =
+      not_external e is (refuses facts list files)
+
+  -- nor is it one of two
+  none_of_two : (left : Contents) → ((facts : Facts) (list : List BatchContent) →
+      FilesRepresent facts list left → ⊥) → (facts : Facts) (list : List BatchContent)
+      (facts' : Facts) (list' : List BatchContent) → IsOneOf facts list facts' list' left → ⊥
+  none_of_two left none facts list facts' list' (inl files) = none facts list files
+  none_of_two left none facts list facts' list' (inr files) = none facts' list' files
+
+  -- what was created there, where a creation may have been cut short
+  created_from : (left : Contents) (result : Result (EmbeddedStore D g) (OpenError × D)) →
+      WasCutShort left → CreatesStore result →
+      MatchResult result (IsOpenedFrom left) (λ refused. ExplainsOpening left refused.0)
+  created_from left (Ok store) cut holds = inr (cut, holds)
+  created_from left (Err refused) cut external = external_explains left refused.0 external
+
+  -- a creation, where no store was created and the disk is free
+  creates_opens : (disk : D) (e : EngineError)
+      (result : Result (EmbeddedStore D g) (OpenError × D)) → e ≡ engine.NotCreated →
+      ((facts : Facts) (list : List BatchContent) →
+      FilesRepresent facts list (contents (g.state disk)) →
+      IsEnvironmental engine.Disk engine.Memory e) → IsNotCreated (contents (g.state disk)) →
+      HasOnlyCreationFiles (contents (g.state disk)) →
+      ((at : State) → IsCrashOutcome at (contents at)) → CreatesStore result →
+      OpensContents g disk (contents (g.state disk)) result
+  creates_opens disk e result is refuses free only reads made =
+      let left = contents (g.state disk) in
+      let none = none_there left e is refuses in
+      record {
+        opened = λ facts list files. absurd (none facts list files);
+        created = λ cut. made;
+        told = created_from left result (free, only) made;
+        any_moment = λ facts list facts' list' leaves.
+            absurd (none_of_two left none facts list facts' list'
+            (leaves left (reads (g.state disk))));
+      }
+
+  -- a refusal, where nothing is created
+  pub refused_opens : (disk after : D) (left : Contents) (e : EngineError) (s : OpenError) →
+      s ≡ Store e → ((facts : Facts) (list : List BatchContent) → FilesRepresent facts list left →
+      IsEnvironmental engine.Disk engine.Memory e) → ExplainsRefusal e left →
+      (e ≡ engine.NotCreated → HasOnlyCreationFiles left → ⊥) →
+      ((facts : Facts) (list : List BatchContent) (facts' : Facts) (list' : List BatchContent) →
+      OnlyLeaves (IsOneOf facts list facts' list') (g.state disk) →
+      AlwaysLeaves g disk after (IsOneOf facts list facts' list')) →
+      OpensContents g disk left (Err (s, after))
+  refused_opens disk after left e s is refuses why taken leaves = record {
+    opened = λ facts list files. inl (store_external e s is (refuses facts list files));
+    created = λ cut. store_external e s is (refused_externally left e why taken cut);
+    told = subst (ExplainsOpening left) (sym is) (explained left e why taken);
+    any_moment = leaves;
+  }
+
+  -- a creation if the disk is free, and else a refusal
+  pub free_opens : (disk after : D) (is_free : Bool) (e : EngineError)
+      (result : Result (EmbeddedStore D g) (OpenError × D)) → e ≡ engine.NotCreated →
+      (IsTrue is_free ↔ HasOnlyCreationFiles (contents (g.state disk))) →
+      ((facts : Facts) (list : List BatchContent) →
+      FilesRepresent facts list (contents (g.state disk)) →
+      IsEnvironmental engine.Disk engine.Memory e) → IsNotCreated (contents (g.state disk)) →
+      ((at : State) → IsCrashOutcome at (contents at)) →
+      ((facts : Facts) (list : List BatchContent) (facts' : Facts) (list' : List BatchContent) →
+      OnlyLeaves (IsOneOf facts list facts' list') (g.state disk) →
+      AlwaysLeaves g disk after (IsOneOf facts list facts' list')) →
+      (IsTrue is_free → CreatesStore result) →
+      (IsFalse is_free → result ≡ Err (Store engine.NotCreated, after)) →
+      OpensContents g disk (contents (g.state disk)) result
+  free_opens disk after true e result is found refuses none reads leaves made refused =
+      creates_opens disk e result is refuses none (found.0 refl) reads (made refl)
+  free_opens disk after false e result is found refuses none reads leaves made refused =
+      subst (OpensContents g disk (contents (g.state disk))) (sym (refused refl))
+      (refused_opens disk after (contents (g.state disk)) engine.NotCreated
+      (Store engine.NotCreated) refl
+      (λ facts list files. subst (IsEnvironmental engine.Disk engine.Memory) is
+      (refuses facts list files)) none
+      (λ same only. let no : false ≡ true = found.1 only in cc) leaves)
+
+  -- ---- an opening behind a look
+
+  -- what the look found is so behind it
+  pub look_free : {failed : Type 0} (old mid : D) (is_free : Bool) → OnlyLooks g old mid failed →
+      g.is_honest old → (IsTrue is_free ↔ HasOnlyCreationFiles (contents (g.state old))) →
+      IsTrue is_free ↔ HasOnlyCreationFiles (contents (g.state mid))
+  look_free old mid is_free looks honest found =
+      let states : g.state mid ≡ g.state old = fun_ext (λ file. looks.kept.files honest file) in
+      subst (λ (s : State). IsTrue is_free ↔ HasOnlyCreationFiles (contents s)) (sym states) found
+
+  -- what an opening promises behind a look, both do
+  pub look_opens : {failed : Type 0} (old mid : D)
+      (result : Result (EmbeddedStore D g) (OpenError × D)) → OnlyLooks g old mid failed →
+      g.is_honest old → OpensContents g mid (contents (g.state mid)) result →
+      OpensContents g old (contents (g.state old)) result
+  look_opens old mid result looks honest opens =
+      let states : g.state mid ≡ g.state old = fun_ext (λ file. looks.kept.files honest file) in
+      let same : OpensContents g mid (contents (g.state old)) result =
+      subst (λ (s : State). OpensContents g mid (contents s) result) states opens in
+      record {
+        opened = same.opened;
+        created = same.created;
+        told = same.told;
+        any_moment = λ facts list facts' list' only.
+            leaves_behind g (IsOneOf facts list facts' list') old mid (disk_of_opening result) looks
+            honest only (λ left. opens.any_moment facts list facts' list' left);
+      }
+
+  -- a look that is refused
+  pub look_refused : {failed : Type 0} (old after : D) (s : OpenError) →
+      OnlyLooks g old after failed → g.is_honest old → IsForEnvironment s →
+      OpensContents g old (contents (g.state old)) (Err (s, after))
+  look_refused old after s looks honest external = record {
+    opened = λ facts list files. inl external;
+    created = λ cut. external;
+    told = external_explains (contents (g.state old)) s external;
+    any_moment = λ facts list facts' list' only.
+        look_leaves g (IsOneOf facts list facts' list') old after looks honest only;
+  }

@@ -1,0 +1,70 @@
+-- Refusals of an opening, by the errors of the layers below.
+use Rattle.std.proofs.Common.{◌≡◌, ap, inl, inr, refl, subst, sym, ◌∙◌}
+use Rattle.std.specs.Prelude.{◌⊎◌, ◌↔◌}
+use Rattle.disk.specs.declared.error.DiskError.{DiskError}
+use Rattle.disk.specs.declared.error.DiskError.TheVariants as device
+use Rattle.disk.specs.{Contents, IsEnvironmental}
+use Rattle.engine.specs.EngineError.{EngineError}
+use Rattle.engine.specs.EngineError.TheVariants as engine
+use Rattle.engine.specs.{ExplainsRefusal}
+use Rattle.embedded_store.specs.declared.error.OpenError.{OpenError}
+use Rattle.embedded_store.specs.declared.error.OpenError.TheVariants.{Store}
+use Rattle.embedded_store.specs.Errors.{disk_refusal}
+use Rattle.embedded_store.specs.Finding.{HasOnlyCreationFiles}
+use Rattle.embedded_store.specs.Openings.{ExplainsOpening, WasCutShort, IsForEnvironment}
+
+-- a refusal of the engine is for the device exactly where its cause is
+pub store_told : (e : EngineError) (s : OpenError) → s ≡ Store e →
+    (e ≡ engine.Disk) ↔ (s ≡ Store engine.Disk)
+store_told e s is = (λ fails. is ∙ ap Store fails, λ fails. cc)
+
+-- so is one of a look
+pub look_told : (e : DiskError) (s : OpenError) → s ≡ disk_refusal e →
+    (e ≡ device.Failed) ↔ (s ≡ Store engine.Disk)
+look_told device.Failed s is = (λ fails. is, λ fails. refl)
+look_told device.NoFile s is = (λ fails. cc, λ fails. cc)
+look_told device.Short s is = (λ fails. cc, λ fails. cc)
+look_told device.Memory s is = (λ fails. cc, λ fails. cc)
+
+-- an external refusal of the engine is one of the opening
+pub store_external : (e : EngineError) (s : OpenError) → s ≡ Store e →
+    IsEnvironmental engine.Disk engine.Memory e → IsForEnvironment s
+store_external e s is (inl device) = inl (is ∙ ap Store device)
+store_external e s is (inr memory) = inr (is ∙ ap Store memory)
+
+-- so is one of a look
+pub look_external : (e : DiskError) (s : OpenError) → s ≡ disk_refusal e →
+    IsEnvironmental device.Failed device.Memory e → IsForEnvironment s
+look_external e s is (inl failed) = inl (is ∙ ap disk_refusal failed)
+look_external e s is (inr memory) = inr (is ∙ ap disk_refusal memory)
+
+-- an external refusal says nothing of the files
+pub external_explains : (left : Contents) (s : OpenError) → IsForEnvironment s →
+    ExplainsOpening left s
+external_explains left s (inl device) = subst (ExplainsOpening left) (sym device) tt
+external_explains left s (inr memory) = subst (ExplainsOpening left) (sym memory) tt
+
+-- what the engine explains, the opening does, where nothing is created
+pub explained : (left : Contents) (e : EngineError) → ExplainsRefusal e left →
+    (e ≡ engine.NotCreated → HasOnlyCreationFiles left → ⊥) → ExplainsOpening left (Store e)
+explained left engine.Disk why taken = tt
+explained left engine.Damaged why taken = why
+explained left engine.Memory why taken = tt
+explained left engine.NotCreated why taken = (why, taken refl)
+explained left _ why taken = absurd why
+
+-- and where a creation was cut short, it is refused for the environment alone
+pub refused_externally : (left : Contents) (e : EngineError) → ExplainsRefusal e left →
+    (e ≡ engine.NotCreated → HasOnlyCreationFiles left → ⊥) → WasCutShort left →
+    IsEnvironmental engine.Disk engine.Memory e
+refused_externally left engine.Disk why taken cut = inl refl
+refused_externally left engine.Damaged why taken cut = absurd (why.created cut.0)
+refused_externally left engine.Memory why taken cut = inr refl
+refused_externally left engine.NotCreated why taken cut = absurd (taken refl cut.1)
+refused_externally left _ why taken cut = absurd why
+
+-- a store that was not created is not refused for the environment
+pub not_external : (e : EngineError) → e ≡ engine.NotCreated →
+    IsEnvironmental engine.Disk engine.Memory e → ⊥
+not_external e is (inl device) = cc
+not_external e is (inr memory) = cc

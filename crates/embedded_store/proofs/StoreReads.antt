@@ -1,0 +1,75 @@
+-- Reads at a number, or at the newest one.
+use Rattle.std.proofs.Common.{◌≡◌, ℕ, ◌<◌, ◌≤◌, List, [], ◌∷◌, length, take, false, eqb}
+use Rattle.std.proofs.Common.{Option, None, Some, ap, arith, inl, inr, refl, ◌∙◌}
+use Rattle.std.specs.Prelude.{◌⊎◌, Result, Ok, Err, IfErr}
+use Rattle.std.specs.List.{All}
+use Rattle.std.proofs.lemmas.Bool.Decides.{nat_tests}
+use Rattle.std.proofs.lemmas.List.{take_all}
+use Rattle.std.proofs.lemmas.List.Elements.{All-tail}
+use Rattle.kv_types.specs.{BatchContent}
+use Rattle.disk.specs.{IsEnvironmental}
+use Rattle.chain_model.specs.Machine.{is_open}
+use Rattle.engine.specs.EngineError.{EngineError}
+use Rattle.engine.specs.EngineError.TheVariants as engine
+use Rattle.engine.specs.{AreOrdered, IsReadable, IsReadableAnswer, LookUps}
+use Rattle.embedded_store.specs.Stores.{IsReadRefusal, first_batches, read_number}
+
+-- the batches up to the number that is read
+pub taken : (told : LookUps) (at : Option ℕ) (list : List BatchContent) →
+    told.count ≡ length list → take (read_number told at) list ≡ first_batches at list
+taken told None list is = take_all told.count list (omega (arith, is))
+taken told (Some at) list is = refl
+
+-- no snapshot is below the floor
+pub none_below : (floor committed at : ℕ) (snapshots : List ℕ) →
+    All (IsReadable floor committed) snapshots → at < floor → is_open at snapshots ≡ false
+none_below floor committed at [] each low = refl
+none_below floor committed at (first ∷ later) each low =
+    let here : floor ≤ first = (each 0 first (omega arith)).0 in
+    let apart : eqb at first ≡ false = grind (arith, nat_tests) in
+    rw apart (none_below floor committed at later
+    (All-tail (IsReadable floor committed) first later each) low)
+
+-- why a read at a number is refused of an engine that works and has no damage
+abbrev IsRefusal : LookUps → ℕ → EngineError → Type 0
+IsRefusal told at e = IsEnvironmental engine.Disk engine.Memory e
+    ⊎ ((e ≡ engine.TooOld) × (at < told.facts.floor))
+    ⊎ ((e ≡ engine.NotCommitted) × (told.committed < at))
+
+refused_at : (T : Type 0) (told : LookUps) (at : ℕ) (e : EngineError) →
+    IsReadableAnswer {T = T} told at (Err e) → (e ≡ engine.Damaged → ⊥) → (e ≡ engine.Failed → ⊥) →
+    IsRefusal told at e
+refused_at T told at engine.Disk answer sound works = inl (inl refl)
+refused_at T told at engine.Damaged answer sound works = absurd (sound refl)
+refused_at T told at engine.Memory answer sound works = inl (inr refl)
+refused_at T told at engine.Failed answer sound works = absurd (works refl)
+refused_at T told at engine.TooOld answer sound works = inr (inl (refl, answer))
+refused_at T told at engine.NotCommitted answer sound works = inr (inr (refl, answer))
+refused_at T told at _ answer sound works = absurd answer
+
+refused_as : (told : LookUps) (at : Option ℕ) (e : EngineError) → AreOrdered told →
+    told.committed ≡ told.count → IsRefusal told (read_number told at) e → IsReadRefusal told at e
+refused_as told None e ordered all (inl external) = external
+refused_as told None e ordered all (inr (inl old)) =
+    absurd (omega (arith, old.1, ordered.floor, all))
+refused_as told None e ordered all (inr (inr late)) = absurd (omega (arith, late.1, all))
+refused_as told (Some at) e ordered all (inl external) = inl external
+refused_as told (Some at) e ordered all (inr (inl old)) =
+    inr (inl (
+      old.0,
+      old.1,
+      none_below told.facts.floor told.committed at told.snapshots
+          ordered.snapshots.each old.1,
+    ))
+refused_as told (Some at) e ordered all (inr (inr late)) =
+    inr (inr (late.0, omega (arith, late.1, all)))
+
+-- why a read is refused
+pub read_refused : {T : Type 0} (told : LookUps) (at : Option ℕ) (result : Result T EngineError) →
+    AreOrdered told → told.committed ≡ told.count →
+    IsReadableAnswer told (read_number told at) result → (result ≡ Err engine.Damaged → ⊥) →
+    (result ≡ Err engine.Failed → ⊥) → IfErr result (IsReadRefusal told at)
+read_refused told at (Ok x) ordered all answer sound works = tt
+read_refused {T = T} told at (Err e) ordered all answer sound works =
+    refused_as told at e ordered all (refused_at T told (read_number told at) e answer
+    (λ is. sound (ap (λ d. Err d) is)) (λ is. works (ap (λ d. Err d) is)))

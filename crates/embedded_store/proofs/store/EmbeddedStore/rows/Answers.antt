@@ -1,0 +1,25 @@
+use Rattle.std.proofs.Common.{◌≡◌, ap, List, subst, take, ℕ, ◌∙◌}
+use Rattle.std.specs.Prelude.{IfOk}
+use Rattle.kv_types.specs.{BatchContent}
+use Rattle.kv_types.specs.Pages.{page_of}
+use Rattle.embedded_store.proofs.StoreReads.{read_refused, taken}
+use Rattle.embedded_store.specs.Stores.{store_engine}
+use Rattle.engine.specs.{IsReadableAnswer, look_ups}
+use Rattle.embedded_store.proofs.store.EmbeddedStore.rows.Goals as goal
+
+-- the map is that of the batches up to the number
+pub returns-clause-found : goal.returns-clause-found
+returns-clause-found g c = λ list holds.
+    let told = look_ups (store_engine c.args.self.now) in
+    subst (λ (l : List BatchContent). IfOk c.rows.result (λ it. it ≡ page_of l c.args.range.now))
+    (ap (λ (n : ℕ). take n list) c.number_of-at.ensures.number
+    ∙ taken told c.args.at list holds.reads.count) (c.rows.ensures.found.reads list holds.reads)
+
+-- a store that holds its batches works, and has no damage
+pub returns-clause-refused : goal.returns-clause-refused
+returns-clause-refused g c = λ list holds.
+    let told = look_ups (store_engine c.args.self.now) in
+    read_refused told c.args.at c.rows.result c.number_of-at.ensures.ordered
+    c.args.self.now.committed (subst (λ (n : ℕ). IsReadableAnswer told n c.rows.result) c.number_of-at.ensures.number
+    c.rows.ensures.readable) (c.rows.ensures.intact list holds.reads)
+    (λ fails. holds.reads.works (c.rows.ensures.reads.keeps.closed.0 fails))

@@ -1,0 +1,5 @@
+pub mod Errors
+pub mod Alone
+pub mod Finding
+pub mod Stores
+pub mod Openings

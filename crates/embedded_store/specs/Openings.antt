@@ -1,0 +1,120 @@
+-- What an opening finds on a disk: a store that stands alone, nothing, or files that are none.
+use Rattle.std.specs.Prelude.{◌≡◌, ◌⊎◌, ℕ, List, [], ◌∷◌}
+use Rattle.std.specs.Prelude.{Result, Ok, Err, IsErrAnd, MatchResult}
+use Rattle.kv_types.specs.{BatchContent}
+use Rattle.disk.specs.{AlwaysLeaves, Contents, IsEnvironmental, KeepsDisk, OnlyLeaves}
+use Rattle.disk.specs.declared.Disk.{Ghosts}
+use Rattle.engine.specs.EngineError.TheVariants as engine
+use Rattle.engine.specs.declared.Engine.{Engine}
+use Rattle.engine.specs.{Facts, FilesRepresent, IsDamaged, IsNotCreated, IsOneOf, IsOpened}
+use Rattle.engine.specs.{IsOwned, StaysAsItWas, engine_disk, facts_of, look_ups, with_committed}
+use Rattle.embedded_store.specs.declared.error.OpenError.{OpenError}
+use Rattle.embedded_store.specs.declared.error.OpenError.TheVariants.{InUse, OfChain, Store}
+use Rattle.embedded_store.specs.declared.store.EmbeddedStore.{EmbeddedStore}
+use Rattle.embedded_store.specs.Finding.{HasOnlyCreationFiles}
+use Rattle.embedded_store.specs.Alone.{IsAloneAs}
+use Rattle.embedded_store.specs.Stores.{HoldsBatches, store_disk, store_engine}
+
+-- these are the facts of a store that stands alone
+abbrev pub StandsAlone : Facts → Type 0
+StandsAlone facts = IsAloneAs facts.id facts.ids
+
+-- A creation that was cut short may have left this: no slot is open, and nothing else is there. So
+-- no batch is; and so it is of a disk without files.
+abbrev pub WasCutShort : Contents → Type 0
+WasCutShort left = IsNotCreated left × HasOnlyCreationFiles left
+
+-- refused for the device or for want of memory
+abbrev pub IsForEnvironment : OpenError → Type 0
+IsForEnvironment = IsEnvironmental (Store engine.Disk) (Store engine.Memory)
+
+-- why a disk with this content has no store for those who embed it
+abbrev pub ExplainsOpening : Contents → OpenError → Type 0
+ExplainsOpening left InUse = ⊥
+ExplainsOpening left OfChain = Unit {0}
+ExplainsOpening left (Store engine.Disk) = Unit {0}
+ExplainsOpening left (Store engine.Memory) = Unit {0}
+ExplainsOpening left (Store engine.Damaged) = IsDamaged left
+ExplainsOpening left (Store engine.NotCreated) =
+    IsNotCreated left × (HasOnlyCreationFiles left → ⊥)
+ExplainsOpening left (Store engine.Failed) = ⊥
+ExplainsOpening left (Store engine.TooOld) = ⊥
+ExplainsOpening left (Store engine.NotCommitted) = ⊥
+ExplainsOpening left (Store engine.NoSuchSnapshot) = ⊥
+ExplainsOpening left (Store engine.TooManySnapshots) = ⊥
+ExplainsOpening left (Store engine.Exhausted) = ⊥
+
+module _ {D : Type 0} {g : Ghosts D} where
+  -- the disk that an opening received: the store has it, or the refusal returns it
+  abbrev pub disk_of_opening : Result (EmbeddedStore D g) (OpenError × D) → D
+  disk_of_opening (Ok store) = store_disk store
+  disk_of_opening (Err refused) = refused.1
+
+  -- the store tells these facts, and holds the list
+  pub record IsStoreOf (known : Facts) (list : List BatchContent) (store : EmbeddedStore D g)
+      : Type 0 where
+    pub facts : facts_of (store_engine store) ≡ known
+    pub holds : HoldsBatches g store list
+
+  -- Files of these facts and the list open as a store that holds the list, or the device or memory
+  -- refuses that; or the store is one of a chain.
+  abbrev pub OpensAsStore : Facts → List BatchContent → Result (EmbeddedStore D g) (OpenError × D) →
+      Type 0
+  OpensAsStore facts list result =
+      MatchResult result (λ store. StandsAlone facts × IsStoreOf facts list store)
+      (λ refused. IsForEnvironment refused.0
+      ⊎ ((refused.0 ≡ OfChain) × (StandsAlone facts → ⊥)))
+
+  -- a new store without batches, or the device or memory refuses that
+  abbrev pub CreatesStore : Result (EmbeddedStore D g) (OpenError × D) → Type 0
+  CreatesStore result =
+      MatchResult result (λ store. HoldsBatches g store [])
+      (λ refused. IsForEnvironment refused.0)
+
+  -- what the content is of which an opening made a store: that of the store, or what a creation may
+  -- have left that was cut short, and then the store has no batches
+  abbrev pub IsOpenedFrom : Contents → EmbeddedStore D g → Type 0
+  IsOpenedFrom left store =
+      IsOpened left (store_engine store) ⊎ (WasCutShort left × HoldsBatches g store [])
+
+  -- the store is the one over this engine, all of whose batches are committed
+  pub record IsStoreOver (engine : Engine D g) (store : EmbeddedStore D g) : Type 0 where
+    pub told : look_ups (store_engine store)
+        ≡ with_committed (look_ups engine) (look_ups engine).count
+    pub disk : store_disk store ≡ engine_disk engine
+    pub stays : StaysAsItWas g engine (store_engine store)
+
+  -- the engine is one that stands alone, and the store is over it; or the disk is returned
+  abbrev pub IsOwnStore : Engine D g → Result (EmbeddedStore D g) (OpenError × D) → Type 0
+  IsOwnStore engine result =
+      MatchResult result (λ store. StandsAlone (facts_of engine) × IsStoreOver engine store)
+      (λ refused. (refused.0 ≡ OfChain) × (StandsAlone (facts_of engine) → ⊥)
+      × (refused.1 ≡ engine_disk engine))
+
+module _ {D : Type 0} (g : Ghosts D) where
+  -- the opening keeps the device, which failed exactly where it refuses for it
+  abbrev pub KeepsOpenedDisk : D → Result (EmbeddedStore D g) (OpenError × D) → Type 0
+  KeepsOpenedDisk disk result = KeepsDisk g disk (disk_of_opening result)
+      (IsErrAnd result (λ refused. refused.0 ≡ Store engine.Disk)) ⊥ IsOwned
+
+  -- Where a crash before the opening leaves only files of one of two stores, so does one at each
+  -- moment since it began.
+  abbrev pub OpeningLeavesOneOf : D → Result (EmbeddedStore D g) (OpenError × D) → Facts →
+      List BatchContent → Facts → List BatchContent → Type 0
+  OpeningLeavesOneOf disk result facts list facts' list' =
+      OnlyLeaves (IsOneOf facts list facts' list') (g.state disk) →
+      AlwaysLeaves g disk (disk_of_opening result) (IsOneOf facts list facts' list')
+
+  -- what an opening promises of an honest disk with this content
+  pub record OpensContents (disk : D) (left : Contents)
+      (result : Result (EmbeddedStore D g) (OpenError × D)) : Type 0 where
+    -- a store that is there is opened
+    pub opened : (facts : Facts) (list : List BatchContent) → FilesRepresent facts list left →
+        OpensAsStore facts list result
+    -- what a creation left that was cut short is created anew
+    pub created : WasCutShort left → CreatesStore result
+    -- a store says what it was made of, and a refusal why it is none
+    pub told : MatchResult result (IsOpenedFrom left) (λ refused. ExplainsOpening left refused.0)
+    -- no store that was created is created again
+    pub any_moment : (facts : Facts) (list : List BatchContent) (facts' : Facts)
+        (list' : List BatchContent) → OpeningLeavesOneOf disk result facts list facts' list'

@@ -1,0 +1,95 @@
+-- A store that stands alone: the list of its batches, and what its calls make of it.
+use Rattle.std.specs.Prelude.{◌≡◌, ◌⊎◌, ℕ, ◌+◌, ◌<◌, List, [], ◌∷◌, ◌++◌, length, take, false}
+use Rattle.std.specs.Prelude.{Option, Some, None, Result, Ok, Err, OnOk}
+use Rattle.kv_types.specs.{BatchContent}
+use Rattle.kv_types.specs.declared.Limits.{Limits}
+use Rattle.disk.specs.{IsEnvironmental, IsSameBut}
+use Rattle.disk.specs.declared.Disk.{Ghosts}
+use Rattle.chain_model.specs.Machine.{is_open}
+use Rattle.engine.specs.EngineError.{EngineError}
+use Rattle.engine.specs.EngineError.TheVariants as engine
+use Rattle.engine.specs.declared.Engine.{Engine}
+use Rattle.engine.specs.declared.snapshots.TheConstants.{MAX_SNAPSHOTS}
+use Rattle.engine.specs.{EngineHolds, HasNearlyFullLog, IsOldOrNewSince, KeepsEngine, LookUps}
+use Rattle.engine.specs.{HasEnded, engine_disk, facts_of, look_ups, newest_log_file}
+use Rattle.embedded_store.specs.declared.store.EmbeddedStore.{EmbeddedStore}
+
+module _ {D : Type 0} {g : Ghosts D} where
+  -- the engine of a store
+  abbrev pub store_engine : EmbeddedStore D g → Engine D g
+  store_engine store = store.engine
+
+  -- the disk that it owns
+  abbrev pub store_disk : EmbeddedStore D g → D
+  store_disk store = engine_disk store.engine
+
+-- ---- the batches
+
+-- the store works, and holds this list of batches, as its disk reads and as a crash leaves it
+abbrev pub HoldsBatches : {D : Type 0} (g : Ghosts D) → EmbeddedStore D g → List BatchContent →
+    Type 0
+HoldsBatches g store list = EngineHolds g (store_engine store) list
+
+-- the first batches, so many of them; or all, where no number is given
+abbrev pub first_batches : Option ℕ → List BatchContent → List BatchContent
+first_batches None list = list
+first_batches (Some at) list = take at list
+
+-- ---- a write
+
+-- one batch more, which is committed
+abbrev pub with_one_written : LookUps → LookUps
+with_one_written told = record told { count = told.count + 1; committed = told.count + 1 }
+
+-- what a write of this batch promises
+pub record WritesBatch {D : Type 0} (g : Ghosts D) (old new : EmbeddedStore D g)
+    (batch : BatchContent) (result : Result ℕ EngineError) : Type 0 where
+  -- no file but the newest log changes, and a device that works fails only where that is full
+  pub keeps : KeepsEngine g (store_engine old) (store_engine new) result
+      (HasNearlyFullLog (store_engine old)) (IsSameBut (newest_log_file (store_engine old)))
+  -- behind an answer the store holds one batch more
+  pub list : (list : List BatchContent) → HoldsBatches g old list →
+      OnOk result (HoldsBatches g new (list ++ batch ∷ []))
+  -- a crash at any moment, whatever the call answers, leaves the list with the batch or without it
+  pub any_moment : (list : List BatchContent) → HoldsBatches g old list → IsOldOrNewSince g
+      (store_disk old) (store_disk new) (facts_of (store_engine old)) list
+      (facts_of (store_engine old)) (list ++ batch ∷ [])
+
+-- ---- reads
+
+-- the number that is read, where this one is asked for: the newest, where none is
+abbrev pub read_number : LookUps → Option ℕ → ℕ
+read_number told None = told.count
+read_number told (Some at) = at
+
+-- Why a read at this number, or at the newest, is refused of a store that holds its batches: for
+-- the environment; below the floor, where no snapshot is; or above the newest number.
+abbrev pub IsReadRefusal : LookUps → Option ℕ → EngineError → Type 0
+IsReadRefusal told None e = IsEnvironmental engine.Disk engine.Memory e
+IsReadRefusal told (Some at) e =
+    IsEnvironmental engine.Disk engine.Memory e
+    ⊎ ((e ≡ engine.TooOld) × (at < told.facts.floor) × (is_open at told.snapshots ≡ false))
+    ⊎ ((e ≡ engine.NotCommitted) × (told.count < at))
+
+-- ---- snapshots
+
+-- whether the call answered, without its number
+abbrev pub whether : Result ℕ EngineError → Result (Unit {0}) EngineError
+whether (Ok n) = Ok tt
+whether (Err e) = Err e
+
+-- why a snapshot at the newest number is refused: an earlier call ended the store, as many are open
+-- as may be, or memory was wanting
+abbrev pub IsSnapshotRefusal : LookUps → EngineError → Type 0
+IsSnapshotRefusal told e =
+    (e ≡ engine.Failed) ⊎ (e ≡ engine.Memory)
+    ⊎ ((e ≡ engine.TooManySnapshots) × (length told.snapshots ≡ MAX_SNAPSHOTS))
+
+-- ---- an opening
+
+-- a store that was just opened works, has these limits and no snapshot
+pub record IsFreshStore {D : Type 0} {g : Ghosts D} (given : Limits) (store : EmbeddedStore D g)
+    : Type 0 where
+  pub works : HasEnded (store_engine store) → ⊥
+  pub limits : (look_ups (store_engine store)).limits ≡ given
+  pub snapshots : (look_ups (store_engine store)).snapshots ≡ []

@@ -1,0 +1,68 @@
+// Why a store was not opened.
+ghost use Rattle.std.specs.Prelude.{◌≡◌};
+ghost use Rattle.engine.specs.EngineError.TheVariants.{Memory};
+ghost use Rattle.embedded_store.specs.Errors.{disk_refusal, lock_refusal};
+ghost use Rattle.embedded_store.specs.declared.error.OpenError.TheVariants.{Store};
+
+use dir_disk::LockError;
+use disk::DiskError;
+use engine::EngineError;
+use std::alloc::AllocError;
+use thiserror::Error;
+
+/// Why a store was not opened. What is in the folder or on the disk stays, but for what a creation
+/// wrote that was refused.
+#[derive(Clone, Copy, Debug, PartialEq, Eq, Error)]
+pub enum OpenError {
+    /// Another user has locked the folder.
+    #[error("the folder is in use")]
+    InUse,
+    /// The files are those of a node of a chain of others.
+    #[error("the store of a chain's node")]
+    OfChain,
+    /// For the device, for want of memory, or for the files: `Damaged`, and `NotCreated` where no
+    /// store was created, and something is there.
+    #[error("{0}")]
+    Store(EngineError),
+}
+
+impl From<EngineError> for OpenError {
+    ghost from_gives = { λ cause e. e ≡ Store cause };
+
+    fn from(cause: EngineError) -> OpenError {
+        OpenError::Store(cause)
+    }
+}
+
+impl From<DiskError> for OpenError {
+    ghost from_gives = { λ cause e. e ≡ disk_refusal cause };
+
+    // The files of a disk are listed and measured.
+    fn from(cause: DiskError) -> OpenError {
+        OpenError::Store(match cause {
+            DiskError::Failed => EngineError::Disk,
+            DiskError::NoFile | DiskError::Short => EngineError::Damaged,
+            DiskError::Memory => EngineError::Memory,
+        })
+    }
+}
+
+impl From<LockError> for OpenError {
+    ghost from_gives = { λ cause e. e ≡ lock_refusal cause };
+
+    fn from(cause: LockError) -> OpenError {
+        match cause {
+            LockError::InUse => OpenError::InUse,
+            LockError::Failed => OpenError::Store(EngineError::Disk),
+            LockError::Memory => OpenError::Store(EngineError::Memory),
+        }
+    }
+}
+
+impl From<AllocError> for OpenError {
+    ghost from_gives = { λ _ e. e ≡ Store Memory };
+
+    fn from(_e: AllocError) -> OpenError {
+        OpenError::Store(EngineError::Memory)
+    }
+}

@@ -1,0 +1,13 @@
+//! A store for those who embed it: a map and its history, on a folder or on any disk.
+#![tactic(auto)]
+
+mod alone;
+mod error;
+mod finding;
+mod folder;
+mod opening;
+mod store;
+
+pub use engine::{EngineError, MAX_SNAPSHOTS, Tended};
+pub use error::OpenError;
+pub use store::EmbeddedStore;

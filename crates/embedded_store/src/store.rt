@@ -1,0 +1,161 @@
+//! A map and its history on a disk.
+ghost use Rattle.std.specs.Prelude.{◌≡◌};
+ghost use Rattle.engine.specs.{look_ups};
+
+use disk::Disk;
+use engine::{Engine, EngineError, Tended};
+use kv_types::{Batch, Key, Number, Page, Range, Value};
+use std::alloc::Global;
+
+/// A store that stands alone: a list of batches on a disk, which it owns, and the maps of its
+/// beginnings. Every batch is committed as soon as it is durable.
+///
+/// A call that is refused for `Disk`, `Damaged` or `Memory` ends the store: each later one is
+/// refused for `Failed`, and an opening tells what there is.
+#[derive(Drop)]
+pub struct EmbeddedStore<D: Disk + Drop> {
+    pub(crate) engine: Engine<D>,
+    ghost committed: { (look_ups engine).committed ≡ (look_ups engine).count },
+}
+
+impl<D: Disk + Drop> EmbeddedStore<D> {
+    ghost use Rattle.std.specs.Prelude.{◌≡◌, ◌⊎◌, ◌≤◌, ◌∷◌, ◌++◌, [], List, length};
+    ghost use Rattle.std.specs.Prelude.{IfErr, IfOk, MatchResult};
+    ghost use Rattle.kv_types.specs.declared.bounds.TheConstants.{MAX_NUMBER};
+    ghost use Rattle.kv_types.specs.{BatchContent, map_of};
+    ghost use Rattle.kv_types.specs.Pages.{page_of};
+    ghost use Rattle.disk.specs.{IsEnvironmental};
+    ghost use Rattle.engine.specs.{AreOrdered, ChangesList, ChangesSnapshots, IsAdrift};
+    ghost use Rattle.engine.specs.{IsCloseAnswer, IsNearlyFull, IsTendFile};
+    ghost use Rattle.engine.specs.{RaisesFactsAtMost, ReadsEngine, raised_facts};
+    ghost use Rattle.engine.specs.{look_ups, with_opened, with_closed};
+    ghost use Rattle.engine.specs.Calls.{TendsAsDue};
+    ghost use Rattle.compaction.specs.Outputs.{IsSameBeyond};
+    ghost use Rattle.engine.specs.EngineError.TheVariants.{Disk, Exhausted, Memory};
+    ghost use Rattle.embedded_store.specs.Stores.{HoldsBatches, IsReadRefusal, IsSnapshotRefusal};
+    ghost use Rattle.embedded_store.specs.Stores.{WritesBatch, first_batches, read_number, whether};
+    ghost use Rattle.embedded_store.specs.Stores.{store_disk, store_engine, with_one_written};
+
+    // The number that is read.
+    fn number_of(&self, at: Option<Number>) -> Number
+        ensures number { result ≡ read_number (look_ups (store_engine self.now)) at }
+        ensures ordered { AreOrdered (look_ups (store_engine self.now)) }
+    {
+        let newest = self.engine.count();
+        match at {
+            Some(at) => at,
+            None => newest,
+        }
+    }
+
+    /// Writes a batch: all of its edits or, where it is refused, none or all. Behind `Ok` it is
+    /// durable. Answers its number.
+    pub fn write(&mut self, alloc: Global, batch: &Batch) -> Result<Number, EngineError>
+        ensures changes { WritesBatch D.Disk self.old self.new batch.now result }
+        ensures told { MatchResult result
+            (λ n. (n ≡ (look_ups (store_engine self.new)).count)
+            × (look_ups (store_engine self.new)
+            ≡ with_one_written (look_ups (store_engine self.old))))
+            (λ _. look_ups (store_engine self.new) ≡ look_ups (store_engine self.old)) }
+        ensures refused { (list : List BatchContent) → HoldsBatches D.Disk self.old list →
+            IfErr result (λ e. IsEnvironmental Disk Memory e
+            ⊎ ((e ≡ Exhausted) × (MAX_NUMBER ≤ length list))) }
+    {
+        let number = self.engine.append(alloc, batch)?;
+        let _ = self.engine.count(); // law: the numbers are in order
+        self.engine.set_committed(number);
+        Ok(number)
+    }
+
+    /// The value of a key at a number, or at the newest one.
+    pub fn get(
+        &mut self,
+        alloc: Global,
+        key: &Key,
+        at: Option<Number>,
+    ) -> Result<Option<Value>, EngineError>
+        ensures reads { ReadsEngine D.Disk (store_engine self.old) (store_engine self.new) result }
+        ensures found { (list : List BatchContent) → HoldsBatches D.Disk self.old list →
+            IfOk result (λ value. value ≡ map_of (first_batches at list) key.now) }
+        ensures refused { (list : List BatchContent) → HoldsBatches D.Disk self.old list →
+            IfErr result (IsReadRefusal (look_ups (store_engine self.old)) at) }
+    {
+        let at = self.number_of(at);
+        self.engine.get(alloc, at, key)
+    }
+
+    /// The rows of a range at a number, or at the newest one: the longest beginning of its walk
+    /// that keeps both limits, and whether more are left.
+    pub fn rows(
+        &mut self,
+        alloc: Global,
+        range: &Range,
+        at: Option<Number>,
+    ) -> Result<Page, EngineError>
+        ensures reads { ReadsEngine D.Disk (store_engine self.old) (store_engine self.new) result }
+        ensures found { (list : List BatchContent) → HoldsBatches D.Disk self.old list →
+            IfOk result (λ page. page ≡ page_of (first_batches at list) range.now) }
+        ensures refused { (list : List BatchContent) → HoldsBatches D.Disk self.old list →
+            IfErr result (IsReadRefusal (look_ups (store_engine self.old)) at) }
+    {
+        let at = self.number_of(at);
+        self.engine.rows(alloc, at, range)
+    }
+
+    /// Opens a snapshot at the newest number, and answers the number. Until it is released, it can
+    /// be read. One number may have several.
+    pub fn snapshot(&mut self) -> Result<Number, EngineError>
+        ensures changes { ChangesSnapshots D.Disk (store_engine self.old) (store_engine self.new)
+            (λ told. with_opened told told.count) (whether result) }
+        ensures number { IfOk result (λ n. n ≡ (look_ups (store_engine self.old)).count) }
+        ensures refused { IfErr result (IsSnapshotRefusal (look_ups (store_engine self.old))) }
+    {
+        let newest = self.engine.count();
+        self.engine.open_snapshot(newest)?;
+        Ok(newest)
+    }
+
+    /// Releases a snapshot of this number. It takes no memory.
+    pub fn release(&mut self, number: Number) -> Result<(), EngineError>
+        ensures changes { ChangesSnapshots D.Disk (store_engine self.old) (store_engine self.new)
+            (λ told. with_closed told number) result }
+        ensures closed { IsCloseAnswer (look_ups (store_engine self.old)) number result }
+    {
+        self.engine.close_snapshot(number)
+    }
+
+    /// Does the first that is due: a rewrite of the manifest, a flush, or the next part of a merge.
+    /// No answer changes, but for numbers below the floor, that rises where a merge begins.
+    pub fn tend(&mut self, alloc: Global) -> Result<Tended, EngineError>
+        ensures changes { ChangesList D.Disk (store_engine self.old) (store_engine self.new) result
+            (IsNearlyFull (store_engine self.old) ⊎ IsAdrift D.Disk (store_engine self.old))
+            (IsSameBeyond (IsTendFile (store_engine self.old)))
+            (raised_facts (store_engine self.old)) (λ list. list) }
+        ensures told { RaisesFactsAtMost (store_engine self.old) (store_engine self.new) }
+        ensures work { TendsAsDue D.Disk (store_engine self.old) (store_engine self.new) result }
+    {
+        self.engine.tend(alloc)
+    }
+
+    /// The number of batches, which is that of the newest one.
+    pub fn count(&self) -> Number
+        ensures count { result ≡ (look_ups (store_engine self.now)).count }
+        ensures ordered { AreOrdered (look_ups (store_engine self.now)) }
+    {
+        self.engine.count()
+    }
+
+    /// The least number that can be read.
+    pub fn floor(&self) -> Number
+        ensures { result ≡ (look_ups (store_engine self.now)).facts.floor }
+    {
+        self.engine.floor()
+    }
+
+    /// The disk. What is in memory is freed.
+    pub fn into_disk(self) -> D
+        ensures { result ≡ store_disk self }
+    {
+        self.engine.into_disk()
+    }
+}
