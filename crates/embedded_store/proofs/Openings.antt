@@ -20,7 +20,7 @@ use Rattle.embedded_store.specs.declared.store.EmbeddedStore.{EmbeddedStore}
 use Rattle.embedded_store.specs.Finding.{HasOnlyCreationFiles, OnlyLooks}
 use Rattle.embedded_store.specs.Openings.{CreatesStore, ExplainsOpening, WasCutShort, IsOpenedFrom}
 use Rattle.embedded_store.specs.Openings.{IsOwnStore, IsStoreOver, KeepsOpenedDisk, OpensContents}
-use Rattle.embedded_store.specs.Openings.{IsForEnvironment, StandsAlone, disk_of_opening}
+use Rattle.embedded_store.specs.Openings.{IsOfEnvironment, StandsAlone, disk_of_opening}
 use Rattle.embedded_store.specs.Stores.{IsFreshStore, store_disk, store_engine}
 use Rattle.embedded_store.proofs.Looks.{leaves_behind, look_leaves}
 use Rattle.embedded_store.proofs.Refusals.{external_explains, explained, not_external}
@@ -219,7 +219,7 @@ module _ {D : Type 0} (g : Ghosts D) where
 
   -- a look that is refused
   pub look_refused : {failed : Type 0} (old after : D) (s : OpenError) →
-      OnlyLooks g old after failed → g.is_honest old → IsForEnvironment s →
+      OnlyLooks g old after failed → g.is_honest old → IsOfEnvironment s →
       OpensContents g old (contents (g.state old)) (Err (s, after))
   look_refused old after s looks honest external = record {
     opened = λ facts list files. inl external;

@@ -11,7 +11,7 @@ use Rattle.embedded_store.specs.declared.error.OpenError.{OpenError}
 use Rattle.embedded_store.specs.declared.error.OpenError.TheVariants.{Store}
 use Rattle.embedded_store.specs.Errors.{disk_refusal}
 use Rattle.embedded_store.specs.Finding.{HasOnlyCreationFiles}
-use Rattle.embedded_store.specs.Openings.{ExplainsOpening, WasCutShort, IsForEnvironment}
+use Rattle.embedded_store.specs.Openings.{ExplainsOpening, WasCutShort, IsOfEnvironment}
 
 -- a refusal of the engine is for the device exactly where its cause is
 pub store_told : (e : EngineError) (s : OpenError) → s ≡ Store e →
@@ -28,18 +28,18 @@ look_told device.Memory s is = (λ fails. cc, λ fails. cc)
 
 -- an external refusal of the engine is one of the opening
 pub store_external : (e : EngineError) (s : OpenError) → s ≡ Store e →
-    IsEnvironmental engine.Disk engine.Memory e → IsForEnvironment s
+    IsEnvironmental engine.Disk engine.Memory e → IsOfEnvironment s
 store_external e s is (inl device) = inl (is ∙ ap Store device)
 store_external e s is (inr memory) = inr (is ∙ ap Store memory)
 
 -- so is one of a look
 pub look_external : (e : DiskError) (s : OpenError) → s ≡ disk_refusal e →
-    IsEnvironmental device.Failed device.Memory e → IsForEnvironment s
+    IsEnvironmental device.Failed device.Memory e → IsOfEnvironment s
 look_external e s is (inl failed) = inl (is ∙ ap disk_refusal failed)
 look_external e s is (inr memory) = inr (is ∙ ap disk_refusal memory)
 
 -- an external refusal says nothing of the files
-pub external_explains : (left : Contents) (s : OpenError) → IsForEnvironment s →
+pub external_explains : (left : Contents) (s : OpenError) → IsOfEnvironment s →
     ExplainsOpening left s
 external_explains left s (inl device) = subst (ExplainsOpening left) (sym device) tt
 external_explains left s (inr memory) = subst (ExplainsOpening left) (sym memory) tt

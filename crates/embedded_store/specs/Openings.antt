@@ -25,8 +25,8 @@ abbrev pub WasCutShort : Contents → Type 0
 WasCutShort left = IsNotCreated left × HasOnlyCreationFiles left
 
 -- refused for the device or for want of memory
-abbrev pub IsForEnvironment : OpenError → Type 0
-IsForEnvironment = IsEnvironmental (Store engine.Disk) (Store engine.Memory)
+abbrev pub IsOfEnvironment : OpenError → Type 0
+IsOfEnvironment = IsEnvironmental (Store engine.Disk) (Store engine.Memory)
 
 -- why a disk with this content has no store for those who embed it
 abbrev pub ExplainsOpening : Contents → OpenError → Type 0
@@ -62,14 +62,14 @@ module _ {D : Type 0} {g : Ghosts D} where
       Type 0
   OpensAsStore facts list result =
       MatchResult result (λ store. StandsAlone facts × IsStoreOf facts list store)
-      (λ refused. IsForEnvironment refused.0
+      (λ refused. IsOfEnvironment refused.0
       ⊎ ((refused.0 ≡ OfChain) × (StandsAlone facts → ⊥)))
 
   -- a new store without batches, or the device or memory refuses that
   abbrev pub CreatesStore : Result (EmbeddedStore D g) (OpenError × D) → Type 0
   CreatesStore result =
       MatchResult result (λ store. HoldsBatches g store [])
-      (λ refused. IsForEnvironment refused.0)
+      (λ refused. IsOfEnvironment refused.0)
 
   -- what the content is of which an opening made a store: that of the store, or what a creation may
   -- have left that was cut short, and then the store has no batches

@@ -1,5 +1,5 @@
-// A store that stands alone, beside a plain map: its history, snapshots, tends and stops, and what a
-// stop leaves of it at each call of its disk.
+// A store that stands alone, beside a plain map: its history, snapshots, tends and stops, and what
+// a stop leaves of it at each call of its disk.
 use crate::items::{holds_at, is_so, number};
 use disk::{Crash, Fault, Junk, JunkBytes, MemDisk};
 use embedded_store::{EmbeddedStore, EngineError, Tended};

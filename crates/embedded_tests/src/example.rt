@@ -1,5 +1,5 @@
-//! The example of the README of `embedded_store`: a store in a folder, with a put, a get, a snapshot, a walk and a tend;
-//! and that a folder has one user at a time.
+//! The example of the README of `embedded_store`: a store in a folder, with a put, a get, a
+//! snapshot, a walk and a tend; and that a folder has one user at a time.
 use crate::items::is_so;
 use embedded_store::{EmbeddedStore, OpenError};
 use kv_types::{Batch, Edit, Key, KvError, Limits, Number, Page, Range, Value};

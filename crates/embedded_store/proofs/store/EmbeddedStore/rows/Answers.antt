@@ -20,6 +20,7 @@ pub returns-clause-refused : goal.returns-clause-refused
 returns-clause-refused g c = λ list holds.
     let told = look_ups (store_engine c.args.self.now) in
     read_refused told c.args.at c.rows.result c.number_of-at.ensures.ordered
-    c.args.self.now.committed (subst (λ (n : ℕ). IsReadableAnswer told n c.rows.result) c.number_of-at.ensures.number
+    c.args.self.now.committed (subst (λ (n : ℕ). IsReadableAnswer told n c.rows.result)
+    c.number_of-at.ensures.number
     c.rows.ensures.readable) (c.rows.ensures.intact list holds.reads)
     (λ fails. holds.reads.works (c.rows.ensures.reads.keeps.closed.0 fails))
