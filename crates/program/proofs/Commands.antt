@@ -23,11 +23,17 @@ abbrev first_of : List ℕ → ℕ
 first_of [] = 0
 first_of (b ∷ bs) = b
 
+l_or_d : (a b : ℕ) → a ≡ 108 → b ≡ 100 → a ≡ b → ⊥
+l_or_d a b p q e = absurd (omega (arith, p, q, e))
+
+a_or_o : (a b : ℕ) → a ≡ 97 → b ≡ 111 → a ≡ b → ⊥
+a_or_o a b p q e = absurd (omega (arith, p, q, e))
+
 pub loop_or_dump : (words : List (List ℕ)) → is_named (codes "loop") words ≡ true →
     is_named (codes "dump") words ≡ true → ⊥
 loop_or_dump words p q =
-    let first : 108 ≡ 100 = ap first_of (one_command (codes "loop") (codes "dump") words p q) in
-    absurd (omega arith)
+    l_or_d (first_of (codes "loop")) (first_of (codes "dump")) refl refl
+    (ap first_of (one_command (codes "loop") (codes "dump") words p q))
 
 -- the second byte of the name
 abbrev second_of : List ℕ → ℕ
@@ -37,14 +43,14 @@ second_of (b ∷ bs) = first_of bs
 pub lab_or_loop : (words : List (List ℕ)) → is_named (codes "lab") words ≡ true →
     is_named (codes "loop") words ≡ true → ⊥
 lab_or_loop words p q =
-    let second : 97 ≡ 111 = ap second_of (one_command (codes "lab") (codes "loop") words p q) in
-    absurd (omega arith)
+    a_or_o (second_of (codes "lab")) (second_of (codes "loop")) refl refl
+    (ap second_of (one_command (codes "lab") (codes "loop") words p q))
 
 pub lab_or_dump : (words : List (List ℕ)) → is_named (codes "lab") words ≡ true →
     is_named (codes "dump") words ≡ true → ⊥
 lab_or_dump words p q =
-    let first : 108 ≡ 100 = ap first_of (one_command (codes "lab") (codes "dump") words p q) in
-    absurd (omega arith)
+    l_or_d (first_of (codes "lab")) (first_of (codes "dump")) refl refl
+    (ap first_of (one_command (codes "lab") (codes "dump") words p q))
 
 -- ---- plain forms name their command
 
