@@ -15,7 +15,7 @@ use Rattle.scripts.specs.declared.statement.Statement.{Statement}
 use Rattle.program.specs.declared.failure.Failure.{Failure}
 use Rattle.program.specs.declared.failure.Failure.TheVariants.{Memory, Output}
 use Rattle.program.specs.declared.folder_failure.LoopFailure.{LoopFailure}
-use Rattle.program.specs.declared.folder_failure.LoopFailure.TheVariants.{Folder, Network, Run}
+use Rattle.program.specs.declared.folder_failure.LoopFailure.TheVariants.{Run}
 use Rattle.program.specs.Failures.{IsFailureOf, failure_of}
 use Rattle.program.specs.FolderFailures.{IsLoopFailureOf, loop_failure_line}
 use Rattle.program.specs.FolderRuns.{EndsEarly, LoopEnds, LoopHasFailed, stopped_status}
