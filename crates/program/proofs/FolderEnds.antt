@@ -22,8 +22,8 @@ use Rattle.program.specs.FolderRuns.{EndsEarly, LoopEnds, LoopHasFailed, stopped
 
 -- ---- a run in a world
 
-pub ends_early : {D C : Type 0} {g : Ghosts D} (h : Carriers C) (world : World D C g) (setup : Setup)
-    (statements : List Statement) (old new : Option (List ℕ)) (error : RunError) →
+pub ends_early : {D C : Type 0} {g : Ghosts D} (h : Carriers C) (world : World D C g)
+    (setup : Setup) (statements : List Statement) (old new : Option (List ℕ)) (error : RunError) →
     HasEndedEarly h error world setup statements old new →
     EndsEarly g h setup statements old new (failure_of error)
 ends_early h world setup statements old new run.Write ended =
