@@ -7,7 +7,7 @@ use Rattle.std.specs.List.{flat_map}
 use Rattle.std.specs.Io.KnownBytes.{Appends}
 use Rattle.kv_types.specs.declared.row.Row.{Row}
 use Rattle.kv_types.specs.Order.{IsBelow, IsStrictOrder}
-use Rattle.kv_types.specs.Pages.{IsPage, Map, PagesAgree, page_of}
+use Rattle.kv_types.specs.Pages.{IsPage, PagesAgree, page_of}
 use Rattle.kv_types.specs.{BatchContent, Rows, map_of}
 use Rattle.dumps.specs.Dumped.{AreAllWritten, AreWritten, row_line}
 use Rattle.dumps.specs.Walks.{AreRowsOf, all_from}

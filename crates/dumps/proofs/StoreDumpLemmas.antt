@@ -1,5 +1,5 @@
 -- The text of a store is that of its numbers, its rows and their count.
-use Rattle.std.proofs.Common.{◌≡◌, ◌++◌, ℕ, List, Option, ap, length, refl, subst, sym, take}
+use Rattle.std.proofs.Common.{◌≡◌, ◌++◌, ℕ, List, Option, ap, length, subst, take}
 use Rattle.std.proofs.Common.{◌∙◌, arith}
 use Rattle.std.proofs.lemmas.List.{take_all}
 use Rattle.std.specs.List.{flat_map}

@@ -1,7 +1,7 @@
 -- The pages of a walk, one behind another, have all rows.
-use Rattle.std.proofs.Common.{◌≡◌, ◌⊎◌, inl, inr, ℕ, List, [], ◌∷◌, ◌++◌, drop, false, true}
-use Rattle.std.proofs.Common.{refl, sym, ap, subst, ◌∙◌, append_assoc, append-nil, All, AllPairs}
-use Rattle.std.proofs.Common.{Bool, Contains, IsTrue, ◌↔◌, ◌≢◌, true≢false}
+use Rattle.std.proofs.Common.{◌≡◌, ◌⊎◌, inl, inr, ℕ, List, [], ◌∷◌, ◌++◌, drop, false}
+use Rattle.std.proofs.Common.{refl, sym, ap, subst, ◌∙◌, append_assoc, append-nil}
+use Rattle.std.proofs.Common.{Bool, IsTrue, ◌↔◌, ◌≢◌, true≢false}
 use Rattle.kv_types.specs.declared.row.Row.{Row}
 use Rattle.kv_types.specs.Order.{IsBelow, IsStrictOrder}
 use Rattle.kv_types.specs.OrderLemmas.{Among, All-among, AllPairs-rises, Contains-among, Rises}

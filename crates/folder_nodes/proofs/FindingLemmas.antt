@@ -1,7 +1,7 @@
 -- The node of a disk whose slots were looked at first.
-use Rattle.std.proofs.Common.{◌≡◌, ◌⊎◌, ◌↔◌, ◌<◌, get_or, inl, inr, ℕ, List, length, refl, sym, ap}
+use Rattle.std.proofs.Common.{◌≡◌, ◌⊎◌, ◌↔◌, ◌<◌, get_or, inl, inr, ℕ, List, length, sym, ap}
 use Rattle.std.proofs.Common.{subst}
-use Rattle.std.proofs.Common.{◌∙◌, All, IsSome, IsTrue, Bool, false, true, true≢false}
+use Rattle.std.proofs.Common.{◌∙◌, All, IsTrue, Bool, false, true≢false}
 use Rattle.std.specs.Prelude.{Result, Ok, Err, IfErr}
 use Rattle.std.proofs.lemmas.List.Elements.{All-contains_itself}
 use Rattle.std.proofs.Math.Path.{fun_ext}

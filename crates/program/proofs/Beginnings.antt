@@ -1,5 +1,5 @@
 -- A text that has a line too long or one too many has one fault, whatever follows it.
-use Rattle.std.proofs.Common.{◌≡◌, ℕ, List, [], ◌++◌, refl, sym, subst, ◌∙◌, arith, true, Option}
+use Rattle.std.proofs.Common.{◌≡◌, ℕ, List, [], ◌++◌, refl, sym, subst, ◌∙◌, arith, Option}
 use Rattle.std.proofs.Common.{Some, None, append-nil}
 use Rattle.std.specs.Prelude.{Bool, IfSome}
 use Rattle.std.specs.Io.KnownBytes.{Consumes, IsAtEnd}

@@ -15,15 +15,15 @@ use Rattle.scripts.specs.declared.statement.Statement.{Statement}
 use Rattle.program.specs.declared.failure.Failure.{Failure}
 use Rattle.program.specs.declared.failure.Failure.TheVariants.{Memory, Output}
 use Rattle.program.specs.declared.folder_failure.LoopFailure.{LoopFailure}
-use Rattle.program.specs.declared.folder_failure.LoopFailure.TheVariants.{Folder, Network, Run}
+use Rattle.program.specs.declared.folder_failure.LoopFailure.TheVariants.{Run}
 use Rattle.program.specs.Failures.{IsFailureOf, failure_of}
 use Rattle.program.specs.FolderFailures.{IsLoopFailureOf, loop_failure_line}
 use Rattle.program.specs.FolderRuns.{EndsEarly, LoopEnds, LoopHasFailed, stopped_status}
 
 -- ---- a run in a world
 
-pub ends_early : {D C : Type 0} {g : Ghosts D} (h : Carriers C) (world : World D C g) (setup : Setup)
-    (statements : List Statement) (old new : Option (List ℕ)) (error : RunError) →
+pub ends_early : {D C : Type 0} {g : Ghosts D} (h : Carriers C) (world : World D C g)
+    (setup : Setup) (statements : List Statement) (old new : Option (List ℕ)) (error : RunError) →
     HasEndedEarly h error world setup statements old new →
     EndsEarly g h setup statements old new (failure_of error)
 ends_early h world setup statements old new run.Write ended =

@@ -1,4 +1,3 @@
 pub mod Beginnings
-pub mod Commands
 pub mod FolderEnds
 pub mod Wholes

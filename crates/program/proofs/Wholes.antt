@@ -18,7 +18,7 @@ use Rattle.scripts.specs.Scripts.{IsScript}
 use Rattle.scripts.specs.Faults.{script_fault, start}
 use Rattle.program.specs.Failures.{failure_line, failure_of, IsFailureOf, IsOfReading}
 use Rattle.client.specs.PrintedRuns.{AppendsPart, HasEndedEarly}
-use Rattle.program.specs.Runs.{FailureIsReported, IsCutShort, IsCutShortText, IsRunOf, IsRunOfText}
+use Rattle.program.specs.Runs.{FailureIsReported, IsCutShort, IsCutShortText, IsRunOf}
 use Rattle.program.specs.Runs.{IsScriptThat, RunEnds, RunEndsAs, RunFailsSo, RunHasFailed}
 
 -- nothing is said of what was read
