@@ -8,7 +8,7 @@ mod chains;
 #[cfg(test)]
 mod configs;
 #[cfg(test)]
-mod dumps;
+mod dumped_stores;
 #[cfg(test)]
 mod failing;
 #[cfg(test)]
