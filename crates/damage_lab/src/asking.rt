@@ -14,10 +14,15 @@ static KEYS: [&str; 5] = ["a", "b", "c", "d", "e"];
 enum Question {
     // All rows at a number, backward or forward.
     Rows(Number, bool),
-    // The value of a key at a number.
-    Get(Number, &'static str),
+    // The value of a key at a number: of the keys that are looked up, that of this index.
+    Get(Number, usize),
     // The batch of a number.
     Batch(Number),
+}
+
+// The key of an index.
+fn name_of(index: usize) -> &'static str {
+    KEYS.get(index).copied().unwrap_or("")
 }
 
 fn range(alloc: Global, backward: bool) -> Result<Range> {
@@ -108,7 +113,7 @@ fn put_answer(alloc: Global, text: &mut String, disk: &MemDisk, question: Questi
     };
     let put = match question {
         Question::Rows(at, backward) => put_rows(alloc, text, &mut engine, at, backward),
-        Question::Get(at, name) => put_value(alloc, text, &mut engine, at, name),
+        Question::Get(at, index) => put_value(alloc, text, &mut engine, at, name_of(index)),
         Question::Batch(number) => put_numbered(alloc, text, &mut engine, number),
     };
     drop(engine);
@@ -119,8 +124,8 @@ fn put_answer(alloc: Global, text: &mut String, disk: &MemDisk, question: Questi
 fn put_answers_at(alloc: Global, text: &mut String, disk: &MemDisk, at: Number) -> Result<()> {
     put_answer(alloc, text, disk, Question::Rows(at, false))?;
     put_answer(alloc, text, disk, Question::Rows(at, true))?;
-    for name in &KEYS {
-        put_answer(alloc, text, disk, Question::Get(at, *name))?;
+    for index in 0..KEYS.len() {
+        put_answer(alloc, text, disk, Question::Get(at, index))?;
     }
     put_answer(alloc, text, disk, Question::Batch(at))
 }
