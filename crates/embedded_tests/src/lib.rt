@@ -1,11 +1,7 @@
-//! Tests of a store that stands alone: its courses beside a plain map, its openings, the example.
+//! Tests of a store that stands alone: the example of its page, and that a folder has one user.
 #![tactic(auto)]
 
-#[cfg(test)]
-mod courses;
 #[cfg(test)]
 mod example;
 #[cfg(test)]
 mod items;
-#[cfg(test)]
-mod openings;
