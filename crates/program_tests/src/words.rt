@@ -132,23 +132,22 @@ fn words_name_a_folder(rt: HostRuntime) {
 #[test]
 fn words_name_a_store(rt: HostRuntime) {
     let place = empty_place(&rt, &rt, "stores");
-    let ran = called(
-        &rt,
-        &["chainstore", "loop", "-", "--dir", place.as_str()],
-        SCRIPT,
-    );
-    let folder = path_in(&rt, &rt, place.as_str(), "1");
+    let place = place.as_str();
+    let ran = called(&rt, &["chainstore", "loop", "-", "--dir", place], SCRIPT);
+    assert_eq!(rt; ran.status, 0);
+    let folder = path_in(&rt, &rt, place, "1");
     let folder = folder.as_str();
-    for words in [
-        ["chainstore", "dump", folder].as_slice(),
+    let all: [&[&str]; 3] = [
+        &["chainstore", "dump", folder],
         &["chainstore", "dump", folder, "--"],
         &["chainstore", "dump", "--", folder],
-    ] {
+    ];
+    for words in all {
         let outcome = called(&rt, words, SCRIPT);
-        assert!(rt; ran.status == 0 && outcome.status == 0 && outcome.err.is_empty());
+        assert!(rt; outcome.status == 0 && outcome.err.is_empty());
         assert!(rt; outcome.out.as_slice().ends_with(b"row a=1\nrows 1 at 1\n"));
     }
-    clear(&rt, &rt, place.as_str());
+    clear(&rt, &rt, place);
 }
 
 #[test]
