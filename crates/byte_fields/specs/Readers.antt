@@ -2,13 +2,18 @@
 use Rattle.std.specs.Prelude.{◌≡◌, ℕ, zero, suc, List, [], ◌∷◌, length, take, drop, nat_lt, Bool}
 use Rattle.std.specs.Prelude.{Option, Some, None, if◌then◌else◌}
 use Rattle.std.specs.Int.{Width, byte_len, from_be_bytes}
-use Rattle.kv_types.specs.{◌>>=◌}
 
 -- a reader: a value from the front of bytes, and the bytes behind it
 abbrev pub Reader : Type 0 → Type 0
 Reader A = List ℕ → Option (A × List ℕ)
 
 -- ---- combinators of readers
+
+-- one reading after another, or failure
+infixl 10 ◌>>=◌
+abbrev pub ◌>>=◌ : {A B : Type 0} → Option A → (A → Option B) → Option B
+(Some x) >>= f = f x
+None >>= f = None
 
 -- one reading, and then another behind it
 abbrev pub both : {A B : Type 0} → Reader A → Reader B → Reader (A × B)

@@ -12,10 +12,9 @@ use Rattle.std.proofs.lemmas.List.Concat.{flat_map-cons}
 use Rattle.std.proofs.lemmas.List.Elements.{All-from_recursion, recursion_from_All}
 use Rattle.std.proofs.lemmas.Nat.{be_bytes_2, be_bytes_4, be_bytes_8, from_be_bytes-to_be_bytes_2}
 use Rattle.std.proofs.lemmas.Nat.{from_be_bytes-to_be_bytes_4, from_be_bytes-to_be_bytes_8}
-use Rattle.kv_types.specs.{◌>>=◌}
-use Rattle.kv_types.specs.FieldsLemmas.{IsBytes, bind_some, guard_some, some_is, BeginsWith}
-use Rattle.kv_types.specs.FieldsLemmas.{BeginsWith-then}
-use Rattle.byte_fields.specs.Readers.{Reader, both, mapped, only, many, counted, number_at}
+use Rattle.byte_fields.specs.FieldsLemmas.{IsBytes, bind_some, guard_some, some_is, BeginsWith}
+use Rattle.byte_fields.specs.FieldsLemmas.{BeginsWith-then}
+use Rattle.byte_fields.specs.Readers.{Reader, both, mapped, only, many, counted, number_at, ◌>>=◌}
 
 -- what is read is spelled at the front and is right; what is right and spelled at the front is read
 pub record Reads {A : Type 0} (Is : A → Type 0) (spell : A → List ℕ)

@@ -1,7 +1,7 @@
 //! Readers of numbers and texts, which borrow what they read.
 ghost use Rattle.std.specs.Prelude.{◌≡◌, ◌≤◌, length, IfSome};
 ghost use Rattle.std.specs.Int.{w16, w32, w64};
-ghost use Rattle.kv_types.specs.{text_at};
+ghost use Rattle.byte_fields.specs.Texts.{text_at};
 ghost use Rattle.byte_fields.specs.Readers.{ReadsFront, number_at};
 
 /// The number in the first two bytes, and the bytes behind it.
@@ -40,7 +40,7 @@ pub fn read_u64(bytes: &[u8]) -> Option<(u64, &[u8])>
 
 /// The text behind its length of two bytes, if it has at most `limit` bytes, and the bytes behind
 /// it.
-#[tactic(auto, unfolding(kv_types::specs::Reading::text_at))]
+#[tactic(auto, unfolding(crate::specs::Texts::text_at))]
 pub fn read_text(limit: usize, bytes: &[u8]) -> Option<(&[u8], &[u8])>
     ensures text { ReadsFront (λ x. (x.0.now, x.1.now)) result (text_at limit bytes.now) }
     ensures limit { IfSome result (λ x. length x.0.now ≤ limit) }

@@ -1,7 +1,7 @@
 //! Writers of numbers and texts, behind what a buffer holds.
 ghost use Rattle.std.specs.Prelude.{◌≡◌, ◌<◌, ◌^◌, ◌++◌, length, OnOk};
 ghost use Rattle.std.specs.Int.{w32, w64, to_be_bytes};
-ghost use Rattle.kv_types.specs.{text_bytes};
+ghost use Rattle.byte_fields.specs.Texts.{text_bytes};
 
 use std::alloc::AllocError;
 

@@ -2,9 +2,10 @@
 use Rattle.std.proofs.Common.{◌≡◌, ℕ, suc, ◌+◌, List, [], ◌∷◌, ◌++◌, length, Bool, true, max}
 use Rattle.std.proofs.Common.{false, refl, sym, ap, subst, ◌∙◌, length-append, arith}
 use Rattle.std.specs.Prelude.{if◌then◌else◌, Option, Some, SomeIff}
-use Rattle.kv_types.specs.{BatchContent}
-use Rattle.chain_model.specs.{is_tail, due, not_due, accept, append, on_ack, longer_for}
-use Rattle.chain_model.specs.{ack, acknowledge, forward, has}
+use Rattle.kv_types.specs.{BatchContent, has}
+use Rattle.configurations.specs.{is_tail}
+use Rattle.chain_model.specs.{due, not_due, accept, append, on_ack, longer_for}
+use Rattle.chain_model.specs.{ack, acknowledge, forward}
 use Rattle.chain_model.specs.Rules.{adopt, moved}
 use Rattle.chain_core.specs.declared.pending_submit.PendingSubmit.{PendingSubmit}
 use Rattle.chain_core.specs.States.{Machine, Core, CoreRefines, IsInOrder, waiting}

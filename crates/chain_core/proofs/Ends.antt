@@ -4,7 +4,8 @@ use Rattle.std.proofs.Common.{arith, eqb-true}
 use Rattle.std.specs.Prelude.{IsSome, if◌then◌else◌}
 use Rattle.std.proofs.lemmas.Bool.{false≢true, true≢false}
 use Rattle.std.proofs.lemmas.Bool.Decides.{nat_tests}
-use Rattle.chain_model.specs.{AllDifferent, has, is_head, is_tail, successor}
+use Rattle.configurations.specs.{is_head, is_tail, successor}
+use Rattle.kv_types.specs.{AllDifferent, has}
 
 same_test : (y z x : ℕ) → (y == z) ≡ true → (z == x) ≡ (y == x)
 same_test y z x e =

@@ -2,7 +2,7 @@
 use Rattle.std.proofs.Common.{◌≡◌, ◌≤◌, ℕ, suc, List, Bool, true, false, max, refl, ◌∙◌, sym, arith}
 use Rattle.std.specs.Prelude.{if◌then◌else◌}
 use Rattle.std.proofs.lemmas.Bool.{true≢false}
-use Rattle.chain_model.specs.{is_tail}
+use Rattle.configurations.specs.{is_tail}
 use Rattle.chain_core.specs.declared.pending_submit.PendingSubmit.{PendingSubmit}
 use Rattle.chain_core.specs.States.{Core, HasOrderedNumbers, IsInOrder}
 use Rattle.chain_core.proofs.Snapshots.{snapshots_stay}

@@ -3,8 +3,9 @@ use Rattle.std.proofs.Common.{◌≡◌, ℕ, zero, suc, ◌+◌, ◌<◌, ◌�
 use Rattle.std.proofs.Common.{Option, Some, None, Bool, true, not, refl, sym, ap, ◌∙◌, arith}
 use Rattle.std.specs.Option.{is_some}
 use Rattle.std.proofs.lemmas.Bool.{true≢false}
-use Rattle.kv_types.specs.{BatchContent}
-use Rattle.chain_model.specs.{successor, Message, place, forward, forward_to, forwards}
+use Rattle.kv_types.specs.{BatchContent, place}
+use Rattle.configurations.specs.{successor}
+use Rattle.chain_model.specs.{Message, forward, forward_to, forwards}
 use Rattle.chain_core.specs.States.{Machine}
 
 none_behind : (l : List BatchContent) (k : ℕ) → length l ≤ k → place l (suc k) ≡ None

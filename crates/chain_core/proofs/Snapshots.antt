@@ -9,7 +9,7 @@ use Rattle.std.specs.Prelude.{if◌then◌else◌}
 use Rattle.std.proofs.lemmas.Bool.Decides.{nat_tests}
 use Rattle.chain_model.specs.{refused}
 use Rattle.chain_model.specs.declared.Refusal.TheVariants as refusal
-use Rattle.chain_model.specs.Machine.{is_open, without}
+use Rattle.kv_types.specs.Snapshots.{is_open, without}
 use Rattle.chain_model.specs.Rules.{add_snapshot, open_if_room}
 use Rattle.chain_core.specs.States.{AreSnapshots, Machine}
 

@@ -3,8 +3,9 @@ use Rattle.std.proofs.Common.{◌≡◌, ℕ, zero, suc, ◌+◌, List, [], ◌�
 use Rattle.std.proofs.Common.{Some, None, refl, sym, ap, subst, ◌∙◌, append_assoc, append-nil}
 use Rattle.std.proofs.Common.{arith}
 use Rattle.std.specs.Prelude.{if◌then◌else◌, nat_lt}
-use Rattle.kv_types.specs.{BatchContent}
-use Rattle.chain_model.specs.{is_tail, predecessor, successor, Message, place, Answer, not_due, ack}
+use Rattle.kv_types.specs.{BatchContent, place}
+use Rattle.configurations.specs.{is_tail, predecessor, successor}
+use Rattle.chain_model.specs.{Message, Answer, not_due, ack}
 use Rattle.chain_model.specs.{ack_to, acknowledge, forward, forward_to, forwards, longer_for, acked}
 use Rattle.chain_core.specs.declared.done.Done.TheVariants as done
 use Rattle.chain_core.specs.States.{Machine}

@@ -8,8 +8,8 @@ use Rattle.chain_model.specs as model_frame
 use Rattle.chain_model.specs.{Answer, dropped_for, refused, ask, receive, tick, accept, append}
 use Rattle.chain_model.specs.{ack_duplicate, on_ack, resend, reply_read, Message, Request}
 use Rattle.chain_model.specs.{Response, Opened, Closed}
-use Rattle.chain_model.specs.Machine.{is_open}
-use Rattle.chain_model.specs.Configuration.{leaves_out}
+use Rattle.kv_types.specs.Snapshots.{is_open}
+use Rattle.configurations.specs.NodeLists.{leaves_out}
 use Rattle.chain_model.specs.Rules.{add_snapshot, remove_snapshot, if_readable, number_read}
 use Rattle.chain_model.specs.Rules.{notice, adopt}
 use Rattle.chain_model.specs.declared.Refusal.{Refusal}

@@ -1,7 +1,8 @@
 -- The numbers of a node without its batches, and the machine of the chain's model with them.
 use Rattle.std.specs.Prelude.{◌≡◌, ◌≤◌, ◌<◌, ℕ, List, [], ◌∷◌, length, map, true, false, All}
 use Rattle.kv_types.specs.{BatchContent}
-use Rattle.chain_model.specs.{is_tail, Response, Committed}
+use Rattle.configurations.specs.{is_tail}
+use Rattle.chain_model.specs.{Response, Committed}
 use Rattle.chain_model.specs as model
 use Rattle.chain_core.specs.declared.pending_submit.PendingSubmit.{PendingSubmit}
 use Rattle.chain_core.specs.declared.persistent_state.PersistentState.{PersistentState}

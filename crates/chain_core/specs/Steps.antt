@@ -1,9 +1,10 @@
 -- The persistent state and the frames of a step whose store part is done, for the laws of `laws`.
 use Rattle.std.specs.Prelude.{◌≡◌, ℕ, suc, ◌+◌, List, [], ◌∷◌, ◌++◌, length, Some, None}
 use Rattle.std.specs.Prelude.{if◌then◌else◌, nat_lt}
-use Rattle.kv_types.specs.{BatchContent}
-use Rattle.chain_model.specs.{is_tail, Message, place, Answer, ack, forward, forwards}
-use Rattle.chain_model.specs.Machine.{without}
+use Rattle.kv_types.specs.{BatchContent, place}
+use Rattle.configurations.specs.{is_tail}
+use Rattle.chain_model.specs.{Message, Answer, ack, forward, forwards}
+use Rattle.kv_types.specs.Snapshots.{without}
 use Rattle.chain_core.specs.declared.done.Done.{Done}
 use Rattle.chain_core.specs.declared.done.Done.TheVariants as done
 use Rattle.chain_core.specs.States.{Machine}

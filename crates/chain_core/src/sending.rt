@@ -1,7 +1,9 @@
 // The frames of a node: its acknowledgement, its batches, and those of a tick.
 ghost use Rattle.std.specs.Prelude.{◌≡◌, ◌<◌, ◌≤◌, ◌+◌, ◌-◌, Some, IsSome};
 ghost use Rattle.std.specs.Prelude.{option_to_list};
-ghost use Rattle.chain_model.specs.{successor, place, ack, forward, forwards};
+ghost use Rattle.configurations.specs.{successor};
+ghost use Rattle.kv_types.specs.{place};
+ghost use Rattle.chain_model.specs.{ack, forward, forwards};
 ghost use Rattle.chain_core.specs.States.{Machine, CoreRefines};
 ghost use Rattle.chain_core.specs.Decisions.{AreFrames};
 

@@ -3,10 +3,11 @@ ghost use Rattle.std.specs.Prelude.{◌≡◌, ◌==◌, ◌<◌, ◌≤◌, ◌
 ghost use Rattle.std.specs.Prelude.{if◌then◌else◌, IsTrue, OnErr, OnOk};
 ghost use Rattle.std.specs.List.{position_from};
 ghost use Rattle.kv_types.specs.declared.bounds.TheConstants.{MAX_NUMBER};
-ghost use Rattle.kv_types.specs.{BatchContent};
-ghost use Rattle.chain_model.specs.{has, is_head, is_tail, predecessor, successor, created};
+ghost use Rattle.kv_types.specs.{BatchContent, has};
+ghost use Rattle.configurations.specs.{is_head, is_tail, predecessor, successor};
+ghost use Rattle.chain_model.specs.{created};
 ghost use Rattle.chain_model.specs.{started, append};
-ghost use Rattle.chain_model.specs.Machine.{is_open, least, without};
+ghost use Rattle.kv_types.specs.Snapshots.{is_open, least, without};
 ghost use Rattle.chain_model.specs.Rules.{tend};
 ghost use Rattle.chain_core.specs.States.{Machine, CoreRefines, PersistentRefines};
 ghost use Rattle.chain_core.specs.States.{HasOrderedNumbers};

@@ -4,19 +4,18 @@ use Rattle.std.proofs.Common.{Some, true, false, cond, sym, refl, ◌∙◌, sub
 use Rattle.std.proofs.Common.{length-append}
 use Rattle.std.specs.List.{AllByRecursion}
 use Rattle.std.proofs.lemmas.Bool.{cond_both, false≢true}
-use Rattle.chain_model.specs.Lists.{IsPrefix, Part, place}
-use Rattle.chain_model.specs.Configuration.{IsBeforeIn, at_epoch, has, is_head, is_tail}
-use Rattle.chain_model.specs.Configuration.{predecessor}
-use Rattle.chain_model.specs.Configuration.{successor}
+use Rattle.kv_types.specs.{IsPrefix, Part, place, has}
+use Rattle.configurations.specs.{at_epoch, is_head, is_tail, predecessor, successor}
+use Rattle.configurations.specs.NodeLists.{IsBeforeIn}
 use Rattle.chain_model.specs.Machine.{Answer, MachineState}
 use Rattle.chain_model.specs.Rules.{accept, ack, append, forward, longer_for, submit}
 use Rattle.chain_model.specs.Rules.{tail_commits, receive_forward}
 use Rattle.chain_model.specs.System.{SystemEvent}
 use Rattle.chain_model.specs.Order.{WasCommitted}
 use Rattle.chain_model.specs.Retention.{RisesFrom}
-use Rattle.chain_model.proofs.Lists.{begins_more, begins_next, begins_refl, every_append}
-use Rattle.chain_model.proofs.Lists.{every_map, part_begins, part_trans, place-bounds, place_in}
-use Rattle.chain_model.proofs.Lists.{place_last, take_of_begins}
+use Rattle.kv_types.specs.ListsLemmas.{begins_more, begins_next, begins_refl, every_append}
+use Rattle.kv_types.specs.ListsLemmas.{every_map, part_begins, part_trans, place-bounds, place_in}
+use Rattle.kv_types.specs.ListsLemmas.{place_last, take_of_begins}
 use Rattle.chain_model.proofs.Configuration.{IsChain, before_left, before_predecessor}
 use Rattle.chain_model.proofs.Configuration.{before_tail, none_before_head, none_before_itself}
 use Rattle.chain_model.proofs.Configuration.{predecessor_before, tail_has}

@@ -3,13 +3,16 @@ use Rattle.std.proofs.Common.{◌≡◌, ℕ, suc, ◌-◌, ◌^◌, ◌<◌, �
 use Rattle.std.proofs.Common.{Bool, true, false, cond, not, ◌==◌, ◌&&◌, nat_le, nat_lt, ap}
 use Rattle.std.proofs.Common.{eqb-true, leb-true, ltb-true, ltb-false}
 use Rattle.std.proofs.lemmas.Bool.{cond_both, false≢true, and_parts, not-false}
-use Rattle.chain_model.specs.Configuration.{has, is_head, leaves_out, predecessor, successor}
+use Rattle.configurations.specs.{is_head, predecessor, successor}
+use Rattle.configurations.specs.NodeLists.{leaves_out}
+use Rattle.kv_types.specs.{has}
 use Rattle.chain_model.specs.declared.refusal.Refusal.TheVariants as refusal
 use Rattle.chain_model.specs.declared.refusal.Refusal.{Refusal}
 use Rattle.chain_model.specs.declared.drop_reason.DropReason.TheVariants as reason
 use Rattle.chain_model.specs.declared.drop_reason.DropReason.{DropReason}
 use Rattle.chain_model.specs.Messages.{Ack, Forward}
-use Rattle.chain_model.specs.Machine.{Answer, MachineState, dropped_for, is_open, refused}
+use Rattle.kv_types.specs.Snapshots.{is_open}
+use Rattle.chain_model.specs.Machine.{Answer, MachineState, dropped_for, refused}
 use Rattle.chain_model.specs.Rules.{accept, adopt, append, remove_snapshot, close_snapshot}
 use Rattle.chain_model.specs.Rules.{if_readable}
 use Rattle.chain_model.specs.Rules.{is_some_of, notice, number_read, add_snapshot, open_snapshot}

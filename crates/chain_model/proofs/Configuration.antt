@@ -5,12 +5,11 @@ use Rattle.std.proofs.Common.{eqb-true, eq-eqb, lt-ltb}
 use Rattle.std.specs.Cmp.Derive.{both_true}
 use Rattle.std.proofs.lemmas.Bool.{cond_both, cases_Bool, cases_lt, false≢true, cond-true}
 use Rattle.std.proofs.lemmas.Bool.{cond-false}
-use Rattle.chain_model.specs.Lists.{Part}
-use Rattle.chain_model.specs.Configuration.{AllDifferent, IsBeforeIn, Lawful, Shrinks, at_epoch}
-use Rattle.chain_model.specs.Configuration.{has}
-use Rattle.chain_model.specs.Configuration.{is_head, is_part, is_tail, last_of, leaves_out}
-use Rattle.chain_model.specs.Configuration.{predecessor, successor}
-use Rattle.chain_model.proofs.Lists.{part_refl, part_trans}
+use Rattle.kv_types.specs.{AllDifferent, Part, has}
+use Rattle.configurations.specs.{Lawful, at_epoch, is_head, is_tail, last_of, predecessor}
+use Rattle.configurations.specs.{successor}
+use Rattle.configurations.specs.NodeLists.{IsBeforeIn, Shrinks, leaves_out}
+use Rattle.kv_types.specs.ListsLemmas.{part_refl, part_test, part_trans}
 
 -- each later one is some of the one before, in order, and not empty
 abbrev pub Shrink : List ℕ → List (List ℕ) → Type 0
@@ -273,34 +272,6 @@ last_epoch (c ∷ cs) w = go c cs w.1 w.2
 pub someone : (c : List ℕ) → 0 < length c → (x : ℕ) × (has c x ≡ true)
 someone [] h = absurd (omega arith)
 someone (y ∷ c) h = (y, has_first y c y refl)
-
--- of a part, all but the first is one too
-part_rest : (x : ℕ) (d c : List ℕ) → Part (x ∷ d) c → Part d c
-part_rest x d [] p = absurd p
-part_rest x [] (y ∷ c) p = tt
-part_rest x (z ∷ d) (y ∷ c) (inl p) = inr p.1
-part_rest x (z ∷ d) (y ∷ c) (inr p) = inr (part_rest x (z ∷ d) c p)
-
--- the test accepts each sublist
-pub part_test : (d c : List ℕ) → Part d c → is_part d c ≡ true
-part_test [] c p = refl
-part_test (x ∷ d) [] p = absurd p
-part_test (x ∷ d) (y ∷ c) p =
-    cond_both (x == y) (is_part d c) (is_part (x ∷ d) c) (λ b. b ≡ true)
-    (λ same. part_test d c (⊎_elim (λ (k : (x ≡ y) × Part d c). k.1) (λ k. part_rest x d c k) p))
-    (λ other. part_test (x ∷ d) c
-    (⊎_elim (λ (k : (x ≡ y) × Part d c). absurd (false≢true (sym other ∙ eq-eqb x y k.0)))
-    (λ k. k) p))
-
--- the test accepts sublists only
-pub test_part : (d c : List ℕ) → is_part d c ≡ true → Part d c
-test_part [] c e = tt
-test_part (x ∷ d) [] e = absurd (false≢true e)
-test_part (x ∷ d) (y ∷ c) e =
-    cond_both (x == y) (is_part d c) (is_part (x ∷ d) c) (λ b. b ≡ true → Part (x ∷ d) (y ∷ c))
-    (λ same k. inl (eqb-true x y same, test_part d c k))
-    (λ other k. inr (test_part (x ∷ d) c k))
-    e
 
 -- the test of a notice is passed by exactly the parts that are shorter
 pub leaves_out_is : (d c : List ℕ) → Part d c → length d < length c → leaves_out d c ≡ true

@@ -4,8 +4,9 @@ use Rattle.std.proofs.Common.{take, ap₂, refl, None, true, not, nat_le, nat_lt
 use Rattle.std.proofs.Common.{subst, arith, take_all, length-take-le, le-leb, le-ltb}
 use Rattle.std.proofs.lemmas.Bool.{cond-true, cond-false, not_from_true}
 use Rattle.std.proofs.lemmas.List.Elements.{All-from_recursion}
-use Rattle.chain_model.specs.Lists.{IsPrefix, Part}
-use Rattle.chain_model.specs.Configuration.{IsBeforeIn, at_epoch, has, is_tail, last_of, leaves_out}
+use Rattle.kv_types.specs.{IsPrefix, Part, has}
+use Rattle.configurations.specs.{at_epoch, is_tail, last_of}
+use Rattle.configurations.specs.NodeLists.{IsBeforeIn, leaves_out}
 use Rattle.chain_model.specs.declared.refusal.Refusal.TheVariants as refusal
 use Rattle.chain_model.specs.Messages.{Ack, Forward, Message, addressee, epoch_of}
 use Rattle.chain_model.specs.Requests.{Close, Closed, Committed, Open, Opened, Read, Refused}
@@ -20,8 +21,8 @@ use Rattle.chain_model.specs.Headline.{batches, submitted}
 use Rattle.chain_model.specs.Order.{InOrder, IsInSubmittedOrder, AckIsTrue, ForwardIsTrue}
 use Rattle.chain_model.specs.Freshness.{IsAtMost, ReadsFresh}
 use Rattle.chain_model.specs.Retention.{KeepsEnough}
-use Rattle.chain_model.proofs.Lists.{begins-length, begins_refl, begins_trans}
-use Rattle.chain_model.proofs.Lists.{every_map, part_more}
+use Rattle.kv_types.specs.ListsLemmas.{begins-length, begins_refl, begins_trans}
+use Rattle.kv_types.specs.ListsLemmas.{every_map, part_more}
 use Rattle.chain_model.proofs.Configuration.{IsChain, before_part, before_tail, created_has}
 use Rattle.chain_model.proofs.Configuration.{last_epoch}
 use Rattle.chain_model.proofs.Configuration.{later_leaves_out, later_part, tail_has}

@@ -2,22 +2,22 @@
 use Rattle.std.proofs.Common.{◌<◌, ◌≡◌, ℕ, suc, List, [], ◌∷◌, ◌++◌, length, Bool, true, false}
 use Rattle.std.proofs.Common.{cond, nat_lt, sym, refl, ◌∙◌, subst, arith}
 use Rattle.std.proofs.lemmas.Bool.{cond_both}
-use Rattle.chain_model.specs.Lists.{IsPrefix}
-use Rattle.chain_model.specs.Configuration.{is_tail}
+use Rattle.kv_types.specs.{IsPrefix}
+use Rattle.configurations.specs.{is_tail}
 use Rattle.chain_model.specs.declared.refusal.Refusal.{Refusal}
 use Rattle.chain_model.specs.declared.drop_reason.DropReason.TheVariants as reason
 use Rattle.chain_model.specs.declared.drop_reason.DropReason.{DropReason}
 use Rattle.chain_model.specs.Messages.{Ack, Forward, Message}
 use Rattle.chain_model.specs.Requests.{Close, Closed, Open, Opened, Read, Response, Request, Submit}
 use Rattle.chain_model.specs.Machine.{Answer, MachineState, dropped_for, refused, replied, silent}
-use Rattle.chain_model.specs.Machine.{without}
+use Rattle.kv_types.specs.Snapshots.{without}
 use Rattle.chain_model.specs.Rules.{accept, ack, acknowledge, adopt, append, ask, forward}
 use Rattle.chain_model.specs.Rules.{longer_for, moved, notice, number_read, on_ack, receive}
 use Rattle.chain_model.specs.Rules.{resend, reply_read, tail_commits, receive_ack, ack_duplicate}
 use Rattle.chain_model.specs.Rules.{tend, tick}
 use Rattle.chain_model.specs.Rules.{acked}
 use Rattle.chain_model.specs.Growth.{StaysRunning, Grows, StepsStayRunning}
-use Rattle.chain_model.proofs.Lists.{begins_more, begins_refl, begins_trans}
+use Rattle.kv_types.specs.ListsLemmas.{begins_more, begins_refl, begins_trans}
 use Rattle.chain_model.proofs.Cases.{ack_cases, close_cases, forward_cases, notice_cases}
 use Rattle.chain_model.proofs.Cases.{open_cases, read_cases, submit_cases, take_ack_cases}
 use Rattle.chain_model.proofs.Cases.{take_forward_cases, tick_cases}

@@ -3,12 +3,12 @@ use Rattle.std.proofs.Common.{◌≡◌, ⊎_elim, ℕ, ◌<◌, ◌≤◌, max,
 use Rattle.std.proofs.Common.{true, sym, refl, subst, arith}
 use Rattle.std.specs.List.{AllByRecursion}
 use Rattle.std.proofs.lemmas.Bool.{cases_lt}
-use Rattle.chain_model.specs.Lists.{IsPrefix, Part, place}
-use Rattle.chain_model.specs.Configuration.{has, last_of}
+use Rattle.kv_types.specs.{IsPrefix, Part, place, has}
+use Rattle.configurations.specs.{last_of}
 use Rattle.chain_model.specs.Requests.{Closed, Committed, Opened, Refused, Response, Shows}
 use Rattle.chain_model.specs.System.{SystemEvent, node_of, reached}
-use Rattle.chain_model.proofs.Lists.{begins-place, begins_nil, begins_shorter, part_begins}
-use Rattle.chain_model.proofs.Lists.{part_trans, take_begins}
+use Rattle.kv_types.specs.ListsLemmas.{begins-place, begins_nil, begins_shorter, part_begins}
+use Rattle.kv_types.specs.ListsLemmas.{part_trans, take_begins}
 use Rattle.chain_model.proofs.Configuration.{IsChain, last_epoch, someone}
 use Rattle.chain_model.proofs.Submitted.{WasHandedIn, handed}
 use Rattle.chain_model.proofs.Invariant.{ReplyOk, Safe, WorldOk, lists_of}

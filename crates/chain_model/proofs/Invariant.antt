@@ -1,15 +1,16 @@
 -- The invariant of a world after every list of events, which stays true as lists grow.
 use Rattle.std.proofs.Common.{◌≡◌, ℕ, ◌<◌, ◌≤◌, List, ◌++◌, length, take, Some, true, false}
 use Rattle.std.specs.List.{AllByRecursion}
-use Rattle.chain_model.specs.Lists.{IsPrefix, Part, place}
-use Rattle.chain_model.specs.Configuration.{IsBeforeIn, at_epoch, has, is_tail, last_of}
+use Rattle.kv_types.specs.{IsPrefix, Part, place, has}
+use Rattle.configurations.specs.{at_epoch, is_tail, last_of}
+use Rattle.configurations.specs.NodeLists.{IsBeforeIn}
 use Rattle.chain_model.specs.Messages.{Ack, Forward, Message}
 use Rattle.chain_model.specs.Requests.{Closed, Committed, Opened, Refused, Response, Shows}
 use Rattle.chain_model.specs.Machine.{MachineState}
 use Rattle.chain_model.specs.System.{SystemEvent, SystemState}
 use Rattle.chain_model.specs.Order.{CommittedBy, IsUpTo, WasCommitted}
 use Rattle.chain_model.specs.Retention.{RisesFrom}
-use Rattle.chain_model.proofs.Lists.{begins-place, begins_trans, part_wider}
+use Rattle.kv_types.specs.ListsLemmas.{begins-place, begins_trans, part_wider}
 use Rattle.chain_model.proofs.Submitted.{WasHandedIn}
 
 -- the list of every node of a configuration begins with this one

@@ -1,4 +1,3 @@
-pub mod Lists
 pub mod Configuration
 pub mod Submitted
 pub mod Invariant

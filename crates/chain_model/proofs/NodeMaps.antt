@@ -3,16 +3,17 @@ use Rattle.std.proofs.Common.{◌≡◌, ℕ, zero, suc, ◌-◌, ◌^◌, List,
 use Rattle.std.proofs.Common.{option_map, Option, Some, None, Bool, true, false, cond, not, ◌==◌}
 use Rattle.std.proofs.Common.{◌&&◌, nat_le, nat_lt, sym, refl, ◌∙◌, ap, ap₂}
 use Rattle.std.proofs.lemmas.List.{length-map, map-append, take-map}
-use Rattle.chain_model.specs.Lists.{place}
-use Rattle.chain_model.specs.Configuration.{has, is_head, is_tail, leaves_out, predecessor}
-use Rattle.chain_model.specs.Configuration.{successor}
+use Rattle.kv_types.specs.{place, has}
+use Rattle.configurations.specs.{is_head, is_tail, predecessor, successor}
+use Rattle.configurations.specs.NodeLists.{leaves_out}
 use Rattle.chain_model.specs.declared.refusal.Refusal.TheVariants as refusal
 use Rattle.chain_model.specs.declared.drop_reason.DropReason.TheVariants as reason
 use Rattle.chain_model.specs.declared.drop_reason.DropReason.{DropReason}
 use Rattle.chain_model.specs.Messages.{Ack, Forward, Message}
 use Rattle.chain_model.specs.Requests.{Close, Committed, Open, Read, Response, Request, Shows}
 use Rattle.chain_model.specs.Requests.{Submit}
-use Rattle.chain_model.specs.Machine.{Answer, MachineState, dropped_for, due, is_open, not_due}
+use Rattle.kv_types.specs.Snapshots.{is_open}
+use Rattle.chain_model.specs.Machine.{Answer, MachineState, dropped_for, due, not_due}
 use Rattle.chain_model.specs.Machine.{refused}
 use Rattle.chain_model.specs.Machine.{replied, started}
 use Rattle.chain_model.specs.Rules.{accept, ack, ack_to, acknowledge, adopt, adopted, append, ask}

@@ -5,7 +5,7 @@ use Rattle.std.proofs.Common.{sym, refl, ◌∙◌, ap, ap₂, subst, arith}
 use Rattle.std.specs.List.{AllByRecursion}
 use Rattle.std.proofs.lemmas.List.Elements.{All-from_recursion}
 use Rattle.std.proofs.lemmas.List.{map-append, take-map}
-use Rattle.chain_model.specs.Lists.{IsPrefix, Part}
+use Rattle.kv_types.specs.{IsPrefix, Part}
 use Rattle.chain_model.specs.Requests.{Close, Closed, Committed, Open, Opened, Read, Refused}
 use Rattle.chain_model.specs.Requests.{Response, Request, Shows, Submit}
 use Rattle.chain_model.specs.System.{Ask, Deliver, SystemEvent, Lost, Notice, Start, Stop, Tend}

@@ -3,15 +3,15 @@ use Rattle.std.proofs.Common.{◌≡◌, ℕ, ◌≤◌, min, max, List, [], ◌
 use Rattle.std.proofs.Common.{Bool, true, false, ◌==◌, sym, refl, ◌∙◌, arith, length-take-le}
 use Rattle.std.specs.List.{AllByRecursion}
 use Rattle.std.proofs.lemmas.Bool.{cond_both, false≢true}
-use Rattle.chain_model.specs.Lists.{Part}
-use Rattle.chain_model.specs.Configuration.{is_tail, last_of}
+use Rattle.kv_types.specs.{Part}
+use Rattle.configurations.specs.{is_tail, last_of}
 use Rattle.chain_model.specs.declared.refusal.Refusal.{Refusal}
 use Rattle.chain_model.specs.Requests.{Close, Closed, Open, Opened, Read, Response, Request, Submit}
-use Rattle.chain_model.specs.Machine.{MachineState, least, refused, replied, started, stopped}
-use Rattle.chain_model.specs.Machine.{without}
+use Rattle.kv_types.specs.Snapshots.{least, without}
+use Rattle.chain_model.specs.Machine.{MachineState, refused, replied, started, stopped}
 use Rattle.chain_model.specs.Rules.{ask, close_snapshot, number_read, open_snapshot, read, tend}
 use Rattle.chain_model.specs.System.{SystemEvent}
-use Rattle.chain_model.proofs.Lists.{begins_trans, every_map, take_less}
+use Rattle.kv_types.specs.ListsLemmas.{begins_trans, every_map, take_less}
 use Rattle.chain_model.proofs.Configuration.{IsChain}
 use Rattle.chain_model.proofs.Submitted.{WasHandedIn}
 use Rattle.chain_model.proofs.Invariant.{NodeOk, ReplyOk, Safe, shorter_committed}

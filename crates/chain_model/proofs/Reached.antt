@@ -2,10 +2,10 @@
 -- run.
 use Rattle.std.proofs.Common.{◌≡◌, ℕ, ◌<◌, List, [], ◌∷◌, ◌++◌, length, true, refl, ◌∙◌, subst}
 use Rattle.std.proofs.Common.{arith, append_assoc, eq-eqb}
-use Rattle.chain_model.specs.Configuration.{at_epoch, is_tail}
+use Rattle.configurations.specs.{at_epoch, is_tail}
 use Rattle.chain_model.specs.System.{SystemEvent, SystemState, first_state, state_after, reached}
 use Rattle.chain_model.specs.System.{run}
-use Rattle.chain_model.proofs.Lists.{begins_nil, begins_refl}
+use Rattle.kv_types.specs.ListsLemmas.{begins_nil, begins_refl}
 use Rattle.chain_model.proofs.Configuration.{IsChain}
 use Rattle.chain_model.proofs.Submitted.{WasHandedIn, all_told, handed}
 use Rattle.chain_model.proofs.Invariant.{WorldOk}

@@ -4,10 +4,9 @@ use Rattle.std.proofs.Common.{None, true, nat_le, sym, refl, subst, arith, lengt
 use Rattle.std.proofs.Common.{leb-true}
 use Rattle.std.specs.List.{AllByRecursion}
 use Rattle.std.proofs.lemmas.Bool.{cond_both}
-use Rattle.chain_model.specs.Lists.{Part, place}
-use Rattle.chain_model.specs.Configuration.{AllDifferent, IsBeforeIn, at_epoch, has, is_tail}
-use Rattle.chain_model.specs.Configuration.{last_of}
-use Rattle.chain_model.specs.Configuration.{predecessor, successor}
+use Rattle.kv_types.specs.{Part, place, AllDifferent, has}
+use Rattle.configurations.specs.{at_epoch, is_tail, last_of, predecessor, successor}
+use Rattle.configurations.specs.NodeLists.{IsBeforeIn}
 use Rattle.chain_model.specs.declared.refusal.Refusal.{Refusal}
 use Rattle.chain_model.specs.Messages.{Message}
 use Rattle.chain_model.specs.Requests.{Committed}
@@ -17,8 +16,8 @@ use Rattle.chain_model.specs.Rules.{ack_to, acknowledge, forward, forward_to, fo
 use Rattle.chain_model.specs.System.{SystemEvent}
 use Rattle.chain_model.specs.Order.{WasCommitted}
 use Rattle.chain_model.specs.Retention.{RisesFrom}
-use Rattle.chain_model.proofs.Lists.{begins-place, begins_trans, every_append, place_take}
-use Rattle.chain_model.proofs.Lists.{take_less}
+use Rattle.kv_types.specs.ListsLemmas.{begins-place, begins_trans, every_append, place_take}
+use Rattle.kv_types.specs.ListsLemmas.{take_less}
 use Rattle.chain_model.proofs.Configuration.{IsChain, all_different, before_back, before_left}
 use Rattle.chain_model.proofs.Configuration.{before_part, has_part, last_epoch, later_part}
 use Rattle.chain_model.proofs.Configuration.{predecessor_before, successor_is_in}

@@ -3,8 +3,8 @@ use Rattle.std.proofs.Common.{◌≡◌, inl, inr, ⊎_elim, ℕ, ◌<◌, ◌�
 use Rattle.std.proofs.Common.{true, cond, nat_lt, sym, refl, ◌∙◌, ap, subst, arith}
 use Rattle.std.specs.List.{AllByRecursion}
 use Rattle.std.proofs.lemmas.Bool.{cond_both, false≢true, cases_lt}
-use Rattle.chain_model.specs.Lists.{IsPrefix, Part}
-use Rattle.chain_model.specs.Configuration.{at_epoch, has, is_tail, predecessor}
+use Rattle.kv_types.specs.{IsPrefix, Part, has}
+use Rattle.configurations.specs.{at_epoch, is_tail, predecessor}
 use Rattle.chain_model.specs.declared.drop_reason.DropReason.TheVariants as reason
 use Rattle.chain_model.specs.Messages.{Ack, Forward, Message}
 use Rattle.chain_model.specs.Machine.{MachineState}
@@ -13,7 +13,7 @@ use Rattle.chain_model.specs.Rules.{acked}
 use Rattle.chain_model.specs.System.{SystemEvent}
 use Rattle.chain_model.specs.Order.{CommittedBy, WasCommitted}
 use Rattle.chain_model.specs.Retention.{RisesFrom}
-use Rattle.chain_model.proofs.Lists.{begins-length, every_append, take_begins}
+use Rattle.kv_types.specs.ListsLemmas.{begins-length, every_append, take_begins}
 use Rattle.chain_model.proofs.Configuration.{IsChain, before_left, has_part, later_part}
 use Rattle.chain_model.proofs.Invariant.{FrameOk, IsKnown, IsPending, NodeOk, Safe, SoundNode}
 use Rattle.chain_model.proofs.Cases.{ack_cases, forward_cases, notice_cases, take_ack_cases}

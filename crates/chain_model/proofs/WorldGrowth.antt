@@ -2,8 +2,8 @@
 use Rattle.std.proofs.Common.{◌≡◌, ℕ, List, [], ◌∷◌, ◌++◌, length, Option, Some, None, ◌==◌}
 use Rattle.std.proofs.Common.{nat_lt, sym, refl, subst, arith, eqb-true}
 use Rattle.std.proofs.lemmas.Bool.{cond_both}
-use Rattle.chain_model.specs.Lists.{IsPrefix, place}
-use Rattle.chain_model.specs.Configuration.{at_epoch}
+use Rattle.kv_types.specs.{IsPrefix, place}
+use Rattle.configurations.specs.{at_epoch}
 use Rattle.chain_model.specs.declared.refusal.Refusal.TheVariants as refusal
 use Rattle.chain_model.specs.declared.drop_reason.DropReason.TheVariants as reason
 use Rattle.chain_model.specs.declared.drop_reason.DropReason.{DropReason}
@@ -20,7 +20,7 @@ use Rattle.chain_model.specs.System.{state_after}
 use Rattle.chain_model.specs.System.{if_running, nothing, outcome, reached, run, stops, dispatched}
 use Rattle.chain_model.specs.System.{with_node}
 use Rattle.chain_model.specs.Growth.{StaysRunning, Grows, OnlyGrows}
-use Rattle.chain_model.proofs.Lists.{begins_more, begins_refl, begins_trans}
+use Rattle.kv_types.specs.ListsLemmas.{begins_more, begins_refl, begins_trans}
 use Rattle.chain_model.proofs.Growth.{ask_goes_on, grows_refl, grows_trans, notice_goes_on}
 use Rattle.chain_model.proofs.Growth.{receive_goes_on, tend_goes_on, tick_goes_on}
 

@@ -2,8 +2,8 @@
 use Rattle.std.proofs.Common.{◌≡◌, ℕ, List, [], ◌∷◌, length, map, option_map, Option, Some, None}
 use Rattle.std.proofs.Common.{◌==◌, nat_lt, sym, refl, ◌∙◌, ap, ap₂}
 use Rattle.std.proofs.lemmas.List.{map-append}
-use Rattle.chain_model.specs.Lists.{place}
-use Rattle.chain_model.specs.Configuration.{at_epoch}
+use Rattle.kv_types.specs.{place}
+use Rattle.configurations.specs.{at_epoch}
 use Rattle.chain_model.specs.declared.refusal.Refusal.TheVariants as refusal
 use Rattle.chain_model.specs.declared.drop_reason.DropReason.TheVariants as reason
 use Rattle.chain_model.specs.Messages.{Ack, Forward, Message}

@@ -4,8 +4,8 @@ use Rattle.std.proofs.Common.{◌==◌, nat_lt, sym, refl, ap, subst, append_ass
 use Rattle.std.proofs.Common.{eqb-true, eq-eqb, ltb-true}
 use Rattle.std.specs.List.{AllByRecursion}
 use Rattle.std.proofs.lemmas.Bool.{cond_both, cond-true}
-use Rattle.chain_model.specs.Lists.{IsPrefix, Part, place}
-use Rattle.chain_model.specs.Configuration.{at_epoch, is_tail}
+use Rattle.kv_types.specs.{IsPrefix, Part, place}
+use Rattle.configurations.specs.{at_epoch, is_tail}
 use Rattle.chain_model.specs.declared.refusal.Refusal.TheVariants as refusal
 use Rattle.chain_model.specs.declared.refusal.Refusal.{Refusal}
 use Rattle.chain_model.specs.declared.drop_reason.DropReason.TheVariants as reason
@@ -23,8 +23,8 @@ use Rattle.chain_model.specs.System.{after, answers, as_completed, delivered, st
 use Rattle.chain_model.specs.System.{if_running}
 use Rattle.chain_model.specs.System.{nothing, outcome, run, stops, dispatched}
 use Rattle.chain_model.specs.Order.{WasCommitted}
-use Rattle.chain_model.proofs.Lists.{begins_refl, every_append, every_map, every_place}
-use Rattle.chain_model.proofs.Lists.{part_both, part_wider}
+use Rattle.kv_types.specs.ListsLemmas.{begins_refl, every_append, every_map, every_place}
+use Rattle.kv_types.specs.ListsLemmas.{part_both, part_wider}
 use Rattle.chain_model.proofs.Configuration.{IsChain}
 use Rattle.chain_model.proofs.Submitted.{IsHandIn, WasHandedIn, handed, handed_by}
 use Rattle.chain_model.proofs.Invariant.{FrameOk, NodeOk, ReplyOk, WorldOk, frame_grows, lists_of}

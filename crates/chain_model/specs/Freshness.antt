@@ -1,6 +1,6 @@
 -- Freshness of reads at the last tail. Definitions without a source are this store's profile.
 use Rattle.std.specs.Prelude.{◌≡◌, ℕ, suc, ◌≤◌, List, [], ◌∷◌, length, None, true, All}
-use Rattle.chain_model.specs.Configuration.{Configurations, is_tail, last_of}
+use Rattle.configurations.specs.{Configurations, is_tail, last_of}
 use Rattle.chain_model.specs.Requests.{Read, Response, Committed, Shows, Opened}
 use Rattle.chain_model.specs.System.{SystemEvent, Ask, Answered, reached, node_of, outcome}
 

@@ -1,7 +1,7 @@
 -- Growth of the persistent state. Definitions without a source are this store's profile.
 use Rattle.std.specs.Prelude.{◌≡◌, ℕ, ◌≤◌, List, ◌++◌, Bool}
-use Rattle.chain_model.specs.Configuration.{Configurations}
-use Rattle.chain_model.specs.Lists.{IsPrefix}
+use Rattle.configurations.specs.{Configurations}
+use Rattle.kv_types.specs.{IsPrefix}
 use Rattle.chain_model.specs.Messages.{Message}
 use Rattle.chain_model.specs.Requests.{Request}
 use Rattle.chain_model.specs.Machine.{MachineState, Answer}

@@ -1,8 +1,8 @@
 -- The headline: one list of batches with which every read and every acknowledgement agrees.
 -- Definitions without a source are this store's profile.
 use Rattle.std.specs.Prelude.{◌≡◌, ℕ, suc, ◌≤◌, List, [], ◌∷◌, length, map, take, Some, All, true}
-use Rattle.chain_model.specs.Lists.{IsPrefix, Part, place}
-use Rattle.chain_model.specs.Configuration.{Configurations, has, last_of}
+use Rattle.kv_types.specs.{IsPrefix, Part, place, has}
+use Rattle.configurations.specs.{Configurations, last_of}
 use Rattle.chain_model.specs.Requests.{Submit, Response, Committed, Shows}
 use Rattle.chain_model.specs.System.{SystemEvent, Ask, reached, node_of}
 

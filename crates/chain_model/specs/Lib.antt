@@ -1,5 +1,3 @@
-pub mod Lists
-pub mod Configuration
 pub mod Messages
 pub mod Requests
 pub mod Machine
@@ -17,11 +15,7 @@ pub mod WorkedRuns
 pub mod WorkedSnapshots
 pub mod WorkedDrops
 -- What crates above name.
-pub use Rattle.chain_model.specs.Configuration.{AllDifferent, Configurations, IsId, Lawful}
-pub use Rattle.chain_model.specs.Configuration.{at_epoch, has, is_head, is_part, is_tail, last_of}
-pub use Rattle.chain_model.specs.Configuration.{predecessor, successor}
 pub use Rattle.chain_model.specs.Headline.{OneList, ResponseAgrees, batches, numbered, submitted}
-pub use Rattle.chain_model.specs.Lists.{IsPrefix, Part, place}
 pub use Rattle.chain_model.specs.Machine.{Answer, MachineState, created, dropped_for, due, not_due}
 pub use Rattle.chain_model.specs.Machine.{refused, silent, started, stopped}
 pub use Rattle.chain_model.specs.Messages.{Ack, Forward, Message, addressee}

@@ -2,7 +2,7 @@
 -- profile.
 use Rattle.std.specs.Prelude.{ℕ, List, [], ◌∷◌, length, Option, Some, None, Bool, true, false}
 use Rattle.std.specs.Prelude.{if◌then◌else◌, ◌==◌, nat_le, min}
-use Rattle.chain_model.specs.Configuration.{is_tail}
+use Rattle.configurations.specs.{is_tail}
 use Rattle.chain_model.specs.declared.refusal.Refusal.{Refusal}
 use Rattle.chain_model.specs.declared.drop_reason.DropReason.{DropReason}
 use Rattle.chain_model.specs.Messages.{Message}
@@ -63,21 +63,6 @@ due k (p ∷ ps) = if nat_le p.0 k then Committed p.1 p.0 ∷ due k ps else due 
 abbrev pub not_due : ℕ → List (ℕ × ℕ) → List (ℕ × ℕ)
 not_due k [] = []
 not_due k (p ∷ ps) = if nat_le p.0 k then not_due k ps else p ∷ not_due k ps
-
--- whether a snapshot of number s is open
-abbrev pub is_open : ℕ → List ℕ → Bool
-is_open s [] = false
-is_open s (t ∷ ts) = if s == t then true else is_open s ts
-
--- the list without the first s
-abbrev pub without : ℕ → List ℕ → List ℕ
-without s [] = []
-without s (t ∷ ts) = if s == t then ts else t ∷ without s ts
-
--- the least of a number and the open snapshots
-abbrev pub least : ℕ → List ℕ → ℕ
-least m [] = m
-least m (t ∷ ts) = least (min m t) ts
 
 -- a node at its creation, with configuration 0
 abbrev pub created : {A : Type 0} → List ℕ → MachineState A

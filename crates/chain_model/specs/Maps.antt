@@ -2,7 +2,7 @@
 -- so a run commutes with every such map. So the theorems of runs over batches with places hold of
 -- runs over plain batches. Definitions without a source are this store's profile.
 use Rattle.std.specs.Prelude.{◌≡◌, ℕ, List, map, Option, Some, None}
-use Rattle.chain_model.specs.Configuration.{Configurations}
+use Rattle.configurations.specs.{Configurations}
 use Rattle.chain_model.specs.Messages.{Message, Forward, Ack}
 use Rattle.chain_model.specs.Requests.{Request, Submit, Read, Open, Close, Response, Committed}
 use Rattle.chain_model.specs.Requests.{Shows, Opened, Closed, Refused}

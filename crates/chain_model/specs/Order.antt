@@ -1,9 +1,9 @@
 -- The order of lists along the chain, and the truth of frames. Definitions without a source are
 -- this store's profile.
 use Rattle.std.specs.Prelude.{◌≡◌, ◌⊎◌, ℕ, ◌<◌, ◌≤◌, List, ◌++◌, length, take, Some, true, All}
-use Rattle.chain_model.specs.Lists.{IsPrefix, Part, place}
-use Rattle.chain_model.specs.Configuration.{Configurations, has, is_tail, leaves_out, IsBeforeIn}
-use Rattle.chain_model.specs.Configuration.{at_epoch}
+use Rattle.kv_types.specs.{IsPrefix, Part, place, has}
+use Rattle.configurations.specs.{Configurations, is_tail, at_epoch}
+use Rattle.configurations.specs.NodeLists.{leaves_out, IsBeforeIn}
 use Rattle.chain_model.specs.Messages.{Message, Forward, Ack, addressee, epoch_of}
 use Rattle.chain_model.specs.System.{SystemEvent, reached, node_of}
 use Rattle.chain_model.specs.Headline.{submitted, batches}

@@ -1,6 +1,6 @@
 -- A run as the list of its events' outcomes. Definitions without a source are this store's profile.
 use Rattle.std.specs.Prelude.{◌≡◌, ℕ, List, length, flat_map, Some, None}
-use Rattle.chain_model.specs.Configuration.{Configurations}
+use Rattle.configurations.specs.{Configurations}
 use Rattle.chain_model.specs.Machine.{MachineState}
 use Rattle.chain_model.specs.System.{SystemEvent, Outcome, outcome, state_after, reached, node_of}
 use Rattle.chain_model.specs.System.{outcomes}

@@ -1,8 +1,10 @@
 -- Trimming of logs keeps every batch that may still be needed. Definitions without a source are
 -- this store's profile.
 use Rattle.std.specs.Prelude.{◌≡◌, ℕ, ◌<◌, ◌≤◌, List, [], ◌∷◌, length, true, false}
-use Rattle.chain_model.specs.Configuration.{Configurations, has, is_tail, at_epoch}
-use Rattle.chain_model.specs.Machine.{MachineState, least}
+use Rattle.configurations.specs.{Configurations, is_tail, at_epoch}
+use Rattle.kv_types.specs.{has}
+use Rattle.kv_types.specs.Snapshots.{least}
+use Rattle.chain_model.specs.Machine.{MachineState}
 use Rattle.chain_model.specs.System.{SystemEvent, node_of}
 
 -- the numbers of these pending requests are above k, and rise

@@ -3,16 +3,17 @@
 use Rattle.std.specs.Prelude.{ℕ, zero, suc, ◌-◌, ◌^◌, List, [], ◌∷◌, ◌++◌, length, take, min, max}
 use Rattle.std.specs.Prelude.{Option, Some, None, Bool, true, false, ◌&&◌, not, if◌then◌else◌}
 use Rattle.std.specs.Prelude.{◌==◌, nat_lt, nat_le}
-use Rattle.chain_model.specs.Lists.{place}
-use Rattle.chain_model.specs.Configuration.{has, is_head, is_tail, predecessor, successor}
-use Rattle.chain_model.specs.Configuration.{leaves_out}
+use Rattle.kv_types.specs.{place, has}
+use Rattle.configurations.specs.{is_head, is_tail, predecessor, successor}
+use Rattle.configurations.specs.NodeLists.{leaves_out}
 use Rattle.chain_model.specs.declared.refusal.Refusal.TheVariants as refusal
 use Rattle.chain_model.specs.declared.drop_reason.DropReason.TheVariants as reason
 use Rattle.chain_model.specs.Messages.{Message, Forward, Ack}
 use Rattle.chain_model.specs.Requests.{Request, Submit, Read, Open, Close, Shows, Opened, Closed}
 use Rattle.chain_model.specs.Machine.{MachineState, Answer, silent, dropped_for, refused, replied}
 use Rattle.chain_model.specs.Machine.{due}
-use Rattle.chain_model.specs.Machine.{not_due, is_open, without, least}
+use Rattle.kv_types.specs.Snapshots.{is_open, without, least}
+use Rattle.chain_model.specs.Machine.{not_due}
 
 -- whether the option holds node x
 abbrev pub is_some_of : Option ℕ → ℕ → Bool

@@ -2,8 +2,8 @@
 -- Definitions without a source are this store's profile.
 use Rattle.std.specs.Prelude.{ℕ, List, [], ◌∷◌, ◌++◌, length, Option, Some, None, Bool, true}
 use Rattle.std.specs.Prelude.{false, if◌then◌else◌, ◌==◌, nat_lt}
-use Rattle.chain_model.specs.Lists.{place}
-use Rattle.chain_model.specs.Configuration.{Configurations, at_epoch}
+use Rattle.kv_types.specs.{place}
+use Rattle.configurations.specs.{Configurations, at_epoch}
 use Rattle.chain_model.specs.declared.refusal.Refusal.TheVariants as refusal
 use Rattle.chain_model.specs.declared.drop_reason.DropReason.{DropReason}
 use Rattle.chain_model.specs.declared.drop_reason.DropReason.TheVariants as reason

@@ -2,7 +2,7 @@
 -- Definitions without a source are this store's profile.
 use Rattle.std.specs.Prelude.{ℕ, List, [], ◌∷◌, ◌++◌, length, map, Option, Some, None, Bool, true}
 use Rattle.std.specs.Prelude.{false, not, if◌then◌else◌}
-use Rattle.chain_model.specs.Configuration.{Configurations}
+use Rattle.configurations.specs.{Configurations}
 use Rattle.chain_model.specs.declared.refusal.Refusal.{Refusal}
 use Rattle.chain_model.specs.declared.drop_reason.DropReason.{DropReason}
 use Rattle.chain_model.specs.Messages.{Message, Forward, Ack}

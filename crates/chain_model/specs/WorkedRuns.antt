@@ -1,7 +1,7 @@
 -- Worked runs, with each event's frames, replies and drops. Batches are numbers here. Definitions
 -- without a source are this store's profile.
 use Rattle.std.specs.Prelude.{◌≡◌, ℕ, zero, suc, List, [], ◌∷◌, ◌++◌, take, Some, None, true}
-use Rattle.chain_model.specs.Configuration.{Configurations}
+use Rattle.configurations.specs.{Configurations}
 use Rattle.chain_model.specs.declared.refusal.Refusal.TheVariants as refusal
 use Rattle.chain_model.specs.declared.drop_reason.DropReason.TheVariants as reason
 use Rattle.chain_model.specs.Requests.{Submit, Read, Open, Close}

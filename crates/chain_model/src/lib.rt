@@ -2,9 +2,8 @@
 //! delays.
 #![tactic(auto)]
 
-ghost use Rattle.std.specs.Prelude.{◌≡◌, ◌↔◌, ℕ, List, true};
-ghost use Rattle.chain_model.specs.Lists.{Part};
-ghost use Rattle.chain_model.specs.Configuration.{Configurations, Lawful, is_part};
+ghost use Rattle.std.specs.Prelude.{List};
+ghost use Rattle.configurations.specs.{Configurations, Lawful};
 ghost use Rattle.chain_model.specs.System.{SystemEvent};
 ghost use Rattle.chain_model.specs.Headline.{OneList};
 ghost use Rattle.chain_model.specs.Outcomes.{RunIsOutcomes};
@@ -86,9 +85,4 @@ pub fn worked_snapshots()
 /// The drops and refusals of a new node, each with its reason.
 pub fn worked_drops()
     ensures { WorkedDrops }
-{}
-
-/// The decision procedure for sublists accepts exactly the sublists.
-pub fn is_part_decides()
-    ensures { (d c : List ℕ) → (is_part d c ≡ true) ↔ Part d c }
 {}

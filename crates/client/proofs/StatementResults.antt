@@ -3,7 +3,7 @@ use Rattle.std.proofs.Common.{◌≡◌, ◌+◌, ◌-◌, ℕ, List, [], ◌∷
 use Rattle.std.proofs.Common.{subst, ◌∙◌, arith, append-nil, Option, Some, None, Bool, true, false}
 use Rattle.std.proofs.Common.{if◌then◌else◌, replicate}
 use Rattle.std.specs.Prelude.{IfSome}
-use Rattle.lab.specs.Machine.{without}
+use Rattle.kv_types.specs.Snapshots.{without}
 use Rattle.disk.specs.declared.disk.Disk.{Ghosts}
 use Rattle.carriers.specs.declared.Carrier.{Ghosts as Carriers}
 use Rattle.lab.specs.declared.Event as lab

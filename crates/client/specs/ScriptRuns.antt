@@ -5,8 +5,8 @@ use Rattle.std.specs.Prelude.{◌-◌, Bool, true, false, if◌then◌else◌, A
 use Rattle.std.specs.Prelude.{Option, Some, None}
 use Rattle.disk.specs.declared.disk.Disk.{Ghosts}
 use Rattle.carriers.specs.declared.Carrier.{Ghosts as Carriers}
-use Rattle.lab.specs.Configuration.{Configurations}
-use Rattle.lab.specs.Machine.{without}
+use Rattle.lab.specs.NodeLists.{Configurations}
+use Rattle.kv_types.specs.Snapshots.{without}
 use Rattle.lab.specs.Fault.TheVariants as fault
 use Rattle.lab.specs.declared.Event as lab
 use Rattle.lab.specs.declared.EventKind.{EventKind}

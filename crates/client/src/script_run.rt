@@ -2,8 +2,9 @@
 ghost use Rattle.std.specs.Prelude.{◌≡◌, ℕ, List, [], ◌∷◌, ◌++◌, length, map, take, drop};
 ghost use Rattle.std.specs.Prelude.{OnOk, IfOk, ◌+◌, ◌-◌, if◌then◌else◌, Some, None, replicate};
 ghost use Rattle.std.specs.Prelude.{true};
-ghost use Rattle.lab.specs.Configuration.{at_epoch, has};
-ghost use Rattle.lab.specs.Machine.{without};
+ghost use Rattle.kv_types.specs.{has};
+ghost use Rattle.lab.specs.NodeLists.{at_epoch};
+ghost use Rattle.kv_types.specs.Snapshots.{without};
 ghost use Rattle.lab.specs.declared.Line.{Line};
 ghost use Rattle.lab.specs.{Choice, NamesNode, frames_in_steps, frames_of_step};
 ghost use Rattle.client.specs.ScriptRuns.{HasRunTo, HasSettled, HasTurned, IsRising, faultless};

@@ -12,7 +12,7 @@ use Rattle.disk.specs.{State}
 use Rattle.kv_types.specs.declared.bounds.TheConstants.{MAX_NUMBER}
 use Rattle.kv_types.specs.OrderLemmas.{All-among, Among, Contains-among, Rises}
 use Rattle.kv_types.specs.OrderLemmas.{among_from_Contains, among_of_All}
-use Rattle.chain_model.specs.{is_part}
+use Rattle.kv_types.specs.{is_part}
 use Rattle.store_model.specs.{AreEdited, IsUnderWay}
 use Rattle.store_model.specs.{LevelTable, MergePlan, StoreRepresents, StoreState, with_tables}
 use Rattle.store_model.specs.Claims.{MergesKeep, MergesKeepViews}

@@ -11,7 +11,7 @@ use crate::walking::are_lawful;
 use disk::Disk;
 use merge_iter::{Cursor, Merged};
 use sorted_table::TableCursor;
-use table_files::Files;
+use table_files::CachedDisk;
 
 /// Of the sorted union of its inputs a merge leaves exactly the entries that the two rules do not
 /// drop.
@@ -47,7 +47,7 @@ pub fn picks_are_planned()
 /// A merge under way stays so while other calls leave its inputs and its outputs as they were.
 // law: of `IsMerging`
 pub fn merges_outlive_calls<D: Disk + Drop>()
-    ensures { MergesOutliveCalls ⟦<Merged<TableCursor<D>> as Cursor>⟧ ⟦<Files<D> as Disk>⟧ }
+    ensures { MergesOutliveCalls ⟦<Merged<TableCursor<D>> as Cursor>⟧ ⟦<CachedDisk<D> as Disk>⟧ }
 {
     are_lawful::<Merged<TableCursor<D>>>(); // law: what suits a union leaves it sound
 }
@@ -56,7 +56,7 @@ pub fn merges_outlive_calls<D: Disk + Drop>()
 /// from the merge's next one on alone.
 // law: of `MergeIsBeside`
 pub fn merges_stay_beside<D: Disk + Drop>()
-    ensures { MergesStayBeside ⟦<Merged<TableCursor<D>> as Cursor>⟧ ⟦<Files<D> as Disk>⟧ }
+    ensures { MergesStayBeside ⟦<Merged<TableCursor<D>> as Cursor>⟧ ⟦<CachedDisk<D> as Disk>⟧ }
 {}
 
 /// A version may take the edit of a merge that can end in its store.

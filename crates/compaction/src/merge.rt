@@ -15,7 +15,7 @@ use merge_iter::{Cursor, Merged};
 use sorted_table::TableCursor;
 use std::alloc::{AllocError, Global};
 use std::mem::replace;
-use table_files::Files;
+use table_files::CachedDisk;
 use version_edits::{MAX_LINES, StoreVersion, TableLine, TableName, VersionEdit};
 
 /// A merge under way: its inputs are read by cursors, entry by entry, and its outputs are written
@@ -70,7 +70,7 @@ impl<D: Disk + Drop> Merge<D> {
     /// input, in the order of the version; each reads its first entry.
     pub fn begin(
         alloc: Global,
-        files: &mut Files<D>,
+        files: &mut CachedDisk<D>,
         version: &StoreVersion,
         plan: Plan,
         target: u64,
@@ -79,26 +79,26 @@ impl<D: Disk + Drop> Merge<D> {
     ) -> Result<Merge<D>, MergeError>
         requires deep { plan.level ≤ 5 }
         requires aimed { 0 < target }
-        ensures reads { WritesOnly ⟦<Files<D> as Disk>⟧ (λ _. ⊥) files.old files.new
+        ensures reads { WritesOnly ⟦<CachedDisk<D> as Disk>⟧ (λ _. ⊥) files.old files.new
             (IsErrOf result Disk) ⊥ }
         ensures first { IfOk result (λ merge. (begun_number merge ≡ next_file)
             × ((file : ℕ) → IsMergeOutput merge file → ⊥)) }
         ensures begun { (meant : _) (tables : List LevelTable) (range : _) →
-            ⟦<Files<D> as Disk>⟧.is_honest files.old →
+            ⟦<CachedDisk<D> as Disk>⟧.is_honest files.old →
             AllZip IsLineOf version.now.version.tables tables →
             range_of plan version.now.version.tables ≡ Some range →
-            AreCursorsOf ⟦<TableCursor<D> as Cursor>⟧ ⟦<Files<D> as Disk>⟧ meant files.old
+            AreCursorsOf ⟦<TableCursor<D> as Cursor>⟧ ⟦<CachedDisk<D> as Disk>⟧ meant files.old
             cursors.items (model_plan plan range tables).inputs →
             version.now.version.next_file ≤ next_file →
-            AreUnused (⟦<Files<D> as Disk>⟧.state files.old) next_file → MatchResult result
-            (λ merge. IsJustBegun ⟦<Merged<TableCursor<D>> as Cursor>⟧ ⟦<Files<D> as Disk>⟧ meant
-            files.new next_file merge (model_plan plan range tables) version.now.version.floor
-            × (AreIntactCursors ⟦<TableCursor<D> as Cursor>⟧ ⟦<Files<D> as Disk>⟧ files.old
+            AreUnused (⟦<CachedDisk<D> as Disk>⟧.state files.old) next_file → MatchResult result
+            (λ merge. IsJustBegun ⟦<Merged<TableCursor<D>> as Cursor>⟧ ⟦<CachedDisk<D> as Disk>⟧
+            meant files.new next_file merge (model_plan plan range tables) version.now.version.floor
+            × (AreIntactCursors ⟦<TableCursor<D> as Cursor>⟧ ⟦<CachedDisk<D> as Disk>⟧ files.old
             cursors.items (model_plan plan range tables).inputs →
-            IsIntactMerge ⟦<Merged<TableCursor<D>> as Cursor>⟧ ⟦<Files<D> as Disk>⟧ files.new merge
-            (model_plan plan range tables)))
+            IsIntactMerge ⟦<Merged<TableCursor<D>> as Cursor>⟧ ⟦<CachedDisk<D> as Disk>⟧ files.new
+            merge (model_plan plan range tables)))
             (λ e. IsEnvironmental Disk Memory e ⊎ ((e ≡ MergeError.Damaged) × (AreIntactCursors
-            ⟦<TableCursor<D> as Cursor>⟧ ⟦<Files<D> as Disk>⟧ files.old cursors.items
+            ⟦<TableCursor<D> as Cursor>⟧ ⟦<CachedDisk<D> as Disk>⟧ files.old cursors.items
             (model_plan plan range tables).inputs → ⊥))) }
     {
         are_lawful::<Merged<TableCursor<D>>>(); // law: what suits a union leaves it sound
@@ -124,14 +124,14 @@ impl<D: Disk + Drop> Merge<D> {
     pub fn step(
         &mut self,
         alloc: Global,
-        files: &mut Files<D>,
+        files: &mut CachedDisk<D>,
         count: usize,
         tables: usize,
         next_file: &mut u64,
     ) -> Result<bool, MergeError>
         requires { tables ≤ MAX_LINES }
-        ensures { StepsMerge ⟦<Merged<TableCursor<D>> as Cursor>⟧ ⟦<Files<D> as Disk>⟧ tables count
-            files.old next_file.old self.old files.new next_file.new self.new result }
+        ensures { StepsMerge ⟦<Merged<TableCursor<D>> as Cursor>⟧ ⟦<CachedDisk<D> as Disk>⟧ tables
+            count files.old next_file.old self.old files.new next_file.new self.new result }
     {
         if self.has_failed {
             return Err(MergeError::Failed);
@@ -155,11 +155,11 @@ impl<D: Disk + Drop> Merge<D> {
     pub fn finish(
         &mut self,
         alloc: Global,
-        files: &mut Files<D>,
+        files: &mut CachedDisk<D>,
         version: &StoreVersion,
         next_file: u64,
     ) -> Result<VersionEdit, MergeError>
-        ensures { EndsMerge ⟦<Merged<TableCursor<D>> as Cursor>⟧ ⟦<Files<D> as Disk>⟧
+        ensures { EndsMerge ⟦<Merged<TableCursor<D>> as Cursor>⟧ ⟦<CachedDisk<D> as Disk>⟧
             version.now.version next_file files.old self.old files.new self.new result }
     {
         written_are_merged(); // law: tables with what is written are the outputs of the merge
@@ -188,11 +188,11 @@ impl<D: Disk + Drop> Merge<D> {
     /// the next one, but for those that the version names.
     pub fn abandon(
         self,
-        files: &mut Files<D>,
+        files: &mut CachedDisk<D>,
         version: &StoreVersion,
         next_file: u64,
     ) -> Result<(), MergeError>
-        ensures { RemovesLeftovers ⟦<Files<D> as Disk>⟧ (begun_number self) next_file
+        ensures { RemovesLeftovers ⟦<CachedDisk<D> as Disk>⟧ (begun_number self) next_file
             version.now.version files.old files.new result }
     {
         remove_leftovers(files, version, self.first, next_file)

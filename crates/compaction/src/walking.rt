@@ -11,7 +11,7 @@ use disk::Disk;
 use merge_iter::{Cursor, Merged};
 use sorted_table::TableCursor;
 use std::alloc::Global;
-use table_files::Files;
+use table_files::CachedDisk;
 use table_format::LentEntry;
 use version_edits::MAX_LINES;
 
@@ -45,7 +45,7 @@ fn entry_at<C: Cursor>(cursor: &C) -> LentEntry<'_>
 // The entry of the inputs that the union stands on comes to the writer.
 fn write_next<D: Disk + Drop>(
     alloc: Global,
-    files: &mut Files<D>,
+    files: &mut CachedDisk<D>,
     union: &mut Merged<TableCursor<D>>,
     writer: &mut OutputWriter,
     tables: usize,
@@ -53,7 +53,7 @@ fn write_next<D: Disk + Drop>(
 ) -> Result<(), MergeError>
     requires on { IsOn (⟦<Merged<TableCursor<D>> as Cursor>⟧.position union.old) }
     requires few { tables ≤ MAX_LINES }
-    ensures { AdvancesWalk ⟦<Merged<TableCursor<D>> as Cursor>⟧ ⟦<Files<D> as Disk>⟧ tables 1
+    ensures { AdvancesWalk ⟦<Merged<TableCursor<D>> as Cursor>⟧ ⟦<CachedDisk<D> as Disk>⟧ tables 1
         files.old next_file.old union.old writer.old files.new next_file.new union.new writer.new
         result }
 {
@@ -67,7 +67,7 @@ fn write_next<D: Disk + Drop>(
 /// has so many tables.
 pub(crate) fn write_some<D: Disk + Drop>(
     alloc: Global,
-    files: &mut Files<D>,
+    files: &mut CachedDisk<D>,
     union: &mut Merged<TableCursor<D>>,
     writer: &mut OutputWriter,
     count: usize,
@@ -76,8 +76,8 @@ pub(crate) fn write_some<D: Disk + Drop>(
 ) -> Result<(), MergeError>
     requires { tables ≤ MAX_LINES }
     ensures { (steps : ℕ) × AdvancesWalk ⟦<Merged<TableCursor<D>> as Cursor>⟧
-        ⟦<Files<D> as Disk>⟧ tables steps files.old next_file.old union.old writer.old files.new
-        next_file.new union.new writer.new result × OnOk result ((steps ≡ count)
+        ⟦<CachedDisk<D> as Disk>⟧ tables steps files.old next_file.old union.old writer.old
+        files.new next_file.new union.new writer.new result × OnOk result ((steps ≡ count)
         ⊎ (IsOn (⟦<Merged<TableCursor<D>> as Cursor>⟧.position union.new) → ⊥)) }
 {
     let mut left = count;

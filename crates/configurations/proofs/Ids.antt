@@ -5,7 +5,8 @@ use Rattle.std.proofs.Common.{◌∙◌, arith, eq-eqb}
 use Rattle.std.specs.List.{list_any}
 use Rattle.std.proofs.lemmas.Bool.{false≢true}
 use Rattle.std.proofs.lemmas.List.{take_all}
-use Rattle.chain_model.specs.{AllDifferent, has, is_tail}
+use Rattle.configurations.specs.NodeLists.{is_tail}
+use Rattle.kv_types.specs.{AllDifferent, has}
 
 or_is_if : (b u v : Bool) → u ≡ v → (b || u) ≡ (if b then true else v)
 or_is_if true u v e = refl

@@ -6,7 +6,8 @@ use Rattle.std.specs.List.{list_all}
 use Rattle.std.proofs.lemmas.Bool.{cases_Bool, and_parts}
 use Rattle.std.proofs.lemmas.Bool.Decides.{nat_tests}
 use Rattle.std.proofs.lemmas.List.Elements.{All-nil, All-cons, All-head, All-tail}
-use Rattle.chain_model.specs.{IsId, AllDifferent, has}
+use Rattle.configurations.specs.NodeLists.{IsId}
+use Rattle.kv_types.specs.{AllDifferent, has}
 use Rattle.configurations.specs.Configs.{IsConfig, is_id, all_differ, is_config}
 use Rattle.configurations.specs.Refusals.{IdsHave}
 use Rattle.configurations.specs.declared.error.ConfigError.{ConfigError}

@@ -4,7 +4,8 @@ use Rattle.std.proofs.Common.{Bool, true, false, nat_lt, sym, ap, ◌∙◌, sub
 use Rattle.std.proofs.Common.{Option, Some, None, MatchOption}
 use Rattle.std.specs.List.{HoldsAt}
 use Rattle.std.proofs.lemmas.Bool.{and_parts, and_cases, false≢true, ltb-true, ltb-false}
-use Rattle.chain_model.specs.{Lawful, at_epoch, is_part, Part}
+use Rattle.configurations.specs.NodeLists.{Lawful, at_epoch}
+use Rattle.kv_types.specs.{is_part, Part}
 use Rattle.configurations.specs.Configs.{IsConfig}
 use Rattle.configurations.specs.Checks.{each_later, is_smaller, is_in_order}
 use Rattle.configurations.specs.declared.error.ConfigError.{ConfigError}

@@ -6,7 +6,7 @@ use Rattle.std.specs.Int.{w16, to_be_bytes, from_be_bytes}
 use Rattle.std.proofs.lemmas.Nat.{from_be_bytes-to_be_bytes_2}
 use Rattle.std.proofs.lemmas.List.{take_all}
 use Rattle.std.proofs.lemmas.List.Elements.{All-head, All-tail, All-weaker}
-use Rattle.chain_model.specs.{IsId}
+use Rattle.configurations.specs.NodeLists.{IsId}
 use Rattle.configurations.specs.Configs.{IsConfig}
 use Rattle.configurations.specs.Spelling.{HasIds, config_text, ids_text}
 use Rattle.configurations.specs.Spelling.{ConfigTextIsUnique, ConfigTextIsShort}

@@ -1,6 +1,7 @@
 -- The tests of a list of configurations in the code.
 use Rattle.std.specs.Prelude.{ℕ, List, [], ◌∷◌, length, nat_lt, Bool, true, ◌&&◌}
-use Rattle.chain_model.specs.{Configurations, is_part}
+use Rattle.configurations.specs.NodeLists.{Configurations}
+use Rattle.kv_types.specs.{is_part}
 
 -- the test holds of each configuration and the next one
 abbrev pub each_later : (List ℕ → List ℕ → Bool) → Configurations → Bool

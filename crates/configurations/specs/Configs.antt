@@ -1,8 +1,9 @@
--- What a configuration is, and the test of it. (Lists of them: `Lawful` of chain_model.)
+-- What a configuration is, and the test of it. (Lists of them: `Lawful` of NodeLists.)
 use Rattle.std.specs.Prelude.{ℕ, ◌≤◌, List, [], ◌∷◌, length, All, Bool, true, ◌&&◌, not, nat_le}
 use Rattle.std.specs.Prelude.{◌↔◌, IsTrue}
 use Rattle.std.specs.List.{list_all}
-use Rattle.chain_model.specs.{IsId, AllDifferent, has}
+use Rattle.configurations.specs.NodeLists.{IsId}
+use Rattle.kv_types.specs.{AllDifferent, has}
 
 -- 1 to 16 different node ids
 pub record IsConfig (ids : List ℕ) : Type 0 where

@@ -1,6 +1,7 @@
 -- The reasons for which ids are no configuration, or configurations no lawful list.
 use Rattle.std.specs.Prelude.{◌≡◌, ℕ, suc, ◌<◌, ◌≤◌, List, [], length, All}
-use Rattle.chain_model.specs.{Configurations, IsId, AllDifferent, at_epoch, Part}
+use Rattle.configurations.specs.NodeLists.{Configurations, IsId, at_epoch}
+use Rattle.kv_types.specs.{AllDifferent, Part}
 use Rattle.configurations.specs.declared.error.ConfigError.{ConfigError}
 use Rattle.configurations.specs.declared.error.ConfigError.TheVariants as fault
 

@@ -1,9 +1,9 @@
 // A configuration: the nodes of a chain, from head to tail.
 ghost use Rattle.std.specs.Prelude.{◌≡◌, ◌⊎◌, ◌↔◌, ◌++◌, ℕ, List, true};
 ghost use Rattle.std.specs.Prelude.{IfOk, IfErr, OnOk, IfSome, IsSomeAnd, IsFalse};
-ghost use Rattle.chain_model.specs.{AllDifferent, has, is_head, is_tail, predecessor, successor};
-ghost use Rattle.chain_model.specs.{is_part};
-ghost use Rattle.chain_model.specs.Configuration.{leaves_out};
+ghost use Rattle.configurations.specs.NodeLists.{is_head, is_tail, predecessor, successor};
+ghost use Rattle.kv_types.specs.{AllDifferent, has, is_part};
+ghost use Rattle.configurations.specs.NodeLists.{leaves_out};
 ghost use Rattle.configurations.specs.Configs.{IsConfig};
 ghost use Rattle.configurations.specs.Refusals.{IdsHave, IsLeast};
 ghost use Rattle.configurations.specs.Spelling.{config_text};

@@ -1,12 +1,12 @@
 // The configuration service's list: each configuration has fewer nodes than the one before.
 ghost use Rattle.std.specs.Prelude.{◌≡◌, ◌<◌, ◌≤◌, length, nat_lt};
 ghost use Rattle.std.specs.Prelude.{IfOk, IfErr, IsTrue, MatchOption};
-ghost use Rattle.chain_model.specs.{Lawful, at_epoch};
+ghost use Rattle.configurations.specs.NodeLists.{Lawful, at_epoch};
 ghost use Rattle.configurations.specs.Checks.{each_later, is_smaller, is_in_order};
 ghost use Rattle.configurations.specs.Refusals.{ListHas, IsLeast};
 
 use crate::{Config, ConfigError, Epoch, NodeId};
-use chain_model::is_part_decides;
+use kv_types::laws::is_part_decides;
 use std::alloc::{AllocError, Global};
 use std::marker::Model;
 
@@ -21,7 +21,7 @@ pub struct Configs {
 
 impl Model for Configs {
     ghost use Rattle.std.specs.Prelude.{List, ℕ};
-    ghost use Rattle.chain_model.specs.{Lawful};
+    ghost use Rattle.configurations.specs.NodeLists.{Lawful};
 
     ghost Value = { List (List ℕ) };
 

@@ -1,6 +1,6 @@
 // The id of a node, from 1 to 65,535.
 ghost use Rattle.std.specs.Prelude.{◌≡◌, ◌≤◌, SomeIff};
-ghost use Rattle.chain_model.specs.{IsId};
+ghost use Rattle.configurations.specs.NodeLists.{IsId};
 
 use std::marker::Model;
 
@@ -12,7 +12,7 @@ pub struct NodeId {
 
 impl Model for NodeId {
     ghost use Rattle.std.specs.Prelude.{ℕ};
-    ghost use Rattle.chain_model.specs.{IsId};
+    ghost use Rattle.configurations.specs.NodeLists.{IsId};
 
     ghost Value = { ℕ };
 

@@ -5,6 +5,7 @@ pub mod Faults
 pub mod Devices
 pub mod Lent
 pub mod Piece
+pub mod Covered
 pub mod Buffer
 pub mod Content
 pub mod File

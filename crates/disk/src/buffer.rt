@@ -2,23 +2,61 @@
 ghost use Rattle.std.specs.Prelude.{◌≡◌, ◌≤◌, ◌+◌, [], length, take, drop, OnOk, OnErr, IfOk};
 ghost use Rattle.disk.specs.States.{overwritten};
 ghost use Rattle.disk.specs.Buffer.{uncovered, AllWithin};
+ghost use Rattle.disk.specs.Covered.{covered_bytes};
 
 use std::alloc::{AllocError, Global};
 use std::marker::Model;
+
+// Bytes that a write has overwritten. One byte, as that of a gate, takes no memory of its own.
+#[derive(Drop)]
+pub enum CoveredBytes {
+    One([u8; 1]),
+    Many(Vec<u8>),
+}
+
+impl CoveredBytes {
+    fn of(alloc: Global, bytes: &[u8]) -> Result<CoveredBytes, AllocError>
+        ensures { IfOk result (λ it. covered_bytes it ≡ bytes.now) }
+    {
+        match bytes {
+            [one] => Ok(CoveredBytes::One([*one])),
+            _ => Ok(CoveredBytes::Many(bytes.to_vec(alloc)?)),
+        }
+    }
+
+    fn clone(&self) -> Result<CoveredBytes, AllocError>
+        ensures { IfOk result (λ it. covered_bytes it ≡ covered_bytes self.now) }
+    {
+        match self {
+            CoveredBytes::One(byte) => Ok(CoveredBytes::One(*byte)),
+            CoveredBytes::Many(bytes) => Ok(CoveredBytes::Many(bytes.clone()?)),
+        }
+    }
+
+    fn as_slice(&self) -> &[u8]
+        ensures { result.now ≡ covered_bytes self.now }
+    {
+        match self {
+            CoveredBytes::One(byte) => byte.as_slice(),
+            CoveredBytes::Many(bytes) => bytes.as_slice(),
+        }
+    }
+}
 
 // Bytes of a buffer that a write has overwritten, and the place where they began.
 #[derive(Drop)]
 pub struct Covered {
     at: usize,
-    bytes: Vec<u8>,
+    bytes: CoveredBytes,
 }
 
 impl Model for Covered {
     ghost use Rattle.disk.specs.Piece.{Piece};
+    ghost use Rattle.disk.specs.Covered.{covered_bytes};
 
     ghost Value = { Piece };
 
-    ghost view = { λ covered. record { at = covered.at; bytes = covered.bytes.items } };
+    ghost view = { λ covered. record { at = covered.at; bytes = covered_bytes covered.bytes } };
 }
 
 impl Covered {
@@ -54,7 +92,7 @@ pub fn covered_by(
     ensures bytes { IfOk result (λ covered. covered.bytes ≡ take len (drop at buffer.now)) }
 {
     let behind = &buffer[at..];
-    let bytes = behind[..len.min(behind.len())].to_vec(alloc)?;
+    let bytes = CoveredBytes::of(alloc, &behind[..len.min(behind.len())])?;
     Ok(Covered { at, bytes })
 }
 
@@ -87,6 +125,6 @@ pub fn uncover(buffer: &mut Vec<u8>, covered: &mut Vec<Covered>)
     ensures len { length buffer.new.items ≡ length buffer.old.items }
 {
     while let Some(one) = covered.pop() {
-        put_over(buffer, one.at, &one.bytes);
+        put_over(buffer, one.at, one.bytes.as_slice());
     }
 }

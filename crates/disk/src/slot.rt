@@ -102,14 +102,14 @@ impl MemSlot {
     pub fn sync(&mut self, alloc: Global)
         ensures { self.new ≡ synced self.old }
     {
+        if let Held::Kept(file) = &mut self.held {
+            file.sync();
+            return;
+        }
         let old = mem::replace(&mut self.held, Held::Absent(None));
         self.held = match old {
-            Held::Absent(back) => Held::Absent(back),
             Held::Fresh(bytes, _back) => Held::Kept(MemFile::new(alloc, bytes)),
-            Held::Kept(mut file) => {
-                file.sync();
-                Held::Kept(file)
-            }
+            other => other,
         };
     }
 

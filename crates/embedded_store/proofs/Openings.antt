@@ -17,8 +17,8 @@ use Rattle.engine.specs.{IsOpened, IsOwned, LookUps, OpensAs, engine_disk, facts
 use Rattle.embedded_store.specs.declared.error.OpenError.{OpenError}
 use Rattle.embedded_store.specs.declared.error.OpenError.TheVariants.{OfChain, Store}
 use Rattle.embedded_store.specs.declared.store.EmbeddedStore.{EmbeddedStore}
-use Rattle.embedded_store.specs.Finding.{HasOnlyCreationFiles, OnlyLooks}
-use Rattle.embedded_store.specs.Openings.{CreatesStore, ExplainsOpening, WasCutShort, IsOpenedFrom}
+use Rattle.manifest.specs.{HasOnlyCreationFiles, OnlyLooks, WasCutShort}
+use Rattle.embedded_store.specs.Openings.{CreatesStore, ExplainsOpening, IsOpenedFrom}
 use Rattle.embedded_store.specs.Openings.{IsOwnStore, IsStoreOver, KeepsOpenedDisk, OpensContents}
 use Rattle.embedded_store.specs.Openings.{IsOfEnvironment, StandsAlone, disk_of_opening}
 use Rattle.embedded_store.specs.Stores.{IsFreshStore, store_disk, store_engine}

@@ -10,8 +10,8 @@ use Rattle.engine.specs.{ExplainsRefusal}
 use Rattle.embedded_store.specs.declared.error.OpenError.{OpenError}
 use Rattle.embedded_store.specs.declared.error.OpenError.TheVariants.{Store}
 use Rattle.embedded_store.specs.Errors.{disk_refusal}
-use Rattle.embedded_store.specs.Finding.{HasOnlyCreationFiles}
-use Rattle.embedded_store.specs.Openings.{ExplainsOpening, WasCutShort, IsOfEnvironment}
+use Rattle.manifest.specs.{HasOnlyCreationFiles, WasCutShort}
+use Rattle.embedded_store.specs.Openings.{ExplainsOpening, IsOfEnvironment}
 
 -- a refusal of the engine is for the device exactly where its cause is
 pub store_told : (e : EngineError) (s : OpenError) → s ≡ Store e →

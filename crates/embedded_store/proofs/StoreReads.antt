@@ -8,7 +8,7 @@ use Rattle.std.proofs.lemmas.List.{take_all}
 use Rattle.std.proofs.lemmas.List.Elements.{All-tail}
 use Rattle.kv_types.specs.{BatchContent}
 use Rattle.disk.specs.{IsEnvironmental}
-use Rattle.chain_model.specs.Machine.{is_open}
+use Rattle.kv_types.specs.Snapshots.{is_open}
 use Rattle.engine.specs.EngineError.{EngineError}
 use Rattle.engine.specs.EngineError.TheVariants as engine
 use Rattle.engine.specs.{AreOrdered, IsReadable, IsReadableAnswer, LookUps}

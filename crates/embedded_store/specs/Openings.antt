@@ -4,6 +4,7 @@ use Rattle.std.specs.Prelude.{Result, Ok, Err, IsErrAnd, MatchResult}
 use Rattle.kv_types.specs.{BatchContent}
 use Rattle.disk.specs.{AlwaysLeaves, Contents, IsEnvironmental, KeepsDisk, OnlyLeaves}
 use Rattle.disk.specs.declared.Disk.{Ghosts}
+use Rattle.manifest.specs.{HasOnlyCreationFiles, WasCutShort}
 use Rattle.engine.specs.EngineError.TheVariants as engine
 use Rattle.engine.specs.declared.Engine.{Engine}
 use Rattle.engine.specs.{Facts, FilesRepresent, IsDamaged, IsNotCreated, IsOneOf, IsOpened}
@@ -11,18 +12,12 @@ use Rattle.engine.specs.{IsOwned, StaysAsItWas, engine_disk, facts_of, look_ups,
 use Rattle.embedded_store.specs.declared.error.OpenError.{OpenError}
 use Rattle.embedded_store.specs.declared.error.OpenError.TheVariants.{InUse, OfChain, Store}
 use Rattle.embedded_store.specs.declared.store.EmbeddedStore.{EmbeddedStore}
-use Rattle.embedded_store.specs.Finding.{HasOnlyCreationFiles}
 use Rattle.embedded_store.specs.Alone.{IsAloneAs}
 use Rattle.embedded_store.specs.Stores.{HoldsBatches, store_disk, store_engine}
 
 -- these are the facts of a store that stands alone
 abbrev pub StandsAlone : Facts → Type 0
 StandsAlone facts = IsAloneAs facts.id facts.ids
-
--- A creation that was cut short may have left this: no slot is open, and nothing else is there. So
--- no batch is; and so it is of a disk without files.
-abbrev pub WasCutShort : Contents → Type 0
-WasCutShort left = IsNotCreated left × HasOnlyCreationFiles left
 
 -- refused for the device or for want of memory
 abbrev pub IsOfEnvironment : OpenError → Type 0

@@ -5,7 +5,7 @@ use Rattle.kv_types.specs.{BatchContent}
 use Rattle.kv_types.specs.declared.Limits.{Limits}
 use Rattle.disk.specs.{IsEnvironmental, IsSameBut}
 use Rattle.disk.specs.declared.Disk.{Ghosts}
-use Rattle.chain_model.specs.Machine.{is_open}
+use Rattle.kv_types.specs.Snapshots.{is_open}
 use Rattle.engine.specs.EngineError.{EngineError}
 use Rattle.engine.specs.EngineError.TheVariants as engine
 use Rattle.engine.specs.declared.Engine.{Engine}

@@ -3,7 +3,6 @@
 
 mod alone;
 mod error;
-mod finding;
 mod folder;
 mod opening;
 mod store;

@@ -3,18 +3,18 @@ ghost use Rattle.std.specs.Prelude.{◌≡◌, ◌↔◌, Err, IfOk, IsFalse, Is
 ghost use Rattle.engine.specs.EngineError.TheVariants.{NotCreated};
 ghost use Rattle.embedded_store.specs.declared.error.OpenError.TheVariants.{Store};
 ghost use Rattle.disk.specs.{contents};
-ghost use Rattle.embedded_store.specs.Finding.{HasOnlyCreationFiles};
+ghost use Rattle.manifest.specs.{HasOnlyCreationFiles};
 ghost use Rattle.embedded_store.specs.Openings.{CreatesStore, IsOwnStore, IsStoreOver};
 ghost use Rattle.embedded_store.specs.Openings.{KeepsOpenedDisk, OpensContents};
 ghost use Rattle.embedded_store.specs.Stores.{IsFreshStore};
 
 use crate::alone::{alone, is_alone};
-use crate::finding::has_only_creation_files;
 use crate::{EmbeddedStore, OpenError};
 use disk::Disk;
 use disk::laws::reads_are_outcomes;
 use engine::{Engine, EngineError};
 use kv_types::Limits;
+use manifest::has_only_creation_files;
 use manifest::laws::version_is_one;
 use std::alloc::{AllocError, Global};
 

@@ -23,7 +23,7 @@ use Rattle.store_files.specs.Files.{IsOwned}
 use Rattle.store_files.specs.BesideFiles.{HasSameNamed, IsNamedFile, OtherFilesAreFree, with_free}
 use Rattle.store_files.specs.OpenFiles.{AreUsableFiles, known_version}
 use Rattle.table_files.specs.{inner_disk}
-use Rattle.table_files.specs.declared.files.Files.{Files}
+use Rattle.table_files.specs.declared.cached_disk.CachedDisk.{CachedDisk}
 use Rattle.engine.specs.LentFiles.{files_ghosts}
 use Rattle.engine.specs.MergeParts.{BeganLate, KeepsAbandoned, answer_of_merge, error_of_merge}
 use Rattle.engine.specs.MergeParts.{free_behind}
@@ -70,7 +70,7 @@ behind_cases first next free file from early =
     (omega (arith, from, early), omega (arith, from, early))
 
 module _ {D : Type 0} (g : Ghosts D) (free : OtherFilesAreFree) (apart : OpenFilesAreApart)
-    (a b : Files D g) (old : StoreFiles) (u : AreUsableFiles old) (merge : Merge D) where
+    (a b : CachedDisk D g) (old : StoreFiles) (u : AreUsableFiles old) (merge : Merge D) where
   abbrev version : StoreVersion
   version = (known_version old).version
 

@@ -15,12 +15,12 @@ use Rattle.store_files.specs.Apart.{IsSlotOrFree, IsTableApart, OpenFilesAreApar
 use Rattle.store_files.specs.Files.{Facts, IsOwned}
 use Rattle.store_files.specs.Tending.{IsSameBeside, tended_files}
 use Rattle.table_files.specs.{inner_disk}
-use Rattle.table_files.specs.declared.files.Files.{Files}
+use Rattle.table_files.specs.declared.cached_disk.CachedDisk.{CachedDisk}
 use Rattle.engine.specs.LentFiles.{files_ghosts}
 use Rattle.engine.specs.UnderWay.{IsMergeOf, MergesOfEngineLast}
 use Rattle.engine.proofs.Merges.{LeavesMergeOf, slots_leave}
 
-module _ {D : Type 0} (g : Ghosts D) (a b : Files D g) where
+module _ {D : Type 0} (g : Ghosts D) (a b : CachedDisk D g) where
   -- the one file that may change is the counting slot
   pub slot_changes : (store : StoreFiles) {told cause : Type 0} →
       KeepsDisk (files_ghosts g) a b told cause IsOwned →

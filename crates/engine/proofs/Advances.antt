@@ -22,7 +22,7 @@ use Rattle.store_files.specs.declared.store_files.StoreFiles.{StoreFiles}
 use Rattle.store_files.specs.BesideFiles.{HasSameNamed, IsNamedFile, OtherFilesAreFree, with_free}
 use Rattle.store_files.specs.OpenFiles.{AreUsableFiles, known_facts, known_version}
 use Rattle.table_files.specs.{inner_disk}
-use Rattle.table_files.specs.declared.files.Files.{Files}
+use Rattle.table_files.specs.declared.cached_disk.CachedDisk.{CachedDisk}
 use Rattle.engine.specs.declared.merging.Progress.{Progress}
 use Rattle.engine.specs.declared.merging.Progress.TheVariants as progress
 use Rattle.engine.specs.LentFiles.{files_ghosts, union_ghosts}
@@ -73,8 +73,8 @@ only_environment e intact tables writer inputs room is (inr (inl damaged)) =
     absurd (damaged.1 is)
 only_environment e intact tables writer inputs room is (inr (inr full)) = absurd (room full.0)
 
-module _ {D : Type 0} (g : Ghosts D) (old : StoreFiles) (u : AreUsableFiles old) (a : Files D g)
-    (was : Merge D) where
+module _ {D : Type 0} (g : Ghosts D) (old : StoreFiles) (u : AreUsableFiles old)
+    (a : CachedDisk D g) (was : Merge D) where
   abbrev version : StoreVersion
   version = (known_version old).version
 
@@ -95,7 +95,8 @@ module _ {D : Type 0} (g : Ghosts D) (old : StoreFiles) (u : AreUsableFiles old)
   own_file file (inl opened) = file_of.IsOpened opened
   own_file file (inr free) = file_of.IsFree free
 
-  module _ (free : OtherFilesAreFree) (count : ℕ) (b : Files D g) (now : Merge D) (next : ℕ) where
+  module _ (free : OtherFilesAreFree) (count : ℕ) (b : CachedDisk D g) (now : Merge D)
+      (next : ℕ) where
     -- the merge went on and answered so
     abbrev Did : Result Bool MergeError → Type 0
     Did answer = StepsMerge (union_ghosts g) (files_ghosts g) count step_length a old.free_file was
@@ -304,7 +305,7 @@ module _ {D : Type 0} (g : Ghosts D) (old : StoreFiles) (u : AreUsableFiles old)
 
   -- ---- as the call was told
 
-  module _ (free : OtherFilesAreFree) (count : ℕ) (b : Files D g) (now : Merge D) (start : ℕ)
+  module _ (free : OtherFilesAreFree) (count : ℕ) (b : CachedDisk D g) (now : Merge D) (start : ℕ)
       (start_is : start ≡ old.free_file) (next : ℕ) (answer : Result Bool MergeError)
       (did : StepsMerge (union_ghosts g) (files_ghosts g) count step_length a start was b next now
       answer) (after : StoreFiles) (after_is : after ≡ with_free old next)

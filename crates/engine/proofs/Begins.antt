@@ -34,7 +34,7 @@ use Rattle.store_files.specs.declared.store_files.StoreFiles.{StoreFiles}
 use Rattle.store_files.specs.OpenFiles.{FilesAreRead, known_store, known_version}
 use Rattle.store_files.specs.Raising.{IsRaisedBy}
 use Rattle.table_files.specs.{inner_disk}
-use Rattle.table_files.specs.declared.files.Files.{Files}
+use Rattle.table_files.specs.declared.cached_disk.CachedDisk.{CachedDisk}
 use Rattle.engine.specs.BeginParts.{BeginsMerge, BeginsOver}
 use Rattle.engine.specs.MergeParts.{answer_of_merge, error_of_merge}
 use Rattle.engine.specs.LentFiles.{files_ghosts, table_ghosts, union_ghosts}
@@ -136,7 +136,7 @@ module _ {D : Type 0} (g : Ghosts D) (store : StoreFiles) (plan : Plan) where
   -- what the cursors over the inputs are, by these lines
   abbrev AreOver : List TableLine → List (TableCursor D) → Type 0
   AreOver lines cursors =
-      (meant : State) (files : Files D g) (range : KeyRange) (tables : List LevelTable) →
+      (meant : State) (files : CachedDisk D g) (range : KeyRange) (tables : List LevelTable) →
       g.is_honest (inner_disk files) → HaveInputs plan range lines store.tables tables →
       WereServed (g.state (inner_disk files)) meant store.tables tables →
       AreCursorsOf (table_ghosts g) (files_ghosts g) meant files cursors
@@ -145,14 +145,14 @@ module _ {D : Type 0} (g : Ghosts D) (store : StoreFiles) (plan : Plan) where
   -- and where they find no damage
   abbrev AreIntact : List TableLine → List (TableCursor D) → Type 0
   AreIntact lines cursors =
-      (files : Files D g) (range : KeyRange) (tables : List LevelTable) →
+      (files : CachedDisk D g) (range : KeyRange) (tables : List LevelTable) →
       g.is_honest (inner_disk files) → HaveInputs plan range lines store.tables tables →
       AreServed (g.state (inner_disk files)) store.tables tables →
       AreIntactCursors (table_ghosts g) (files_ghosts g) files cursors
       (model_plan plan range tables).inputs
 
   -- what a merge is that begins with them at this version, with file numbers from this one on
-  abbrev IsBegunAt : (a b : Files D g) → List (TableCursor D) → NodeVersion → ℕ →
+  abbrev IsBegunAt : (a b : CachedDisk D g) → List (TableCursor D) → NodeVersion → ℕ →
       Result (Merge D) MergeError → Type 0
   IsBegunAt a b cursors named next r =
       (meant : State) (tables : List LevelTable) (range : KeyRange) → g.is_honest (inner_disk a) →
@@ -197,7 +197,7 @@ module _ {D : Type 0} (g : Ghosts D) (store : StoreFiles) (plan : Plan) where
       own = law version read.usable.version (contents meant) read.tables read.read;
     }
 
-    module _ (a b : Files D g) (cursors : List (TableCursor D)) (range : KeyRange)
+    module _ (a b : CachedDisk D g) (cursors : List (TableCursor D)) (range : KeyRange)
         (joint : range_of plan version.tables ≡ Some range)
         (is : IsPlanned (model_plan plan range read.tables))
         (intact : AreServed (g.state (inner_disk a)) store.tables read.tables →
@@ -238,7 +238,7 @@ module _ {D : Type 0} (g : Ghosts D) (store : StoreFiles) (plan : Plan) where
 
   -- so a merge begins with cursors over the inputs of a plan that is picked
   pub begins_merge : PicksArePlanned → PlansFit → VersionsNameOwnFiles → IsPicked store plan →
-      (a b : Files D g) (cursors : List (TableCursor D)) (named : NodeVersion) (next : ℕ)
+      (a b : CachedDisk D g) (cursors : List (TableCursor D)) (named : NodeVersion) (next : ℕ)
       (lines : List TableLine) → named ≡ known_version store → next ≡ store.free_file →
       lines ≡ version.tables → AreOver lines cursors → AreIntact lines cursors →
       (r : Result (Merge D) MergeError) → IsBegunAt a b cursors named next r →

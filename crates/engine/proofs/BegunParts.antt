@@ -26,7 +26,7 @@ use Rattle.store_files.specs.OpenFiles.{AreUsableFiles, FilesAreRead, FilesHold,
 use Rattle.store_files.specs.OpenFiles.{known_version}
 use Rattle.store_files.specs.Raising.{RaisesFloor}
 use Rattle.table_files.specs.{inner_disk}
-use Rattle.table_files.specs.declared.files.Files.{Files}
+use Rattle.table_files.specs.declared.cached_disk.CachedDisk.{CachedDisk}
 use Rattle.engine.specs.BeginParts.{BeginsMerge, BeginsOver}
 use Rattle.engine.specs.LentFiles.{files_ghosts}
 use Rattle.engine.specs.MergeParts.{IsBegunBy, IsNewMerge, KeepsBegun}
@@ -36,7 +36,7 @@ use Rattle.engine.proofs.Begins.{are_served, lines_of_tables, were_served}
 
 module _ {D : Type 0} (g : Ghosts D) where
   -- a rise that is refused is all that was done
-  pub not_raised : (floor : ℕ) (a m : Files D g) (old new : StoreFiles) (e : EngineError)
+  pub not_raised : (floor : ℕ) (a m : CachedDisk D g) (old new : StoreFiles) (e : EngineError)
       (result : Result (Merge D) EngineError) →
       RaisesFloor (files_ghosts g) floor a m old new (Err e) → IsErrAnd result (λ s. s ≡ e) →
       KeepsBegun g floor a m old new result
@@ -55,7 +55,8 @@ module _ {D : Type 0} (g : Ghosts D) where
     meant_moment = λ list honest w. (raises.meant list honest w).any_moment;
   }
 
-  module _ (plan : Plan) (m b : Files D g) (store : StoreFiles) (list : List BatchContent) where
+  module _ (plan : Plan) (m b : CachedDisk D g) (store : StoreFiles)
+      (list : List BatchContent) where
     -- the disk of the files before the merge began, and after it
     abbrev mid : State
     mid = g.state (inner_disk m)
@@ -119,7 +120,7 @@ module _ {D : Type 0} (g : Ghosts D) where
     is_begun meant read (Err e) over = tt
 
   -- a merge began behind a rise of the floor
-  module _ (apart : OpenFilesAreApart) (floor : ℕ) (plan : Plan) (a m b : Files D g)
+  module _ (apart : OpenFilesAreApart) (floor : ℕ) (plan : Plan) (a m b : CachedDisk D g)
       (old new : StoreFiles) (unit : Unit {0})
       (raises : RaisesFloor (files_ghosts g) floor a m old new (Ok unit))
       (result : Result (Merge D) EngineError)

@@ -32,7 +32,7 @@ use Rattle.store_files.specs.Merging.{HasOutputs, MayMerge}
 use Rattle.store_files.specs.OpenFiles.{AreUsableFiles, FilesAreRead}
 use Rattle.store_files.specs.OpenFiles.{known_facts, known_store, known_version}
 use Rattle.table_files.specs.{inner_disk}
-use Rattle.table_files.specs.declared.files.Files.{Files}
+use Rattle.table_files.specs.declared.cached_disk.CachedDisk.{CachedDisk}
 use Rattle.engine.specs.LentFiles.{files_ghosts, union_ghosts}
 use Rattle.engine.specs.MergeParts.{HoldEdit, IsEditOf, KeepsCompleted}
 use Rattle.engine.specs.MergeParts.{IsCheckedEdit, WereMeantEdit, error_of_merge}
@@ -49,8 +49,8 @@ of_full e P is (inl (inl disk)) = absurd cc
 of_full e P is (inl (inr memory)) = absurd cc
 of_full e P is (inr full) = full.1
 
-module _ {D : Type 0} (g : Ghosts D) (old : StoreFiles) (u : AreUsableFiles old) (a : Files D g)
-    (was : Merge D) where
+module _ {D : Type 0} (g : Ghosts D) (old : StoreFiles) (u : AreUsableFiles old)
+    (a : CachedDisk D g) (was : Merge D) where
   abbrev version : StoreVersion
   version = (known_version old).version
 
@@ -99,7 +99,7 @@ module _ {D : Type 0} (g : Ghosts D) (old : StoreFiles) (u : AreUsableFiles old)
   }
 
   module _ (free : OtherFilesAreFree) (keep : MergeEditsKeep)
-      (done : HasEntriesLeft (union_ghosts g) (files_ghosts g) was → ⊥) (b : Files D g)
+      (done : HasEntriesLeft (union_ghosts g) (files_ghosts g) was → ⊥) (b : CachedDisk D g)
       (now : Merge D) where
     abbrev Did : Result Change MergeError → Type 0
     Did answer =

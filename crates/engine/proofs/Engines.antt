@@ -22,7 +22,7 @@ use Rattle.engine.specs.Engines.{IsNearlyFull, LookUps, WasMeantInMemory, engine
 use Rattle.engine.specs.LentFiles.{files_ghosts}
 use Rattle.engine.specs.UnderWay.{HoldsWithMerge, MergesOfEngineLast, WasMeantWithMerge}
 use Rattle.table_files.specs.{inner_disk}
-use Rattle.table_files.specs.declared.files.Files.{Files}
+use Rattle.table_files.specs.declared.cached_disk.CachedDisk.{CachedDisk}
 use Rattle.engine.proofs.Results.{closed_by, ends_by, is_refused, no_refusal, of_refusal, off_of}
 use Rattle.engine.proofs.Merges.{held_same, meant_same}
 use Rattle.compaction.specs.declared.Merge.{Merge}
@@ -37,7 +37,7 @@ use Rattle.engine.specs.MergeParts.{PartMayFail}
 -- ---- what is kept
 
 -- what is kept of files is kept of their disk
-pub kept_inside : {D : Type 0} (g : Ghosts D) (a b : Files D g) {told cause : Type 0}
+pub kept_inside : {D : Type 0} (g : Ghosts D) (a b : CachedDisk D g) {told cause : Type 0}
     {IsKept : State → State → Type 0} → KeepsDisk (files_ghosts g) a b told cause IsKept →
     KeepsDisk g (inner_disk a) (inner_disk b) told cause IsKept
 kept_inside g a b kept = record {
@@ -200,7 +200,7 @@ module _ {D : Type 0} (g : Ghosts D) (laws : HeldFilesAreLeft) where
       record { meant = disk; hold = held; disk_is = laws.as_is disk engine.store list held }
 
   -- with its merge
-  merge_as_held : (files : Files D g) (store : StoreFiles) (merge : Option (Merge D))
+  merge_as_held : (files : CachedDisk D g) (store : StoreFiles) (merge : Option (Merge D))
       (list : List BatchContent) → HoldsWithMerge g files store merge list →
       WasMeantWithMerge g files store merge list
   merge_as_held files store None list h =

@@ -3,7 +3,7 @@ use Rattle.std.proofs.Common.{◌≡◌, ◌≤◌, ◌⊎◌, ℕ, List, [], �
 use Rattle.std.proofs.lemmas.List.Elements.{All-from_recursion, recursion_from_All}
 use Rattle.std.specs.List.{AllByRecursion}
 use Rattle.std.specs.Prelude.{min}
-use Rattle.chain_model.specs.Machine.{least}
+use Rattle.kv_types.specs.Snapshots.{least}
 use Rattle.store_files.specs.declared.store_files.StoreFiles.{StoreFiles}
 use Rattle.store_files.specs.Files.{Facts}
 use Rattle.store_files.specs.OpenFiles.{AreCounted, AreUsableFiles, batch_count, known_facts}

@@ -34,7 +34,7 @@ use Rattle.store_files.specs.StoreFiles.{flush_change}
 use Rattle.store_files.specs.Tending.{IsSameBeside, IsTend as tend, tended_files}
 use Rattle.store_files.specs.Tending.{IsTend}
 use Rattle.table_files.specs.{inner_disk}
-use Rattle.table_files.specs.declared.files.Files.{Files}
+use Rattle.table_files.specs.declared.cached_disk.CachedDisk.{CachedDisk}
 use Rattle.engine.specs.LentFiles.{files_ghosts, union_ghosts}
 use Rattle.engine.specs.UnderWay.{HoldsWithMerge, IsMergeOf}
 use Rattle.engine.specs.UnderWay.{MergesOfEngineLast, MergesOfEngineStayBeside}
@@ -94,7 +94,7 @@ beside_tended was now writer answer edits beside (tend.WasRest same idle) =
 
 module _ {D : Type 0} (g : Ghosts D) (lasts : MergesOfEngineLast g) where
   -- calls that left the inputs and the outputs of a merge as they were leave it under way
-  pub under_way_on : (a b : Files D g) (was now : StoreFiles) (tables after : List LevelTable)
+  pub under_way_on : (a b : CachedDisk D g) (was now : StoreFiles) (tables after : List LevelTable)
       (merge : Merge D) (plan : MergePlan) → IsMergeOf g a was tables merge plan →
       LeavesWalk (files_ghosts g) a b was.free_file now.free_file merge.writer plan.inputs →
       (known_facts now).floor ≡ (known_facts was).floor → IsUnderWay (known_store now after) plan →
@@ -110,7 +110,7 @@ module _ {D : Type 0} (g : Ghosts D) (lasts : MergesOfEngineLast g) where
   }
 
   -- and its inputs as intact
-  pub intact_on : (a b : Files D g) (was now : StoreFiles) (tables : List LevelTable)
+  pub intact_on : (a b : CachedDisk D g) (was now : StoreFiles) (tables : List LevelTable)
       (merge : Merge D) (plan : MergePlan) → IsMergeOf g a was tables merge plan →
       LeavesWalk (files_ghosts g) a b was.free_file now.free_file merge.writer plan.inputs →
       IsIntactMerge (union_ghosts g) (files_ghosts g) a merge plan →
@@ -121,7 +121,7 @@ module _ {D : Type 0} (g : Ghosts D) (lasts : MergesOfEngineLast g) where
 
   -- ---- calls that change no file
 
-  module _ (a b : Files D g) (honest : g.is_honest (inner_disk b))
+  module _ (a b : CachedDisk D g) (honest : g.is_honest (inner_disk b))
       (same : IsSame (g.state (inner_disk a)) (g.state (inner_disk b))) where
     -- no file of the merge is another
     all_left : (store : StoreFiles) (tables : List LevelTable) (merge : Merge D) (plan : MergePlan)
@@ -192,7 +192,7 @@ module _ {D : Type 0} (g : Ghosts D) (lasts : MergesOfEngineLast g) where
   -- ---- calls that change files of a store
 
   -- what is to be shown of a call that leaves a merge of the store under way
-  pub record LeavesMergeOf (a b : Files D g) (was now : StoreFiles) (merge : Merge D)
+  pub record LeavesMergeOf (a b : CachedDisk D g) (was now : StoreFiles) (merge : Merge D)
       (plan : MergePlan) : Type 0 where
     pub leaves : LeavesWalk (files_ghosts g) a b was.free_file now.free_file merge.writer
         plan.inputs
@@ -201,7 +201,7 @@ module _ {D : Type 0} (g : Ghosts D) (lasts : MergesOfEngineLast g) where
 
   -- files that hold a list go on to hold another, and the merge is under way over them, where the
   -- call keeps plans and leaves merges
-  pub goes_with_merge : {T : Type 0} (a b : Files D g) (was now : StoreFiles)
+  pub goes_with_merge : {T : Type 0} (a b : CachedDisk D g) (was now : StoreFiles)
       (merge : Option (Merge D)) (list : List BatchContent)
       (after : List BatchContent → List BatchContent) (result : Result T EngineError) →
       g.is_honest (inner_disk a) →
@@ -233,7 +233,7 @@ module _ {D : Type 0} (g : Ghosts D) (lasts : MergesOfEngineLast g) where
   goes_with_merge a b was now (Some merge) list after (Err e) honest plans held h leaves = tt
 
   -- so it is with files that were meant to hold it
-  pub meant_with_merge : {T : Type 0} (a b : Files D g) (was now : StoreFiles)
+  pub meant_with_merge : {T : Type 0} (a b : CachedDisk D g) (was now : StoreFiles)
       (merge : Option (Merge D)) (list : List BatchContent)
       (after : List BatchContent → List BatchContent) (result : Result T EngineError) →
       g.is_honest (inner_disk a) →
@@ -264,7 +264,7 @@ module _ {D : Type 0} (g : Ghosts D) (lasts : MergesOfEngineLast g) where
 
   -- ---- files that a call left as they were
 
-  module _ (apart : OpenFilesAreApart) (a b : Files D g) (was now : StoreFiles)
+  module _ (apart : OpenFilesAreApart) (a b : CachedDisk D g) (was now : StoreFiles)
       (tables : List LevelTable) (merge : Merge D) (plan : MergePlan)
       (m : IsMergeOf g a was tables merge plan) where
     -- the disk of the files before the call, and after it

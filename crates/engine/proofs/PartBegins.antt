@@ -16,7 +16,7 @@ use Rattle.store_files.specs.declared.store_files.StoreFiles.{StoreFiles}
 use Rattle.store_files.specs.declared.tended.Tended.{Tended}
 use Rattle.store_files.specs.declared.tended.Tended.TheVariants as tended
 use Rattle.store_files.specs.OpenFiles.{known_version}
-use Rattle.table_files.specs.declared.files.Files.{Files}
+use Rattle.table_files.specs.declared.cached_disk.CachedDisk.{CachedDisk}
 use Rattle.engine.specs.MergeParts.{IsBegunBy}
 use Rattle.engine.specs.Tends.{ContinuesAsPlanned, HasMerged as merged, MergesByPlan, due_plan}
 use Rattle.engine.specs.Tends.{key_of_plan, tended_store, turn_after}
@@ -36,7 +36,7 @@ turn_over plan named lines same turn later found is over level =
     ≡ (if level == plan.level then option_or k (turn_key turn level) else turn_key turn level)) is
     (over level))
 
-module _ {D : Type 0} (g : Ghosts D) (limits : Limits) (floor : ℕ) (a b : Files D g)
+module _ {D : Type 0} (g : Ghosts D) (limits : Limits) (floor : ℕ) (a b : CachedDisk D g)
     (old new : StoreFiles) (was left : Option (Merge D)) (turn later : Turn) where
   -- the merge that was due began
   pub begins : (plan : Plan) (called : Result (Merge D) EngineError) (merge : Merge D) →
@@ -60,7 +60,7 @@ module _ {D : Type 0} (g : Ghosts D) (limits : Limits) (floor : ℕ) (a b : File
         planned = λ list honest w. began.begun list honest w.was;
       }
 
-module _ {D : Type 0} (g : Ghosts D) (limits : Limits) (floor : ℕ) (a b : Files D g)
+module _ {D : Type 0} (g : Ghosts D) (limits : Limits) (floor : ℕ) (a b : CachedDisk D g)
     (old new : StoreFiles) (was left : Option (Merge D)) (turn : Turn) where
   -- one that was under way went on
   pub goes_on : (it : Merge D) → was ≡ Some it → (result : Result Tended EngineError) →
@@ -80,7 +80,7 @@ module _ {D : Type 0} (g : Ghosts D) (limits : Limits) (floor : ℕ) (a b : File
   goes_on it some (Err e) on = tt
 
 -- none was due
-pub rests : {D : Type 0} (g : Ghosts D) (limits : Limits) (floor : ℕ) (a : Files D g)
+pub rests : {D : Type 0} (g : Ghosts D) (limits : Limits) (floor : ℕ) (a : CachedDisk D g)
     (store : StoreFiles) (was left : Option (Merge D)) (turn : Turn) → was ≡ None → left ≡ None →
     due_plan limits (tended_store store was turn) ≡ None →
     MergesByPlan g limits floor a a (tended_store store was turn) (tended_store store left turn)

@@ -18,7 +18,7 @@ use Rattle.store_files.specs.BesideFiles.{with_free}
 use Rattle.store_files.specs.Merging.{IsMergedBy}
 use Rattle.store_files.specs.OpenFiles.{known_version}
 use Rattle.table_files.specs.{inner_disk}
-use Rattle.table_files.specs.declared.files.Files.{Files}
+use Rattle.table_files.specs.declared.cached_disk.CachedDisk.{CachedDisk}
 use Rattle.engine.specs.declared.merging.Progress.{Progress}
 use Rattle.engine.specs.declared.merging.Progress.TheVariants as progress
 use Rattle.engine.specs.MergeParts.{AdvancesPlanned, HasNoLeftovers, HasProgress, IsAdvanced}
@@ -49,7 +49,7 @@ module _ {D : Type 0} (old mid : StoreFiles) (was now : Merge D) (on : IsAdvance
           (sym (same_version old mid was now on)) left.beside;
     }
 
-module _ {D : Type 0} (g : Ghosts D) (a b c : Files D g) (old mid new : StoreFiles)
+module _ {D : Type 0} (g : Ghosts D) (a b c : CachedDisk D g) (old mid new : StoreFiles)
     (was now : Merge D) (on : IsAdvanced old mid was now) (called : Result Progress EngineError)
     (advances : AdvancesPlanned g a b old mid was now called) where
   -- how it went on that answered so
@@ -118,7 +118,7 @@ module _ {D : Type 0} (g : Ghosts D) (a b c : Files D g) (old mid new : StoreFil
 
 -- ---- what its end did
 
-module _ {D : Type 0} (g : Ghosts D) (a c : Files D g) (old new : StoreFiles) (was : Merge D)
+module _ {D : Type 0} (g : Ghosts D) (a c : CachedDisk D g) (old new : StoreFiles) (was : Merge D)
     (called : Result (Option Change) EngineError)
     (edit : (tables : List LevelTable) (plan : MergePlan) → IsMergeOf g a old tables was plan →
     IfOk called (IsEditOf old plan)) where
@@ -142,7 +142,7 @@ module _ {D : Type 0} (g : Ghosts D) (a c : Files D g) (old new : StoreFiles) (w
   merged_here made is (Err e) did = tt
 
   -- there was none, and the merge was given up
-  pub given_up_here : (b : Files D g) (now : Merge D) → begun_number now ≡ begun_number was →
+  pub given_up_here : (b : CachedDisk D g) (now : Merge D) → begun_number now ≡ begun_number was →
       (g.is_honest (inner_disk a) → g.is_honest (inner_disk b)) → called ≡ Ok None →
       (result : Result (Unit {0}) EngineError) →
       new ≡ with_free old (free_behind (begun_number now) old) →

@@ -17,7 +17,7 @@ use Rattle.store_files.specs.declared.store_files.StoreFiles.{StoreFiles}
 use Rattle.store_files.specs.Merging.{merged_files, replaced_files}
 use Rattle.store_files.specs.OpenFiles.{known_version}
 use Rattle.store_files.specs.Raising.{obsolete_files, raised_files}
-use Rattle.table_files.specs.declared.files.Files.{Files}
+use Rattle.table_files.specs.declared.cached_disk.CachedDisk.{CachedDisk}
 use Rattle.engine.specs.MergeParts.{IsAdvanced, IsMergeFile, KeepsMerge, PartMayFail}
 use Rattle.engine.specs.MergeParts.{IsMergeFile as own, IsTendedFile as tended, IsTendedFile}
 use Rattle.engine.specs.UnderWay.{HoldsWithMerge, WasMeantWithMerge}
@@ -103,7 +103,7 @@ module _ {D : Type 0} where
 
 module _ {D : Type 0} (g : Ghosts D) where
   -- where the next part may fail, the first might have
-  pub may_fail_behind : {T : Type 0} (a b : Files D g) (old mid : StoreFiles)
+  pub may_fail_behind : {T : Type 0} (a b : CachedDisk D g) (old mid : StoreFiles)
       (was next : Option (Merge D)) (now : T → Option (Merge D)) (called : Result T EngineError)
       (x : T) → called ≡ Ok x → KeepsMerge g now was a b old mid called → now x ≡ next →
       mid.manifest ≡ old.manifest → PartMayFail g b mid next → PartMayFail g a old was
@@ -116,14 +116,14 @@ module _ {D : Type 0} (g : Ghosts D) where
       HoldsWithMerge g b mid m list) to (here.held list honest h)))
 
   -- a merge under way over files that hold a list began behind the slots, and so it did before
-  pub began_late : (files : Files D g) (store : StoreFiles) (was now : Merge D)
+  pub began_late : (files : CachedDisk D g) (store : StoreFiles) (was now : Merge D)
       (list : List BatchContent) → begun_number now ≡ begun_number was →
       HoldsWithMerge g files store (Some was) list → 3 ≤ begun_number now
   began_late files store was now list first h = subst (λ (n : ℕ). 3 ≤ n) (sym first)
       h.merges.under_way.merging.numbers.late
 
   -- so did one over files that were meant to
-  pub meant_late : (files : Files D g) (store : StoreFiles) (was now : Merge D)
+  pub meant_late : (files : CachedDisk D g) (store : StoreFiles) (was now : Merge D)
       (list : List BatchContent) → begun_number now ≡ begun_number was →
       WasMeantWithMerge g files store (Some was) list → 3 ≤ begun_number now
   meant_late files store was now list first w = subst (λ (n : ℕ). 3 ≤ n) (sym first)

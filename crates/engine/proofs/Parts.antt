@@ -21,7 +21,7 @@ use Rattle.store_files.specs.OpenFiles.{AreUsableFiles, FilesHold, WereMeantToHo
 use Rattle.store_files.specs.StoreFiles.{FilesRepresent, WereMeant}
 use Rattle.store_files.specs.TendKeeps.{StoreKeeps}
 use Rattle.table_files.specs.{inner_disk}
-use Rattle.table_files.specs.declared.files.Files.{Files}
+use Rattle.table_files.specs.declared.cached_disk.CachedDisk.{CachedDisk}
 use Rattle.engine.specs.LentFiles.{files_ghosts}
 use Rattle.engine.specs.MergeParts.{KeepsPart}
 use Rattle.engine.specs.UnderWay.{HoldsWithMerge, WasMeantWithMerge}
@@ -32,8 +32,9 @@ module _ {D : Type 0} (g : Ghosts D) where
   pub part_then : {T U : Type 0} {touched later : ℕ → Type 0} {cause other : Type 0}
       {Held Meant Next WereNext : List BatchContent → Type 0}
       {Holds IsMeant : U → List BatchContent → Type 0}
-      {Goes Were : T → List BatchContent → Type 0} (a b c : Files D g) (old mid new : StoreFiles)
-      (called : Result U EngineError) (x : U) (result : Result T EngineError) → called ≡ Ok x →
+      {Goes Were : T → List BatchContent → Type 0} (a b c : CachedDisk D g)
+      (old mid new : StoreFiles) (called : Result U EngineError) (x : U)
+      (result : Result T EngineError) → called ≡ Ok x →
       KeepsPart g touched (λ IsSaid. IsSaid (known_facts old)) cause Held Meant Holds IsMeant a b
       old mid called →
       KeepsPart g later (λ IsSaid. IsSaid (known_facts mid)) other Next WereNext Goes Were b c mid
@@ -84,7 +85,7 @@ module _ {D : Type 0} (g : Ghosts D) where
   pub part_wider : {T : Type 0} {touched wider : ℕ → Type 0}
       {OfFacts OfMore : (Facts → Type 0) → Type 0} {cause other : Type 0}
       {Held Meant From WereFrom : List BatchContent → Type 0}
-      {Holds IsMeant : T → List BatchContent → Type 0} (a b : Files D g) (old new : StoreFiles)
+      {Holds IsMeant : T → List BatchContent → Type 0} (a b : CachedDisk D g) (old new : StoreFiles)
       (result : Result T EngineError) →
       KeepsPart g touched OfFacts cause Held Meant Holds IsMeant a b old new result →
       ((file : ℕ) → touched file → wider file) →
@@ -119,7 +120,7 @@ module _ {D : Type 0} (g : Ghosts D) where
   pub part_refused : {T U : Type 0} {touched : ℕ → Type 0}
       {OfFacts : (Facts → Type 0) → Type 0} {cause : Type 0}
       {Held Meant : List BatchContent → Type 0} {Holds IsMeant : U → List BatchContent → Type 0}
-      {Goes Were : T → List BatchContent → Type 0} (a b : Files D g) (old new : StoreFiles)
+      {Goes Were : T → List BatchContent → Type 0} (a b : CachedDisk D g) (old new : StoreFiles)
       (called : Result U EngineError) (e : EngineError) (result : Result T EngineError) →
       called ≡ Err e → IsErrAnd result (λ s. s ≡ e) →
       KeepsPart g touched OfFacts cause Held Meant Holds IsMeant a b old new called →
@@ -148,7 +149,7 @@ module _ {D : Type 0} (g : Ghosts D) where
   pub part_answers : {T U : Type 0} {touched : ℕ → Type 0}
       {OfFacts : (Facts → Type 0) → Type 0} {cause : Type 0}
       {Held Meant : List BatchContent → Type 0} {Holds IsMeant : U → List BatchContent → Type 0}
-      {Goes Were : T → List BatchContent → Type 0} (a b : Files D g) (old new : StoreFiles)
+      {Goes Were : T → List BatchContent → Type 0} (a b : CachedDisk D g) (old new : StoreFiles)
       (called : Result U EngineError) (x : U) (answer : T) → called ≡ Ok x →
       KeepsPart g touched OfFacts cause Held Meant Holds IsMeant a b old new called →
       ((list : List BatchContent) → Holds x list → Goes answer list) →
@@ -175,7 +176,7 @@ module _ {D : Type 0} (g : Ghosts D) where
   pub part_and : {T U : Type 0} {touched : ℕ → Type 0} {OfFacts : (Facts → Type 0) → Type 0}
       {cause : Type 0} {Held Meant : List BatchContent → Type 0}
       {Holds IsMeant : U → List BatchContent → Type 0}
-      {Goes Were : T → List BatchContent → Type 0} (a b : Files D g) (old new : StoreFiles)
+      {Goes Were : T → List BatchContent → Type 0} (a b : CachedDisk D g) (old new : StoreFiles)
       (called : Result U EngineError) (answer : T) →
       KeepsPart g touched OfFacts cause Held Meant Holds IsMeant a b old new called →
       ((x : U) (list : List BatchContent) → Holds x list → Goes answer list) →
@@ -190,7 +191,7 @@ module _ {D : Type 0} (g : Ghosts D) where
   -- what a call of a store keeps, as a part
   pub part_of_store : {T : Type 0} {Held WereHeld : State → List BatchContent → Type 0}
       {touched : List ℕ} {OfFacts : (Facts → Type 0) → Type 0} {cause : Type 0} {Did : T → Type 0}
-      (a b : Files D g) (old new : StoreFiles) (result : Result T EngineError) →
+      (a b : CachedDisk D g) (old new : StoreFiles) (result : Result T EngineError) →
       StoreKeeps (files_ghosts g) Held WereHeld touched OfFacts cause Did a b old new result →
       KeepsPart g (Contains touched) OfFacts cause (Held (g.state (inner_disk a)))
       (WereHeld (g.state (inner_disk a))) (λ _. FilesHold (g.state (inner_disk b)) new)
@@ -209,7 +210,7 @@ module _ {D : Type 0} (g : Ghosts D) where
   }
 
   -- what the record of a merge keeps, as a part that leaves none under way
-  pub part_installed : {T : Type 0} (a b : Files D g) (old new : StoreFiles) (edit : Change)
+  pub part_installed : {T : Type 0} (a b : CachedDisk D g) (old new : StoreFiles) (edit : Change)
       (called : Result (Unit {0}) EngineError) (answer : T) →
       InstallsMerge (files_ghosts g) edit a b old new called →
       KeepsPart g (Contains (merged_files old edit)) (λ IsSaid. IsSaid (known_facts old))
@@ -224,7 +225,7 @@ module _ {D : Type 0} (g : Ghosts D) where
   -- a part that does nothing
   pub part_none : {T : Type 0} {touched : ℕ → Type 0} {OfFacts : (Facts → Type 0) → Type 0}
       {cause : Type 0} {Held Meant : List BatchContent → Type 0}
-      {Goes Were : T → List BatchContent → Type 0} (files : Files D g) (store : StoreFiles)
+      {Goes Were : T → List BatchContent → Type 0} (files : CachedDisk D g) (store : StoreFiles)
       (result : Result T EngineError) → (IsErrOf result engine.Disk → ⊥) →
       ((P : Facts → Type 0) → P (known_facts store) → OfFacts P) →
       OnOk result (AreUsableFiles store) → IfErr result IsEnd →

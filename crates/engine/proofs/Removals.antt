@@ -5,7 +5,7 @@ use Rattle.std.proofs.lemmas.Bool.{cases_lt}
 use Rattle.std.proofs.lemmas.Bool.Decides.{nat_tests}
 use Rattle.std.specs.List.{All, position, position_or_len, remove}
 use Rattle.std.proofs.lemmas.List.Elements.{All-cons, All-tail}
-use Rattle.chain_model.specs.Machine.{is_open, without}
+use Rattle.kv_types.specs.Snapshots.{is_open, without}
 use Rattle.engine.specs.Snapshots.{AreReadable, IsReadable}
 
 -- without this place, the list is as without the number, which is there

@@ -27,7 +27,7 @@ use Rattle.store_files.specs.Tending.{FlushIsDue, IsFlushAnswer, IsRewriteAnswer
 use Rattle.store_files.specs.Tending.{IsWorkAnswer, IsWorkAnswer as work, RewriteIsDue, TendMayFail}
 use Rattle.store_files.specs.Tending.{tended_files}
 use Rattle.table_files.specs.{inner_disk}
-use Rattle.table_files.specs.declared.files.Files.{Files}
+use Rattle.table_files.specs.declared.cached_disk.CachedDisk.{CachedDisk}
 use Rattle.engine.specs.LentFiles.{files_ghosts}
 use Rattle.engine.specs.MergeParts.{IsMergeFile as own, IsTendedFile as tended, IsTendedFile}
 use Rattle.engine.specs.Tends.{KeepsTended, MergesByPlan, TendedStore, TendsByPlan}
@@ -65,7 +65,7 @@ tended_within store merge floor file has =
 module _ {D : Type 0} (g : Ghosts D) (lasts : MergesOfEngineLast g)
     (edits : MergesOfEngineStayBeside g) (apart : OpenFilesAreApart) where
   -- what a tend of the store keeps, as a part
-  pub part_of_tend : (floor : ℕ) (merge : Option (Merge D)) (turn : Turn) (a b : Files D g)
+  pub part_of_tend : (floor : ℕ) (merge : Option (Merge D)) (turn : Turn) (a b : CachedDisk D g)
       (old new : StoreFiles) (result : Result Tended EngineError) →
       FilesAreTended (files_ghosts g) (TendMayFail (files_ghosts g) a old) (IsTend old new) a b old
       new result → KeepsPlans (files_ghosts g) (λ list. list) a b old new result →
@@ -117,14 +117,14 @@ module _ {D : Type 0} (g : Ghosts D) (lasts : MergesOfEngineLast g)
       }
 
 -- what holds behind a call that did nothing holds of what was before it
-pub behind_rest : {D : Type 0} {g : Ghosts D} (a b : Files D g) (old new : StoreFiles)
-    (P : Files D g → StoreFiles → Type 0) → (b ≡ a) × (new ≡ old) → P b new → P a old
+pub behind_rest : {D : Type 0} {g : Ghosts D} (a b : CachedDisk D g) (old new : StoreFiles)
+    (P : CachedDisk D g → StoreFiles → Type 0) → (b ≡ a) × (new ≡ old) → P b new → P a old
 behind_rest a b old new P rests p =
     subst (λ f. P f old) rests.0 (subst (λ (s : StoreFiles). P b s) rests.1 p)
 
 -- ---- what was done
 
-module _ {D : Type 0} (g : Ghosts D) (limits : Limits) (floor : ℕ) (a b : Files D g)
+module _ {D : Type 0} (g : Ghosts D) (limits : Limits) (floor : ℕ) (a b : CachedDisk D g)
     (old new : StoreFiles) (merge : Option (Merge D)) (turn : Turn) where
   -- what a tend of the store did that did not rest
   pub store_did : (result : Result Tended EngineError) (told : Tended) → result ≡ Ok told →
@@ -156,8 +156,8 @@ module _ {D : Type 0} (g : Ghosts D) (limits : Limits) (floor : ℕ) (a b : File
   next_at_rest told idle (work.Rests short few same rests) = (short, few)
 
   -- and what a tend of merges did, the tend did
-  pub merge_did : (later : Files D g) (end : TendedStore D) (called : Result Tended EngineError) →
-      called ≡ Ok answer.Idle →
+  pub merge_did : (later : CachedDisk D g) (end : TendedStore D)
+      (called : Result Tended EngineError) → called ≡ Ok answer.Idle →
       ((list : List BatchContent) → g.is_honest (inner_disk a) →
       WereMeantToHold (g.state (inner_disk a)) old list →
       IfOk called (IsWorkAnswer limits.log old new)) → (result : Result Tended EngineError) →

@@ -15,7 +15,7 @@ use Rattle.store_files.specs.Files.{Facts, IsOwned}
 use Rattle.store_files.specs.HeldFiles.{HeldFilesAreLeft}
 use Rattle.store_files.specs.StoreFiles.{FilesRepresent, IsOneOf, WereOneOf}
 use Rattle.table_files.specs.{inner_disk}
-use Rattle.table_files.specs.declared.files.Files.{Files}
+use Rattle.table_files.specs.declared.cached_disk.CachedDisk.{CachedDisk}
 use Rattle.engine.specs.declared.engine.Engine.{Engine}
 use Rattle.engine.specs.Calls.{ChangesList, ChangesSnapshots, KeepsEngine, ListFollows, ReadsEngine}
 use Rattle.engine.specs.Engines.{HasEnded, LookUps, engine_disk, facts_of, look_ups}
@@ -178,7 +178,7 @@ keeps_on g old new answer {cause = cause} same works on = record {
 -- ---- calls that are given a disk
 
 -- what such a call keeps of the disk, by what it keeps of the files over it
-pub owned_keeps : {D : Type 0} (g : Ghosts D) (disk after : D) (a b : Files D g)
+pub owned_keeps : {D : Type 0} (g : Ghosts D) (disk after : D) (a b : CachedDisk D g)
     {first told : Type 0} → inner_disk a ≡ disk → after ≡ inner_disk b → (first ↔ told) →
     KeepsDisk (files_ghosts g) a b first ⊥ IsOwned → KeepsDisk g disk after told ⊥ IsOwned
 owned_keeps g disk after a b {told = told} from to same kept =

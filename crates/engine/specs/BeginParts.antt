@@ -15,14 +15,14 @@ use Rattle.store_tables.specs.LevelTables.{AreServed, WereServed}
 use Rattle.store_files.specs.declared.store_files.StoreFiles.{StoreFiles}
 use Rattle.store_files.specs.OpenFiles.{FilesAreRead, known_version}
 use Rattle.table_files.specs.{inner_disk}
-use Rattle.table_files.specs.declared.files.Files.{Files}
+use Rattle.table_files.specs.declared.cached_disk.CachedDisk.{CachedDisk}
 use Rattle.engine.specs.LentFiles.{files_ghosts, union_ghosts}
 use Rattle.engine.specs.UnderWay.{IsMergeOf}
 
 module _ {D : Type 0} (g : Ghosts D) where
   -- The merge of the plan's inputs among these tables is under way over the second files, and none
   -- of their entries is merged yet. Where the first served the tables, its inputs are intact.
-  pub record BeginsOver (plan : Plan) (a b : Files D g) (store : StoreFiles)
+  pub record BeginsOver (plan : Plan) (a b : CachedDisk D g) (store : StoreFiles)
       (tables : List LevelTable) (merge : Merge D) : Type 0 where
     pub range : _
     pub joint : range_of plan (known_version store).version.tables ≡ Some range
@@ -33,8 +33,8 @@ module _ {D : Type 0} (g : Ghosts D) where
 
   -- Over files that were meant to serve the tables of the store, the merge begins, or the refusal
   -- is external, or some block of them is damaged.
-  abbrev pub BeginsMerge : Plan → (a b : Files D g) → StoreFiles → Result (Merge D) EngineError →
-      Type 0
+  abbrev pub BeginsMerge : Plan → (a b : CachedDisk D g) → StoreFiles →
+      Result (Merge D) EngineError → Type 0
   BeginsMerge plan a b store result =
       (list : List BatchContent) (meant : State) (read : FilesAreRead meant store list) →
       g.is_honest (inner_disk a) →

@@ -1,7 +1,7 @@
 -- What the calls of an engine answer, and what they make of its disk.
 use Rattle.std.specs.Prelude.{◌≡◌, ◌⊎◌, ◌↔◌, ℕ, ◌<◌, List, [], length, true, false}
 use Rattle.std.specs.Prelude.{Result, Ok, Err, IsErrOf, IfOk, IsErrAnd, MatchResult, OnOk}
-use Rattle.chain_model.specs.Machine.{is_open}
+use Rattle.kv_types.specs.Snapshots.{is_open}
 use Rattle.kv_types.specs.declared.Limits.{Limits}
 use Rattle.kv_types.specs.{BatchContent}
 use Rattle.disk.specs.declared.Disk.{Ghosts}

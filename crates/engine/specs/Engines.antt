@@ -7,7 +7,7 @@ use Rattle.disk.specs.declared.Disk.{Ghosts}
 use Rattle.disk.specs.{State, EndsOutOfRange, OnlyLeaves, contents, seen}
 use Rattle.record_log.specs.declared.log.TheConstants.{MAX_RECORD}
 use Rattle.table_files.specs.{inner_disk}
-use Rattle.chain_model.specs.Machine.{least, without}
+use Rattle.kv_types.specs.Snapshots.{least, without}
 use Rattle.engine.specs.declared.engine.Engine.{Engine}
 use Rattle.store_files.specs.Files.{Facts}
 use Rattle.manifest.specs.{HasFullSlot, counting_file}

@@ -12,11 +12,11 @@ use Rattle.sorted_table.specs.MovedFiles.{MovesFiles}
 use Rattle.sorted_table.specs.TableCursorLaws.{AreIntactFiles, FileSuits, ServesMeant}
 use Rattle.sorted_table.specs.TableCursors.{FileHolds, table_position}
 use Rattle.table_files.specs.{KeepsFiles, inner_disk}
-use Rattle.table_files.specs.declared.files.Files.{Files}
+use Rattle.table_files.specs.declared.cached_disk.CachedDisk.{CachedDisk}
 
 module _ {D : Type 0} (g : Ghosts D) where
   -- files over a disk are a disk: they have what it has
-  abbrev pub files_ghosts : Ghosts (Files D g)
+  abbrev pub files_ghosts : Ghosts (CachedDisk D g)
   files_ghosts = record {
     is_honest = λ files. g.is_honest (inner_disk files);
     state = λ files. g.state (inner_disk files);
@@ -28,7 +28,7 @@ module _ {D : Type 0} (g : Ghosts D) where
   }
 
   -- a cursor over a table reads one file of them
-  abbrev pub table_ghosts : CursorGhosts (TableCursor D) (Files D g)
+  abbrev pub table_ghosts : CursorGhosts (TableCursor D) (CachedDisk D g)
   table_ghosts = record {
     position = λ c. table_position c.has_failed c.place;
     Meant = State;
@@ -47,7 +47,7 @@ module _ {D : Type 0} (g : Ghosts D) where
   }
 
   -- a union of such cursors reads the files of them all
-  abbrev pub union_ghosts : CursorGhosts (Merged (TableCursor D)) (Files D g)
+  abbrev pub union_ghosts : CursorGhosts (Merged (TableCursor D)) (CachedDisk D g)
   union_ghosts = record {
     position = λ m. union_position table_ghosts.position m.children.items m.place;
     Meant = State;

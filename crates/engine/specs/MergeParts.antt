@@ -35,7 +35,7 @@ use Rattle.store_files.specs.Raising.{IsRaisedBy, facts_with_floor, obsolete_fil
 use Rattle.store_files.specs.StoreFiles.{FilesRepresent, WereMeant}
 use Rattle.store_files.specs.TendKeeps.{OfEitherFacts}
 use Rattle.table_files.specs.{inner_disk}
-use Rattle.table_files.specs.declared.files.Files.{Files}
+use Rattle.table_files.specs.declared.cached_disk.CachedDisk.{CachedDisk}
 use Rattle.engine.specs.declared.merging.Progress.{Progress}
 use Rattle.engine.specs.declared.merging.Progress.TheVariants as progress
 use Rattle.engine.specs.LentFiles.{files_ghosts, union_ghosts}
@@ -75,7 +75,7 @@ pub data IsTendedFile {D : Type 0} (store : StoreFiles) (merge : Option (Merge D
 pub record KeepsPart {D T : Type 0} (g : Ghosts D) (touched : ℕ → Type 0)
     (OfFacts : (Facts → Type 0) → Type 0) (cause : Type 0)
     (Held Meant : List BatchContent → Type 0) (Holds IsMeant : T → List BatchContent → Type 0)
-    (a b : Files D g) (old new : StoreFiles) (result : Result T EngineError) : Type 0 where
+    (a b : CachedDisk D g) (old new : StoreFiles) (result : Result T EngineError) : Type 0 where
   -- a device that works fails only for this cause
   pub kept : KeepsDisk (files_ghosts g) a b (IsErrOf result engine.Disk) cause IsOwned
   -- each file but these is as it was
@@ -105,7 +105,7 @@ pub record KeepsPart {D T : Type 0} (g : Ghosts D) (touched : ℕ → Type 0)
 module _ {D : Type 0} (g : Ghosts D) where
   -- a device that works fails where the slot that counts is full, or the files hold no list with
   -- this merge
-  abbrev pub PartMayFail : Files D g → StoreFiles → Option (Merge D) → Type 0
+  abbrev pub PartMayFail : CachedDisk D g → StoreFiles → Option (Merge D) → Type 0
   PartMayFail files store merge = HasFullSlot store.manifest
       ⊎ ((list : List BatchContent) → g.is_honest (inner_disk files) →
       HoldsWithMerge g files store merge list → ⊥)
@@ -113,7 +113,7 @@ module _ {D : Type 0} (g : Ghosts D) where
   -- What a part keeps that leaves the facts as they are, and of the merge what `now` says of its
   -- answer.
   abbrev pub KeepsMerge : {T : Type 0} → (T → Option (Merge D)) → Option (Merge D) →
-      (a b : Files D g) → (old new : StoreFiles) → Result T EngineError → Type 0
+      (a b : CachedDisk D g) → (old new : StoreFiles) → Result T EngineError → Type 0
   KeepsMerge now was a b old new result =
       KeepsPart g (IsMergeFile old was) (λ IsSaid. IsSaid (known_facts old))
       (PartMayFail a old was) (HoldsWithMerge g a old was) (WasMeantWithMerge g a old was)
@@ -121,7 +121,7 @@ module _ {D : Type 0} (g : Ghosts D) where
       (λ answer. WasMeantWithMerge g b new (now answer)) a b old new result
 
   -- what the begin of a merge keeps behind a rise of the floor to this number
-  abbrev pub KeepsBegun : ℕ → (a b : Files D g) → (old new : StoreFiles) →
+  abbrev pub KeepsBegun : ℕ → (a b : CachedDisk D g) → (old new : StoreFiles) →
       Result (Merge D) EngineError → Type 0
   KeepsBegun floor a b old new result =
       KeepsPart g (Contains (raised_files old floor))
@@ -156,7 +156,7 @@ pub record IsPicked (store : StoreFiles) (plan : Plan) : Type 0 where
   pub is : picked most base turn (known_version store).version ≡ Some plan
 
 -- the merge of the plan's inputs is under way, and none of their entries is merged yet
-pub record IsNewMerge {D : Type 0} (g : Ghosts D) (plan : Plan) (files : Files D g)
+pub record IsNewMerge {D : Type 0} (g : Ghosts D) (plan : Plan) (files : CachedDisk D g)
     (store : StoreFiles) (merge : Merge D) : Type 0 where
   pub tables : List LevelTable
   pub lines : AllZip IsLineOf (known_version store).version.tables tables
@@ -167,7 +167,7 @@ pub record IsNewMerge {D : Type 0} (g : Ghosts D) (plan : Plan) (files : Files D
 
 -- A merge began behind a rise of the floor to this number: that of the plan, where the files were
 -- meant to hold a list.
-pub record IsBegunBy {D : Type 0} (g : Ghosts D) (plan : Plan) (floor : ℕ) (a b : Files D g)
+pub record IsBegunBy {D : Type 0} (g : Ghosts D) (plan : Plan) (floor : ℕ) (a b : CachedDisk D g)
     (old new : StoreFiles) (merge : Merge D) : Type 0 where
   pub raised : IsRaisedBy floor old new
   pub first : begun_number merge ≡ new.free_file
@@ -201,7 +201,7 @@ pub record IsAdvanced {D : Type 0} (old new : StoreFiles) (was now : Merge D) : 
   pub gone : now.gone ≡ was.gone
 
 -- So many entries more of the inputs are merged, and others are left.
-pub record StepsOn {D : Type 0} (g : Ghosts D) (a b : Files D g) (old new : StoreFiles)
+pub record StepsOn {D : Type 0} (g : Ghosts D) (a b : CachedDisk D g) (old new : StoreFiles)
     (was now : Merge D) (tables : List LevelTable) (plan : MergePlan)
     (before : IsMergeOf g a old tables was plan) : Type 0 where
   pub after : IsMergeOf g b new tables now plan
@@ -211,7 +211,7 @@ pub record StepsOn {D : Type 0} (g : Ghosts D) (a b : Files D g) (old new : Stor
 module _ {D : Type 0} (g : Ghosts D) where
   -- How a merge of this plan went on: so many entries more are merged and others are left, or all
   -- are merged, or the next one wants a place that there is not.
-  abbrev pub HasProgress : (a b : Files D g) → (old new : StoreFiles) → (was now : Merge D) →
+  abbrev pub HasProgress : (a b : CachedDisk D g) → (old new : StoreFiles) → (was now : Merge D) →
       (tables : List LevelTable) (plan : MergePlan) → IsMergeOf g a old tables was plan →
       Progress → Type 0
   HasProgress a b old new was now tables plan before progress.More =
@@ -223,8 +223,8 @@ module _ {D : Type 0} (g : Ghosts D) where
       FindsNoRoom (length (known_version old).version.tables) was.writer plan.inputs
 
   -- so it went on, where it was under way by any plan
-  abbrev pub AdvancesPlanned : (a b : Files D g) → (old new : StoreFiles) → (was now : Merge D) →
-      Result Progress EngineError → Type 0
+  abbrev pub AdvancesPlanned : (a b : CachedDisk D g) → (old new : StoreFiles) →
+      (was now : Merge D) → Result Progress EngineError → Type 0
   AdvancesPlanned a b old new was now result =
       (tables : List LevelTable) (plan : MergePlan) (before : IsMergeOf g a old tables was plan) →
       IfOk result (HasProgress a b old new was now tables plan before)
@@ -244,21 +244,21 @@ IsCheckedEdit version (Err why) result =
 
 -- the files hold the list and the disk has the outputs of this edit, or they hold the list where
 -- there is no edit
-abbrev pub HoldEdit : {D : Type 0} (g : Ghosts D) → Files D g → StoreFiles → Option Change →
+abbrev pub HoldEdit : {D : Type 0} (g : Ghosts D) → CachedDisk D g → StoreFiles → Option Change →
     List BatchContent → Type 0
 HoldEdit g files store None list = FilesHold (g.state (inner_disk files)) store list
 HoldEdit g files store (Some edit) list =
     HeldWithOutputs (g.state (inner_disk files)) store list edit
 
 -- so it is with files that were meant to hold it
-abbrev pub WereMeantEdit : {D : Type 0} (g : Ghosts D) → Files D g → StoreFiles →
+abbrev pub WereMeantEdit : {D : Type 0} (g : Ghosts D) → CachedDisk D g → StoreFiles →
     Option Change → List BatchContent → Type 0
 WereMeantEdit g files store None list = WereMeantToHold (g.state (inner_disk files)) store list
 WereMeantEdit g files store (Some edit) list =
     MeantWithOutputs (g.state (inner_disk files)) store list edit
 
 -- what the completion of its last output keeps
-abbrev pub KeepsCompleted : {D : Type 0} (g : Ghosts D) → (a b : Files D g) → StoreFiles →
+abbrev pub KeepsCompleted : {D : Type 0} (g : Ghosts D) → (a b : CachedDisk D g) → StoreFiles →
     Merge D → Result (Option Change) EngineError → Type 0
 KeepsCompleted g a b store was result =
     KeepsPart g (IsMergeFile store (Some was)) (λ IsSaid. IsSaid (known_facts store))
@@ -295,7 +295,7 @@ abbrev pub BeganLate : {D : Type 0} → Merge D → (List BatchContent → Type 
 BeganLate merge IsSaid list = (3 ≤ begun_number merge) × IsSaid list
 
 -- what it keeps that a merge is given up, where it began with a number that no slot has
-abbrev pub KeepsAbandoned : {D : Type 0} (g : Ghosts D) → Merge D → (a b : Files D g) →
+abbrev pub KeepsAbandoned : {D : Type 0} (g : Ghosts D) → Merge D → (a b : CachedDisk D g) →
     (old new : StoreFiles) → Result (Unit {0}) EngineError → Type 0
 KeepsAbandoned g merge a b old new result =
     KeepsPart g (IsLeftover (begun_number merge) old.free_file (known_version old).version)
@@ -304,7 +304,7 @@ KeepsAbandoned g merge a b old new result =
     (λ _. WasMeantWithMerge g b new None) a b old new result
 
 -- the files that a merge wrote, which used numbers from this one on, are gone
-abbrev pub HasNoLeftovers : {D : Type 0} (g : Ghosts D) → ℕ → StoreFiles → Files D g → Type 0
+abbrev pub HasNoLeftovers : {D : Type 0} (g : Ghosts D) → ℕ → StoreFiles → CachedDisk D g → Type 0
 HasNoLeftovers g first store files =
     (file : ℕ) → IsLeftover first store.free_file (known_version store).version file →
     IsNone (seen (g.state (inner_disk files) file))
@@ -317,7 +317,7 @@ ended_answer None = tended.Full
 ended_answer (Some edit) = tended.Worked
 
 -- What the end of a merge did of any files, and of those over which it was under way by a plan.
-pub record MergeHasEnded {D : Type 0} (g : Ghosts D) (a b : Files D g) (old new : StoreFiles)
+pub record MergeHasEnded {D : Type 0} (g : Ghosts D) (a b : CachedDisk D g) (old new : StoreFiles)
     (was : Merge D) (answer : Tended) : Type 0 where
   pub made : Option Change
   pub told : answer ≡ ended_answer made

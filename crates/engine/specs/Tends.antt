@@ -27,7 +27,7 @@ use Rattle.store_files.specs.Raising.{IsRaisedBy, facts_with_floor}
 use Rattle.store_files.specs.TendKeeps.{OfEitherFacts}
 use Rattle.store_files.specs.Tending.{FlushIsDue, IsTend, IsWorkAnswer, RewriteIsDue}
 use Rattle.table_files.specs.{inner_disk}
-use Rattle.table_files.specs.declared.files.Files.{Files}
+use Rattle.table_files.specs.declared.cached_disk.CachedDisk.{CachedDisk}
 use Rattle.engine.specs.MergeParts.{HasNoLeftovers, IsAdvanced, IsEditOf, IsNewMerge, IsTendedFile}
 use Rattle.engine.specs.MergeParts.{KeepsPart, PartMayFail, StepsOn, free_behind}
 use Rattle.engine.specs.UnderWay.{HoldsWithMerge, IsMergeOf, WasMeantWithMerge}
@@ -139,7 +139,7 @@ module _ {D : Type 0} (g : Ghosts D) where
 
   -- What a tend keeps of the files, the store and the merge, for which the floor may rise to this
   -- number.
-  abbrev pub KeepsTended : ℕ → (a b : Files D g) → (old new : TendedStore D) →
+  abbrev pub KeepsTended : ℕ → (a b : CachedDisk D g) → (old new : TendedStore D) →
       Result Tended EngineError → Type 0
   KeepsTended floor a b old new result =
       KeepsPart g (IsTendedFile old.store old.merge floor)
@@ -153,7 +153,7 @@ module _ {D : Type 0} (g : Ghosts D) where
 
   -- One output more has no place, or the version would have too many tables. No file is left that
   -- the merge wrote.
-  pub record AbandonsFull (b : Files D g) (old : StoreFiles) (was : Merge D) (used : ℕ)
+  pub record AbandonsFull (b : CachedDisk D g) (old : StoreFiles) (was : Merge D) (used : ℕ)
       (plan : MergePlan) : Type 0 where
     pub why : FindsNoRoom (length (known_version old).version.tables) was.writer plan.inputs
         ⊎ IsEditOf old plan None
@@ -161,7 +161,7 @@ module _ {D : Type 0} (g : Ghosts D) where
 
   -- How a merge of this plan went on: by so many entries, others of which are left; by all that
   -- were left, so that the version has the outputs in the places of the inputs; or it was given up.
-  abbrev pub ContinuesByPlan : (a b : Files D g) {old new : StoreFiles} {was : Merge D}
+  abbrev pub ContinuesByPlan : (a b : CachedDisk D g) {old new : StoreFiles} {was : Merge D}
       {left : Option (Merge D)} {answer : Tended} → ContinuesMerge old new was left answer →
       (tables : List LevelTable) (plan : MergePlan) → IsMergeOf g a old tables was plan → Type 0
   ContinuesByPlan a b {old = old} {new = new} {was = was} (HasStepped now on left is) tables plan
@@ -172,7 +172,7 @@ module _ {D : Type 0} (g : Ghosts D) where
       AbandonsFull b old was used plan
 
   -- What the next part of a merge did of any files, and of those over which it was under way.
-  pub record ContinuesAsPlanned (a b : Files D g) (old new : StoreFiles) (was : Merge D)
+  pub record ContinuesAsPlanned (a b : CachedDisk D g) (old new : StoreFiles) (was : Merge D)
       (left : Option (Merge D)) (answer : Tended) : Type 0 where
     pub did : ContinuesMerge old new was left answer
     pub planned : (tables : List LevelTable) (plan : MergePlan)
@@ -181,7 +181,7 @@ module _ {D : Type 0} (g : Ghosts D) where
   -- Where a tend did part of a merge, it is of the plan that is due, and none of its inputs'
   -- entries is merged yet; or it is of the plan that is under way.
   abbrev pub IsAsPlanned : {limits : Limits} {floor : ℕ} {old new : TendedStore D}
-      {answer : Tended} → (a b : Files D g) → TendsStore limits floor old new answer → Type 0
+      {answer : Tended} → (a b : CachedDisk D g) → TendsStore limits floor old new answer → Type 0
   IsAsPlanned a b (OfStore did) = Unit {0}
   IsAsPlanned {new = new} a b (OfMerge (HasBegun plan merge begins is)) =
       IsNewMerge g plan b new.store merge
@@ -192,7 +192,7 @@ module _ {D : Type 0} (g : Ghosts D) where
   IsAsPlanned a b (OfMerge (HasRested none due same is)) = Unit {0}
 
   -- so a tend did
-  abbrev pub TendsAsPlanned : Limits → ℕ → (a b : Files D g) → (old new : TendedStore D) →
+  abbrev pub TendsAsPlanned : Limits → ℕ → (a b : CachedDisk D g) → (old new : TendedStore D) →
       Tended → Type 0
   TendsAsPlanned limits floor a b old new answer =
       (it : TendsStore limits floor old new answer) × IsAsPlanned a b it
@@ -200,16 +200,16 @@ module _ {D : Type 0} (g : Ghosts D) where
   -- ---- both
 
   -- What a tend of merges did of any files, and of those that were meant to hold a list.
-  pub record MergesByPlan (limits : Limits) (floor : ℕ) (a b : Files D g) (old new : TendedStore D)
-      (answer : Tended) : Type 0 where
+  pub record MergesByPlan (limits : Limits) (floor : ℕ) (a b : CachedDisk D g)
+      (old new : TendedStore D) (answer : Tended) : Type 0 where
     pub did : HasMerged limits floor old new answer
     pub planned : (list : List BatchContent) → g.is_honest (inner_disk a) →
         WasMeantWithMerge g a old.store old.merge list → IsAsPlanned a b (OfMerge did)
 
   -- What a tend did of any files, and of those that were meant to hold a list, without the merge
   -- and with it.
-  pub record TendsByPlan (limits : Limits) (floor : ℕ) (a b : Files D g) (old new : TendedStore D)
-      (answer : Tended) : Type 0 where
+  pub record TendsByPlan (limits : Limits) (floor : ℕ) (a b : CachedDisk D g)
+      (old new : TendedStore D) (answer : Tended) : Type 0 where
     pub did : TendsStore limits floor old new answer
     pub in_order : (list : List BatchContent) → g.is_honest (inner_disk a) →
         WereMeantToHold (g.state (inner_disk a)) old.store list → WasDue did

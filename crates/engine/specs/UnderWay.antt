@@ -11,13 +11,13 @@ use Rattle.store_files.specs.declared.store_files.StoreFiles.{StoreFiles}
 use Rattle.store_files.specs.OpenFiles.{FilesHold, WereMeantToHold, known_facts, known_store}
 use Rattle.store_files.specs.OpenFiles.{known_version}
 use Rattle.table_files.specs.{inner_disk}
-use Rattle.table_files.specs.declared.files.Files.{Files}
+use Rattle.table_files.specs.declared.cached_disk.CachedDisk.{CachedDisk}
 use Rattle.engine.specs.LentFiles.{files_ghosts, union_ghosts}
 
 module _ {D : Type 0} (g : Ghosts D) where
   -- The merge of the plan is under way over the files of a store with these tables: it can end in
   -- the store, at the floor of its version, which names none of its outputs.
-  pub record IsMergeOf (files : Files D g) (store : StoreFiles) (tables : List LevelTable)
+  pub record IsMergeOf (files : CachedDisk D g) (store : StoreFiles) (tables : List LevelTable)
       (merge : Merge D) (plan : MergePlan) : Type 0 where
     pub meant : State
     pub merging : IsMerging (union_ghosts g) (files_ghosts g) meant files store.free_file merge plan
@@ -26,28 +26,28 @@ module _ {D : Type 0} (g : Ghosts D) where
     pub beside : MergeIsBeside merge (known_version store).version
 
   -- A merge is under way over these files of a store. Its inputs have no damaged block.
-  pub record IsIntactMergeOf (files : Files D g) (store : StoreFiles) (tables : List LevelTable)
-      (merge : Merge D) : Type 0 where
+  pub record IsIntactMergeOf (files : CachedDisk D g) (store : StoreFiles)
+      (tables : List LevelTable) (merge : Merge D) : Type 0 where
     pub plan : MergePlan
     pub under_way : IsMergeOf files store tables merge plan
     pub intact : IsIntactMerge (union_ghosts g) (files_ghosts g) files merge plan
 
   -- A merge is under way over these files of a store. Its inputs may have damaged blocks.
-  pub record IsSomeMergeOf (files : Files D g) (store : StoreFiles) (tables : List LevelTable)
+  pub record IsSomeMergeOf (files : CachedDisk D g) (store : StoreFiles) (tables : List LevelTable)
       (merge : Merge D) : Type 0 where
     pub plan : MergePlan
     pub under_way : IsMergeOf files store tables merge plan
 
   -- the open files hold the list, and the merge, if there is one, is under way over them
-  pub record HoldsWithMerge (files : Files D g) (store : StoreFiles) (merge : Option (Merge D))
+  pub record HoldsWithMerge (files : CachedDisk D g) (store : StoreFiles) (merge : Option (Merge D))
       (list : List BatchContent) : Type 0 where
     pub held : FilesHold (g.state (inner_disk files)) store list
     pub merges : IfSome merge (IsIntactMergeOf files store held.known.tables)
 
   -- the open files were meant to hold the list, and the merge, if there is one, is under way over
   -- them
-  pub record WasMeantWithMerge (files : Files D g) (store : StoreFiles) (merge : Option (Merge D))
-      (list : List BatchContent) : Type 0 where
+  pub record WasMeantWithMerge (files : CachedDisk D g) (store : StoreFiles)
+      (merge : Option (Merge D)) (list : List BatchContent) : Type 0 where
     pub was : WereMeantToHold (g.state (inner_disk files)) store list
     pub merges : IfSome merge (IsSomeMergeOf files store was.hold.known.tables)
 

@@ -16,7 +16,7 @@ use kv_types::{Batch, Key, Limits, Number, Value};
 use std::alloc::Global;
 use store_files::laws::{held_files_are_left, open_files_are_apart, raised_facts_rise};
 use store_files::{EngineError, StoreFiles, Tended};
-use table_files::Files;
+use table_files::CachedDisk;
 
 /// A store of batches on a disk, which it owns. The batches are numbered from 1.
 ///
@@ -24,7 +24,7 @@ use table_files::Files;
 /// list (`EngineHolds`). In memory are the entries of the batches that no table has.
 #[derive(Drop)]
 pub struct Engine<D: Disk + Drop> {
-    pub(crate) files: Files<D>,
+    pub(crate) files: CachedDisk<D>,
     pub(crate) store: StoreFiles,
     limits: Limits,
     pub(crate) committed: Number,
@@ -43,7 +43,7 @@ fn files_over<D: Disk + Drop>(
     alloc: Global,
     disk: D,
     limits: &Limits,
-) -> Result<(Files<D>, Turn), (EngineError, D)>
+) -> Result<(CachedDisk<D>, Turn), (EngineError, D)>
     ensures files { IfOk result (λ made. inner_disk made.0 ≡ disk) }
     ensures refused { IfErr result (λ refused.
         (refused.0 ≡ EngineError.Memory) × (refused.1 ≡ disk)) }
@@ -51,7 +51,7 @@ fn files_over<D: Disk + Drop>(
     let Ok(turn) = Turn::new(alloc) else {
         return Err((EngineError::Memory, disk));
     };
-    match Files::new(alloc, disk, limits.cache as usize) {
+    match CachedDisk::new(alloc, disk, limits.cache as usize) {
         Ok(files) => Ok((files, turn)),
         Err(refused) => Err((EngineError::Memory, refused.value)),
     }
@@ -61,9 +61,8 @@ impl<D: Disk + Drop> Engine<D> {
     ghost use Rattle.std.specs.Prelude.{◌≡◌, ◌⊎◌, ◌↔◌, ℕ, ◌<◌, ◌≤◌, [], ◌∷◌, ◌++◌, List};
     ghost use Rattle.std.specs.Prelude.{IfOk, IfErr, IsErrOf, OnOk, MatchResult, slice_index, Some};
     ghost use Rattle.kv_types.specs.declared.bounds.TheConstants.{MAX_NUMBER};
-    ghost use Rattle.kv_types.specs.{BatchContent};
+    ghost use Rattle.kv_types.specs.{BatchContent, place};
     ghost use Rattle.disk.specs.{contents, IsEnvironmental, IsSameBut, IsStill};
-    ghost use Rattle.chain_model.specs.{place};
     ghost use Rattle.engine.specs.Calls.{ChangesList, ExplainsRefusal, IsAdrift, IsJustOpened};
     ghost use Rattle.engine.specs.Calls.{IsNewEngine, IsOpened, IsTendOf, TendsAsDue};
     ghost use Rattle.engine.specs.Calls.{KeepsOwnedDisk, OfEachList, OpensEngineFor, ReadsEngine};

@@ -30,7 +30,7 @@ use store_files::laws::{open_files_are_apart, other_files_are_free};
 use store_files::{EngineError, StoreFiles, Tended};
 use store_model::plans_fit;
 use store_tables::laws::versions_name_own_files;
-use table_files::Files;
+use table_files::CachedDisk;
 use version_edits::{StoreVersion, VersionEdit, is_fit};
 
 // The greatest number of entries that one tend merges.
@@ -107,7 +107,7 @@ fn checked_edit(
 // stand on their first entries.
 fn begin_raised<D: Disk + Drop>(
     alloc: Global,
-    files: &mut Files<D>,
+    files: &mut CachedDisk<D>,
     store: &StoreFiles,
     plan: Plan,
     target: u64,
@@ -136,7 +136,7 @@ fn begin_raised<D: Disk + Drop>(
 /// first entries.
 pub(crate) fn begin<D: Disk + Drop>(
     alloc: Global,
-    files: &mut Files<D>,
+    files: &mut CachedDisk<D>,
     store: &mut StoreFiles,
     plan: Plan,
     floor: Number,
@@ -157,7 +157,7 @@ pub(crate) fn begin<D: Disk + Drop>(
 // Merges the next entries of the inputs.
 fn advance<D: Disk + Drop>(
     alloc: Global,
-    files: &mut Files<D>,
+    files: &mut CachedDisk<D>,
     store: &mut StoreFiles,
     merge: &mut Merge<D>,
 ) -> Result<Progress, EngineError>
@@ -184,7 +184,7 @@ fn advance<D: Disk + Drop>(
 // the version would have too many tables.
 fn complete<D: Disk + Drop>(
     alloc: Global,
-    files: &mut Files<D>,
+    files: &mut CachedDisk<D>,
     store: &StoreFiles,
     merge: &mut Merge<D>,
 ) -> Result<Option<VersionEdit>, EngineError>
@@ -209,7 +209,7 @@ fn complete<D: Disk + Drop>(
 
 // Gives a merge up: its files are removed, and their numbers are free again.
 fn abandon<D: Disk + Drop>(
-    files: &mut Files<D>,
+    files: &mut CachedDisk<D>,
     store: &mut StoreFiles,
     merge: Merge<D>,
 ) -> Result<(), EngineError>
@@ -233,7 +233,7 @@ fn abandon<D: Disk + Drop>(
 // many tables, the merge is given up.
 fn end<D: Disk + Drop>(
     alloc: Global,
-    files: &mut Files<D>,
+    files: &mut CachedDisk<D>,
     store: &mut StoreFiles,
     mut merge: Merge<D>,
 ) -> Result<Tended, EngineError>
@@ -261,7 +261,7 @@ fn end<D: Disk + Drop>(
 /// which is empty.
 pub(crate) fn continue_merge<D: Disk + Drop>(
     alloc: Global,
-    files: &mut Files<D>,
+    files: &mut CachedDisk<D>,
     store: &mut StoreFiles,
     mut merge: Merge<D>,
     place: &mut Option<Merge<D>>,

@@ -1,7 +1,7 @@
 //! The open snapshots of a store.
 ghost use Rattle.std.specs.Prelude.{◌≡◌, ◌↔◌, ◌≤◌, ◌==◌, [], ◌∷◌, length, IsTrue, MatchResult};
 ghost use Rattle.std.specs.List.{position};
-ghost use Rattle.chain_model.specs.Machine.{is_open, least, without};
+ghost use Rattle.kv_types.specs.Snapshots.{is_open, least, without};
 
 use kv_types::Number;
 use std::alloc::{AllocError, Global};

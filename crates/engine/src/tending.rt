@@ -14,7 +14,7 @@ use kv_types::{Key, Limits, Number};
 use std::alloc::{AllocError, Global};
 use store_files::laws::{held_files_are_left, open_files_are_apart};
 use store_files::{EngineError, StoreFiles, Tended};
-use table_files::Files;
+use table_files::CachedDisk;
 use version_edits::TableLine;
 
 // The greatest key of the one table that the plan takes from its level, if it takes one alone.
@@ -50,7 +50,7 @@ fn end_turn(turn: &mut Turn, level: u8, key: Option<Key>)
 // rises to this number.
 fn tend_merge<D: Disk + Drop>(
     alloc: Global,
-    files: &mut Files<D>,
+    files: &mut CachedDisk<D>,
     store: &mut StoreFiles,
     merge: &mut Option<Merge<D>>,
     turn: &mut Turn,
@@ -82,7 +82,7 @@ fn tend_merge<D: Disk + Drop>(
 /// which the floor may rise to this number.
 pub(crate) fn tend_store<D: Disk + Drop>(
     alloc: Global,
-    files: &mut Files<D>,
+    files: &mut CachedDisk<D>,
     store: &mut StoreFiles,
     merge: &mut Option<Merge<D>>,
     turn: &mut Turn,

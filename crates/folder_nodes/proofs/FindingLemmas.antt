@@ -1,23 +1,21 @@
 -- The node of a disk whose slots were looked at first.
-use Rattle.std.proofs.Common.{◌≡◌, ◌⊎◌, ◌↔◌, ◌<◌, get_or, inl, inr, ℕ, List, length, sym, ap}
+use Rattle.std.proofs.Common.{◌≡◌, ◌⊎◌, ◌↔◌, ◌<◌, inl, inr, ℕ, length, sym, ap}
 use Rattle.std.proofs.Common.{subst}
-use Rattle.std.proofs.Common.{◌∙◌, All, IsTrue, Bool, false, true≢false}
+use Rattle.std.proofs.Common.{◌∙◌, IsTrue, Bool}
 use Rattle.std.specs.Prelude.{Result, Ok, Err, IfErr}
-use Rattle.std.proofs.lemmas.List.Elements.{All-contains_itself}
 use Rattle.std.proofs.Math.Path.{fun_ext}
 use Rattle.std.proofs.lemmas.Bool.{cases_eq}
 use Rattle.disk.specs.declared.Disk.{Ghosts}
 use Rattle.disk.specs.{Contents, IsCrashOutcome, IsEnvironmental, IsStill, State, contents, seen}
-use Rattle.disk.specs.Calls.{ListsFiles}
 use Rattle.disk.specs.declared.error.DiskError.{DiskError}
 use Rattle.disk.specs.declared.error.DiskError.TheVariants as device
 use Rattle.disk.specs.MomentsLemmas.{join, weaker}
 use Rattle.disk.specs.StepsLemmas.{read_is_outcome}
 use Rattle.disk.specs.StillLemmas.{still_more}
-use Rattle.chain_model.specs.{at_epoch}
-use Rattle.chain_model.specs.Configuration.{Configurations}
+use Rattle.configurations.specs.{at_epoch, Configurations}
 use Rattle.chain_core.specs.{Machine}
-use Rattle.manifest.specs.{IsNotCreated, NodeVersion, SlotsRead, VersionIsOne}
+use Rattle.manifest.specs.{HasOnlyCreationFiles, IsNotCreated, NodeVersion, SlotsRead}
+use Rattle.manifest.specs.{VersionIsOne}
 use Rattle.manifest.specs.Holds.{SparesOthers}
 use Rattle.manifest.specs.Laws.{VersionsAreCreated}
 use Rattle.node.specs.{DiskRefines, DiskRefinesOneOf}
@@ -29,9 +27,8 @@ use Rattle.node.specs.declared.node.Node.{Node}
 use Rattle.node.specs.declared.stop.Stop.{Stop}
 use Rattle.node.specs.declared.stop.Stop.TheVariants as stop
 use Rattle.folder_nodes.specs.Faults.{disk_stop, manifest_stop}
-use Rattle.folder_nodes.specs.Finding.{CreatesAgain, CreatesIn, FindsOwn, HasOnlyFirstFiles}
-use Rattle.folder_nodes.specs.Finding.{IsFirstFile, IsForEnvironment, IsOwn, IsOwnVersion, NamesOwn}
-use Rattle.folder_nodes.specs.Finding.{StartsAs}
+use Rattle.folder_nodes.specs.Finding.{CreatesAgain, CreatesIn, FindsOwn, IsForEnvironment, IsOwn}
+use Rattle.folder_nodes.specs.Finding.{IsOwnVersion, NamesOwn, StartsAs}
 use Rattle.folder_nodes.specs.declared.fault.FolderError.{FolderError}
 use Rattle.folder_nodes.specs.declared.fault.FolderError.TheVariants.{Stopped}
 
@@ -118,24 +115,6 @@ pub still_on : {D : Type 0} (g : Ghosts D) (old mid new : D) → (g.is_honest ol
 still_on g old mid new keeps first second = λ honest.
     still_more (first honest) (second (keeps honest))
 
--- ---- files
-
--- where each file is one that a creation makes, so is each of the list
-all_first : (disk : State) (files : List ℕ) → ListsFiles disk files →
-    HasOnlyFirstFiles (contents disk) → All IsFirstFile files
-all_first disk files lists only = λ i d within.
-    only.files (get_or files i d) ((lists.exact (get_or files i d)).0
-    (All-contains_itself files i d within))
-
--- where one is not, the disk has more than a creation leaves
-pub not_first : (disk : State) (files : List ℕ) (first : Bool) → ListsFiles disk files →
-    IsTrue first ↔ All IsFirstFile files → first ≡ false →
-    IsTrue false ↔ HasOnlyFirstFiles (contents disk)
-not_first disk files first lists told over = (
-  λ yes. absurd (true≢false (sym yes)),
-  λ only. absurd (true≢false (sym (told.1 (all_first disk files lists only)) ∙ over)),
-)
-
 -- ---- causes
 
 pub env_stopped : (cause : Stop) (e : FolderError) → e ≡ Stopped cause →
@@ -174,7 +153,7 @@ module _ {D : Type 0} {g : Ghosts D} where
   -- a node is created where nothing else is
   pub creates_again : (configs : Configurations) (id : ℕ) (left : Contents)
       (result : Result (Node D g) (FolderError × D)) → CreatesIn configs id result →
-      HasOnlyFirstFiles left → CreatesAgain configs id left result
+      HasOnlyCreationFiles left → CreatesAgain configs id left result
   creates_again configs id left (Ok node) creates only = (only, creates)
   creates_again configs id left (Err refused) creates only = inl creates
 

@@ -1,33 +1,17 @@
 -- The node of a disk: the one that it represents, or one that is created there.
-use Rattle.std.specs.Prelude.{◌≡◌, ◌⊎◌, ◌↔◌, ◌<◌, ◌≤◌, ℕ, Bool, IsTrue, length, IsSome, IfSome}
+use Rattle.std.specs.Prelude.{◌≡◌, ◌⊎◌, ◌↔◌, ◌<◌, ℕ, Bool, IsTrue, length}
 use Rattle.std.specs.Prelude.{Result, Ok, Err, MatchResult}
 use Rattle.disk.specs.{Contents, IsEnvironmental, State}
 use Rattle.disk.specs.declared.Disk.{Ghosts}
-use Rattle.chain_model.specs.{at_epoch, created, started}
-use Rattle.chain_model.specs.Configuration.{Configurations}
+use Rattle.configurations.specs.{at_epoch, Configurations}
+use Rattle.chain_model.specs.{created, started}
 use Rattle.chain_core.specs.{Machine}
-use Rattle.manifest.specs.{IsNotCreated, ManifestRepresents, NodeVersion, SlotsRead}
+use Rattle.manifest.specs.{HasOnlyCreationFiles, ManifestRepresents, NodeVersion, SlotsRead}
 use Rattle.node.specs.declared.node.Node.{Node}
 use Rattle.node.specs.declared.stop.Stop.TheVariants as stop
 use Rattle.node.specs.{NodeRefines, disk_of}
 use Rattle.folder_nodes.specs.declared.fault.FolderError.{FolderError}
 use Rattle.folder_nodes.specs.declared.fault.FolderError.TheVariants.{OtherNode, Stopped}
-
--- ---- what a creation leaves that is cut short
-
--- a file that a creation makes: a slot, or the first log
-abbrev pub IsFirstFile : ℕ → Type 0
-IsFirstFile file = (1 ≤ file) × (file ≤ 3)
-
--- nothing is there but files that a creation makes, and the log has no record
-pub record HasOnlyFirstFiles (left : Contents) : Type 0 where
-  pub files : (file : ℕ) → IsSome (left file) → IsFirstFile file
-  pub log : IfSome (left 3) (λ bytes. length bytes ≤ 1)
-
--- a creation that was cut short may have left this: no slot is open, and nothing else is there; so
--- no batch is
-abbrev pub IsHalfCreated : Contents → Type 0
-IsHalfCreated left = IsNotCreated left × HasOnlyFirstFiles left
 
 -- ---- the node
 
@@ -76,9 +60,9 @@ module _ {D : Type 0} {g : Ghosts D} where
   abbrev pub CreatesAgain : Configurations → ℕ → Contents → Result (Node D g) (FolderError × D) →
       Type 0
   CreatesAgain configs id left result =
-      MatchResult result (λ node. HasOnlyFirstFiles left × IsCreatedIn configs id node)
+      MatchResult result (λ node. HasOnlyCreationFiles left × IsCreatedIn configs id node)
       (λ refused. IsForEnvironment refused.0
-      ⊎ ((refused.0 ≡ Stopped stop.NotCreated) × (HasOnlyFirstFiles left → ⊥)))
+      ⊎ ((refused.0 ≡ Stopped stop.NotCreated) × (HasOnlyCreationFiles left → ⊥)))
 
   -- node x with this machine is started, or refused for a cause of the environment
   abbrev pub StartsAs : ℕ → Machine → Result (Node D g) (FolderError × D) → Type 0

@@ -1,58 +1,23 @@
 // The node of a disk: started, or created where nothing was created yet.
-ghost use Rattle.std.specs.Prelude.{◌≡◌, ◌⊎◌, ◌↔◌, ℕ, IfErr, IfOk, IsTrue, MatchResult};
-ghost use Rattle.std.specs.List.{All};
-ghost use Rattle.disk.specs.{IsSame, IsStill, contents};
+ghost use Rattle.std.specs.Prelude.{◌≡◌, ◌↔◌, ℕ, IfErr, IfOk, IsTrue, MatchResult};
+ghost use Rattle.disk.specs.{IsStill, contents};
 ghost use Rattle.chain_core.specs.{Machine};
 ghost use Rattle.manifest.specs.Holds.{SparesOthers};
 ghost use Rattle.manifest.specs.Manifests.{ManifestRefusal};
 ghost use Rattle.manifest.specs.Reads.{SlotsAreRead};
 ghost use Rattle.node.specs.{DiskRefines, DiskRefinesOneOf, IsReady, node_limits};
 ghost use Rattle.node.specs.Outputs.{AlwaysRefines};
-ghost use Rattle.folder_nodes.specs.Finding.{CreatesAgain, CreatesIn, FindsOwn, HasOnlyFirstFiles};
-ghost use Rattle.folder_nodes.specs.Finding.{IsFirstFile, IsForEnvironment, IsOwnVersion, NamesOwn};
-ghost use Rattle.folder_nodes.specs.Finding.{StartsAs, disk_left};
+ghost use Rattle.folder_nodes.specs.Finding.{CreatesAgain, CreatesIn, FindsOwn, IsForEnvironment};
+ghost use Rattle.folder_nodes.specs.Finding.{IsOwnVersion, NamesOwn, StartsAs, disk_left};
 
 use crate::fault::FolderError;
 use configurations::{Config, Configs, Epoch, NodeId};
-use disk::{Disk, DiskError};
+use disk::Disk;
 use kv_types::Limits;
 use manifest::laws::version_is_one;
-use manifest::{Manifest, ManifestError, StoreVersion};
+use manifest::{Manifest, ManifestError, StoreVersion, has_only_creation_files};
 use node::{Node, Stop};
 use std::alloc::Global;
-
-/// The file of a node's first log. The two files before it are the slots of the manifest.
-const FIRST_LOG: u64 = 3;
-
-// Whether these are files that a creation makes, and no others.
-fn are_first_files(files: &[u64]) -> bool
-    ensures { IsTrue result ↔ All IsFirstFile files.now }
-{
-    files.iter().all(|file| 1 <= *file && *file <= FIRST_LOG)
-}
-
-// Whether the files of a disk, of which no slot is open, are what a creation may have left that was
-// cut short: no table, and no log with a record.
-fn is_half_created<D: Disk>(disk: &mut D) -> Result<bool, DiskError>
-    ensures honest { D.is_honest disk.new ↔ D.is_honest disk.old }
-    ensures same { D.is_honest disk.old → IsSame (D.state disk.old) (D.state disk.new) }
-    ensures still { IsStill D.Disk disk.old disk.new }
-    ensures found { D.is_honest disk.old → IfOk result (λ is_half.
-        IsTrue is_half ↔ HasOnlyFirstFiles (contents (D.state disk.old))) }
-    ensures refused { D.is_honest disk.old → IfErr result
-        (λ e. (e ≡ DiskError.Failed) ⊎ (e ≡ DiskError.Memory)) }
-{
-    let files = disk.files()?;
-    if !are_first_files(&files) {
-        return Ok(false);
-    }
-    match disk.length(FIRST_LOG) {
-        Ok(length) => Ok(length <= 1),
-        Err(DiskError::NoFile) => Ok(true),
-        Err(DiskError::Memory) => Err(DiskError::Memory),
-        Err(_) => Err(DiskError::Failed),
-    }
-}
 
 // Creates the node in the first configuration, without batches.
 fn created<D: Disk + Drop>(
@@ -88,7 +53,7 @@ fn created_again<D: Disk + Drop>(
     ensures works { IfOk result IsReady }
     ensures limits { IfOk result (λ node. node_limits node ≡ limits.now) }
 {
-    match is_half_created(&mut disk) {
+    match has_only_creation_files(&mut disk) {
         Ok(true) => created(alloc, disk, id, configs, limits),
         Ok(false) => Err((FolderError::Stopped(Stop::NotCreated), disk)),
         Err(e) => Err((FolderError::from(e), disk)),

@@ -7,7 +7,8 @@ use Rattle.kv_types.specs.declared.error.KvError.{KvError}
 use Rattle.kv_types.specs.declared.error.KvError.TheVariants.{KeyTooLong, ValueTooLong, NoEdits}
 use Rattle.kv_types.specs.declared.error.KvError.TheVariants.{TooManyEdits, BatchTooLong, BadBytes}
 use Rattle.kv_types.specs.declared.error.KvError.TheVariants.{Memory, BadLimit}
-use Rattle.kv_types.specs.Reading.{◌>>=◌, RefusesBytes, edit_at, edits_at}
+use Rattle.kv_types.specs.Reading.{RefusesBytes, edit_at, edits_at}
+use Rattle.byte_fields.specs.{◌>>=◌}
 
 -- the edits or values read before, and those still to read
 abbrev pub with_front : List Edit → Option (List Edit × List ℕ) → Option (List Edit × List ℕ)

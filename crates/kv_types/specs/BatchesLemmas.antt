@@ -11,14 +11,12 @@ use Rattle.std.proofs.lemmas.List.Concat.{flat_map-cons}
 use Rattle.kv_types.specs.declared.bounds.TheConstants.{MAX_KEY, MAX_VALUE, MAX_EDITS, MAX_BATCH}
 use Rattle.kv_types.specs.declared.edit.Edit.{Edit}
 use Rattle.kv_types.specs.declared.edit.Edit.TheVariants.{Put, Delete}
-use Rattle.kv_types.specs.Spelling.{text_bytes, edit_bytes, batch_bytes, IsEdit, IsBatch}
-use Rattle.kv_types.specs.Spelling.{SpellingsDiffer}
-use Rattle.kv_types.specs.Reading.{◌>>=◌, length_at, text_at, edit_at, edits_at, batch_at}
-use Rattle.kv_types.specs.Reading.{batch_of}
-use Rattle.kv_types.specs.FieldsLemmas.{IsBytes, IsBytes-rest, bind_some, guard_some, some_is}
-use Rattle.kv_types.specs.FieldsLemmas.{BeginsWith}
-use Rattle.kv_types.specs.FieldsLemmas.{BeginsWith-then, number_begins, number_again, text_begins}
-use Rattle.kv_types.specs.FieldsLemmas.{text_again}
+use Rattle.kv_types.specs.Spelling.{edit_bytes, batch_bytes, IsEdit, IsBatch, SpellingsDiffer}
+use Rattle.byte_fields.specs.{text_bytes, ◌>>=◌, length_at, text_at}
+use Rattle.kv_types.specs.Reading.{edit_at, edits_at, batch_at, batch_of}
+use Rattle.byte_fields.specs.FieldsLemmas.{IsBytes, IsBytes-rest, bind_some, guard_some, some_is}
+use Rattle.byte_fields.specs.FieldsLemmas.{BeginsWith, text_again, BeginsWith-then, number_begins}
+use Rattle.byte_fields.specs.FieldsLemmas.{number_again, text_begins}
 
 guard_ended : {A : Type 0} (b : Bool) (x y : A) → cond b (Some x) None ≡ Some y
     → (b ≡ true) × (x ≡ y)

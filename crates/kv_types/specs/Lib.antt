@@ -1,3 +1,6 @@
+pub mod Lists
+pub mod ListsLemmas
+pub mod Snapshots
 pub mod Order
 pub mod StoredKeys
 pub mod Content
@@ -11,7 +14,6 @@ pub mod Pages
 pub mod Limits
 pub mod Bounds
 pub mod Examples
-pub mod FieldsLemmas
 pub mod BatchesLemmas
 pub mod OrderLemmas
 pub mod ByteOrderLemmas
@@ -20,10 +22,10 @@ pub mod StoredKeysLemmas
 pub use Rattle.kv_types.specs.Content.{BatchContent}
 pub use Rattle.kv_types.specs.Entries.{Entry, IsNewest, IsSeen, IsShown, IsUnseen}
 pub use Rattle.kv_types.specs.Entries.{ViewShows, all_entries, entries_of}
+pub use Rattle.kv_types.specs.Lists.{AllDifferent, IsPrefix, Part, has, is_part, place}
 pub use Rattle.kv_types.specs.Maps.{last_edit, map_of}
 pub use Rattle.kv_types.specs.Pages.{KeepsLimits, row_size}
-pub use Rattle.kv_types.specs.Reading.{◌>>=◌}
-unfoldable pub use Rattle.kv_types.specs.Reading.{batch_at, text_at}
+unfoldable pub use Rattle.kv_types.specs.Reading.{batch_at}
 pub use Rattle.kv_types.specs.Spans.{Rows, Span}
-pub use Rattle.kv_types.specs.Spelling.{IsBatch, SpellingsDiffer, batch_bytes, text_bytes}
+pub use Rattle.kv_types.specs.Spelling.{IsBatch, SpellingsDiffer, batch_bytes}
 pub use Rattle.kv_types.specs.StoredKeys.{StoredKey, lent_key, stored_cmp}

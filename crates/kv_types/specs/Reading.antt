@@ -1,19 +1,13 @@
 -- Reading a batch from left to right.
-use Rattle.std.specs.Prelude.{◌≡◌, ℕ, zero, suc, ◌-◌, List, [], ◌∷◌, length, take, drop, nat_lt}
+use Rattle.std.specs.Prelude.{◌≡◌, ℕ, zero, suc, ◌-◌, List, [], ◌∷◌, length, nat_lt}
 use Rattle.std.specs.Prelude.{◌==◌, Option, Some, None, Result, Ok, Err, if◌then◌else◌}
-use Rattle.std.specs.Int.{w16, from_be_bytes}
+use Rattle.byte_fields.specs.{◌>>=◌, length_at, text_at}
 use Rattle.kv_types.specs.declared.bounds.TheConstants.{MAX_KEY, MAX_VALUE, MAX_EDITS, MAX_BATCH}
 use Rattle.kv_types.specs.declared.edit.Edit.{Edit}
 use Rattle.kv_types.specs.declared.edit.Edit.TheVariants.{Put, Delete}
 use Rattle.kv_types.specs.declared.error.KvError.{KvError}
 use Rattle.kv_types.specs.declared.error.KvError.TheVariants.{BadBytes, Memory}
 use Rattle.kv_types.specs.Content.{BatchContent}
-
--- one reading after another, or failure
-infixl 10 ◌>>=◌
-abbrev pub ◌>>=◌ : {A B : Type 0} → Option A → (A → Option B) → Option B
-(Some x) >>= f = f x
-None >>= f = None
 
 -- the cause of a refusal: `BadBytes` only where nothing can be read
 abbrev pub RefusesBytes : {Y : Type 0} → KvError → Option Y → Type 0
@@ -25,18 +19,6 @@ RefusesBytes _ read = ⊥
 abbrev pub ReadsBytes : {X Y : Type 0} → (X → Y) → Result X KvError → Option Y → Type 0
 ReadsBytes view (Ok x) read = read ≡ Some (view x)
 ReadsBytes view (Err e) read = RefusesBytes e read
-
--- a number of two bytes, and the bytes behind it
-abbrev pub length_at : List ℕ → Option (ℕ × List ℕ)
-length_at bytes =
-    if nat_lt (length bytes) 2 then None else Some (from_be_bytes w16 (take 2 bytes), drop 2 bytes)
-
--- the bytes behind their length, if it is at most the limit, and the bytes behind them
-unfoldable pub text_at : ℕ → List ℕ → Option (List ℕ × List ℕ)
-text_at limit bytes = do
-  n ← length_at bytes
-  if nat_lt limit n.0 then None else
-      (if nat_lt (length n.1) n.0 then None else Some (take n.0 n.1, drop n.0 n.1))
 
 -- an edit, by its first byte, and the bytes behind it
 unfoldable pub edit_at : List ℕ → Option (Edit × List ℕ)

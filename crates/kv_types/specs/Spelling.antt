@@ -2,14 +2,11 @@
 use Rattle.std.specs.Prelude.{◌≡◌, ℕ, ◌≤◌, List, [], ◌∷◌, ◌++◌, length}
 use Rattle.std.specs.List.{flat_map, All}
 use Rattle.std.specs.Int.{w16, to_be_bytes}
+use Rattle.byte_fields.specs.{text_bytes}
 use Rattle.kv_types.specs.declared.bounds.TheConstants.{MAX_KEY, MAX_VALUE, MAX_EDITS, MAX_BATCH}
 use Rattle.kv_types.specs.declared.edit.Edit.{Edit}
 use Rattle.kv_types.specs.declared.edit.Edit.TheVariants.{Put, Delete}
 use Rattle.kv_types.specs.Content.{BatchContent, edits_of}
-
--- a length in two bytes, and that many bytes
-abbrev pub text_bytes : List ℕ → List ℕ
-text_bytes bytes = to_be_bytes w16 (length bytes) ++ bytes
 
 -- a put is the byte 1, key and value; a deletion the byte 2 and the key
 abbrev pub edit_bytes : Edit → List ℕ

@@ -8,13 +8,13 @@ ghost use Rattle.std.specs.Ordering.{nat_cmp};
 ghost use Rattle.std.proofs.Common.{refl};
 ghost use Rattle.kv_types.specs.Order.{IsBelow};
 ghost use Rattle.kv_types.specs.StoredKeys.{lent_key};
-ghost use Rattle.kv_types.specs.Spelling.{text_bytes};
-ghost use Rattle.kv_types.specs.Reading.{ReadsBytes, text_at};
+ghost use Rattle.byte_fields.specs.{text_bytes, text_at};
+ghost use Rattle.kv_types.specs.Reading.{ReadsBytes};
 
 use crate::bounds::MAX_KEY;
 use crate::reading::key_of;
-use crate::writing::put_text;
 use crate::{KvError, LentKey};
+use byte_fields::put_text;
 use std::alloc::{AllocError, Global};
 use std::cmp::Ordering;
 use std::marker::Model;

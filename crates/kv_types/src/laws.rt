@@ -1,6 +1,7 @@
 //! Laws of the definitions that contracts use. The functions do nothing, or return a constant:
 //! their clauses are the laws.
-ghost use Rattle.std.specs.Prelude.{◌≡◌};
+ghost use Rattle.std.specs.Prelude.{◌≡◌, ◌↔◌, ℕ, List, true};
+ghost use Rattle.kv_types.specs.Lists.{Part, is_part};
 ghost use Rattle.kv_types.specs.Order.{IsBelow, IsStrictOrder, LessIsBelow};
 ghost use Rattle.kv_types.specs.Spelling.{SpellingsDiffer};
 ghost use Rattle.kv_types.specs.Maps.{MapsAgree};
@@ -37,6 +38,11 @@ pub fn views_are_maps()
 pub fn pages_agree()
     ensures agree { PagesAgree }
     ensures one { OnePage }
+{}
+
+/// The decision procedure for parts of lists accepts exactly the parts.
+pub fn is_part_decides()
+    ensures { (d c : List ℕ) → (is_part d c ≡ true) ↔ Part d c }
 {}
 
 /// The value of each bound as a number.

@@ -1,13 +1,13 @@
 // Values: byte strings of at most 16,384 bytes.
 ghost use Rattle.std.specs.Prelude.{◌≡◌, ◌<◌, ◌≤◌, ◌↔◌, length, IfOk, IsOkUnless, Err};
 ghost use Rattle.std.specs.Prelude.{List, ℕ, ◌++◌, ◌⊎◌, OnOk, IfErr, IsErrOf};
-ghost use Rattle.kv_types.specs.Spelling.{text_bytes};
-ghost use Rattle.kv_types.specs.Reading.{ReadsBytes, text_at};
+ghost use Rattle.byte_fields.specs.{text_bytes, text_at};
+ghost use Rattle.kv_types.specs.Reading.{ReadsBytes};
 
 use crate::KvError;
 use crate::bounds::MAX_VALUE;
 use crate::reading::value_of;
-use crate::writing::put_text;
+use byte_fields::put_text;
 use std::alloc::{AllocError, Global};
 use std::marker::Model;
 

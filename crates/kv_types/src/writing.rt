@@ -1,18 +1,12 @@
 // Keys, values, edits and batches, written as bytes.
 ghost use Rattle.std.specs.Prelude.{◌≡◌, ◌≤◌, ◌<◌, ◌^◌, ◌++◌, ◌+◌, length, OnOk, All};
-ghost use Rattle.kv_types.specs.Spelling.{text_bytes, edit_bytes, batch_bytes, IsEdit};
+ghost use Rattle.kv_types.specs.Spelling.{edit_bytes, batch_bytes, IsEdit};
+ghost use Rattle.byte_fields.specs.{text_bytes};
 
 use crate::Edit;
 use crate::bounds::{MAX_EDITS, MAX_KEY, MAX_VALUE};
+use byte_fields::put_text;
 use std::alloc::AllocError;
-
-pub fn put_text(out: &mut Vec<u8>, bytes: &[u8]) -> Result<(), AllocError>
-    requires { length bytes.now < 2 ^ 16 }
-    ensures { OnOk result (out.new.items ≡ out.old.items ++ text_bytes bytes.now) }
-{
-    out.extend_from_slice(&(bytes.len() as u16).to_be_bytes())?;
-    out.extend_from_slice(bytes)
-}
 
 fn put_edit(out: &mut Vec<u8>, edit: &Edit) -> Result<(), AllocError>
     ensures { OnOk result (out.new.items ≡ out.old.items ++ edit_bytes edit.now) }

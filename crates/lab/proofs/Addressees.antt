@@ -4,9 +4,10 @@ use Rattle.std.proofs.Common.{Option, Some, None, true, refl, sym, ap, subst, â—
 use Rattle.std.proofs.Common.{inl}
 use Rattle.std.specs.List.{AllZip, AllByRecursion}
 use Rattle.std.proofs.lemmas.List.Elements.{All-weaker, recursion_from_All}
-use Rattle.kv_types.specs.{BatchContent}
-use Rattle.chain_model.specs.{Configurations, has, at_epoch, Message as ModelFrame, addressee}
-use Rattle.chain_model.specs.{InOrder, ForwardIsTrue, place, SystemEvent as ModelEvent, reached}
+use Rattle.kv_types.specs.{BatchContent, has, place}
+use Rattle.configurations.specs.{Configurations, at_epoch}
+use Rattle.chain_model.specs.{Message as ModelFrame, addressee}
+use Rattle.chain_model.specs.{InOrder, ForwardIsTrue, SystemEvent as ModelEvent, reached}
 use Rattle.chain_model.specs.{node_of, Message}
 use Rattle.link_messages.specs.declared.Frame.{Frame}
 use Rattle.link_messages.specs.declared.Frame.TheVariants as frame

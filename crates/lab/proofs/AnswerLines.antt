@@ -6,8 +6,8 @@ use Rattle.std.specs.Prelude.{not, nat_lt}
 use Rattle.std.proofs.lemmas.Bool.{cond_both}
 use Rattle.kv_types.specs.{BatchContent}
 use Rattle.chain_model.specs.{Message as ModelFrame, Answer, dropped_for, answers, Message}
-use Rattle.chain_model.specs.{is_tail}
-use Rattle.chain_model.specs.Configuration.{leaves_out}
+use Rattle.configurations.specs.{is_tail}
+use Rattle.configurations.specs.NodeLists.{leaves_out}
 use Rattle.chain_model.specs.Rules.{adopt, moved, notice}
 use Rattle.chain_model.specs.declared.DropReason.{DropReason}
 use Rattle.chain_model.specs.declared.DropReason.TheVariants as reason

@@ -3,10 +3,11 @@ use Rattle.std.proofs.Common.{◌≡◌, ℕ, Bool, List, length, map, Option, S
 use Rattle.std.proofs.Common.{ap, subst, ◌∙◌}
 use Rattle.std.proofs.lemmas.Bool.{cond-true, cond-false, false≢true, le-ltb, lt-ltb}
 use Rattle.std.specs.Prelude.{nat_lt}
-use Rattle.kv_types.specs.{BatchContent, Span}
+use Rattle.kv_types.specs.{BatchContent, Span, place}
 use Rattle.disk.specs.declared.Fault.{Fault}
 use Rattle.disk.specs.declared.Junk.{Junk}
-use Rattle.chain_model.specs.{Configurations, at_epoch, place, Message as ModelFrame}
+use Rattle.configurations.specs.{Configurations, at_epoch}
+use Rattle.chain_model.specs.{Message as ModelFrame}
 use Rattle.chain_model.specs.{dropped_for, silent}
 use Rattle.chain_model.specs.{started, stopped, SystemState, Answered, StoppedBefore, outcome}
 use Rattle.chain_model.specs.{answers, stops, delivered, nothing, Response}

@@ -7,13 +7,13 @@ use Rattle.std.specs.Prelude.{IsSome}
 use Rattle.std.proofs.lemmas.Bool.{cases_eq, cond_both, false≢true}
 use Rattle.std.proofs.lemmas.List.Elements.{recursion_from_All}
 use Rattle.std.specs.List.{AllByRecursion}
-use Rattle.kv_types.specs.{BatchContent}
+use Rattle.kv_types.specs.{BatchContent, has}
 use Rattle.disk.specs.declared.Fault.{Fault}
 use Rattle.disk.specs.declared.Junk.{Junk}
 use Rattle.disk.specs.declared.Mark.{Mark}
 use Rattle.disk.specs.declared.Mark.TheVariants.{Armed, Crashed}
 use Rattle.disk.specs.{IsLastLeft, IsSame, Marks, Slots, State, past_states, struck_call}
-use Rattle.chain_model.specs.{Configurations, at_epoch, has}
+use Rattle.configurations.specs.{Configurations, at_epoch}
 use Rattle.chain_model.specs as model
 use Rattle.chain_model.specs.declared.DropReason.{DropReason}
 use Rattle.chain_core.specs.{Machine}

@@ -1,8 +1,9 @@
 -- What is found on the way of an event to its node.
 use Rattle.std.proofs.Common.{◌≡◌, ℕ, List, Option, Some, Result, Ok, Err, refl, sym, subst}
 use Rattle.std.specs.Prelude.{IfOk, IsSome}
-use Rattle.kv_types.specs.{BatchContent}
-use Rattle.chain_model.specs.{Configurations, Message as ModelFrame, place}
+use Rattle.kv_types.specs.{BatchContent, place}
+use Rattle.configurations.specs.{Configurations}
+use Rattle.chain_model.specs.{Message as ModelFrame}
 use Rattle.link_messages.specs.declared.Frame.{Frame}
 use Rattle.chain_core.specs.{frame_as}
 use Rattle.carriers.specs.declared.Delivery.{Delivery}

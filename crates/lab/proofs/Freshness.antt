@@ -6,7 +6,8 @@ use Rattle.std.specs.List.{AllByRecursion}
 use Rattle.std.proofs.lemmas.Bool.{cond_both, cond-true}
 use Rattle.std.proofs.lemmas.List.Elements.{All-from_recursion, recursion_from_All}
 use Rattle.kv_types.specs.{BatchContent}
-use Rattle.chain_model.specs.{Configurations, Lawful, Request, Response, Committed, Shows, Opened}
+use Rattle.configurations.specs.{Configurations, Lawful}
+use Rattle.chain_model.specs.{Request, Response, Committed, Shows, Opened}
 use Rattle.chain_model.specs.{Closed, Refused, SystemEvent as ModelEvent, SystemState, Outcome}
 use Rattle.chain_model.specs.System.{Ask, Lost}
 use Rattle.chain_model.specs.{StepResult, Answered, StoppedBefore, StoppedAfter, Answer, answers}

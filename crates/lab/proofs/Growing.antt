@@ -8,7 +8,8 @@ use Rattle.std.specs.List.{AllZip}
 use Rattle.std.proofs.lemmas.Slice.Zip.{AllZip-long}
 use Rattle.kv_types.specs.declared.Limits.{Limits}
 use Rattle.kv_types.specs.{BatchContent}
-use Rattle.chain_model.specs.{Configurations, at_epoch, SystemState, run, reached, first_state}
+use Rattle.configurations.specs.{Configurations, at_epoch}
+use Rattle.chain_model.specs.{SystemState, run, reached, first_state}
 use Rattle.chain_model.specs.{state_after, outcome}
 use Rattle.lab.specs.declared.event.Event.{Event}
 use Rattle.lab.specs.declared.delivery.Posted.{Posted}

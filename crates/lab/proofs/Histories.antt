@@ -4,12 +4,13 @@ use Rattle.std.proofs.Common.{inl, refl, ap, subst, arith}
 use Rattle.std.proofs.lemmas.Bool.{cond_both}
 use Rattle.std.specs.List.{All, AllZip, AllByRecursion, flat_map}
 use Rattle.std.proofs.lemmas.List.Elements.{All-from_recursion}
-use Rattle.kv_types.specs.{BatchContent, map_of}
+use Rattle.kv_types.specs.{BatchContent, map_of, Part}
 use Rattle.kv_types.specs.Pages.{IsPage, PagesAgree, page_of}
-use Rattle.chain_model.specs.{Configurations, ResponseAgrees, numbered}
+use Rattle.configurations.specs.{Configurations}
+use Rattle.chain_model.specs.{ResponseAgrees, numbered}
 use Rattle.chain_model.specs.{submitted, Response, Committed, Shows, Opened, Closed, Refused}
 use Rattle.chain_model.specs.{SystemEvent as ModelEvent, SystemState, Outcome, outcome, outcomes}
-use Rattle.chain_model.specs.{Part, state_after}
+use Rattle.chain_model.specs.{state_after}
 use Rattle.chain_model.specs.System.{Lost}
 use Rattle.lab.specs.declared.event.Event.{Event}
 use Rattle.lab.specs.declared.event.EventKind.{EventKind}

@@ -10,7 +10,9 @@ use Rattle.std.proofs.lemmas.List.Elements.{All-push, recursion_from_All, All-fr
 use Rattle.std.proofs.lemmas.Slice.Zip.{all_zipped_more}
 use Rattle.kv_types.specs.declared.Limits.{Limits}
 use Rattle.disk.specs.{Slots, fault_of}
-use Rattle.chain_model.specs.{Configurations, Lawful, AllDifferent, has, at_epoch, created}
+use Rattle.configurations.specs.{Configurations, Lawful, at_epoch}
+use Rattle.kv_types.specs.{AllDifferent, has}
+use Rattle.chain_model.specs.{created}
 use Rattle.chain_core.specs.{Machine}
 use Rattle.lab.specs.declared.report.NodeReport.{NodeReport}
 use Rattle.lab.specs.declared.sim_node.SimNode.{SimNode}

@@ -8,7 +8,8 @@ use Rattle.kv_types.specs.{BatchContent}
 use Rattle.disk.specs.declared.Fault.{Fault}
 use Rattle.disk.specs.declared.Fault.TheVariants as fault
 use Rattle.disk.specs.{IsEnvironmental}
-use Rattle.chain_model.specs.{Configurations, Answer, dropped_for, stopped, SystemState, Outcome}
+use Rattle.configurations.specs.{Configurations}
+use Rattle.chain_model.specs.{Answer, dropped_for, stopped, SystemState, Outcome}
 use Rattle.chain_model.specs.{StepResult, Answered, StoppedBefore, StoppedAfter, outcome, answers}
 use Rattle.chain_model.specs.{stops, as_completed}
 use Rattle.chain_model.specs.declared.DropReason.{DropReason}

@@ -6,8 +6,8 @@ use Rattle.std.specs.List.{AllZip, HoldsAt}
 use Rattle.std.proofs.lemmas.Option.{slice_get_past, slice_get_within, slice_get-get_or}
 use Rattle.std.proofs.lemmas.Option.{get_or_from_slice_get}
 use Rattle.std.proofs.lemmas.List.Elements.{All-get_or}
-use Rattle.kv_types.specs.{BatchContent}
-use Rattle.chain_model.specs.{place, Message as ModelFrame}
+use Rattle.kv_types.specs.{BatchContent, place}
+use Rattle.chain_model.specs.{Message as ModelFrame}
 use Rattle.lab.specs.declared.delivery.Posted.{Posted}
 use Rattle.lab.specs.Worlds.{PostedRefines}
 

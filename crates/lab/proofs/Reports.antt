@@ -4,11 +4,12 @@ use Rattle.std.specs.Prelude.{All, IfOk, Result, Ok, Err}
 use Rattle.std.specs.List.{AllZip, flat_map}
 use Rattle.std.proofs.lemmas.List.Elements.{All-weaker, recursion_from_All}
 use Rattle.kv_types.specs.declared.Limits.{Limits}
-use Rattle.kv_types.specs.{BatchContent}
+use Rattle.kv_types.specs.{BatchContent, has, IsPrefix}
 use Rattle.kv_types.specs.Pages.{PagesAgree}
 use Rattle.disk.specs.{Slots}
-use Rattle.chain_model.specs.{Configurations, has, last_of, ResponseAgrees, OneList, batches}
-use Rattle.chain_model.specs.{IsPrefix, RunIsOutcomes, Response, Outcome, submitted}
+use Rattle.configurations.specs.{Configurations, last_of}
+use Rattle.chain_model.specs.{ResponseAgrees, OneList, batches}
+use Rattle.chain_model.specs.{RunIsOutcomes, Response, Outcome, submitted}
 use Rattle.chain_model.specs.{SystemEvent as ModelEvent}
 use Rattle.chain_model.specs.{outcomes, first_state, reached, node_of}
 use Rattle.chain_core.specs.{Machine}

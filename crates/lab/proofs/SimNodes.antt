@@ -6,9 +6,9 @@ use Rattle.std.specs.List.{AllByRecursion}
 use Rattle.std.specs.Prelude.{All}
 use Rattle.std.proofs.lemmas.Bool.{cond_both, cond-true, cond-false, false≢true}
 use Rattle.std.proofs.lemmas.List.Elements.{All-get_or, recursion_from_All}
-use Rattle.kv_types.specs.{BatchContent}
+use Rattle.kv_types.specs.{BatchContent, has, AllDifferent}
 use Rattle.disk.specs.declared.disk.Disk.{Ghosts}
-use Rattle.chain_model.specs.{has, AllDifferent, SystemState, Outcome, after}
+use Rattle.chain_model.specs.{SystemState, Outcome, after}
 use Rattle.chain_core.specs.{Machine}
 use Rattle.lab.specs.declared.sim_node.SimNode.{SimNode}
 use Rattle.lab.specs.SimNodes.{StateRefines, disk_in}

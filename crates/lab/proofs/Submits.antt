@@ -2,7 +2,7 @@
 use Rattle.std.proofs.Common.{◌≡◌, inl, inr, ℕ, suc, ◌+◌, ◌<◌, List, [], ◌∷◌, Some}
 use Rattle.std.proofs.Common.{All, AllPairs, refl, sym, ap, subst, ◌∙◌, arith}
 use Rattle.kv_types.specs.OrderLemmas.{Among, All-among, AllPairs-rises, Rises}
-use Rattle.chain_model.specs.{Part, place}
+use Rattle.kv_types.specs.{Part, place}
 use Rattle.lab.specs.declared.event.Event.{Event}
 use Rattle.lab.specs.declared.event.EventKind.{EventKind}
 use Rattle.lab.specs.declared.event.EventKind.TheVariants.{Submit}

@@ -7,7 +7,8 @@ use Rattle.kv_types.specs.{BatchContent}
 use Rattle.disk.specs.declared.Disk.{Ghosts}
 use Rattle.disk.specs.declared.Fault.{Fault}
 use Rattle.chain_model.specs.declared.DropReason.TheVariants as reason
-use Rattle.chain_model.specs.{Answered, Configurations, Outcome, StoppedAfter, StoppedBefore}
+use Rattle.configurations.specs.{Configurations}
+use Rattle.chain_model.specs.{Answered, Outcome, StoppedAfter, StoppedBefore}
 use Rattle.chain_model.specs.{StepResult, SystemState, answers, as_completed, dropped_for, outcome}
 use Rattle.chain_model.specs.{stopped, stops}
 use Rattle.chain_model.specs.Rules.{tend}

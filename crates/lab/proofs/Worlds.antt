@@ -11,9 +11,9 @@ use Rattle.std.proofs.lemmas.List.Elements.{recursion_from_All, All-from_recursi
 use Rattle.std.proofs.lemmas.Slice.Zip.{AllZip-long}
 use Rattle.kv_types.specs.declared.bounds.TheConstants.{MAX_NUMBER}
 use Rattle.kv_types.specs.declared.Limits.{Limits}
-use Rattle.kv_types.specs.{BatchContent}
+use Rattle.kv_types.specs.{BatchContent, AllDifferent, has}
 use Rattle.disk.specs.declared.Junk.{Junk}
-use Rattle.chain_model.specs.{Configurations, Lawful, AllDifferent, has, at_epoch}
+use Rattle.configurations.specs.{Configurations, Lawful, at_epoch}
 use Rattle.chain_model.specs.{Message as ModelFrame, InOrder, SystemEvent as ModelEvent}
 use Rattle.chain_model.specs.{SystemState, Outcome, reached, first_state, outcome}
 use Rattle.chain_model.specs.{state_after, after, nothing}

@@ -1,7 +1,7 @@
 -- What an event delivers to a simulated node: the node's id and its input.
 use Rattle.std.specs.Prelude.{◌≡◌, ℕ, ◌<◌, ◌≤◌, List, length, Some, None}
-use Rattle.kv_types.specs.{BatchContent}
-use Rattle.chain_model.specs.{Configurations, at_epoch, place}
+use Rattle.kv_types.specs.{BatchContent, place}
+use Rattle.configurations.specs.{Configurations, at_epoch}
 use Rattle.chain_model.specs as model_frame
 use Rattle.link_messages.specs.declared.Frame.{Frame}
 use Rattle.chain_core.specs.declared.Input.TheVariants as input

@@ -10,7 +10,7 @@ use Rattle.disk.specs.declared.Junk.{Junk}
 use Rattle.disk.specs.declared.Junk.TheVariants.{Old}
 use Rattle.disk.specs.declared.Mark.TheVariants.{Armed, Crashed}
 use Rattle.disk.specs.{AddsMoment, CrashOutcome, IsLastLeft, Marks, State, struck_call}
-use Rattle.chain_model.specs.{Configurations, at_epoch}
+use Rattle.configurations.specs.{Configurations, at_epoch}
 use Rattle.chain_model.specs as model
 use Rattle.chain_core.specs.{Machine}
 use Rattle.node.specs.declared.Stop.TheVariants.{Disk}

@@ -1,10 +1,10 @@
 -- The last disks of a run tell the faults of its events.
 use Rattle.std.specs.Prelude.{◌≡◌, ℕ, zero, suc, List, [], ◌∷◌, ◌⊎◌, Bool, Some, None, true}
-use Rattle.kv_types.specs.{BatchContent}
+use Rattle.kv_types.specs.{BatchContent, has}
 use Rattle.disk.specs.declared.Fault.{Fault}
 use Rattle.disk.specs.declared.Junk.{Junk}
 use Rattle.disk.specs.{IsLastLeft, IsSame, Slots, past_states, struck_call}
-use Rattle.chain_model.specs.{Configurations, at_epoch, has}
+use Rattle.configurations.specs.{Configurations, at_epoch}
 use Rattle.chain_model.specs as model
 use Rattle.chain_core.specs.{Machine}
 use Rattle.lab.specs.declared.event.Event.{Event}

@@ -2,7 +2,7 @@
 use Rattle.std.specs.Prelude.{◌≡◌, ◌⊎◌, ℕ, suc, ◌≤◌, List, [], ◌∷◌, ◌++◌, length, take, None}
 use Rattle.std.specs.Prelude.{true, All}
 use Rattle.kv_types.specs.{BatchContent, Span}
-use Rattle.chain_model.specs.{Configurations, is_tail, last_of}
+use Rattle.configurations.specs.{Configurations, is_tail, last_of}
 use Rattle.chain_model.specs as model
 use Rattle.chain_model.specs.Freshness.{ReadsFresh}
 use Rattle.chain_model.specs.Retention.{KeepsEnough}

@@ -1,10 +1,11 @@
 -- The headline: one list of batches of which clients see beginnings, and which the disks hold.
 use Rattle.std.specs.Prelude.{◌≡◌, ℕ, ◌<◌, ◌≤◌, List, length, take, Some, true, All}
 use Rattle.std.specs.List.{AllPairs, AllZip}
-use Rattle.kv_types.specs.{BatchContent, map_of}
+use Rattle.kv_types.specs.{BatchContent, map_of, IsPrefix, place, has}
 use Rattle.kv_types.specs.Pages.{IsPage}
 use Rattle.disk.specs.{State, Contents, IsCrashOutcome}
-use Rattle.chain_model.specs.{IsPrefix, place, Configurations, has, last_of, batches}
+use Rattle.configurations.specs.{Configurations, last_of}
+use Rattle.chain_model.specs.{batches}
 use Rattle.node.specs.{DiskRepresents}
 use Rattle.node.specs.declared.Reply.TheVariants as reply
 use Rattle.lab.specs.declared.event.Event.{Event}

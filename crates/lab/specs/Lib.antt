@@ -12,8 +12,7 @@ pub mod Runs
 pub mod History
 pub mod Worlds
 pub mod FaultMarks
-pub use Rattle.chain_model.specs.Configuration
-pub use Rattle.chain_model.specs.Machine
+pub use Rattle.configurations.specs.NodeLists
 pub use Rattle.configurations.specs.Configs
 pub use Rattle.configurations.specs.declared.error.ConfigError
 pub use Rattle.chain_model.specs.declared.drop_reason.DropReason

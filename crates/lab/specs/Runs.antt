@@ -1,6 +1,6 @@
 -- The report of a run, and the run of the model that it refines.
 use Rattle.std.specs.Prelude.{◌≡◌, ℕ, List, Option, Some, None, true, false, All}
-use Rattle.chain_model.specs.{Configurations}
+use Rattle.configurations.specs.{Configurations}
 use Rattle.disk.specs.{Slots}
 use Rattle.chain_model.specs as model
 use Rattle.chain_core.specs.{Machine}

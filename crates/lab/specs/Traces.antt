@@ -1,7 +1,7 @@
 -- Events and the lines of each, as a run of the model by what was chosen in each.
 use Rattle.std.specs.Prelude.{◌≡◌, ℕ, suc, List, [], ◌∷◌, length}
 use Rattle.kv_types.specs.{BatchContent}
-use Rattle.chain_model.specs.{Configurations}
+use Rattle.configurations.specs.{Configurations}
 use Rattle.chain_model.specs as model
 use Rattle.lab.specs.declared.event.Event.{Event}
 use Rattle.lab.specs.declared.report.Line.{Line}

@@ -1,8 +1,7 @@
 -- What an event asks of the carrier: a request or a frame, and then the replies of its node.
 use Rattle.std.specs.Prelude.{ℕ, List, [], ◌∷◌, ◌++◌, length, Option, Some, None, Bool, not}
 use Rattle.std.specs.Prelude.{true, false}
-use Rattle.kv_types.specs.{BatchContent}
-use Rattle.chain_model.specs.{place}
+use Rattle.kv_types.specs.{BatchContent, place}
 use Rattle.chain_model.specs as model_frame
 use Rattle.link_messages.specs.declared.Frame.TheVariants as frame
 use Rattle.link_messages.specs.{frame_bytes}

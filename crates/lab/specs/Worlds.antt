@@ -6,7 +6,7 @@ use Rattle.std.specs.Prelude.{All, true, false, ◌≢◌, ◌<◌, get_or, slic
 use Rattle.std.specs.List.{AllZip, HoldsAt}
 use Rattle.kv_types.specs.declared.Limits.{Limits}
 use Rattle.kv_types.specs.{BatchContent}
-use Rattle.chain_model.specs.{Configurations, Lawful, at_epoch, created}
+use Rattle.configurations.specs.{Configurations, Lawful, at_epoch}
 use Rattle.chain_model.specs as model_frame
 use Rattle.disk.specs.declared.Fault.{Fault}
 use Rattle.disk.specs.declared.Junk.{Junk}
@@ -136,7 +136,7 @@ module _ {D : Type 0} {g : Ghosts D} where
   -- a node that was just created with this configuration: no call of its disk failed, and it was
   -- armed with no fault
   pub record IsCreated (config : List ℕ) (sim : SimNode D g) : Type 0 where
-    pub is : StateRefines g.is_honest g.state sim.state sim.id (created config)
+    pub is : StateRefines g.is_honest g.state sim.state sim.id (model_frame.created config)
     pub count : g.failures (disk_in sim.state) ≡ 0
     pub marked : IsNewDisk g (disk_in sim.state)
 

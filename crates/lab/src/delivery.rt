@@ -2,7 +2,8 @@
 ghost use Rattle.std.specs.Prelude.{◌≡◌, ◌↔◌, ℕ, List, IfOk, MatchOption};
 ghost use Rattle.std.specs.List.{AllZip};
 ghost use Rattle.kv_types.specs.{BatchContent};
-ghost use Rattle.chain_model.specs.{Configurations, Message as ModelFrame};
+ghost use Rattle.configurations.specs.{Configurations};
+ghost use Rattle.chain_model.specs.{Message as ModelFrame};
 ghost use Rattle.carriers.specs.{DeliveryWasLost, HasCarriedMore, delivery_lost};
 ghost use Rattle.lab.specs.Deliveries.{HasNoFrame, IsDeliverable, IsPostedAt};
 ghost use Rattle.lab.specs.Transmissions.{frame_sent};

@@ -2,7 +2,8 @@
 ghost use Rattle.std.specs.Prelude.{◌≡◌, ℕ, IfOk, IfSome, IsErr, MatchOption, MatchResult};
 ghost use Rattle.std.specs.Prelude.{◌∷◌, ◌++◌, [], List, OnErr, OnOk, false, true};
 ghost use Rattle.std.specs.List.{AllZip};
-ghost use Rattle.chain_model.specs.{Lawful, at_epoch, has};
+ghost use Rattle.configurations.specs.{Lawful, at_epoch};
+ghost use Rattle.kv_types.specs.{has};
 ghost use Rattle.lab.specs.SimNodes.{StateHasLimits};
 ghost use Rattle.lab.specs.Runs.{AreNumbersOf, IsRunOver};
 ghost use Rattle.lab.specs.History.{OneHistory};
@@ -26,9 +27,7 @@ use carriers::{Delivery, NodeInput};
 use chain_model::{in_order, keeps_enough, one_history, reads_fresh, run_is_outcomes};
 use configurations::{Config, Configs, NodeId};
 use disk::{Crash, Disk, Fault, MemDisk};
-use kv_types::laws::pages_agree;
 use kv_types::{Batch, Limits, Number};
-use node::laws::disks_represent;
 use node::{Node, Numbers, Stop};
 use std::alloc::{AllocError, Global};
 
@@ -209,7 +208,7 @@ impl<C: Carrier + Drop> World<MemDisk, C> {
         one_history::<Batch>();
         run_is_outcomes::<Batch>();
         // law: the page as a function is the page of a map
-        pages_agree();
+        kv_types::laws::pages_agree();
         Ok(Report { steps, nodes })
     }
 }
@@ -306,9 +305,9 @@ impl<D: Disk + Drop, C: Carrier + Drop> World<D, C> {
         one_history::<Batch>();
         run_is_outcomes::<Batch>();
         // law: the page as a function is the page of a map
-        pages_agree();
+        kv_types::laws::pages_agree();
         // law: the disk of a running node represents it
-        disks_represent::<D>();
+        node::laws::disks_represent::<D>();
         &self.steps
     }
 

@@ -7,14 +7,13 @@ use Rattle.std.specs.List.{flat_map, sum_by}
 use Rattle.std.specs.Prelude.{IsSomeAnd, option_map}
 use Rattle.std.specs.Int.{w8, w16, w32, w64}
 use Rattle.std.proofs.lemmas.Bool.{leb-true, le-leb}
-use Rattle.chain_model.specs.{IsId}
-use Rattle.configurations.specs.{IsConfig, TestDecidesConfig, is_config, config_text}
+use Rattle.configurations.specs.{IsConfig, TestDecidesConfig, is_config, config_text, IsId}
 use Rattle.kv_types.specs.declared.bounds.TheConstants.{MAX_KEY, MAX_VALUE, MAX_ROWS, MAX_PAGE}
 use Rattle.kv_types.specs.declared.bounds.TheConstants.{MAX_NUMBER}
-use Rattle.kv_types.specs.{text_bytes, IsBatch, batch_bytes as batch_text, row_size, ◌>>=◌, text_at}
-use Rattle.kv_types.specs.{batch_at}
-use Rattle.kv_types.specs.FieldsLemmas.{IsBytes, bind_some, some_is}
-use Rattle.kv_types.specs.FieldsLemmas.{BeginsWith, text_begins, text_again}
+use Rattle.kv_types.specs.{IsBatch, batch_bytes as batch_text, row_size, batch_at}
+use Rattle.byte_fields.specs.{text_bytes, ◌>>=◌, text_at, only, number_at}
+use Rattle.byte_fields.specs.FieldsLemmas.{IsBytes, bind_some, some_is}
+use Rattle.byte_fields.specs.FieldsLemmas.{BeginsWith, text_begins, text_again}
 use Rattle.kv_types.specs.BatchesLemmas.{batch_begins, front_again}
 use Rattle.chain_model.specs.declared.Refusal.{Refusal}
 use Rattle.chain_model.specs.declared.Refusal.TheVariants as refused
@@ -22,7 +21,6 @@ use Rattle.link_messages.specs.Spelling.{u8, u16, u32, u64, optional, at_text}
 use Rattle.link_messages.specs.Spelling.{range_text, row_text, page_text, refusal_number, IsEpoch}
 use Rattle.link_messages.specs.Spelling.{IsNumber}
 use Rattle.link_messages.specs.Spelling.{IsPlace, IsKey, IsValue, IsRange, IsRow, IsSmall}
-use Rattle.byte_fields.specs.{only, number_at}
 use Rattle.link_messages.specs.Reading.{epoch_at, id_at}
 use Rattle.link_messages.specs.Reading.{count_at, place_at, at_at, found_at, bound_at, limit_at}
 use Rattle.link_messages.specs.Reading.{range_at, as_range, row_at, as_row, rows_at, page_at}

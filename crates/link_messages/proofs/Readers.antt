@@ -3,11 +3,10 @@ use Rattle.std.proofs.Common.{◌≡◌, ℕ, zero, suc, Bool, true, false, cond
 use Rattle.std.proofs.Common.{List}
 use Rattle.std.proofs.Common.{[], ◌∷◌, ◌++◌, Option, Some, None, IfSome, refl}
 use Rattle.std.proofs.Common.{ap, subst}
-use Rattle.kv_types.specs.{◌>>=◌}
-use Rattle.kv_types.specs.FieldsLemmas.{IsBytes, IsBytes-rest, bind_some, some_is, BeginsWith}
-use Rattle.kv_types.specs.FieldsLemmas.{BeginsWith-then}
+use Rattle.byte_fields.specs.{◌>>=◌, Reader, mapped}
+use Rattle.byte_fields.specs.FieldsLemmas.{IsBytes, IsBytes-rest, bind_some, some_is, BeginsWith}
+use Rattle.byte_fields.specs.FieldsLemmas.{BeginsWith-then}
 use Rattle.link_messages.specs.Spelling.{truth, optional}
-use Rattle.byte_fields.specs.{Reader, mapped}
 use Rattle.link_messages.specs.Reading.{truth_at}
 use Rattle.link_messages.specs.Reading.{optional_at}
 use Rattle.byte_fields.specs.ReadersLemmas.{Reads}

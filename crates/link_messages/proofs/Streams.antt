@@ -13,7 +13,7 @@ use Rattle.std.proofs.lemmas.List.Elements.{All-from_recursion, recursion_from_A
 use Rattle.std.proofs.lemmas.Nat.{be_bytes_4, from_be_bytes-to_be_bytes_4}
 use Rattle.byteorder.specs.Endian.{big_number}
 use Rattle.configurations.specs.{TestDecidesConfig}
-use Rattle.kv_types.specs.FieldsLemmas.{IsBytes}
+use Rattle.byte_fields.specs.FieldsLemmas.{IsBytes}
 use Rattle.link_messages.specs.declared.error.FrameError.{FrameError}
 use Rattle.link_messages.specs.declared.error.FrameError.TheVariants as fault
 use Rattle.link_messages.specs.declared.frame.Frame.{Frame}

@@ -5,12 +5,12 @@ use Rattle.std.specs.Prelude.{Result, Ok, Err, if◌then◌else◌}
 use Rattle.std.specs.Global.{Vec}
 use Rattle.std.specs.List.{sum_by}
 use Rattle.std.specs.Int.{w8, w16, w32, w64}
-use Rattle.byte_fields.specs.{Reader, both, mapped, only, counted, number_at}
+use Rattle.byte_fields.specs.{Reader, both, mapped, only, counted, number_at, ◌>>=◌, text_at}
 use Rattle.configurations.specs.{is_config}
 use Rattle.kv_types.specs.declared.bounds.TheConstants.{MAX_KEY, MAX_VALUE, MAX_ROWS, MAX_PAGE}
 use Rattle.kv_types.specs.declared.bounds.TheConstants.{MAX_NUMBER}
 use Rattle.kv_types.specs.declared.Row.{Row}
-use Rattle.kv_types.specs.{Span, Rows, row_size, ◌>>=◌, text_at, batch_at}
+use Rattle.kv_types.specs.{Span, Rows, row_size, batch_at}
 use Rattle.chain_model.specs.declared.Refusal.{Refusal}
 use Rattle.chain_model.specs.declared.Refusal.TheVariants as refused
 use Rattle.link_messages.specs.declared.frame.Frame.{Frame}

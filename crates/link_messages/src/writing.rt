@@ -1,6 +1,6 @@
 // Each kind of frame, written as bytes.
 ghost use Rattle.std.specs.Prelude.{◌≡◌, ◌≤◌, ◌++◌, OnOk, IfOk, IfSome};
-ghost use Rattle.chain_model.specs.{IsId};
+ghost use Rattle.configurations.specs.{IsId};
 ghost use Rattle.kv_types.specs.{IsBatch, batch_bytes as batch_text};
 ghost use Rattle.link_messages.specs.Spelling.{u8, u16, u32, u64, at_text, kind, fields};
 ghost use Rattle.link_messages.specs.Spelling.{frame_bytes};

@@ -21,7 +21,7 @@ use Rattle.manifest.specs.Slots.{SlotsAreLeft, SlotsRepresent, ManifestRepresent
 use Rattle.manifest.specs.Holds.{SlotsHold}
 use Rattle.manifest.specs.Manifests.{IsRewritten, ManifestHolds, ManifestHasFailed}
 use Rattle.manifest.proofs.Records.{has_old}
-use Rattle.chain_model.specs.{IsId}
+use Rattle.configurations.specs.{IsId}
 use Rattle.version_edits.specs.VersionsLemmas.{after_push, fit_push, map_push}
 
 pub not_empty : (changes : List Change) (one : Change) → (changes ++ one ∷ []) ≢ []

@@ -5,7 +5,7 @@ use Rattle.std.proofs.Common.{◌∙◌, length-append, Result, Ok, Err, inr}
 use Rattle.std.specs.Prelude.{MatchResult, ◌⊎◌}
 use Rattle.std.proofs.lemmas.List.{nil_from_length}
 use Rattle.std.specs.Int.{w16, w64, to_be_bytes}
-use Rattle.kv_types.specs.FieldsLemmas.{IsBytes, IsBytes-rest}
+use Rattle.byte_fields.specs.FieldsLemmas.{IsBytes, IsBytes-rest}
 use Rattle.byte_fields.specs.{number_at}
 use Rattle.byte_fields.specs.ReadersLemmas.{number_reads, wide16, wide64}
 use Rattle.manifest.specs.Slots.{slot_head}

@@ -9,3 +9,4 @@ pub mod Heads
 pub mod VersionIsOne
 pub mod Opened
 pub mod Outlasting
+pub mod Looks

@@ -3,7 +3,7 @@ use Rattle.std.proofs.Common.{◌≡◌, ℕ, ◌<◌, List, [], ◌∷◌, take
 use Rattle.std.proofs.Common.{Bool, Option, Some, None, refl, sym, ap, subst, ◌∙◌, arith, inl, inr}
 use Rattle.std.specs.Prelude.{IsNone, IsSomeAnd, ◌⊎◌}
 use Rattle.std.proofs.lemmas.Bool.{cases_eq}
-use Rattle.chain_model.specs.{IsId}
+use Rattle.configurations.specs.{IsId}
 use Rattle.disk.specs.{AddsNoOutcome, Contents, IsFileOutcome, IsSame, Kept, Slot, State}
 use Rattle.disk.specs.{IsEnvironmental, seen}
 use Rattle.disk.specs.StepsLemmas.{read_is_outcome, sure_left}

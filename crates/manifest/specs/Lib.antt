@@ -9,6 +9,7 @@ pub mod Heads
 pub mod Opening
 pub mod Laws
 pub mod Examples
+pub mod Creations
 -- What crates above name.
 pub use Rattle.version_edits.specs.Edits
 pub use Rattle.version_edits.specs.Lawful
@@ -18,6 +19,7 @@ pub use Rattle.version_edits.specs.{Change, EditsKeepVersions, IsChange, IsFit, 
 pub use Rattle.version_edits.specs.{IsTableLine, IsVersion, NodeVersion, StoreVersion}
 pub use Rattle.version_edits.specs.{change_text, changed, first_version, node_version_after}
 pub use Rattle.manifest.specs.Changes.{IsBeforeOrAfter}
+pub use Rattle.manifest.specs.Creations.{FindsWhether, HasOnlyCreationFiles, OnlyLooks, WasCutShort}
 pub use Rattle.manifest.specs.Laws.{HeldVersionIsLeft, HeldVersionStays, VersionIsOne}
 pub use Rattle.manifest.specs.Laws.{VersionsAreLawful}
 pub use Rattle.manifest.specs.Holds.{first_slot}

@@ -1,7 +1,7 @@
 -- An open manifest, and the version that its slots represent.
 use Rattle.std.specs.Prelude.{◌≡◌, ◌≢◌, ℕ, ◌+◌, ◌≤◌, List, [], ◌∷◌, length, map, All}
 use Rattle.std.specs.Prelude.{IsSomeAnd, IsTrue}
-use Rattle.chain_model.specs.{IsId}
+use Rattle.configurations.specs.{IsId}
 use Rattle.disk.specs.{Contents, EndsOutOfRange, State, seen}
 use Rattle.record_log.specs.declared.log.TheConstants.{MAX_RECORD}
 use Rattle.record_log.specs.{HasNoRoom, IsDurableAs, file_of, first_length, gate_of}

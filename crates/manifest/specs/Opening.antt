@@ -1,6 +1,6 @@
 -- Slots that are opened.
 use Rattle.std.specs.Prelude.{◌≡◌, ℕ, List, MatchResult, Result, Some, map}
-use Rattle.chain_model.specs.{IsId}
+use Rattle.configurations.specs.{IsId}
 use Rattle.disk.specs.{State, Contents}
 use Rattle.record_log.specs.{IsDurableAs}
 use Rattle.manifest.specs.declared.error.ManifestError.{ManifestError}

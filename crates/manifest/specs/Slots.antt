@@ -3,7 +3,7 @@ use Rattle.std.specs.Prelude.{◌≡◌, ◌≢◌, ◌⊎◌, ℕ, ◌-◌, ◌
 use Rattle.std.specs.Prelude.{Option, IsSomeAnd, All}
 use Rattle.std.specs.Int.{w16, w64, to_be_bytes}
 use Rattle.kv_types.specs.declared.bounds.TheConstants.{MAX_NUMBER}
-use Rattle.chain_model.specs.{IsId}
+use Rattle.configurations.specs.{IsId}
 use Rattle.disk.specs.{State, Contents, IsFileOutcome, seen}
 use Rattle.record_log.specs.{IsClosed, Represents}
 use Rattle.version_edits.specs.{NodeVersion, Change, empty, AreFit, after_all}

@@ -2,6 +2,7 @@
 //! has. At every moment of a change they represent the old version or the new one.
 #![tactic(auto)]
 
+mod creations;
 mod error;
 mod head;
 pub mod laws;
@@ -10,6 +11,7 @@ mod opening;
 mod replace;
 mod slot_pair;
 
+pub use creations::has_only_creation_files;
 pub use error::ManifestError;
 pub use manifest::Manifest;
 pub use version_edits::{

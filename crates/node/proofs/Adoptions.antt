@@ -2,7 +2,7 @@
 use Rattle.std.proofs.Common.{◌≡◌, ◌<◌, ◌++◌, ℕ, List, [], sym, ap, subst, ◌∙◌, arith}
 use Rattle.std.specs.Prelude.{IsTrue}
 use Rattle.kv_types.specs.{BatchContent}
-use Rattle.chain_model.specs.Configuration.{leaves_out}
+use Rattle.configurations.specs.NodeLists.{leaves_out}
 use Rattle.disk.specs.declared.Disk.{Ghosts}
 use Rattle.disk.specs.{AlwaysLeaves}
 use Rattle.chain_core.specs.declared.Done.TheVariants as done

@@ -6,7 +6,7 @@ use Rattle.std.proofs.Common.{arith, refl, sym, ap, subst, true, ◌∙◌}
 use Rattle.std.specs.Prelude.{◌⊎◌, IsErrOf, Result, Ok, Err, IsErrAnd, MatchResult, OnOk}
 use Rattle.std.specs.declared.alloc.AllocError.{AllocError}
 use Rattle.engine.specs.{IsCloseAnswer, IsOpenAnswer, IsReadableAnswer, LookUps, MayOpen}
-use Rattle.chain_model.specs.Machine.{is_open}
+use Rattle.kv_types.specs.Snapshots.{is_open}
 use Rattle.std.proofs.lemmas.Bool.{true≢false}
 use Rattle.engine.specs.EngineError.TheVariants as engine
 use Rattle.kv_types.specs.declared.bounds.TheConstants.{MAX_NUMBER}

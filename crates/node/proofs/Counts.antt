@@ -5,9 +5,10 @@ use Rattle.std.specs.Prelude.{if◌then◌else◌}
 use Rattle.std.proofs.lemmas.List.{append-nil}
 use Rattle.std.proofs.Common.{replicate, length-append}
 use Rattle.std.proofs.lemmas.List.{length-replicate}
-use Rattle.kv_types.specs.{BatchContent}
+use Rattle.kv_types.specs.{BatchContent, place}
 use Rattle.engine.specs.{Facts}
-use Rattle.chain_model.specs.{place, Answer, Response, ack, forward, is_tail}
+use Rattle.configurations.specs.{is_tail}
+use Rattle.chain_model.specs.{Answer, Response, ack, forward}
 use Rattle.chain_core.specs.declared.Done.{Done}
 use Rattle.chain_core.specs.declared.Done.TheVariants as done
 use Rattle.chain_core.specs.declared.PendingSubmit.{PendingSubmit}

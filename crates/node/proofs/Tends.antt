@@ -7,7 +7,7 @@ use Rattle.std.proofs.lemmas.List.Elements.{All-weaker, recursion_from_All}
 use Rattle.disk.specs.declared.Disk.{Ghosts}
 use Rattle.disk.specs.{AlwaysLeaves, Contents}
 use Rattle.disk.specs.MomentsLemmas.{weaker}
-use Rattle.chain_model.specs.Machine.{least}
+use Rattle.kv_types.specs.Snapshots.{least}
 use Rattle.chain_model.specs.Rules.{tend}
 use Rattle.chain_core.specs.{Core, CoreRefines, HasOrderedNumbers, IsRiseOf, Machine}
 use Rattle.engine.specs.declared.Engine.{Engine}

@@ -3,7 +3,7 @@ ghost use Rattle.std.specs.Prelude.{◌≡◌, ◌<◌, IsTrue, MatchResult};
 ghost use Rattle.disk.specs.{IsEnvironmental};
 ghost use Rattle.kv_types.specs.declared.bounds.TheConstants.{MAX_NUMBER};
 ghost use Rattle.chain_model.specs.{forwards};
-ghost use Rattle.chain_model.specs.Machine.{is_open};
+ghost use Rattle.kv_types.specs.Snapshots.{is_open};
 ghost use Rattle.chain_core.specs.{AreFrames, CoreRefines, DecisionFits, HasRoomAt, IsAdoptable};
 ghost use Rattle.chain_core.specs.{IsReport, Machine, done_of};
 ghost use Rattle.engine.specs.{EngineHolds};

@@ -1,9 +1,10 @@
 // The output of a step, from a node's numbers and the results of its store.
 ghost use Rattle.std.specs.Prelude.{◌≡◌, ℕ, [], ◌∷◌, ◌++◌, List, map, take, Option};
 ghost use Rattle.std.specs.Prelude.{IfOk, OnOk, option_to_list, if◌then◌else◌, Some};
-ghost use Rattle.kv_types.specs.{BatchContent, Span, map_of};
+ghost use Rattle.kv_types.specs.{BatchContent, Span, map_of, place};
 ghost use Rattle.kv_types.specs.Pages.{page_of};
-ghost use Rattle.chain_model.specs.{Message, place, dropped_for, refused, ack, forward, is_tail};
+ghost use Rattle.configurations.specs.{is_tail};
+ghost use Rattle.chain_model.specs.{Message, dropped_for, refused, ack, forward};
 ghost use Rattle.chain_model.specs.{reply_read, ack_duplicate};
 ghost use Rattle.chain_core.specs.{Machine, CoreRefines, AreFrames};
 ghost use Rattle.node.specs.Outputs.{OutputHas, OutputRefines, acks_after, committed_reply};

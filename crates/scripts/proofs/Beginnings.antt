@@ -18,7 +18,7 @@ use Rattle.script_words.specs.Lines.{script_lines}
 use Rattle.scripts.specs.Faults.{script_fault, start, numbered_fault, line_fault, after_line}
 use Rattle.scripts.specs.Faults.{IsReported}
 use Rattle.scripts.specs.Beginnings.{HasExtent, IsFaulty}
-use Rattle.lab.specs.Configuration.{has}
+use Rattle.kv_types.specs.{has}
 
 -- ---- a text grows by one byte
 

@@ -6,7 +6,8 @@ use Rattle.std.specs.Prelude.{All, IfSome, ◌||◌}
 use Rattle.std.proofs.lemmas.List.Elements.{All-nil, All-cons}
 use Rattle.std.proofs.lemmas.Grind.{common_steps}
 use Rattle.std.specs.Option.{option_map_or}
-use Rattle.lab.specs.Configuration.{Configurations, at_epoch, has}
+use Rattle.kv_types.specs.{has}
+use Rattle.lab.specs.NodeLists.{Configurations, at_epoch}
 use Rattle.lab.specs.{NamesNode, node_in}
 use Rattle.script_words.specs.declared.limits.ScriptLimits.{ScriptLimits}
 use Rattle.scripts.specs.declared.setup.Setup.{Setup}

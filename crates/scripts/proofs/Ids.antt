@@ -6,7 +6,7 @@ use Rattle.std.specs.List.{list_all}
 use Rattle.std.specs.Fmt.{decimal}
 use Rattle.std.proofs.lemmas.Bool.{cases_Bool}
 use Rattle.std.proofs.lemmas.List.Elements.{All-head, All-tail}
-use Rattle.lab.specs.Configuration.{IsId}
+use Rattle.lab.specs.NodeLists.{IsId}
 use Rattle.lab.specs.Configs.{IsConfig, TestDecidesConfig, is_config}
 use Rattle.lab.specs.ConfigError.{ConfigError}
 use Rattle.script_words.specs.declared.error.ScriptError.{ScriptError}

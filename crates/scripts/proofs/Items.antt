@@ -5,7 +5,7 @@ use Rattle.std.specs.Prelude.{nat_lt, Result}
 use Rattle.std.specs.Option.{option_map_or}
 use Rattle.std.specs.Str.{bytes_eq}
 use Rattle.kv_types.specs.declared.KvError.{KvError}
-use Rattle.lab.specs.Configuration.{Configurations}
+use Rattle.lab.specs.NodeLists.{Configurations}
 use Rattle.lab.specs.declared.EventKind.{EventKind}
 use Rattle.script_words.specs.declared.error.ScriptError.{ScriptError}
 use Rattle.scripts.specs.declared.statement.Action.{Action}

@@ -7,10 +7,9 @@ use Rattle.std.specs.Fmt.{decimal}
 use Rattle.std.specs.List.{list_all}
 use Rattle.std.proofs.lemmas.Bool.{and_parts, cases_Bool}
 use Rattle.std.proofs.lemmas.Bool.Decides.{nat_tests}
-use Rattle.chain_model.specs.Lists.{Part}
+use Rattle.kv_types.specs.{Part, is_part, has}
 use Rattle.configurations.specs.Refusals.{ListHas}
-use Rattle.lab.specs.Configuration.{Configurations, Lawful, Shrinks, at_epoch, is_part, last_of}
-use Rattle.lab.specs.Configuration.{leaves_out, has}
+use Rattle.lab.specs.NodeLists.{Configurations, Lawful, Shrinks, at_epoch, last_of, leaves_out}
 use Rattle.lab.specs.Configs.{IsConfig, TestDecidesConfig, is_config}
 use Rattle.lab.specs.ConfigError.{ConfigError}
 use Rattle.script_words.specs.declared.error.ScriptError.{ScriptError}

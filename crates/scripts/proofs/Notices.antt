@@ -5,7 +5,7 @@ use Rattle.std.specs.Prelude.{nat_lt, Bool}
 use Rattle.std.specs.Fmt.{decimal}
 use Rattle.std.specs.Option.{option_map_or}
 use Rattle.std.proofs.lemmas.Bool.Decides.{nat_tests}
-use Rattle.lab.specs.Configuration.{Configurations}
+use Rattle.lab.specs.NodeLists.{Configurations}
 use Rattle.lab.specs.Fault.{Fault}
 use Rattle.lab.specs.declared.EventKind.TheVariants.{Notice}
 use Rattle.script_words.specs.declared.error.ScriptError.{ScriptError}

@@ -5,7 +5,7 @@ use Rattle.std.specs.Prelude.{if◌then◌else◌, ◌⊎◌, ◌||◌, Bool, Op
 use Rattle.std.specs.Str.{bytes_eq}
 use Rattle.std.specs.Fmt.{decimal}
 use Rattle.lab.specs.declared.EventKind.{EventKind}
-use Rattle.lab.specs.Configuration.{Configurations}
+use Rattle.lab.specs.NodeLists.{Configurations}
 use Rattle.script_words.specs.declared.limits.LimitName.{LimitName}
 use Rattle.script_words.specs.declared.limits.ScriptLimits.{ScriptLimits}
 use Rattle.scripts.specs.declared.setup.Setup.{Setup}

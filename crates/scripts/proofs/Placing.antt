@@ -9,7 +9,8 @@ use Rattle.std.proofs.lemmas.Grind.{common_steps}
 use Rattle.std.specs.Str.{bytes_eq}
 use Rattle.std.specs.Str.Parse.{digits_value}
 use Rattle.std.specs.Fmt.{decimal}
-use Rattle.lab.specs.Configuration.{Configurations, has, at_epoch}
+use Rattle.kv_types.specs.{has}
+use Rattle.lab.specs.NodeLists.{Configurations, at_epoch}
 use Rattle.lab.specs.Fault.{Fault}
 use Rattle.lab.specs.declared.EventKind.{EventKind}
 use Rattle.lab.specs.declared.EventKind.TheVariants.{Submit, Get, Deliver, Tick, Tend, Start, Stop}

@@ -10,7 +10,8 @@ use Rattle.std.proofs.lemmas.List.Elements.{All-head, All-tail}
 use Rattle.lab.specs.declared.EventKind.{EventKind}
 use Rattle.lab.specs.Events.{epoch_in}
 use Rattle.lab.specs.{node_in, NamesNode}
-use Rattle.lab.specs.Configuration.{Configurations, IsId, at_epoch, has}
+use Rattle.kv_types.specs.{has}
+use Rattle.lab.specs.NodeLists.{Configurations, IsId, at_epoch}
 use Rattle.lab.specs.Configs.{TestDecidesConfig}
 use Rattle.scripts.specs.declared.statement.Action.{Action}
 use Rattle.scripts.specs.declared.statement.Action.TheVariants.{Settle, Show}

@@ -4,7 +4,8 @@ use Rattle.std.specs.Prelude.{codes, Option, Some, None, Result, Ok, Err, ◌⊎
 use Rattle.std.specs.Fmt.{decimal}
 use Rattle.lab.specs.Fault.{Fault}
 use Rattle.lab.specs.declared.EventKind.{EventKind}
-use Rattle.lab.specs.Configuration.{Configurations, at_epoch, has}
+use Rattle.kv_types.specs.{has}
+use Rattle.lab.specs.NodeLists.{Configurations, at_epoch}
 use Rattle.script_words.specs.declared.error.ScriptError.{ScriptError}
 use Rattle.script_words.specs.declared.error.ScriptError.TheVariants.{OutOfMemory}
 use Rattle.scripts.specs.declared.command.Command.{Command}

@@ -2,7 +2,8 @@
 use Rattle.std.specs.Prelude.{◌≡◌, ◌⊎◌, ◌<◌, ◌^◌, ℕ, suc, Bool, true, false, ◌==◌, ◌||◌, List, []}
 use Rattle.std.specs.Prelude.{◌∷◌, ◌++◌, length, map, codes, Option, Some, None, IfSome}
 use Rattle.std.specs.Fmt.{decimal}
-use Rattle.lab.specs.Configuration.{Configurations, at_epoch, has, last_of, leaves_out}
+use Rattle.kv_types.specs.{has}
+use Rattle.lab.specs.NodeLists.{Configurations, at_epoch, last_of, leaves_out}
 use Rattle.lab.specs.declared.EventKind.{EventKind}
 use Rattle.lab.specs.Events.{epoch_in}
 use Rattle.lab.specs.Configs.{IsConfig}

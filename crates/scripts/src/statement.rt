@@ -1,7 +1,7 @@
 //! The statements of a script, and what the reader knows between two lines.
 ghost use Rattle.std.specs.Prelude.{◌≡◌, ◌++◌, ℕ, true, false, Option, Some, None};
 ghost use Rattle.std.specs.Prelude.{IfOk, MatchOption, MatchResult};
-ghost use Rattle.lab.specs.Configuration.{has};
+ghost use Rattle.kv_types.specs.{has};
 ghost use Rattle.scripts.specs.Faults.{node_fault, place_fault};
 ghost use Rattle.scripts.specs.Reading.{HasEpoch, after_item, statements_of};
 ghost use Rattle.scripts.specs.Scripts.{begins};

@@ -4,7 +4,7 @@ use Rattle.std.proofs.Common.{drop}
 use Rattle.std.proofs.Common.{Some, refl, sym, ap, subst, ◌∙◌, arith, length-append}
 use Rattle.std.specs.List.{slice_get}
 use Rattle.std.proofs.lemmas.List.Concat.{flat_map-cons}
-use Rattle.kv_types.specs.FieldsLemmas.{some_is}
+use Rattle.byte_fields.specs.FieldsLemmas.{some_is}
 use Rattle.kv_types.specs.{Entry}
 use Rattle.table_format.specs.{Block, IsBlock, TableRepresents, block_bytes, block_entries}
 use Rattle.table_format.specs.{block_line, block_lines, data_bytes}

@@ -2,7 +2,7 @@
 use Rattle.std.proofs.Common.{◌≡◌, inl, inr, ℕ, ◌<◌, List, [], ◌∷◌, ◌++◌, length, Some, None, All}
 use Rattle.std.proofs.Common.{refl, sym, subst, arith}
 use Rattle.std.proofs.lemmas.List.Elements.{recursion_from_All}
-use Rattle.kv_types.specs.FieldsLemmas.{IsBytes}
+use Rattle.byte_fields.specs.FieldsLemmas.{IsBytes}
 use Rattle.kv_types.specs.OrderLemmas.{All-among, Among}
 use Rattle.kv_types.specs.{Entry}
 use Rattle.table_format.specs.EntriesLemmas.{entry_reads}

@@ -11,7 +11,7 @@ use Rattle.std.specs.Rc.{rc_slice_items}
 use Rattle.std.specs.Global.{Global}
 use Rattle.std.specs.declared.rc.RcSlice.{RcSlice}
 use Rattle.disk.specs.{IsEnvironmental, Slot, State, seen}
-use Rattle.kv_types.specs.FieldsLemmas.{some_is}
+use Rattle.byte_fields.specs.FieldsLemmas.{some_is}
 use Rattle.kv_types.specs.OrderLemmas.{Among, Rises, rises_from_AllPairs}
 use Rattle.kv_types.specs.{Entry}
 use Rattle.merge_iter.specs.{EntryPrecedes}

@@ -10,8 +10,9 @@ use Rattle.std.proofs.lemmas.List.{drop_at, drop_all, length-map, map-append, le
 use Rattle.std.proofs.lemmas.Grind.{flat_map-append}
 use Rattle.std.proofs.lemmas.List.Concat.{flat_map-cons}
 use Rattle.std.proofs.lemmas.List.Elements.{All-from_recursion, recursion_from_All}
-use Rattle.kv_types.specs.{Entry, text_at}
-use Rattle.kv_types.specs.FieldsLemmas.{IsBytes, some_is}
+use Rattle.kv_types.specs.{Entry}
+use Rattle.byte_fields.specs.{text_at}
+use Rattle.byte_fields.specs.FieldsLemmas.{IsBytes, some_is}
 use Rattle.byte_fields.specs.Readers.{number_at}
 use Rattle.table_format.specs.Blocks.{IsBlock, IsTableEntry, be32, block_content}
 use Rattle.table_format.specs.Blocks.{digest, entries_bytes, entry_bytes}

@@ -9,7 +9,8 @@ use Rattle.std.proofs.lemmas.List.{take_all}
 use Rattle.std.proofs.lemmas.List.Concat.{flat_map-cons}
 use Rattle.std.proofs.lemmas.Grind.{flat_map-append}
 use Rattle.std.proofs.lemmas.Option.{slice_get_cases, slice_get_past}
-use Rattle.kv_types.specs.{Entry, ◌>>=◌}
+use Rattle.kv_types.specs.{Entry}
+use Rattle.byte_fields.specs.{◌>>=◌}
 use Rattle.merge_iter.specs.declared.Direction.TheVariants.{Forward, Backward}
 use Rattle.table_format.specs.{Block, block_entries, block_lines, entries_of_blocks}
 use Rattle.table_format.specs.declared.IndexLine.{IndexLine}

@@ -10,7 +10,7 @@ use Rattle.std.proofs.lemmas.List.{get_or-take, length-take, take_all}
 use Rattle.std.proofs.lemmas.List.Elements.{recursion_from_All}
 use Rattle.std.proofs.lemmas.Option.{get_or_from_slice_get, slice_get_past, slice_get_within}
 use Rattle.disk.specs.{Slot}
-use Rattle.kv_types.specs.FieldsLemmas.{some_is}
+use Rattle.byte_fields.specs.FieldsLemmas.{some_is}
 use Rattle.kv_types.specs.OrderLemmas.{Among, Rises, rises_from_AllPairs}
 use Rattle.kv_types.specs.{Entry, StoredKey}
 use Rattle.merge_iter.specs.declared.Direction.TheVariants.{Forward}

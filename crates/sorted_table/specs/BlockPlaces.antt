@@ -1,7 +1,8 @@
 -- Places in blocks.
 use Rattle.std.specs.Prelude.{◌≡◌, ℕ, ◌+◌, List, length, Option, slice_get}
 use Rattle.std.specs.Rc.{rc_slice_items}
-use Rattle.kv_types.specs.{Entry, ◌>>=◌}
+use Rattle.kv_types.specs.{Entry}
+use Rattle.byte_fields.specs.{◌>>=◌}
 use Rattle.merge_iter.specs.declared.Direction.{Direction}
 use Rattle.merge_iter.specs.declared.Direction.TheVariants.{Forward, Backward}
 use Rattle.sorted_table.specs.declared.block_place.BlockPlace.{BlockPlace}

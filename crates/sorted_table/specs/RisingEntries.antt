@@ -7,7 +7,7 @@ use Rattle.kv_types.specs.{Entry}
 use Rattle.merge_iter.specs.declared.Direction.TheVariants.{Forward}
 use Rattle.merge_iter.specs.{EntryPrecedes, IsApart}
 use Rattle.merge_iter.specs.EntryOrder.{equal_apart, equal_back}
-use Rattle.kv_types.specs.FieldsLemmas.{some_is}
+use Rattle.byte_fields.specs.FieldsLemmas.{some_is}
 use Rattle.table_format.specs.Blocks.{AreRising}
 
 -- of two entries the one at the lesser place comes first

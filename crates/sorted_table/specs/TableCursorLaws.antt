@@ -7,7 +7,8 @@ use Rattle.std.proofs.lemmas.Option.{get_or_from_slice_get, slice_get_within}
 use Rattle.std.proofs.lemmas.List.Elements.{All-get_or}
 use Rattle.disk.specs.declared.Disk.{Ghosts}
 use Rattle.disk.specs.{Slot, State, seen}
-use Rattle.kv_types.specs.{Entry, ◌>>=◌}
+use Rattle.kv_types.specs.{Entry}
+use Rattle.byte_fields.specs.{◌>>=◌}
 use Rattle.merge_iter.specs.{AreCursorLaws, IfOn, IsApart, IsTableEntry}
 use Rattle.table_format.specs.{AreRising, TableRepresents}
 use Rattle.table_format.specs.declared.IndexLine.{IndexLine}

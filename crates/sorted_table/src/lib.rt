@@ -16,5 +16,5 @@ pub use found::FoundVersion;
 pub use table::Table;
 pub use table_builder::{Builder, Finished};
 pub use table_cursor::TableCursor;
-pub use table_files::{Files, MAX_BLOCKS};
+pub use table_files::{CachedDisk, MAX_BLOCKS};
 pub use table_format::{FileError, LentEntry, TableError};

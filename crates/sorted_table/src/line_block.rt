@@ -13,7 +13,7 @@ use crate::lines::ends_before;
 use disk::Disk;
 use std::alloc::Global;
 use std::rc::RcSlice;
-use table_files::Files;
+use table_files::CachedDisk;
 use table_format::{FileError, IndexLine, LentEntry, entries_in, entry_of};
 
 // The first and the last entry in the spelling of some entries.
@@ -71,15 +71,15 @@ fn is_at_line(lines: &[IndexLine], number: usize, line: &IndexLine, block: &[u8]
 /// where the line says.
 pub fn block_of_line<D: Disk + Drop>(
     alloc: Global,
-    files: &mut Files<D>,
+    files: &mut CachedDisk<D>,
     file: u64,
     lines: &[IndexLine],
     number: usize,
 ) -> Result<RcSlice<u8>, FileError>
     requires { number < length lines.now }
-    ensures device { ReadsDisk ⟦<Files<D> as Disk>⟧ files.old files.new result }
-    ensures answers { ⟦<Files<D> as Disk>⟧.is_honest files.old → LineBlockAnswer lines.now number
-        (⟦<Files<D> as Disk>⟧.state files.old file) result }
+    ensures device { ReadsDisk ⟦<CachedDisk<D> as Disk>⟧ files.old files.new result }
+    ensures answers { ⟦<CachedDisk<D> as Disk>⟧.is_honest files.old →
+        LineBlockAnswer lines.now number (⟦<CachedDisk<D> as Disk>⟧.state files.old file) result }
     ensures len { IfOk result (λ block. (line : _) → slice_get lines.now number ≡ Some line →
         length (rc_slice_items block) ≡ line.len) }
 {

@@ -20,7 +20,7 @@ use kv_types::{LentKey, StoredKey};
 use merge_iter::Cursor;
 use std::alloc::{AllocError, Global};
 use std::rc::RcSlice;
-use table_files::Files;
+use table_files::CachedDisk;
 use table_format::{FileError, IndexLine};
 
 /// An open table. It keeps the lines of the index and the filter, and no block. Cursors share the
@@ -88,11 +88,11 @@ impl Table {
     pub fn get<D: Disk + Drop>(
         &self,
         alloc: Global,
-        files: &mut Files<D>,
+        files: &mut CachedDisk<D>,
         key: LentKey,
         at: u64,
     ) -> Result<Option<FoundVersion>, FileError>
-        ensures { AnswersLookup ⟦<Files<D> as Disk>⟧ self.now (lent_key key.entry) at
+        ensures { AnswersLookup ⟦<CachedDisk<D> as Disk>⟧ self.now (lent_key key.entry) at
             (Covers (table_filter self.now) (lent_key key.entry)) files.old files.new result }
     {
         self.get_hashed(alloc, files, key, KeyHashes::of(key.as_bytes()), at)
@@ -102,13 +102,13 @@ impl Table {
     pub fn get_hashed<D: Disk + Drop>(
         &self,
         alloc: Global,
-        files: &mut Files<D>,
+        files: &mut CachedDisk<D>,
         key: LentKey,
         hashes: KeyHashes,
         at: u64,
     ) -> Result<Option<FoundVersion>, FileError>
         requires { hashes ≡ hashes_of (lent_key key) }
-        ensures { AnswersLookup ⟦<Files<D> as Disk>⟧ self.now (lent_key key.entry) at
+        ensures { AnswersLookup ⟦<CachedDisk<D> as Disk>⟧ self.now (lent_key key.entry) at
             (CoversHashed (table_filter self.now) hashes) files.old files.new result }
     {
         if self.denies(hashes) {
@@ -130,15 +130,16 @@ impl Table {
         ensures off { IfOk result (λ cursor.
             ⟦<TableCursor<D> as Cursor>⟧.position cursor ≡ Off) }
         ensures serves { IfOk result (λ cursor. (meant : State) (files : _) (entries : List Entry) →
-            ⟦<Files<D> as Disk>⟧.is_honest files →
+            ⟦<CachedDisk<D> as Disk>⟧.is_honest files →
             TableServes (meant (table_file self.now)) self.now entries →
-            AreAsMeant (⟦<Files<D> as Disk>⟧.state files (table_file self.now))
+            AreAsMeant (⟦<CachedDisk<D> as Disk>⟧.state files (table_file self.now))
             (meant (table_file self.now)) (index_lines self.now) →
             ⟦<TableCursor<D> as Cursor>⟧.is_sound meant cursor files
             × IsAlike (⟦<TableCursor<D> as Cursor>⟧.holds meant cursor files) (Contains entries)) }
-        ensures suits { IfOk result (λ cursor. (a b : _) → (⟦<Files<D> as Disk>⟧.is_honest a →
-            ⟦<Files<D> as Disk>⟧.is_honest b × (⟦<Files<D> as Disk>⟧.state b (table_file self.now)
-            ≡ ⟦<Files<D> as Disk>⟧.state a (table_file self.now))) →
+        ensures suits { IfOk result (λ cursor. (a b : _) → (⟦<CachedDisk<D> as Disk>⟧.is_honest a →
+            ⟦<CachedDisk<D> as Disk>⟧.is_honest b ×
+            (⟦<CachedDisk<D> as Disk>⟧.state b (table_file self.now)
+            ≡ ⟦<CachedDisk<D> as Disk>⟧.state a (table_file self.now))) →
             ⟦<TableCursor<D> as Cursor>⟧.suits cursor a b) }
     {
         Ok(TableCursor::new(alloc, self.file, self.lines.clone()?))

@@ -23,7 +23,7 @@ use merge_iter::{Cursor, CursorError, Direction};
 use std::alloc::Global;
 use std::marker::PhantomData;
 use std::rc::RcSlice;
-use table_files::Files;
+use table_files::CachedDisk;
 use table_format::{FileError, IndexLine};
 
 // How a cursor reports an error of a table.
@@ -48,22 +48,23 @@ fn starts_of(alloc: Global, place: Option<BlockPlace>) -> Vec<usize> {
 // The first entry of the block of a line. The memory of `starts` is used again.
 fn first_of<D: Disk + Drop>(
     alloc: Global,
-    files: &mut Files<D>,
+    files: &mut CachedDisk<D>,
     file: u64,
     lines: &RcSlice<IndexLine>,
     line: usize,
     starts: Vec<usize>,
 ) -> Result<BlockPlace, FileError>
     requires { line < length (rc_slice_items lines.now) }
-    ensures device { ReadsDisk ⟦<Files<D> as Disk>⟧ files.old files.new result }
+    ensures device { ReadsDisk ⟦<CachedDisk<D> as Disk>⟧ files.old files.new result }
     ensures first { IfOk result (λ place. (place.line ≡ line) × (place.at ≡ 0)
         × IsBounded (rc_slice_items lines.now) place) }
-    ensures reads { (meant : Slot) → ⟦<Files<D> as Disk>⟧.is_honest files.old →
-        AreAsMeant (⟦<Files<D> as Disk>⟧.state files.old file) meant (rc_slice_items lines.now) →
-        (table : HasLines meant (rc_slice_items lines.now)) →
+    ensures reads { (meant : Slot) → ⟦<CachedDisk<D> as Disk>⟧.is_honest files.old →
+        AreAsMeant (⟦<CachedDisk<D> as Disk>⟧.state files.old file) meant
+        (rc_slice_items lines.now) → (table : HasLines meant (rc_slice_items lines.now)) →
         IfOk result (IsPlaceIn table.represents.blocks) }
-    ensures damaged { result ≡ Err FileError.Damaged → ⟦<Files<D> as Disk>⟧.is_honest files.old →
-        HasLines (⟦<Files<D> as Disk>⟧.state files.old file) (rc_slice_items lines.now) → ⊥ }
+    ensures damaged { result ≡ Err FileError.Damaged →
+        ⟦<CachedDisk<D> as Disk>⟧.is_honest files.old →
+        HasLines (⟦<CachedDisk<D> as Disk>⟧.state files.old file) (rc_slice_items lines.now) → ⊥ }
 {
     let block = block_of_line(alloc, files, file, lines, line)?;
     BlockPlace::new(line, block, starts)?.ok_or(FileError::Damaged)
@@ -112,19 +113,19 @@ impl<D: Disk + Drop> TableCursor<D> {
     // Enters the block of a line, if there is such a line, by its first entry in this direction.
     fn enter(
         &mut self,
-        files: &mut Files<D>,
+        files: &mut CachedDisk<D>,
         line: usize,
         way: Direction,
         starts: Vec<usize>,
     ) -> Result<(), CursorError>
         ensures table { (self.new.file ≡ self.old.file) × (self.new.lines ≡ self.old.lines) }
-        ensures moved { EntersBlock ⟦<Files<D> as Disk>⟧ self.old.file
+        ensures moved { EntersBlock ⟦<CachedDisk<D> as Disk>⟧ self.old.file
             (rc_slice_items self.old.lines) files.old files.new self.new.place self.new.has_failed
             result }
         ensures entered { OnOk result ((self.new.has_failed ≡ false)
             × HasEntered (rc_slice_items self.old.lines) line way self.new.place) }
-        ensures reads { (meant : Slot) → ⟦<Files<D> as Disk>⟧.is_honest files.old →
-            AreAsMeant (⟦<Files<D> as Disk>⟧.state files.old self.old.file) meant
+        ensures reads { (meant : Slot) → ⟦<CachedDisk<D> as Disk>⟧.is_honest files.old →
+            AreAsMeant (⟦<CachedDisk<D> as Disk>⟧.state files.old self.old.file) meant
             (rc_slice_items self.old.lines) →
             (table : HasLines meant (rc_slice_items self.old.lines)) →
             OnOk result (IfSome self.new.place (IsPlaceIn table.represents.blocks)) }
@@ -146,15 +147,15 @@ impl<D: Disk + Drop> TableCursor<D> {
     }
 
     // Enters the block of a line, if there is such a line, unless the cursor stands in it.
-    fn reach(&mut self, files: &mut Files<D>, line: usize) -> Result<(), CursorError>
+    fn reach(&mut self, files: &mut CachedDisk<D>, line: usize) -> Result<(), CursorError>
         ensures table { (self.new.file ≡ self.old.file) × (self.new.lines ≡ self.old.lines) }
-        ensures moved { EntersBlock ⟦<Files<D> as Disk>⟧ self.old.file
+        ensures moved { EntersBlock ⟦<CachedDisk<D> as Disk>⟧ self.old.file
             (rc_slice_items self.old.lines) files.old files.new self.new.place self.new.has_failed
             result }
         ensures reached { OnOk result (HasReached (rc_slice_items self.old.lines) line
             self.new.has_failed self.new.place) }
-        ensures reads { (meant : Slot) → ⟦<Files<D> as Disk>⟧.is_honest files.old →
-            AreAsMeant (⟦<Files<D> as Disk>⟧.state files.old self.old.file) meant
+        ensures reads { (meant : Slot) → ⟦<CachedDisk<D> as Disk>⟧.is_honest files.old →
+            AreAsMeant (⟦<CachedDisk<D> as Disk>⟧.state files.old self.old.file) meant
             (rc_slice_items self.old.lines) →
             (table : HasLines meant (rc_slice_items self.old.lines)) →
             IfSome self.old.place (IsPlaceIn table.represents.blocks) →
@@ -174,29 +175,29 @@ impl<D: Disk + Drop> Cursor for TableCursor<D> {
     ghost use Rattle.sorted_table.specs.TableCursorLaws.{AreIntactFiles, FileSuits};
     ghost use Rattle.sorted_table.specs.TableCursorLaws.{ServesMeant, table_fits, table_laws};
 
-    type Source = Files<D>;
+    type Source = CachedDisk<D>;
 
     ghost position = { λ c. table_position c.has_failed c.place };
 
     ghost Meant = { State };
 
-    ghost as_is = { ⟦<Files<D> as Disk>⟧.state };
+    ghost as_is = { ⟦<CachedDisk<D> as Disk>⟧.state };
 
-    ghost is_intact = { AreIntactFiles ⟦<Files<D> as Disk>⟧ };
+    ghost is_intact = { AreIntactFiles ⟦<CachedDisk<D> as Disk>⟧ };
 
     ghost holds = { λ meant c files. FileHolds (meant c.file) };
 
-    ghost is_sound = { ServesMeant ⟦<Files<D> as Disk>⟧ (λ c. c.file)
+    ghost is_sound = { ServesMeant ⟦<CachedDisk<D> as Disk>⟧ (λ c. c.file)
         (λ c. rc_slice_items c.lines) (λ c. c.place) };
 
-    ghost keeps = { KeepsFiles ⟦<Files<D> as Disk>⟧ };
+    ghost keeps = { KeepsFiles ⟦<CachedDisk<D> as Disk>⟧ };
 
-    ghost suits = { FileSuits ⟦<Files<D> as Disk>⟧ (λ c. c.file) (λ c. rc_slice_items c.lines)
+    ghost suits = { FileSuits ⟦<CachedDisk<D> as Disk>⟧ (λ c. c.file) (λ c. rc_slice_items c.lines)
         (λ c. c.place) };
 
-    ghost makes = { MovesFiles ⟦<Files<D> as Disk>⟧ };
+    ghost makes = { MovesFiles ⟦<CachedDisk<D> as Disk>⟧ };
 
-    ghost failures = { ⟦<Files<D> as Disk>⟧.failures };
+    ghost failures = { ⟦<CachedDisk<D> as Disk>⟧.failures };
 
     ghost left = { λ c. steps_left (rc_slice_items c.lines) c.place };
 
@@ -231,7 +232,7 @@ impl<D: Disk + Drop> Cursor for TableCursor<D> {
         }
     }
 
-    fn next(&mut self, files: &mut Files<D>) -> Result<(), CursorError> {
+    fn next(&mut self, files: &mut CachedDisk<D>) -> Result<(), CursorError> {
         let Some(mut place) = self.place.take() else {
             return Err(CursorError::Failed);
         };
@@ -243,7 +244,7 @@ impl<D: Disk + Drop> Cursor for TableCursor<D> {
         self.enter(files, line, Direction::Forward, place.into_starts())
     }
 
-    fn prev(&mut self, files: &mut Files<D>) -> Result<(), CursorError> {
+    fn prev(&mut self, files: &mut CachedDisk<D>) -> Result<(), CursorError> {
         let Some(mut place) = self.place.take() else {
             return Err(CursorError::Failed);
         };
@@ -261,7 +262,7 @@ impl<D: Disk + Drop> Cursor for TableCursor<D> {
 
     fn seek(
         &mut self,
-        files: &mut Files<D>,
+        files: &mut CachedDisk<D>,
         key: LentKey<'_>,
         number: u64,
     ) -> Result<(), CursorError> {
@@ -276,18 +277,18 @@ impl<D: Disk + Drop> Cursor for TableCursor<D> {
         Ok(())
     }
 
-    fn first(&mut self, files: &mut Files<D>) -> Result<(), CursorError> {
+    fn first(&mut self, files: &mut CachedDisk<D>) -> Result<(), CursorError> {
         let starts = starts_of(self.alloc, self.place.take());
         self.enter(files, 0, Direction::Forward, starts)
     }
 
-    fn last(&mut self, files: &mut Files<D>) -> Result<(), CursorError> {
+    fn last(&mut self, files: &mut CachedDisk<D>) -> Result<(), CursorError> {
         let starts = starts_of(self.alloc, self.place.take());
         let line = self.lines.len().saturating_sub(1);
         self.enter(files, line, Direction::Backward, starts)
     }
 
-    ghost laws = { table_laws ⟦<Files<D> as Disk>⟧ (λ c. c.file) (λ c. rc_slice_items c.lines)
+    ghost laws = { table_laws ⟦<CachedDisk<D> as Disk>⟧ (λ c. c.file) (λ c. rc_slice_items c.lines)
         (λ c. c.place) (λ c. c.bounded) };
 
     ghost fits = { λ c. table_fits c.has_failed c.place };

@@ -11,7 +11,7 @@ use disk::Disk;
 use kv_types::LentKey;
 use memtable::{MemCursor, Memtable, MemtableError};
 use merge_iter::{Cursor, CursorError};
-use sorted_table::{Files, Table, TableCursor};
+use sorted_table::{CachedDisk, Table, TableCursor};
 use std::alloc::{AllocError, Global};
 
 /// A cursor over a memtable or over a table. The source of both is the files of the disk: a cursor
@@ -44,14 +44,15 @@ impl<'a, D: Disk + Drop> StoreCursor<'a, D> {
         ensures off { IfOk result (λ cursor.
             ⟦<StoreCursor<'a, D> as Cursor>⟧.position cursor ≡ Off) }
         ensures serves { IfOk result (λ cursor. (meant : State) (files : _) (entries : List Entry) →
-            ⟦<Files<D> as Disk>⟧.is_honest files →
+            ⟦<CachedDisk<D> as Disk>⟧.is_honest files →
             TableServes (meant (table_file table.now)) table.now entries →
-            AreAsMeant (⟦<Files<D> as Disk>⟧.state files (table_file table.now))
+            AreAsMeant (⟦<CachedDisk<D> as Disk>⟧.state files (table_file table.now))
             (meant (table_file table.now)) (index_lines table.now) →
             HasEntries ⟦<StoreCursor<'a, D> as Cursor>⟧ meant files cursor (Contains entries)) }
-        ensures suits { IfOk result (λ cursor. (a b : _) → (⟦<Files<D> as Disk>⟧.is_honest a →
-            ⟦<Files<D> as Disk>⟧.is_honest b × (⟦<Files<D> as Disk>⟧.state b (table_file table.now)
-            ≡ ⟦<Files<D> as Disk>⟧.state a (table_file table.now))) →
+        ensures suits { IfOk result (λ cursor. (a b : _) → (⟦<CachedDisk<D> as Disk>⟧.is_honest a →
+            ⟦<CachedDisk<D> as Disk>⟧.is_honest b ×
+            (⟦<CachedDisk<D> as Disk>⟧.state b (table_file table.now)
+            ≡ ⟦<CachedDisk<D> as Disk>⟧.state a (table_file table.now))) →
             ⟦<StoreCursor<'a, D> as Cursor>⟧.suits cursor a b) }
     {
         Ok(StoreCursor::Table(table.cursor(alloc)?))
@@ -67,7 +68,7 @@ impl<'a, D: Disk + Drop> Cursor for StoreCursor<'a, D> {
     ghost use Rattle.store_cursors.specs.StoreCursors.{store_position};
     ghost use Rattle.store_cursors.specs.StoreCursorLaws.{store_fits, store_laws};
 
-    type Source = Files<D>;
+    type Source = CachedDisk<D>;
 
     ghost position = { store_position ⟦<MemCursor<'a> as Cursor>⟧ ⟦<TableCursor<D> as Cursor>⟧ };
 
@@ -126,14 +127,14 @@ impl<'a, D: Disk + Drop> Cursor for StoreCursor<'a, D> {
         }
     }
 
-    fn next(&mut self, files: &mut Files<D>) -> Result<(), CursorError> {
+    fn next(&mut self, files: &mut CachedDisk<D>) -> Result<(), CursorError> {
         match self {
             StoreCursor::Memory(cursor) => cursor.next(&mut ()),
             StoreCursor::Table(cursor) => cursor.next(files),
         }
     }
 
-    fn prev(&mut self, files: &mut Files<D>) -> Result<(), CursorError> {
+    fn prev(&mut self, files: &mut CachedDisk<D>) -> Result<(), CursorError> {
         match self {
             StoreCursor::Memory(cursor) => cursor.prev(&mut ()),
             StoreCursor::Table(cursor) => cursor.prev(files),
@@ -142,7 +143,7 @@ impl<'a, D: Disk + Drop> Cursor for StoreCursor<'a, D> {
 
     fn seek(
         &mut self,
-        files: &mut Files<D>,
+        files: &mut CachedDisk<D>,
         key: LentKey<'_>,
         number: u64,
     ) -> Result<(), CursorError> {
@@ -152,14 +153,14 @@ impl<'a, D: Disk + Drop> Cursor for StoreCursor<'a, D> {
         }
     }
 
-    fn first(&mut self, files: &mut Files<D>) -> Result<(), CursorError> {
+    fn first(&mut self, files: &mut CachedDisk<D>) -> Result<(), CursorError> {
         match self {
             StoreCursor::Memory(cursor) => cursor.first(&mut ()),
             StoreCursor::Table(cursor) => cursor.first(files),
         }
     }
 
-    fn last(&mut self, files: &mut Files<D>) -> Result<(), CursorError> {
+    fn last(&mut self, files: &mut CachedDisk<D>) -> Result<(), CursorError> {
         match self {
             StoreCursor::Memory(cursor) => cursor.last(&mut ()),
             StoreCursor::Table(cursor) => cursor.last(files),
@@ -167,8 +168,8 @@ impl<'a, D: Disk + Drop> Cursor for StoreCursor<'a, D> {
     }
 
     ghost laws = { store_laws ⟦<MemCursor<'a> as Cursor>⟧ ⟦<TableCursor<D> as Cursor>⟧
-        cursor_laws (table_laws ⟦<Files<D> as Disk>⟧ (λ c. c.file) (λ c. rc_slice_items c.lines)
-        (λ c. c.place) (λ c. c.bounded)) };
+        cursor_laws (table_laws ⟦<CachedDisk<D> as Disk>⟧ (λ c. c.file)
+        (λ c. rc_slice_items c.lines) (λ c. c.place) (λ c. c.bounded)) };
 
     ghost fits = { store_fits ⟦<MemCursor<'a> as Cursor>⟧ ⟦<TableCursor<D> as Cursor>⟧
         cursor_fits (λ c. table_fits c.has_failed c.place) };

@@ -4,8 +4,8 @@ use Rattle.std.proofs.Common.{refl, subst, sym, true}
 use Rattle.std.specs.Prelude.{Contains, nat_lt}
 use Rattle.std.proofs.lemmas.Bool.{and_parts}
 use Rattle.std.proofs.lemmas.List.Elements.{All-nil}
-use Rattle.kv_types.specs.{BatchContent}
-use Rattle.chain_model.specs.Configuration.{is_part, leaves_out}
+use Rattle.kv_types.specs.{BatchContent, is_part}
+use Rattle.configurations.specs.NodeLists.{leaves_out}
 use Rattle.configurations.specs.{IsConfig}
 use Rattle.disk.specs.{Contents, DurableFileIsLeft, IsFileOutcome, IsSameBut, LeavesSince, State}
 use Rattle.disk.specs.MomentsLemmas.{weaker}

@@ -10,7 +10,7 @@ use Rattle.std.proofs.lemmas.List.Elements.{All-append, All-cons, All-head, All-
 use Rattle.std.proofs.lemmas.List.Elements.{All-tail, All-weaker}
 use Rattle.std.proofs.lemmas.List.Folds.{list_all-append, list_any-append, list_any_none}
 use Rattle.kv_types.specs.declared.bounds.TheConstants.{MAX_NUMBER}
-use Rattle.chain_model.specs.{is_part}
+use Rattle.kv_types.specs.{is_part}
 use Rattle.version_edits.specs.declared.line.TheConstants.{MAX_LINES, MAX_NEXT}
 use Rattle.manifest.specs.declared.LogLine.{LogLine}
 use Rattle.manifest.specs.declared.TableLine.{TableLine}

@@ -7,7 +7,7 @@ use Rattle.std.specs.Prelude.{IfErr, drop, slice_get, IfOk, IfSome, IsSomeAnd, M
 use Rattle.std.specs.Option.{option_flatten, option_map}
 use Rattle.std.proofs.lemmas.List.Elements.{All-contains}
 use Rattle.kv_types.specs.declared.bounds.TheConstants.{MAX_VALUE}
-use Rattle.kv_types.specs.{BatchContent, Entry, IsUnseen, map_of}
+use Rattle.kv_types.specs.{BatchContent, Entry, IsUnseen, map_of, place}
 use Rattle.disk.specs.{Contents, IsEnvironmental}
 use Rattle.memtable.specs.declared.Memtable.{Memtable}
 use Rattle.memtable.specs.{TableHolds}
@@ -15,7 +15,6 @@ use Rattle.table_format.specs.{IsTableEntry, TableRepresents}
 use Rattle.sorted_table.specs.declared.FoundVersion.{FoundVersion}
 use Rattle.sorted_table.specs.{found_entry}
 use Rattle.store_model.specs.PlacesLemmas.{contains_cases, slice_get-drop}
-use Rattle.chain_model.specs.{place}
 use Rattle.store_model.specs.Claims.{LookUpsAreMaps}
 use Rattle.store_model.specs.{LevelTable, NewestHas, StoreRepresents, StoreState, memory_entries}
 use Rattle.manifest.specs.declared.TableLine.{TableLine}

@@ -1,6 +1,6 @@
 -- An adoption of a later configuration: a record of the manifest changes epoch and ids alone.
 use Rattle.std.specs.Prelude.{◌≡◌, ℕ, ◌<◌, List, [], ◌∷◌, IsTrue, Result}
-use Rattle.chain_model.specs.Configuration.{leaves_out}
+use Rattle.configurations.specs.NodeLists.{leaves_out}
 use Rattle.disk.specs.declared.Disk.{Ghosts}
 use Rattle.manifest.specs.{Change, HasFullSlot, HasSameSlots, IsChange, IsFit, NodeVersion}
 use Rattle.manifest.specs.{StoreVersion, counting_file}

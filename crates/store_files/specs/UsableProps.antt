@@ -3,7 +3,7 @@ use Rattle.std.specs.Prelude.{ℕ, List, [], ◌∷◌, Bool}
 use mathlib.Core.Bool.{Bool-set}
 use mathlib.Core.HLevel.{×_prop, Unit-prop}
 use Rattle.std.proofs.Props as facts
-use Rattle.chain_model.specs.{AllDifferent}
+use Rattle.kv_types.specs.{AllDifferent}
 use Rattle.manifest.specs.Versions.{AreInOrder}
 
 -- two proofs that ids differ are one

@@ -19,7 +19,7 @@ use row_pages::read_page;
 use std::alloc::{AllocError, Global};
 use store_cursors::{StoreCursor, StoreRows, rows_at};
 use store_tables::laws::versions_name_own_files;
-use table_files::Files;
+use table_files::CachedDisk;
 
 impl StoreFiles {
     // The rows of the map of the first `at` batches, of keys in the range: what the memory and the
@@ -32,9 +32,9 @@ impl StoreFiles {
     ) -> Result<StoreRows<'a, D>, AllocError>
         requires { AreUsableFiles self.now }
         ensures { IfOk result (λ rows. (meant : State) (files : _)
-            (list : List BatchContent) → ⟦<Files<D> as Disk>⟧.is_honest files →
+            (list : List BatchContent) → ⟦<CachedDisk<D> as Disk>⟧.is_honest files →
             FilesHold meant self.now list →
-            All (HasMeantBlocks (⟦<Files<D> as Disk>⟧.state files) meant)
+            All (HasMeantBlocks (⟦<CachedDisk<D> as Disk>⟧.state files) meant)
             self.now.tables.tables.items → (known_facts self.now).floor ≤ at →
             at ≤ batch_count self.now → ⟦<StoreRows<'a, D> as Cursor>⟧.is_sound meant rows files
             × HasRowsOf (map_of (take at list)) range.now
@@ -51,16 +51,16 @@ impl StoreFiles {
     pub fn rows<D: Disk + Drop>(
         &self,
         alloc: Global,
-        files: &mut Files<D>,
+        files: &mut CachedDisk<D>,
         at: Number,
         range: &Range,
     ) -> Result<Page, EngineError>
         requires usable { AreUsableFiles self.now }
-        ensures reads { OnlyReads ⟦<Files<D> as Disk>⟧ files.old files.new IsSame result }
-        ensures found { IfMeant ⟦<Files<D> as Disk>⟧ files.old self.now (λ list.
+        ensures reads { OnlyReads ⟦<CachedDisk<D> as Disk>⟧ files.old files.new IsSame result }
+        ensures found { IfMeant ⟦<CachedDisk<D> as Disk>⟧ files.old self.now (λ list.
             (known_facts self.now).floor ≤ at → at ≤ batch_count self.now →
             IfOk result (λ page. page ≡ page_of (take at list) range.now)) }
-        ensures intact { IfHeld ⟦<Files<D> as Disk>⟧ files.old self.now (λ list.
+        ensures intact { IfHeld ⟦<CachedDisk<D> as Disk>⟧ files.old self.now (λ list.
             (known_facts self.now).floor ≤ at → at ≤ batch_count self.now →
             IfErr result (IsEnvironmental Disk Memory)) }
     {

@@ -3,9 +3,8 @@ ghost use Rattle.std.specs.Prelude.{◌≡◌, ◌+◌, ◌<◌, ◌≤◌, take
 ghost use Rattle.std.specs.Prelude.{length, IfErr, IfOk, IsSomeAnd, MatchResult};
 ghost use Rattle.std.specs.Option.{option_flatten};
 ghost use Rattle.kv_types.specs.declared.bounds.TheConstants.{MAX_VALUE};
-ghost use Rattle.kv_types.specs.{map_of};
+ghost use Rattle.kv_types.specs.{map_of, place};
 ghost use Rattle.disk.specs.{IsEnvironmental, IsSame, IsSameBut, KeepsDisk};
-ghost use Rattle.chain_model.specs.{place};
 ghost use Rattle.batch_logs.specs.BatchLogs.{HasFullLog, newest_file};
 ghost use Rattle.store_files.specs.BesideFiles.{with_free};
 ghost use Rattle.store_tables.specs.declared.error.EngineError.TheVariants.{Disk, Memory};
@@ -34,7 +33,7 @@ use std::alloc::{AllocError, Global};
 use store_model::{appends_keep, look_ups_are_maps};
 use store_tables::LevelTables;
 use store_tables::laws::{levels_rise, table_look_ups_are_maps};
-use table_files::Files;
+use table_files::CachedDisk;
 
 /// The open files of a store. Each call that reaches them is lent the disk.
 #[derive(Drop)]
@@ -159,16 +158,16 @@ impl StoreFiles {
     pub fn get<D: Disk + Drop>(
         &self,
         alloc: Global,
-        files: &mut Files<D>,
+        files: &mut CachedDisk<D>,
         at: Number,
         key: &Key,
     ) -> Result<Option<Value>, EngineError>
         requires usable { AreUsableFiles self.now }
-        ensures reads { OnlyReads ⟦<Files<D> as Disk>⟧ files.old files.new IsSame result }
-        ensures found { IfMeant ⟦<Files<D> as Disk>⟧ files.old self.now (λ list.
+        ensures reads { OnlyReads ⟦<CachedDisk<D> as Disk>⟧ files.old files.new IsSame result }
+        ensures found { IfMeant ⟦<CachedDisk<D> as Disk>⟧ files.old self.now (λ list.
             (known_facts self.now).floor ≤ at → at ≤ batch_count self.now →
             IfOk result (λ value. value ≡ map_of (take at list) key.now)) }
-        ensures intact { IfHeld ⟦<Files<D> as Disk>⟧ files.old self.now (λ list.
+        ensures intact { IfHeld ⟦<CachedDisk<D> as Disk>⟧ files.old self.now (λ list.
             IfErr result (IsEnvironmental Disk Memory)) }
     {
         levels_rise(); // law: tables stand in order of level

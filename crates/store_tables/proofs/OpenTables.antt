@@ -17,7 +17,7 @@ use Rattle.sorted_table.specs.{greatest_key, index_lines, last_line_key, table_f
 use Rattle.sorted_table.specs.declared.Table.{Table}
 use Rattle.sorted_table.specs.declared.FoundVersion.{FoundVersion}
 use Rattle.table_files.specs.{inner_disk}
-use Rattle.table_files.specs.declared.Files.{Files}
+use Rattle.table_files.specs.declared.CachedDisk.{CachedDisk}
 use Rattle.store_model.specs.{LevelTable}
 use Rattle.manifest.specs.declared.TableLine.{TableLine}
 use Rattle.store_tables.specs.declared.error.EngineError.TheVariants as engine
@@ -182,7 +182,7 @@ same_back old new same file = sym (same file)
 -- ---- files as a disk
 
 -- the ghost members of files are those of the disk inside
-abbrev pub files_ghosts : {D : Type 0} (g : Ghosts D) → Ghosts (Files D g)
+abbrev pub files_ghosts : {D : Type 0} (g : Ghosts D) → Ghosts (CachedDisk D g)
 files_ghosts g = record {
   is_honest = λ files. g.is_honest (inner_disk files);
   state = λ files. g.state (inner_disk files);

@@ -32,7 +32,7 @@ use merge_iter::Cursor;
 use sorted_table::{FoundVersion, Table, TableCursor};
 use std::alloc::{AllocError, Global};
 use store_cursors::StoreCursor;
-use table_files::Files;
+use table_files::CachedDisk;
 use table_format::FileError;
 use version_edits::{TableLine, TableName, is_removed, table_is_before};
 
@@ -113,8 +113,8 @@ impl OpenTable {
     // A cursor over the entries of the table.
     fn cursor<'a, D: Disk + Drop>(&self, alloc: Global) -> Result<StoreCursor<'a, D>, AllocError>
         ensures { IfOk result (λ cursor. (meant : State) (files : _) (table : LevelTable) →
-            ⟦<Files<D> as Disk>⟧.is_honest files →
-            WasServed (⟦<Files<D> as Disk>⟧.state files) meant self.now table →
+            ⟦<CachedDisk<D> as Disk>⟧.is_honest files →
+            WasServed (⟦<CachedDisk<D> as Disk>⟧.state files) meant self.now table →
             HasTable ⟦<StoreCursor<'a, D> as Cursor>⟧ meant files cursor table) }
     {
         Ok(StoreCursor::of_table(alloc, &self.table)?)
@@ -125,20 +125,20 @@ impl OpenTable {
     fn get<D: Disk + Drop>(
         &self,
         alloc: Global,
-        files: &mut Files<D>,
+        files: &mut CachedDisk<D>,
         key: &StoredKey,
         hashes: KeyHashes,
         at: Number,
     ) -> Result<Option<FoundVersion>, EngineError>
         requires { hashes ≡ hashes_of key.now }
-        ensures reads { ReadsTables ⟦<Files<D> as Disk>⟧ files.old files.new result }
+        ensures reads { ReadsTables ⟦<CachedDisk<D> as Disk>⟧ files.old files.new result }
         ensures found { (meant : State) (table : LevelTable) →
-            ⟦<Files<D> as Disk>⟧.is_honest files.old →
-            WasServed (⟦<Files<D> as Disk>⟧.state files.old) meant self.now table →
+            ⟦<CachedDisk<D> as Disk>⟧.is_honest files.old →
+            WasServed (⟦<CachedDisk<D> as Disk>⟧.state files.old) meant self.now table →
             FitsRange table →
             IfOk result (EntriesFind at (Contains table.entries) key.now) }
-        ensures intact { (table : LevelTable) → ⟦<Files<D> as Disk>⟧.is_honest files.old →
-            IsServed (⟦<Files<D> as Disk>⟧.state files.old) self.now table →
+        ensures intact { (table : LevelTable) → ⟦<CachedDisk<D> as Disk>⟧.is_honest files.old →
+            IsServed (⟦<CachedDisk<D> as Disk>⟧.state files.old) self.now table →
             IfErr result (IsEnvironmental Disk Memory) }
     {
         if !self.may_have(key) {
@@ -248,18 +248,19 @@ impl LevelTables {
     pub fn get<D: Disk + Drop>(
         &self,
         alloc: Global,
-        files: &mut Files<D>,
+        files: &mut CachedDisk<D>,
         key: &StoredKey,
         at: Number,
     ) -> Result<Option<FoundVersion>, EngineError>
-        ensures reads { ReadsTables ⟦<Files<D> as Disk>⟧ files.old files.new result }
+        ensures reads { ReadsTables ⟦<CachedDisk<D> as Disk>⟧ files.old files.new result }
         ensures found { (meant : State) (tables : List LevelTable) (flushed : ℕ) →
-            ⟦<Files<D> as Disk>⟧.is_honest files.old →
-            WereServed (⟦<Files<D> as Disk>⟧.state files.old) meant self.now tables →
+            ⟦<CachedDisk<D> as Disk>⟧.is_honest files.old →
+            WereServed (⟦<CachedDisk<D> as Disk>⟧.state files.old) meant self.now tables →
             AreLeveled flushed tables → LevelsRise tables →
             IfOk result (TablesFind at tables key.now) }
-        ensures intact { (tables : List LevelTable) → ⟦<Files<D> as Disk>⟧.is_honest files.old →
-            AreServed (⟦<Files<D> as Disk>⟧.state files.old) self.now tables →
+        ensures intact { (tables : List LevelTable) →
+            ⟦<CachedDisk<D> as Disk>⟧.is_honest files.old →
+            AreServed (⟦<CachedDisk<D> as Disk>⟧.state files.old) self.now tables →
             IfErr result (IsEnvironmental Disk Memory) }
     {
         let hashes = KeyHashes::of(key.as_bytes());
@@ -284,9 +285,10 @@ impl LevelTables {
         range: &Range,
     ) -> Result<Vec<StoreCursor<'a, D>>, AllocError>
         ensures { IfOk result (λ cursors. (meant : State) (files : _)
-            (tables : List LevelTable) → ⟦<Files<D> as Disk>⟧.is_honest files →
-            WereServed (⟦<Files<D> as Disk>⟧.state files) meant self.now tables → AreRangeCursors
-            ⟦<StoreCursor<'a, D> as Cursor>⟧ meant files range.now tables cursors.items) }
+            (tables : List LevelTable) → ⟦<CachedDisk<D> as Disk>⟧.is_honest files →
+            WereServed (⟦<CachedDisk<D> as Disk>⟧.state files) meant self.now tables →
+            AreRangeCursors ⟦<StoreCursor<'a, D> as Cursor>⟧ meant files range.now tables
+            cursors.items) }
     {
         let mut cursors = Vec::new(alloc);
         for open in &self.tables {
@@ -306,16 +308,16 @@ impl LevelTables {
         lines: &[TableLine],
     ) -> Result<Vec<TableCursor<D>>, AllocError>
         ensures over { IfOk result (λ cursors. (meant : State) (files : _) (range : KeyRange)
-            (tables : List LevelTable) → ⟦<Files<D> as Disk>⟧.is_honest files →
+            (tables : List LevelTable) → ⟦<CachedDisk<D> as Disk>⟧.is_honest files →
             HaveInputs plan range lines.now self.now tables →
-            WereServed (⟦<Files<D> as Disk>⟧.state files) meant self.now tables → AreCursorsOf
-            ⟦<TableCursor<D> as Cursor>⟧ ⟦<Files<D> as Disk>⟧ meant files cursors.items
+            WereServed (⟦<CachedDisk<D> as Disk>⟧.state files) meant self.now tables → AreCursorsOf
+            ⟦<TableCursor<D> as Cursor>⟧ ⟦<CachedDisk<D> as Disk>⟧ meant files cursors.items
             (model_plan plan range tables).inputs) }
         ensures intact { IfOk result (λ cursors. (files : _) (range : KeyRange)
-            (tables : List LevelTable) → ⟦<Files<D> as Disk>⟧.is_honest files →
+            (tables : List LevelTable) → ⟦<CachedDisk<D> as Disk>⟧.is_honest files →
             HaveInputs plan range lines.now self.now tables →
-            AreServed (⟦<Files<D> as Disk>⟧.state files) self.now tables → AreIntactCursors
-            ⟦<TableCursor<D> as Cursor>⟧ ⟦<Files<D> as Disk>⟧ files cursors.items
+            AreServed (⟦<CachedDisk<D> as Disk>⟧.state files) self.now tables → AreIntactCursors
+            ⟦<TableCursor<D> as Cursor>⟧ ⟦<CachedDisk<D> as Disk>⟧ files cursors.items
             (model_plan plan range tables).inputs) }
     {
         let mut inputs = Vec::new(alloc);

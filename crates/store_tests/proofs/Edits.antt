@@ -3,7 +3,7 @@ use Rattle.std.proofs.Common.{◌≡◌, ℕ, ◌≤◌, List, [], ◌∷◌, tr
 use Rattle.std.specs.List.{filter}
 use Rattle.std.proofs.lemmas.List.Elements.{All-nil}
 use Rattle.kv_types.specs.declared.bounds.TheConstants.{MAX_NUMBER}
-use Rattle.chain_model.specs.{is_part}
+use Rattle.kv_types.specs.{is_part}
 use Rattle.version_edits.specs.declared.line.LogLine.{LogLine}
 use Rattle.version_edits.specs.declared.line.TableLine.{TableLine}
 use Rattle.version_edits.specs.declared.line.TableName.{TableName}

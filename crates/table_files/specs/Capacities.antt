@@ -1,6 +1,6 @@
 -- The bound of a cache, as a number.
 use Rattle.std.specs.Prelude.{◌≡◌}
-use Rattle.table_files.specs.declared.files.TheConstants.{MAX_BLOCKS}
+use Rattle.table_files.specs.declared.cached_disk.TheConstants.{MAX_BLOCKS}
 
 -- how many blocks a cache may be made for, at most
 abbrev pub CapacityBoundIs : Type 0

@@ -139,7 +139,7 @@ reports_or_not (Err reading.Disk) = inl refl
 reports_or_not (Err reading.Damaged) = inr (λ e. cc)
 reports_or_not (Err reading.Memory) = inr (λ e. cc)
 
--- so a call of `Files::block`, by its clauses `kept` and `still`
+-- so a call of `CachedDisk::block`, by its clauses `kept` and `still`
 pub keeps_files_after : {D T : Type 0} (g : Ghosts D) (a b : D) (result : Result T FileError) →
     KeepsDisk g a b (IsErrOf result reading.Disk) ⊥ IsSame → IsStill g a b → KeepsFiles g a b
 keeps_files_after g a b result k calm = keeps_files_by g a b (reports_or_not result) k calm

@@ -2,8 +2,8 @@
 #![tactic(auto)]
 
 mod cache;
-mod files;
+mod cached_disk;
 pub mod laws;
 mod read;
 
-pub use files::{Files, MAX_BLOCKS};
+pub use cached_disk::{CachedDisk, MAX_BLOCKS};

@@ -10,7 +10,8 @@ use Rattle.table_format.specs.Tables.{different_keys}
 use Rattle.table_format.specs.Examples.{single_table}
 use Rattle.std.proofs.lemmas.List.{append-nil}
 use Rattle.std.proofs.lemmas.List.Concat.{flat_map-cons}
-use Rattle.kv_types.specs.{Entry, text_bytes}
+use Rattle.kv_types.specs.{Entry}
+use Rattle.byte_fields.specs.{text_bytes}
 use Rattle.table_format.specs.FrontsLemmas.{length-block_part}
 use Rattle.table_format.specs.SealedLemmas.{length-sealed}
 use Rattle.table_format.specs.TablesLemmas.{length-footer, length-table}

@@ -7,7 +7,7 @@ use Rattle.std.specs.Int.{w32}
 use Rattle.std.proofs.lemmas.List.{map-append}
 use Rattle.std.proofs.lemmas.List.Concat.{flat_map-cons}
 use Rattle.std.proofs.lemmas.List.Elements.{All-from_recursion, recursion_from_All}
-use Rattle.kv_types.specs.FieldsLemmas.{IsBytes, some_is}
+use Rattle.byte_fields.specs.FieldsLemmas.{IsBytes, some_is}
 use Rattle.byte_fields.specs.{number_at}
 use Rattle.merge_iter.specs.declared.Direction.TheVariants.{Forward}
 use Rattle.merge_iter.specs.{EntryPrecedes}

@@ -4,7 +4,7 @@ use Rattle.std.proofs.Common.{refl, sym, ap, subst, ◌∙◌, arith, length-app
 use Rattle.std.specs.List.{flat_map}
 use Rattle.std.specs.Int.{w32}
 use Rattle.std.proofs.lemmas.List.Elements.{All-from_recursion, recursion_from_All}
-use Rattle.kv_types.specs.FieldsLemmas.{IsBytes}
+use Rattle.byte_fields.specs.FieldsLemmas.{IsBytes}
 use Rattle.byte_fields.specs.{number_at}
 use Rattle.merge_iter.specs.declared.Direction.TheVariants.{Forward}
 use Rattle.merge_iter.specs.{EntryPrecedes}

@@ -4,7 +4,8 @@ use Rattle.std.specs.Prelude.{Option, Some, None, IfSome, All, AllPairs}
 use Rattle.std.specs.List.{flat_map}
 use Rattle.std.specs.Int.{w32, w64, to_be_bytes}
 use Rattle.sha2.specs.Sha256.{sha256}
-use Rattle.kv_types.specs.{Entry, StoredKey, text_bytes}
+use Rattle.kv_types.specs.{Entry, StoredKey}
+use Rattle.byte_fields.specs.{text_bytes}
 use Rattle.kv_types.specs.declared.bounds.TheConstants.{MAX_KEY}
 use Rattle.merge_iter.specs.declared.Direction.TheVariants.{Forward}
 use Rattle.merge_iter.specs.{EntryPrecedes}

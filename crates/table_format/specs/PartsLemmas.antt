@@ -3,7 +3,7 @@ use Rattle.std.proofs.Common.{◌≡◌, ℕ, ◌<◌, ◌^◌, List, ◌++◌, 
 use Rattle.std.proofs.lemmas.List.{take_at}
 use Rattle.std.proofs.Common.{take, sym, ap, subst, ◌∙◌, arith}
 use Rattle.std.specs.Int.{w32, w64}
-use Rattle.kv_types.specs.FieldsLemmas.{IsBytes, some_is}
+use Rattle.byte_fields.specs.FieldsLemmas.{IsBytes, some_is}
 use Rattle.byte_fields.specs.{number_at}
 use Rattle.byte_fields.specs.ReadersLemmas.{Reads, both_reads, made_reads, right_reads}
 use Rattle.byte_fields.specs.ReadersLemmas.{number_reads, wide32, wide64, IsBytes-take}

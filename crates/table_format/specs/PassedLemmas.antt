@@ -5,7 +5,7 @@ use Rattle.std.specs.List.{flat_map, AllByRecursion}
 use Rattle.std.proofs.lemmas.List.{append-nil}
 use Rattle.std.proofs.lemmas.Grind.{flat_map-append}
 use Rattle.std.proofs.lemmas.List.Concat.{flat_map-cons}
-use Rattle.kv_types.specs.FieldsLemmas.{IsBytes, some_is}
+use Rattle.byte_fields.specs.FieldsLemmas.{IsBytes, some_is}
 use Rattle.byte_fields.specs.{Reader}
 use Rattle.byte_fields.specs.ReadersLemmas.{Reads}
 

@@ -3,8 +3,8 @@ use Rattle.std.specs.Prelude.{ℕ, zero, suc, List, [], ◌∷◌, Option, Some,
 use Rattle.std.specs.Option.{option_map}
 use Rattle.std.specs.Int.{w32, w64}
 use Rattle.kv_types.specs.declared.bounds.TheConstants.{MAX_KEY, MAX_VALUE, MAX_NUMBER}
-use Rattle.kv_types.specs.{Entry, ◌>>=◌, text_at, StoredKey, lent_key}
-use Rattle.byte_fields.specs.{Reader, both, mapped, only, number_at}
+use Rattle.kv_types.specs.{Entry, StoredKey, lent_key}
+use Rattle.byte_fields.specs.{◌>>=◌, text_at, Reader, both, mapped, only, number_at}
 use Rattle.table_format.specs.declared.line.IndexLine.{IndexLine}
 use Rattle.table_format.specs.declared.line.LentLine.{LentLine}
 use Rattle.table_format.specs.declared.footer.Footer.{Footer}

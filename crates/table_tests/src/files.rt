@@ -8,7 +8,7 @@ use disk::{Crash, Disk, Fault, MemDisk};
 use kv_types::LentKey;
 use std::alloc::Global;
 use std::process::Abort;
-use table_files::Files;
+use table_files::CachedDisk;
 use table_format::{FileError, LentEntry, put_entry, seal};
 
 /// The length of a block whose one entry has a key and a value of one byte.
@@ -42,18 +42,18 @@ fn write_block<D: Disk>(rt: &impl Abort, alloc: Global, disk: &mut D, file: u64,
 }
 
 /// Files 1 and 2, whose first blocks have the keys `a` and `b`, with a cache of so many blocks.
-fn two_files(rt: &impl Abort, alloc: Global, blocks: usize) -> Files<MemDisk> {
+fn two_files(rt: &impl Abort, alloc: Global, blocks: usize) -> CachedDisk<MemDisk> {
     let mut disk = MemDisk::new(alloc);
     write_block(rt, alloc, &mut disk, 1, b'a');
     write_block(rt, alloc, &mut disk, 2, b'b');
-    Files::new(alloc, disk, blocks.clamp(1, 65_536)).expect(rt, "memory for the cache")
+    CachedDisk::new(alloc, disk, blocks.clamp(1, 65_536)).expect(rt, "memory for the cache")
 }
 
 /// Whether the first block of the file is that of the byte.
 fn has_block(
     rt: &impl Abort,
     alloc: Global,
-    files: &mut Files<MemDisk>,
+    files: &mut CachedDisk<MemDisk>,
     file: u64,
     byte: u8,
 ) -> bool {
@@ -62,7 +62,7 @@ fn has_block(
 }
 
 /// How many of ten reads in turn answer the file's own block.
-fn own_blocks(rt: &impl Abort, alloc: Global, files: &mut Files<MemDisk>) -> usize {
+fn own_blocks(rt: &impl Abort, alloc: Global, files: &mut CachedDisk<MemDisk>) -> usize {
     let mut own = 0usize;
     for _ in 0..5 {
         own = own.wrapping_add(has_block(rt, alloc, files, 1, b'a') as usize);
@@ -81,7 +81,7 @@ fn each_file_answers_its_own_block(rt: HostRuntime) {
 }
 
 /// The refusal of a read of the file's first block.
-fn refusal_of(alloc: Global, files: &mut Files<MemDisk>, file: u64) -> Option<FileError> {
+fn refusal_of(alloc: Global, files: &mut CachedDisk<MemDisk>, file: u64) -> Option<FileError> {
     files.block(alloc, file, 0, BLOCK).err()
 }
 
@@ -89,7 +89,7 @@ fn refusal_of(alloc: Global, files: &mut Files<MemDisk>, file: u64) -> Option<Fi
 fn reads_without_device(
     rt: &impl Abort,
     alloc: Global,
-    files: &mut Files<MemDisk>,
+    files: &mut CachedDisk<MemDisk>,
 ) -> (bool, bool) {
     has_block(rt, alloc, files, 1, b'a');
     has_block(rt, alloc, files, 2, b'b');
@@ -109,7 +109,7 @@ fn a_kept_block_needs_no_device_call(rt: HostRuntime) {
 }
 
 /// The answers for file 1 before and after the bytes of the other block are written over its own.
-fn rewritten(rt: &impl Abort, alloc: Global, files: &mut Files<MemDisk>) -> (bool, bool) {
+fn rewritten(rt: &impl Abort, alloc: Global, files: &mut CachedDisk<MemDisk>) -> (bool, bool) {
     let before = has_block(rt, alloc, files, 1, b'a');
     write_block(rt, alloc, files, 1, b'b');
     (before, has_block(rt, alloc, files, 1, b'b'))
@@ -124,7 +124,7 @@ fn a_file_that_is_written_is_read_anew(rt: HostRuntime) {
 
 /// Whether a block with a changed byte is damaged, twice; then not when it is put right; then again
 /// when its file is removed.
-fn is_damaged(rt: &impl Abort, alloc: Global, files: &mut Files<MemDisk>) -> bool {
+fn is_damaged(rt: &impl Abort, alloc: Global, files: &mut CachedDisk<MemDisk>) -> bool {
     files.write_at(1, 4, &[9]).expect(rt, "a write");
     let first = refusal_of(alloc, files, 1) == DAMAGE;
     let again = refusal_of(alloc, files, 1) == DAMAGE;
@@ -152,18 +152,18 @@ const LONG: usize = 5_026;
 static BLOCKS: [(u64, usize); 3] = [(0, BLOCK), (27, LONG), (5_053, BLOCK)];
 
 /// File 1 with these blocks, and a cache of three.
-fn three_blocks(rt: &impl Abort, alloc: Global) -> Files<MemDisk> {
+fn three_blocks(rt: &impl Abort, alloc: Global) -> CachedDisk<MemDisk> {
     let mut disk = MemDisk::new(alloc);
     write_block(rt, alloc, &mut disk, 1, b'a');
     let long = block_with(rt, alloc, b'b', &[7; 5_000]);
     disk.write_at(1, 27, &long).expect(rt, "a write");
     disk.write_at(1, 5_053, &block_of(rt, alloc, b'c'))
         .expect(rt, "a write");
-    Files::new(alloc, disk, 3).expect(rt, "memory for the cache")
+    CachedDisk::new(alloc, disk, 3).expect(rt, "memory for the cache")
 }
 
 /// How many of the blocks a read answers.
-fn answered(alloc: Global, files: &mut Files<MemDisk>) -> usize {
+fn answered(alloc: Global, files: &mut CachedDisk<MemDisk>) -> usize {
     let mut count = 0usize;
     for (place, len) in &BLOCKS {
         if files.block(alloc, 1, *place, *len).is_ok() {

@@ -9,7 +9,7 @@ use disk::{Disk, MemDisk};
 use kv_types::StoredKey;
 use merge_iter::{Cursor, OwnedEntry};
 use record_log::Log;
-use sorted_table::{Files, TableCursor};
+use sorted_table::{CachedDisk, TableCursor};
 use std::alloc::Global;
 use std::process::Abort;
 use version_edits::{StoreVersion, TableLine, VersionEdit, replay};
@@ -140,7 +140,7 @@ fn letters_at<C: Cursor>(cursor: &C) -> [u8; 3]
 fn write_entries(
     rt: &impl Abort,
     letters: &mut Vec<u8>,
-    files: &mut Files<MemDisk>,
+    files: &mut CachedDisk<MemDisk>,
     cursor: &mut TableCursor<MemDisk>,
 ) {
     cursor.first(files).expect(rt, "the first entry");
@@ -165,7 +165,7 @@ fn write_table(
     rt: &impl Abort,
     alloc: Global,
     letters: &mut Vec<u8>,
-    files: &mut Files<MemDisk>,
+    files: &mut CachedDisk<MemDisk>,
     line: &TableLine,
 ) {
     let len = files.length(line.file).expect(rt, "a file");
@@ -182,7 +182,7 @@ fn write_table(
 pub fn letters_of(
     rt: &impl Abort,
     alloc: Global,
-    files: &mut Files<MemDisk>,
+    files: &mut CachedDisk<MemDisk>,
     edit: &VersionEdit,
 ) -> Vec<u8> {
     let mut letters = Vec::new(alloc);

@@ -3,7 +3,7 @@
 use crate::merges::{INPUTS, edit_of, open_in, tables_of};
 use disk::MemDisk;
 use kv_types::{Number, StoredKey};
-use sorted_table::Files;
+use sorted_table::CachedDisk;
 use std::alloc::Global;
 use std::process::Abort;
 use store_tables::{LevelTables, OpenTable};
@@ -13,7 +13,7 @@ use version_edits::{StoreVersion, VersionEdit, is_fit};
 fn outputs_of(
     rt: &impl Abort,
     alloc: Global,
-    files: &mut Files<MemDisk>,
+    files: &mut CachedDisk<MemDisk>,
     edit: &VersionEdit,
 ) -> Vec<OpenTable> {
     let mut outputs = Vec::new(alloc);
@@ -29,7 +29,7 @@ fn found_number(
     rt: &impl Abort,
     alloc: Global,
     tables: &LevelTables,
-    files: &mut Files<MemDisk>,
+    files: &mut CachedDisk<MemDisk>,
     (key, at): (&StoredKey, u64),
 ) -> Option<u64> {
     let at = Number::new(at).expect(rt, "a number");

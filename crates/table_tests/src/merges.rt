@@ -7,7 +7,7 @@ use crate::tables::with_cache;
 use compaction::{Merge, MergeError, Plan, Turn, pick};
 use disk::{Disk, MemDisk};
 use kv_types::Limits;
-use sorted_table::{Files, TableCursor};
+use sorted_table::{CachedDisk, TableCursor};
 use std::alloc::Global;
 use std::process::Abort;
 use store_tables::LevelTables;
@@ -27,7 +27,7 @@ pub fn tables_of(
     alloc: Global,
     inputs: &Inputs,
     is_deep: bool,
-) -> (Files<MemDisk>, Lines) {
+) -> (CachedDisk<MemDisk>, Lines) {
     let (mut disk, mut lines) = (MemDisk::new(alloc), Lines::new(alloc));
     let [older, newer, deep] = *inputs;
     for (place, letters) in [
@@ -58,7 +58,7 @@ fn plan_of(rt: &impl Abort, alloc: Global, version: &StoreVersion) -> Plan {
 pub fn open_in(
     rt: &impl Abort,
     alloc: Global,
-    files: &mut Files<MemDisk>,
+    files: &mut CachedDisk<MemDisk>,
     version: &StoreVersion,
 ) -> LevelTables {
     LevelTables::open(alloc, files, &version.tables).expect(rt, "open tables")
@@ -68,7 +68,7 @@ pub fn open_in(
 fn cursors_of(
     rt: &impl Abort,
     alloc: Global,
-    files: &mut Files<MemDisk>,
+    files: &mut CachedDisk<MemDisk>,
     version: &StoreVersion,
     plan: Plan,
 ) -> Vec<TableCursor<MemDisk>> {
@@ -81,7 +81,7 @@ fn cursors_of(
 fn begin(
     rt: &impl Abort,
     alloc: Global,
-    files: &mut Files<MemDisk>,
+    files: &mut CachedDisk<MemDisk>,
     version: &StoreVersion,
     target: u64,
 ) -> Result<Merge<MemDisk>, MergeError> {
@@ -95,7 +95,7 @@ fn begin(
 fn step_all(
     rt: &impl Abort,
     alloc: Global,
-    files: &mut Files<MemDisk>,
+    files: &mut CachedDisk<MemDisk>,
     merge: &mut Merge<MemDisk>,
     next_file: &mut u64,
 ) {
@@ -112,7 +112,7 @@ fn step_all(
 pub fn edit_of(
     rt: &impl Abort,
     alloc: Global,
-    files: &mut Files<MemDisk>,
+    files: &mut CachedDisk<MemDisk>,
     version: &StoreVersion,
     target: u64,
 ) -> VersionEdit {
@@ -245,7 +245,7 @@ fn merges_of_three_tables(rt: HostRuntime) {
 /// of that.
 fn ends_by(
     alloc: Global,
-    files: &mut Files<MemDisk>,
+    files: &mut CachedDisk<MemDisk>,
     merge: &mut Merge<MemDisk>,
     version: &StoreVersion,
     tables: usize,
@@ -258,7 +258,7 @@ fn ends_by(
 }
 
 /// Fails the test where the disk has other files.
-fn has_files(rt: &impl Abort, files: &mut Files<MemDisk>, want: &[u64]) {
+fn has_files(rt: &impl Abort, files: &mut CachedDisk<MemDisk>, want: &[u64]) {
     let found = files.files().expect(rt, "the files");
     assert!(rt; found.as_slice() == want, "{}", found.len());
 }
@@ -317,7 +317,7 @@ fn an_abandoned_merge(rt: HostRuntime) {
 // ---- damage
 
 /// Two tables whose entries have a block each, with another byte at a place of the first.
-fn damaged_at(rt: &impl Abort, alloc: Global, place: u64) -> (Files<MemDisk>, Lines) {
+fn damaged_at(rt: &impl Abort, alloc: Global, place: u64) -> (CachedDisk<MemDisk>, Lines) {
     let (mut disk, mut lines) = (MemDisk::new(alloc), Lines::new(alloc));
     let odd = entries_of(rt, alloc, b"11+31+51+71+91+", 5_000);
     lines.add(rt, alloc, &mut disk, (0, 4), &odd);

@@ -8,7 +8,7 @@ use sorted_table::{FileError, Table};
 use std::alloc::Global;
 use std::process::Abort;
 use table_builder::Finished;
-use table_files::Files;
+use table_files::CachedDisk;
 
 // ---- bytes
 
@@ -58,14 +58,14 @@ fn bytes_of_the_smallest_tables(rt: HostRuntime) {
 // ---- damage
 
 /// A disk with a file of these bytes, and a cache of one block.
-fn files_with(rt: &impl Abort, alloc: Global, bytes: &[u8]) -> Files<MemDisk> {
+fn files_with(rt: &impl Abort, alloc: Global, bytes: &[u8]) -> CachedDisk<MemDisk> {
     let mut disk = MemDisk::new(alloc);
     disk.write_at(FILE, 0, bytes).expect(rt, "a file");
     with_cache(rt, alloc, disk, 1)
 }
 
 /// Opens the table of the file, looks its only key up, and answers the refusal.
-fn refusal_of(alloc: Global, files: &mut Files<MemDisk>) -> Option<FileError> {
+fn refusal_of(alloc: Global, files: &mut CachedDisk<MemDisk>) -> Option<FileError> {
     match Table::open(alloc, files, FILE) {
         Ok(table) => table.get(alloc, files, LentKey::new(b"a"), 1).err(),
         Err(e) => Some(e),
@@ -106,7 +106,7 @@ fn damage_and_short_files_are_found(rt: HostRuntime) {
 }
 
 /// Whether a lookup of `a` says that the block is damaged, twice.
-fn is_refused_twice(alloc: Global, table: &Table, files: &mut Files<MemDisk>) -> bool {
+fn is_refused_twice(alloc: Global, table: &Table, files: &mut CachedDisk<MemDisk>) -> bool {
     let first = table.get(alloc, files, LentKey::new(b"a"), 1).err();
     let second = table.get(alloc, files, LentKey::new(b"a"), 1).err();
     first == Some(FileError::Damaged) && second == Some(FileError::Damaged)
@@ -136,7 +136,7 @@ fn build_a(rt: &impl Abort, alloc: Global, disk: &mut MemDisk, file: u64, value:
 }
 
 /// Two tables of one key, whose first blocks differ at one place.
-fn two_tables(rt: &impl Abort, alloc: Global, blocks: usize) -> Files<MemDisk> {
+fn two_tables(rt: &impl Abort, alloc: Global, blocks: usize) -> CachedDisk<MemDisk> {
     let mut disk = MemDisk::new(alloc);
     build_a(rt, alloc, &mut disk, 3, b"1");
     build_a(rt, alloc, &mut disk, 4, b"2");
@@ -148,7 +148,7 @@ fn value_count(
     rt: &impl Abort,
     alloc: Global,
     table: &Table,
-    files: &mut Files<MemDisk>,
+    files: &mut CachedDisk<MemDisk>,
     value: &[u8],
 ) -> usize {
     match table
@@ -161,7 +161,7 @@ fn value_count(
 }
 
 /// How many of ten lookups in turn find the table's own value.
-fn own_values(rt: &impl Abort, alloc: Global, files: &mut Files<MemDisk>) -> usize {
+fn own_values(rt: &impl Abort, alloc: Global, files: &mut CachedDisk<MemDisk>) -> usize {
     let one = table_in(rt, alloc, files, 3);
     let two = table_in(rt, alloc, files, 4);
     let mut own = 0usize;

@@ -13,7 +13,7 @@ use crate::walks::{agreeing, changes_of};
 use disk::MemDisk;
 use kv_types::{Batch, Edit, Number, Value};
 use merge_iter::Merged;
-use sorted_table::Files;
+use sorted_table::CachedDisk;
 use std::alloc::Global;
 use std::process::Abort;
 use store_cursors::{StoreCursor, StoreRows, rows_at};
@@ -46,7 +46,7 @@ fn part_of(rt: &impl Abort, alloc: Global, entries: &[PlainEntry], which: u64) -
 }
 
 /// A disk with two tables, each of a third of the entries, and a cache of two blocks.
-fn files_of(rt: &impl Abort, alloc: Global, entries: &[PlainEntry]) -> Files<MemDisk> {
+fn files_of(rt: &impl Abort, alloc: Global, entries: &[PlainEntry]) -> CachedDisk<MemDisk> {
     let mut disk = MemDisk::new(alloc);
     for (file, which) in [(FILE, 1), (SOUND, 2)] {
         let part = all_owned(rt, alloc, &part_of(rt, alloc, entries, which));
@@ -60,7 +60,7 @@ fn cursors_of<'a>(
     rt: &impl Abort,
     alloc: Global,
     memtable: &'a Numbered,
-    files: &mut Files<MemDisk>,
+    files: &mut CachedDisk<MemDisk>,
 ) -> Vec<StoreCursor<'a, MemDisk>> {
     let mut cursors = Vec::new(alloc);
     let newest = StoreCursor::of_memtable(memtable.table()).expect(rt, "a memtable");
@@ -78,7 +78,7 @@ fn rows_of<'a>(
     rt: &impl Abort,
     alloc: Global,
     memtable: &'a Numbered,
-    files: &mut Files<MemDisk>,
+    files: &mut CachedDisk<MemDisk>,
     at: u64,
 ) -> StoreRows<'a, MemDisk> {
     let at = Number::new(at).expect(rt, "a number");
@@ -102,7 +102,7 @@ fn meet_rows(
     rt: &impl Abort,
     alloc: Global,
     memtable: &Numbered,
-    files: &mut Files<MemDisk>,
+    files: &mut CachedDisk<MemDisk>,
     shown: &[PlainEntry],
     at: u64,
 ) {

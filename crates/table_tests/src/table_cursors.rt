@@ -9,7 +9,7 @@ use crate::tables::{FILE, files_of, table_in};
 use crate::walks::{agreeing, changes_of, owned};
 use disk::{Crash, Fault, MemDisk};
 use merge_iter::{Cursor, CursorError, OwnedEntry};
-use sorted_table::{Files, TableCursor};
+use sorted_table::{CachedDisk, TableCursor};
 use std::alloc::Global;
 use std::process::Abort;
 
@@ -40,7 +40,7 @@ pub fn all_owned(rt: &impl Abort, alloc: Global, entries: &[PlainEntry]) -> Vec<
 fn go_through(
     rt: &impl Abort,
     alloc: Global,
-    files: &mut Files<MemDisk>,
+    files: &mut CachedDisk<MemDisk>,
     entries: &[PlainEntry],
     owned: &[OwnedEntry],
 ) {
@@ -67,7 +67,7 @@ fn a_table_of_ten_blocks(rt: HostRuntime) {
 }
 
 /// Whether the first entry is refused for the disk, and the step after it for that.
-fn is_refused(cursor: &mut TableCursor<MemDisk>, files: &mut Files<MemDisk>) -> bool {
+fn is_refused(cursor: &mut TableCursor<MemDisk>, files: &mut CachedDisk<MemDisk>) -> bool {
     match cursor.first(files) {
         Err(CursorError::Disk) => cursor.next(files) == Err(CursorError::Failed),
         _ => false,
@@ -78,7 +78,7 @@ fn is_refused(cursor: &mut TableCursor<MemDisk>, files: &mut Files<MemDisk>) -> 
 fn fail_and_go_on(
     rt: &impl Abort,
     alloc: Global,
-    files: &mut Files<MemDisk>,
+    files: &mut CachedDisk<MemDisk>,
     entries: &[PlainEntry],
 ) {
     let table = table_in(rt, alloc, files, FILE);

@@ -9,7 +9,7 @@ use crate::tables::{FILE, build, entry_of, table_in, with_cache};
 use disk::{Disk, MemDisk};
 use kv_types::LentKey;
 use merge_iter::{AtNumber, Cursor, CursorError, Merged, OwnedEntry};
-use sorted_table::{FileError, Files, TableCursor};
+use sorted_table::{CachedDisk, FileError, TableCursor};
 use std::alloc::Global;
 use std::process::Abort;
 use table_format::{Footer, IndexLine, footer_part_of, put_line, seal};
@@ -29,7 +29,7 @@ fn entries_of(rt: &impl Abort, alloc: Global, keys: &[u8]) -> Vec<OwnedEntry> {
 
 /// A disk with a table whose third block of five, that of the key 5, has another byte; and a sound
 /// table of the keys between.
-pub fn damaged_files(rt: &impl Abort, alloc: Global) -> Files<MemDisk> {
+pub fn damaged_files(rt: &impl Abort, alloc: Global) -> CachedDisk<MemDisk> {
     let mut disk = MemDisk::new(alloc);
     build(rt, alloc, &mut disk, FILE, &entries_of(rt, alloc, b"13579"));
     build(rt, alloc, &mut disk, SOUND, &entries_of(rt, alloc, b"2468"));
@@ -41,7 +41,7 @@ pub fn damaged_files(rt: &impl Abort, alloc: Global) -> Files<MemDisk> {
 fn cursor_in(
     rt: &impl Abort,
     alloc: Global,
-    files: &mut Files<MemDisk>,
+    files: &mut CachedDisk<MemDisk>,
     file: u64,
 ) -> TableCursor<MemDisk> {
     let table = table_in(rt, alloc, files, file);
@@ -52,7 +52,7 @@ fn cursor_in(
 fn union_in(
     rt: &impl Abort,
     alloc: Global,
-    files: &mut Files<MemDisk>,
+    files: &mut CachedDisk<MemDisk>,
 ) -> Merged<TableCursor<MemDisk>> {
     let mut both = Vec::new(alloc);
     for file in [FILE, SOUND] {
@@ -170,7 +170,7 @@ fn a_damaged_block_stops_a_view(rt: HostRuntime) {
 
 /// A disk with a table of these keys, of which the one with this place has number 2, and with
 /// another byte at a place of its file; and a sound table of the keys between.
-fn files_damaged_at(rt: &impl Abort, alloc: Global, newer: usize, at: u64) -> Files<MemDisk> {
+fn files_damaged_at(rt: &impl Abort, alloc: Global, newer: usize, at: u64) -> CachedDisk<MemDisk> {
     let mut disk = MemDisk::new(alloc);
     let mut entries = Vec::new(alloc);
     for (i, key) in b"13579".iter().enumerate() {
@@ -287,7 +287,7 @@ fn a_view_that_returns_to_damage(rt: HostRuntime) {
 }
 
 /// The smallest table, but for its index: the line says that the block ends with `b`.
-fn ends_too_early(rt: &impl Abort, alloc: Global) -> Files<MemDisk> {
+fn ends_too_early(rt: &impl Abort, alloc: Global) -> CachedDisk<MemDisk> {
     let mut index = copy_of(rt, alloc, &[0, 0, 0, 1]);
     let line = IndexLine {
         place: 0,

@@ -3,7 +3,7 @@ use crate::counts::is_count;
 use crate::tables::{FILE, entry_of, files_of, found_of, many, table_in};
 use disk::{Disk, MemDisk};
 use merge_iter::{Cursor, OwnedEntry};
-use sorted_table::Files;
+use sorted_table::CachedDisk;
 use std::alloc::Global;
 use std::process::Abort;
 
@@ -81,7 +81,12 @@ pub fn meet_all<C: Cursor>(
 }
 
 /// Walks through the table of these entries, so many, both ways.
-fn walk(rt: &impl Abort, alloc: Global, files: &mut Files<MemDisk>, rows: (&[OwnedEntry], usize)) {
+fn walk(
+    rt: &impl Abort,
+    alloc: Global,
+    files: &mut CachedDisk<MemDisk>,
+    rows: (&[OwnedEntry], usize),
+) {
     let (entries, all) = rows;
     let table = table_in(rt, alloc, files, FILE);
     let mut cursor = table.cursor(alloc).expect(rt, "memory");

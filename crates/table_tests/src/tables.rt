@@ -10,7 +10,7 @@ use sorted_table::Table;
 use std::alloc::Global;
 use std::process::Abort;
 use table_builder::{Builder, Finished};
-use table_files::Files;
+use table_files::CachedDisk;
 use table_format::LentEntry;
 
 /// The file of the table.
@@ -76,8 +76,13 @@ pub fn entry_of(
 }
 
 /// The disk with a cache of so many blocks.
-pub fn with_cache(rt: &impl Abort, alloc: Global, disk: MemDisk, blocks: usize) -> Files<MemDisk> {
-    Files::new(alloc, disk, blocks.clamp(1, 65_536)).expect(rt, "memory for the cache")
+pub fn with_cache(
+    rt: &impl Abort,
+    alloc: Global,
+    disk: MemDisk,
+    blocks: usize,
+) -> CachedDisk<MemDisk> {
+    CachedDisk::new(alloc, disk, blocks.clamp(1, 65_536)).expect(rt, "memory for the cache")
 }
 
 /// A disk with the table of these entries, and a cache of so many blocks.
@@ -86,14 +91,19 @@ pub fn files_of(
     alloc: Global,
     entries: &[OwnedEntry],
     blocks: usize,
-) -> Files<MemDisk> {
+) -> CachedDisk<MemDisk> {
     let mut disk = MemDisk::new(alloc);
     build(rt, alloc, &mut disk, FILE, entries);
     with_cache(rt, alloc, disk, blocks)
 }
 
 /// The table of the file.
-pub fn table_in(rt: &impl Abort, alloc: Global, files: &mut Files<MemDisk>, file: u64) -> Table {
+pub fn table_in(
+    rt: &impl Abort,
+    alloc: Global,
+    files: &mut CachedDisk<MemDisk>,
+    file: u64,
+) -> Table {
     Table::open(alloc, files, file).expect(rt, "a table")
 }
 
@@ -112,7 +122,7 @@ fn finds(
     rt: &impl Abort,
     alloc: Global,
     table: &Table,
-    files: &mut Files<MemDisk>,
+    files: &mut CachedDisk<MemDisk>,
     (key, at): (LentKey, u64),
     want: Option<&OwnedEntry>,
 ) -> bool {
@@ -157,7 +167,7 @@ fn is_found(
     rt: &impl Abort,
     alloc: Global,
     table: &Table,
-    files: &mut Files<MemDisk>,
+    files: &mut CachedDisk<MemDisk>,
     entries: &[OwnedEntry],
     (at, key, found): Lookup,
 ) -> bool {
@@ -174,7 +184,7 @@ fn is_found(
 fn all_are_found(
     rt: &impl Abort,
     alloc: Global,
-    files: &mut Files<MemDisk>,
+    files: &mut CachedDisk<MemDisk>,
     entries: &[OwnedEntry],
 ) {
     let table = table_in(rt, alloc, files, FILE);
@@ -194,7 +204,7 @@ fn lookups_at_each_number(rt: HostRuntime) {
 // ---- calls of the device
 
 /// A disk with the table of those entries, and a cache of one block.
-fn files_of_few(rt: &impl Abort, alloc: Global) -> Files<MemDisk> {
+fn files_of_few(rt: &impl Abort, alloc: Global) -> CachedDisk<MemDisk> {
     files_of(rt, alloc, &few(rt, alloc), 1)
 }
 
@@ -208,7 +218,7 @@ fn opening_reaches(rt: &impl Abort, alloc: Global, call: u64) -> bool {
 }
 
 /// Whether two lookups of one key both answer.
-fn both_answer(alloc: Global, table: &Table, files: &mut Files<MemDisk>) -> bool {
+fn both_answer(alloc: Global, table: &Table, files: &mut CachedDisk<MemDisk>) -> bool {
     let first = table.get(alloc, files, LentKey::new(b"@"), 5).is_ok();
     let second = table.get(alloc, files, LentKey::new(b"@"), 5).is_ok();
     first && second
@@ -274,7 +284,7 @@ pub fn many(rt: &impl Abort, alloc: Global, count: u16, len: usize) -> Vec<Owned
 pub fn found_of(
     rt: &impl Abort,
     alloc: Global,
-    files: &mut Files<MemDisk>,
+    files: &mut CachedDisk<MemDisk>,
     entries: &[OwnedEntry],
 ) -> usize {
     let table = table_in(rt, alloc, files, FILE);

@@ -8,17 +8,17 @@ use Rattle.std.specs.Prelude.{IsSomeAnd, option_map, Result, Ok, Err, IfOk, IsEr
 use Rattle.std.specs.Int.{w8, w16, w32, w64, to_be_bytes}
 use Rattle.std.specs.Ordering.{is_lt}
 use Rattle.std.proofs.lemmas.Bool.{leb-true, le-leb, eqb-true}
-use Rattle.byte_fields.specs.{number_at}
+use Rattle.byte_fields.specs.{number_at, text_bytes, text_at}
 use Rattle.byte_fields.specs.ReadersLemmas.{Reads, both_reads, made_reads, only_reads, number_reads}
 use Rattle.byte_fields.specs.ReadersLemmas.{counted_reads, wide8, wide16, wide32, wide64}
 use Rattle.byte_fields.specs.ReadersLemmas.{right_reads, nothing_read}
 use Rattle.configurations.specs.{IsConfig, TestDecidesConfig, is_config, config_text}
 use Rattle.kv_types.specs.declared.bounds.TheConstants.{MAX_NUMBER, MAX_KEY}
 use Rattle.kv_types.specs.Order.{IsBelow}
-use Rattle.kv_types.specs.{text_bytes, text_at, stored_cmp}
+use Rattle.kv_types.specs.{stored_cmp}
 use Rattle.kv_types.specs.ByteOrderLemmas.{lt_below}
-use Rattle.kv_types.specs.FieldsLemmas.{IsBytes, IsBytes-rest, BeginsWith, bind_some, some_is}
-use Rattle.kv_types.specs.FieldsLemmas.{text_begins, text_again}
+use Rattle.byte_fields.specs.FieldsLemmas.{IsBytes, IsBytes-rest, BeginsWith, bind_some, some_is}
+use Rattle.byte_fields.specs.FieldsLemmas.{text_begins, text_again}
 use Rattle.version_edits.specs.declared.line.TheConstants.{MAX_NEXT}
 use Rattle.version_edits.specs.declared.error.EditError.{EditError}
 use Rattle.version_edits.specs.declared.error.EditError.TheVariants as edit_error

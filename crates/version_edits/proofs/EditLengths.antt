@@ -9,7 +9,7 @@ use Rattle.std.proofs.lemmas.List.Elements.{All-head, All-tail}
 use Rattle.std.proofs.lemmas.List.Elements.{All-weaker}
 use Rattle.record_log.specs.declared.log.TheConstants.{MAX_RECORD}
 use Rattle.version_edits.specs.declared.line.TheConstants.{MAX_LINES}
-use Rattle.kv_types.specs.{text_bytes}
+use Rattle.byte_fields.specs.{text_bytes}
 use Rattle.version_edits.specs.declared.line.TableLine.{TableLine}
 use Rattle.version_edits.specs.Versions.{StoreVersion, Change, IsFit}
 use Rattle.version_edits.specs.Versions.{logs_left, tables_left, log_is_before, table_is_before}

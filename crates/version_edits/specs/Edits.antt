@@ -4,7 +4,7 @@ use Rattle.std.specs.List.{flat_map}
 use Rattle.std.specs.Int.{w16, w32, w64, to_be_bytes}
 use Rattle.kv_types.specs.declared.bounds.TheConstants.{MAX_NUMBER, MAX_KEY}
 use Rattle.kv_types.specs.Order.{IsBelow}
-use Rattle.kv_types.specs.{text_bytes}
+use Rattle.byte_fields.specs.{text_bytes}
 use Rattle.configurations.specs.{IsConfig, config_text}
 use Rattle.version_edits.specs.declared.line.TheConstants.{MAX_NEXT}
 use Rattle.version_edits.specs.declared.line.LogLine.{LogLine}

@@ -4,10 +4,10 @@ use Rattle.std.specs.Prelude.{Option, Some, None, Result, Ok, Err, if◌then◌e
 use Rattle.std.specs.Global.{Vec}
 use Rattle.std.specs.Int.{w8, w16, w32, w64}
 use Rattle.std.specs.Ordering.{is_lt}
-use Rattle.byte_fields.specs.{Reader, both, mapped, only, counted, number_at}
+use Rattle.byte_fields.specs.{Reader, both, mapped, only, counted, number_at, ◌>>=◌, text_at}
 use Rattle.configurations.specs.{is_config}
 use Rattle.kv_types.specs.declared.bounds.TheConstants.{MAX_NUMBER, MAX_KEY}
-use Rattle.kv_types.specs.{◌>>=◌, text_at, StoredKey, stored_cmp}
+use Rattle.kv_types.specs.{StoredKey, stored_cmp}
 use Rattle.version_edits.specs.declared.error.EditError.{EditError}
 use Rattle.version_edits.specs.declared.error.EditError.TheVariants as edit_error
 use Rattle.version_edits.specs.declared.line.TheConstants.{MAX_NEXT}

@@ -3,8 +3,7 @@
 ghost use Rattle.std.specs.Prelude.{◌≡◌, ◌⊎◌, IfOk, IfErr, IsErrOf, option_map};
 ghost use Rattle.std.specs.Int.{w16, w32, w64};
 ghost use Rattle.kv_types.specs.declared.bounds.TheConstants.{MAX_KEY};
-ghost use Rattle.kv_types.specs.{text_at};
-ghost use Rattle.byte_fields.specs.{many, number_at};
+ghost use Rattle.byte_fields.specs.{text_at, many, number_at};
 ghost use Rattle.version_edits.specs.Versions.{Change};
 ghost use Rattle.version_edits.specs.Edits.{IsChange, change_text};
 ghost use Rattle.version_edits.specs.Reading.{ReadsChangeField, ReadsChange, items_read};

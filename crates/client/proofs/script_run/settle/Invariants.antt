@@ -1,5 +1,6 @@
 use Rattle.std.proofs.Common.{◌≡◌, ◌-◌, true}
-use Rattle.lab.specs.Configuration.{at_epoch, has}
+use Rattle.kv_types.specs.{has}
+use Rattle.lab.specs.NodeLists.{at_epoch}
 use Rattle.scripts.specs.declared.setup.Setup.{Setup}
 use Rattle.client.specs.ScriptRuns.{HasRunTo, Stretch, most}
 use Rattle.client.proofs.Settling.{Settles}

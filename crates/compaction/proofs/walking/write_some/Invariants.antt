@@ -2,8 +2,8 @@ use Rattle.std.proofs.Common.{Ok, ◌≤◌, ◌-◌}
 use Rattle.merge_iter.specs.contracts.merged.MergedCursor.TheImpl as merged_cursor
 use Rattle.sorted_table.specs.contracts.table_cursor.TableCursor as table_cursor
 use Rattle.sorted_table.specs.contracts.table_cursor.TableCursorCursor.TheImpl as table_cursors
-use Rattle.table_files.specs.contracts.files.Files as files
-use Rattle.table_files.specs.contracts.files.FilesDisk.TheImpl as files_disk
+use Rattle.table_files.specs.contracts.cached_disk.CachedDisk as files
+use Rattle.table_files.specs.contracts.cached_disk.CachedDiskDisk.TheImpl as files_disk
 use Rattle.compaction.specs.Walks.{AdvancesWalk}
 use Rattle.compaction.proofs.walking.write_some.Given as goal
 

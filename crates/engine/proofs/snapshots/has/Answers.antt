@@ -1,7 +1,7 @@
 use Rattle.std.proofs.Common.{◌≡◌, ◌∙◌, ℕ, List, Option, Some, None, eqb, sym}
 use Rattle.std.specs.List.{position}
 use Rattle.std.specs.Prelude.{is_some}
-use Rattle.chain_model.specs.Machine.{is_open}
+use Rattle.kv_types.specs.Snapshots.{is_open}
 use Rattle.engine.proofs.Removals.{none_found, place_found}
 use Rattle.engine.proofs.snapshots.has.Goals as goal
 

@@ -3,7 +3,7 @@ use Rattle.std.specs.Prelude.{IfOk}
 use Rattle.disk.specs.declared.Disk.{Ghosts}
 use Rattle.store_files.specs.declared.store_files.StoreFiles.{StoreFiles}
 use Rattle.store_files.specs.declared.tended.Tended.TheVariants as tended
-use Rattle.table_files.specs.declared.files.Files.{Files}
+use Rattle.table_files.specs.declared.cached_disk.CachedDisk.{CachedDisk}
 use Rattle.engine.specs.Tends.{KeepsTended, MergesByPlan, tended_store}
 use Rattle.engine.proofs.Parts.{part_answers, part_refused}
 use Rattle.engine.proofs.StoreTends.{behind_rest, merge_did, part_of_tend, store_did}
@@ -42,7 +42,8 @@ returns-then-ne-clause-did g c =
 -- ---- a merge is next
 
 -- nothing was done before it
-abbrev Rests : {D : Type 0} {g : Ghosts D} → (a b : Files D g) → (old new : StoreFiles) → Type 0
+abbrev Rests : {D : Type 0} {g : Ghosts D} → (a b : CachedDisk D g) → (old new : StoreFiles)
+    → Type 0
 Rests a b old new = (b ≡ a) × (new ≡ old)
 
 pub returns-clause-kept : goal.returns-clause-kept

@@ -1,6 +1,6 @@
 use Rattle.std.proofs.Common.{◌≡◌, suc, MatchOption, Some, None, Option, List, ℕ, ◌<◌, ◌≤◌, length}
 use Rattle.std.proofs.Common.{Bor, ap, ◌-◌, ◌∙◌, arith}
-use Rattle.chain_model.specs.{place}
+use Rattle.kv_types.specs.{place}
 use Rattle.std.specs.List.{HoldsAt}
 use Rattle.lab.specs.declared.delivery.Posted.{Posted}
 use Rattle.lab.specs.Deliveries.{HasNoFrame, IsPostedAt}

@@ -1,7 +1,8 @@
 use Rattle.std.proofs.Common.{rules, ℕ, ◌≤◌, List, [], length, replicate, arith, refl, sym, ◌∙◌}
 use Rattle.std.proofs.lemmas.Bool.{cond_both}
 use Rattle.std.proofs.lemmas.List.{length-replicate}
-use Rattle.chain_model.specs.{created, is_tail}
+use Rattle.configurations.specs.{is_tail}
+use Rattle.chain_model.specs.{created}
 use Rattle.chain_core.specs.{Machine}
 use Rattle.node.proofs.starting.core_of.Goals as goal
 

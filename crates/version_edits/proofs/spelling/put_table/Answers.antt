@@ -1,5 +1,5 @@
 use Rattle.std.proofs.Common.{◌++◌, List, ℕ, ap, ◌∙◌, append_assoc}
-use Rattle.kv_types.specs.{text_bytes}
+use Rattle.byte_fields.specs.{text_bytes}
 use Rattle.version_edits.specs.Edits.{table_head_bytes, table_line_bytes}
 use Rattle.version_edits.proofs.spelling.put_table.Goals as goal
 

@@ -1,6 +1,7 @@
 use Rattle.std.proofs.Common.{◌≡◌, suc, length, refl, sym, ap, subst, ◌∙◌, arith}
 use Rattle.std.specs.Prelude.{if◌then◌else◌}
-use Rattle.chain_model.specs.{is_tail, append}
+use Rattle.configurations.specs.{is_tail}
+use Rattle.chain_model.specs.{append}
 use Rattle.chain_core.specs.States.{Core, CoreRefines}
 use Rattle.chain_core.proofs.Queues.{raise}
 use Rattle.chain_core.specs.CoreState.{core_value}

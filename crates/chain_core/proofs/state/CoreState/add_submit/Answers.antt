@@ -1,7 +1,8 @@
 use Rattle.std.proofs.Common.{◌≡◌, ◌∷◌, [], ◌++◌, List, suc, refl, sym, ap, subst, ◌∙◌}
 use Rattle.std.proofs.Common.{arith, rules}
 use Rattle.std.specs.Prelude.{if◌then◌else◌}
-use Rattle.chain_model.specs.{is_tail, accept}
+use Rattle.configurations.specs.{is_tail}
+use Rattle.chain_model.specs.{accept}
 use Rattle.chain_core.specs.declared.pending_submit.PendingSubmit.{PendingSubmit}
 use Rattle.chain_core.specs.States.{Core, IsInOrder, committed_responses}
 use Rattle.chain_core.specs.Queues.{front, behind}

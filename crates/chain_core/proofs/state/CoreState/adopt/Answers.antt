@@ -1,7 +1,8 @@
 use Rattle.std.proofs.Common.{◌≡◌, ◌++◌, [], Bool, List, not, sym, ap, subst, ◌∙◌, rules}
 use Rattle.std.proofs.Common.{refl}
 use Rattle.std.specs.Prelude.{if◌then◌else◌}
-use Rattle.chain_model.specs.{has, is_tail}
+use Rattle.configurations.specs.{is_tail}
+use Rattle.kv_types.specs.{has}
 use Rattle.chain_model.specs.Rules.{adopt}
 use Rattle.chain_core.specs.declared.pending_submit.PendingSubmit.{PendingSubmit}
 use Rattle.chain_core.specs.States.{Core, IsInOrder, committed_responses}

@@ -1,7 +1,7 @@
 use Rattle.std.proofs.Common.{◌≡◌, ◌<◌, ◌-◌, ◌∙◌, ap, sym, subst, List, ℕ, length, arith}
 use Rattle.std.proofs.lemmas.Grind.{common_steps}
 use Rattle.std.specs.List.{remove}
-use Rattle.chain_model.specs.Machine.{without}
+use Rattle.kv_types.specs.Snapshots.{without}
 use Rattle.chain_core.specs.States.{Core}
 use Rattle.chain_core.proofs.Snapshots.{closed_at, closed_none}
 use Rattle.chain_core.proofs.state.CoreState.close_snapshot.Goals as goal

@@ -1,6 +1,6 @@
 use Rattle.std.proofs.Common.{◌∙◌, ap}
 use Rattle.std.specs.Option.{is_some}
-use Rattle.chain_model.specs.Machine.{is_open}
+use Rattle.kv_types.specs.Snapshots.{is_open}
 use Rattle.chain_core.specs.States.{Core}
 use Rattle.chain_core.proofs.Snapshots.{open_at}
 use Rattle.chain_core.proofs.state.CoreState.is_open.Goals as goal

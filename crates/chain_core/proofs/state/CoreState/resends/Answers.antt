@@ -1,7 +1,7 @@
 use Rattle.std.proofs.Common.{◌≡◌, ◌+◌, ◌-◌, None, length, min, refl, sym, ap, ◌∙◌}
 use Rattle.std.proofs.Common.{not, arith}
 use Rattle.std.specs.Option.{is_some}
-use Rattle.chain_model.specs.{successor}
+use Rattle.configurations.specs.{successor}
 use Rattle.chain_core.proofs.Ends.{no_tail_before}
 use Rattle.chain_core.proofs.Resends.{sent_to_count, none_sent, not_some}
 use Rattle.chain_core.proofs.state.CoreState.resends.Goals as goal

@@ -2,7 +2,7 @@ use Rattle.std.proofs.Common.{◌≡◌, inl, inr, refl, sym, subst, ap, ◌∙�
 use Rattle.std.proofs.Common.{All, List, Ok, Err, suc}
 use Rattle.std.specs.List.{AllZip}
 use Rattle.std.specs.Global.{Vec}
-use Rattle.table_files.specs.contracts.files.FilesDisk.TheImpl as files_disk
+use Rattle.table_files.specs.contracts.cached_disk.CachedDiskDisk.TheImpl as files_disk
 use Rattle.version_edits.specs.declared.TableLine.{TableLine}
 use Rattle.version_edits.specs.declared.TableName.{TableName}
 use Rattle.version_edits.specs.{IsTableLine, IsVersion, NodeVersion}

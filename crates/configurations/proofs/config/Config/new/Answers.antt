@@ -1,7 +1,7 @@
 use Rattle.std.proofs.Common.{◌∷◌, [], ◌++◌, ◌∙◌, sym, ap, take, get_or, arith}
 use Rattle.std.proofs.lemmas.List.{take_more}
 use Rattle.std.proofs.lemmas.List.Elements.{All-more}
-use Rattle.chain_model.specs.{IsId}
+use Rattle.configurations.specs.NodeLists.{IsId}
 use Rattle.configurations.proofs.config.Config.new.Goals as goal
 
 -- the id that the loop is at is appended

@@ -1,5 +1,5 @@
 use Rattle.std.proofs.Common.{◌≡◌, take, All}
-use Rattle.chain_model.specs.{IsId}
+use Rattle.configurations.specs.NodeLists.{IsId}
 use Rattle.configurations.proofs.config.Config.new.Given as goal
 
 -- the ids so far are ids of nodes

@@ -1,5 +1,5 @@
 use Rattle.std.proofs.Common.{◌≡◌, sym, subst, true}
-use Rattle.chain_model.specs.{is_tail}
+use Rattle.configurations.specs.NodeLists.{is_tail}
 use Rattle.configurations.specs.Configs.{IsConfig}
 use Rattle.configurations.proofs.Ids.{tail_last}
 use Rattle.configurations.proofs.config.Config.tail.Goals as goal

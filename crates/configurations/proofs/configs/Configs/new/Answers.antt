@@ -1,6 +1,6 @@
 use Rattle.std.proofs.Common.{◌≡◌, ◌∙◌, ◌<◌, ◌≤◌, sym, subst, ap, [], refl, true, false, length}
 use Rattle.std.proofs.Common.{nat_lt}
-use Rattle.chain_model.specs.{at_epoch}
+use Rattle.configurations.specs.NodeLists.{at_epoch}
 use Rattle.configurations.specs.Configs.{IsConfig}
 use Rattle.configurations.specs.Checks.{each_later, is_smaller, is_in_order}
 use Rattle.configurations.specs.Refusals.{ListHas, IsLeast}

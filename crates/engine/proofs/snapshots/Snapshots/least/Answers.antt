@@ -1,6 +1,6 @@
 use Rattle.std.proofs.Common.{◌∙◌, ap, sym}
 use Rattle.std.specs.VecDeque.Iter.{deque_iter_rest}
-use Rattle.chain_model.specs.Machine.{least}
+use Rattle.kv_types.specs.Snapshots.{least}
 use Rattle.engine.proofs.snapshots.Snapshots.least.Goals as goal
 
 -- before the first all snapshots are left

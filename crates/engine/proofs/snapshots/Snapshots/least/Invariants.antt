@@ -1,6 +1,6 @@
 use Rattle.std.proofs.Common.{◌≡◌}
 use Rattle.std.specs.VecDeque.Iter.{deque_iter_rest}
-use Rattle.chain_model.specs.Machine.{least}
+use Rattle.kv_types.specs.Snapshots.{least}
 use Rattle.engine.proofs.snapshots.Snapshots.least.Given as goal
 
 -- the least of those passed, and the snapshots that are left, decide

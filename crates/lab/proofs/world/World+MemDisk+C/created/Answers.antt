@@ -1,6 +1,6 @@
 use Rattle.std.proofs.Common.{ℕ, List, subst}
 use Rattle.lab.specs.Worlds.{AreCreated, HasRun, empty_run}
-use Rattle.chain_model.specs.{Configurations}
+use Rattle.configurations.specs.{Configurations}
 use Rattle.lab.proofs.world.World+MemDisk+C.created.Goals as goal
 
 -- its nodes were just created

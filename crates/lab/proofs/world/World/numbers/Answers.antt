@@ -1,7 +1,8 @@
 use Rattle.std.proofs.Common.{◌≡◌, ◌∙◌, List, ℕ, subst, sym, true}
 use Rattle.std.proofs.lemmas.List.{get_or_default}
 use Rattle.std.proofs.lemmas.Option.{MatchOption-at_none}
-use Rattle.chain_model.specs.{has, node_of}
+use Rattle.kv_types.specs.{has}
+use Rattle.chain_model.specs.{node_of}
 use Rattle.node.specs.declared.Node.{Node}
 use Rattle.node.specs.{NodeRefines}
 use Rattle.lab.specs.declared.node_state.NodeState.{NodeState}

@@ -3,7 +3,8 @@ use Rattle.disk.specs.{IsEnvironmental}
 use Rattle.std.proofs.Common.{inr, ◌∙◌, List, if◌then◌else◌}
 use Rattle.std.proofs.lemmas.Result.{err_from_is_err_and}
 use Rattle.kv_types.specs.{BatchContent}
-use Rattle.chain_model.specs.{Message, ack, forward, is_tail}
+use Rattle.configurations.specs.{is_tail}
+use Rattle.chain_model.specs.{Message, ack, forward}
 use Rattle.chain_core.specs as core
 use Rattle.chain_core.specs.{done_of, responses_after}
 use Rattle.engine.specs.KeepingLemmas.{answered, kept_as, kept_but, neither}

@@ -1,6 +1,6 @@
 use Rattle.std.proofs.Common.{◌≡◌, ◌∷◌, ℕ, List, Err, ap, refl, subst, true}
 use Rattle.chain_model.specs.{Closed}
-use Rattle.chain_model.specs.Machine.{is_open, without}
+use Rattle.kv_types.specs.Snapshots.{is_open, without}
 use Rattle.chain_model.specs.Rules.{remove_snapshot}
 use Rattle.chain_core.specs.{committed_responses}
 use Rattle.chain_core.specs.declared.Done.TheVariants as done

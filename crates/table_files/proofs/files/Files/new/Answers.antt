@@ -1,7 +1,0 @@
-use Rattle.table_files.proofs.files.Files.new.Goals as goal
-
--- the cache has no block
-pub invariant_of-result : goal.invariant_of-result
-invariant_of-result g c = record {
-  checked = λ honest file place part holds. absurd (c.in-Ok.ensures file place part holds);
-}
