@@ -3,17 +3,19 @@ use Rattle.std.specs.Prelude.{◌≡◌, ℕ, List}
 use Rattle.link_messages.specs.declared.Frame.{Frame}
 use Rattle.link_messages.specs.{IsFrame, frame_bytes}
 use Rattle.carriers.specs.declared.carrier.Carried.{Carried}
-use Rattle.carriers.specs.declared.carrier.Carried.TheVariants.{Bytes, Lost}
+use Rattle.carriers.specs.declared.carrier.Carried.TheVariants.{Bytes, Lost, Same}
 use Rattle.carriers.specs.declared.sending.Received.{Received}
 use Rattle.carriers.specs.declared.sending.Received.TheVariants as received
 
 -- these bytes were carried: what arrived, if anything did, is the same
 abbrev pub IsCarried : List ℕ → Carried → Type 0
+IsCarried bytes Same = Unit {0}
 IsCarried bytes (Bytes got) = got.items ≡ bytes
 IsCarried bytes Lost = Unit {0}
 
 -- nothing arrived
 abbrev pub HasLost : Carried → Type 0
+HasLost Same = ⊥
 HasLost (Bytes got) = ⊥
 HasLost Lost = Unit {0}
 

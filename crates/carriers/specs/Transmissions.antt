@@ -2,7 +2,7 @@
 use Rattle.std.specs.Prelude.{ℕ, Bool, true, false, List, [], ◌∷◌, ◌++◌, Option, Some, None}
 use Rattle.node.specs.declared.Reply.{Reply}
 use Rattle.carriers.specs.declared.carrier.Carried.{Carried}
-use Rattle.carriers.specs.declared.carrier.Carried.TheVariants.{Bytes, Lost}
+use Rattle.carriers.specs.declared.carrier.Carried.TheVariants.{Bytes, Lost, Same}
 use Rattle.carriers.specs.declared.carrier.Peer.{Peer}
 use Rattle.carriers.specs.declared.deliveries.Delivery.{Delivery}
 use Rattle.carriers.specs.declared.deliveries.Delivery.TheVariants as delivery
@@ -29,6 +29,7 @@ HasCarriedMore has_carried old new more =
 
 -- whether bytes were lost
 abbrev pub carried_lost : Carried → Bool
+carried_lost Same = false
 carried_lost (Bytes got) = false
 carried_lost Lost = true
 

@@ -18,6 +18,9 @@ pub enum Peer {
 /// What became of bytes that were to be carried.
 #[derive(Drop)]
 pub enum Carried {
+    /// They arrived, as they were sent. They need no copy.
+    Same,
+    /// These arrived.
     Bytes(Vec<u8>),
     /// They did not arrive, and never will.
     Lost,

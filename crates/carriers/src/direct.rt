@@ -2,7 +2,7 @@
 use crate::{Carried, Carrier, LabError, Peer};
 use std::alloc::Global;
 
-/// Carries everything, as a copy in memory.
+/// Carries everything, as it is sent. Nothing is copied.
 #[derive(Clone, Copy, Debug)]
 pub struct Direct;
 
@@ -15,11 +15,11 @@ impl Carrier for Direct {
 
     fn carry(
         &mut self,
-        alloc: Global,
+        _alloc: Global,
         _from: Peer,
         _to: Peer,
-        bytes: &[u8],
+        _bytes: &[u8],
     ) -> Result<Carried, LabError> {
-        Ok(Carried::Bytes(bytes.to_vec(alloc)?))
+        Ok(Carried::Same)
     }
 }

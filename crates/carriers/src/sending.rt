@@ -64,6 +64,7 @@ pub fn send_bytes<C: Carrier>(
     one_spelling(); // law: no two frames have one spelling
     match carrier.carry(alloc, from, to, bytes)? {
         Carried::Lost => Ok(Received::Lost),
+        Carried::Same => read_frame(alloc, bytes),
         Carried::Bytes(got) => read_frame(alloc, &got),
     }
 }
@@ -85,6 +86,7 @@ pub fn send<C: Carrier>(
     let bytes = write(alloc, &frame)?;
     let got = match carrier.carry(alloc, from, to, &bytes)? {
         Carried::Lost => return Ok(Received::Lost),
+        Carried::Same => return Ok(Received::Frame(frame)),
         Carried::Bytes(got) => got,
     };
     if got.as_slice() == bytes.as_slice() {

@@ -27,6 +27,7 @@ fn connected(rt: &impl Abort, host: &HostRuntime, address: SocketAddr) -> TcpStr
 fn arrives<C: Carrier>(rt: &impl Abort, alloc: Global, carrier: &mut C, bytes: &[u8]) -> bool {
     let carried = carrier.carry(alloc, Peer::Client, Peer::Client, bytes);
     match carried.expect(rt, "memory") {
+        Carried::Same => true,
         Carried::Bytes(got) => got.as_slice() == bytes,
         Carried::Lost => false,
     }

@@ -4,21 +4,26 @@
 mod asking;
 mod files;
 mod shown;
-mod small_store;
 mod streams;
 
 use anyhow::{Result, bail};
 use std::alloc::Global;
 
-/// What is answered to a line of the input.
-fn answer_to(alloc: Global, line: &str) -> Result<String> {
+// Puts what is answered to a line of the input.
+fn put_answer(alloc: Global, text: &mut String, line: &str) -> Result<()> {
     let mut words = line.split(' ');
     match words.next() {
-        Some("stream") => streams::answer_to(alloc, words),
-        Some("files") => files::answer_to(alloc, words),
-        Some("store") => small_store::as_text(alloc),
+        Some("stream") => streams::put_answer(alloc, text, words),
+        Some("files") => files::put_answer(alloc, text, words),
         _ => bail!("a line is of no known kind"),
     }
+}
+
+/// What is answered to a line of the input.
+fn answer_to(alloc: Global, line: &str) -> Result<String> {
+    let mut text = String::new(alloc);
+    put_answer(alloc, &mut text, line)?;
+    Ok(text)
 }
 
 fn main(rt: HostRuntime) -> Result<()> {

@@ -1,3 +1,6 @@
+mod DeviceLemmas
+mod PageRowsLemmas
 mod RowWalkLemmas
 mod StoreDumpLemmas
+mod TextsLemmas
 mod WalksLemmas

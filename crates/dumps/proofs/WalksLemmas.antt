@@ -14,11 +14,12 @@ use Rattle.dumps.specs.Walks.StartsPage.{Behind, First}
 
 -- ---- lists in two parts
 
-among_right : {X : Type 0} (xs ys : List X) (x : X) → Among x ys → Among x (xs ++ ys)
+pub among_right : {X : Type 0} (xs ys : List X) (x : X) → Among x ys → Among x (xs ++ ys)
 among_right [] ys x h = h
 among_right (z ∷ xs) ys x h = inr (among_right xs ys x h)
 
-among_cases : {X : Type 0} (xs ys : List X) (x : X) → Among x (xs ++ ys) → Among x xs ⊎ Among x ys
+pub among_cases : {X : Type 0} (xs ys : List X) (x : X) → Among x (xs ++ ys) →
+    Among x xs ⊎ Among x ys
 among_cases [] ys x h = inr h
 among_cases (z ∷ xs) ys x (inl e) = inl (inl e)
 among_cases (z ∷ xs) ys x (inr h) = elim (among_cases xs ys x h) [
@@ -171,6 +172,14 @@ add_page order map all from known rows page are walked is =
         (walk_from order map before last left (subst (AreRowsOf map) whole are)) in
         add_rows all before last left page.rows is.left page.more whole same
         (none_left page.more is.left is.more)
+
+-- the rows that were read, with those of a page more, are the first of all
+pub split_with_page : (order : IsStrictOrder IsBelow) (map : Map) (all : List Row) (from : List ℕ)
+    (known : ℕ) (rows : List Row) (page : Rows) → AreRowsOf map all →
+    HasReadRows all from known rows → IsPage map (all_from from) page →
+    (left : List Row) × (all ≡ (rows ++ drop known page.rows) ++ left)
+split_with_page order map all from known rows page are walked is =
+    let adds = add_page order map all from known rows page are walked is in (adds.left, adds.split)
 
 -- where the next page begins
 pub walk_on : (order : IsStrictOrder IsBelow) (map : Map) (all : List Row) (from : List ℕ)

@@ -1,13 +1,20 @@
 -- What is written of a store: its numbers, all rows of the map at its count, and how many they are.
-use Rattle.std.specs.Prelude.{◌≡◌, ℕ, List, [], ◌∷◌, ◌++◌, Option, length, codes}
+use Rattle.std.specs.Prelude.{◌≡◌, ◌⊎◌, ℕ, List, [], ◌∷◌, ◌++◌, Option, length, codes}
+use Rattle.std.specs.Prelude.{Result, Ok, Err, IsErrOf}
 use Rattle.std.specs.List.{flat_map}
 use Rattle.std.specs.Fmt.{decimal}
 use Rattle.std.specs.Io.KnownBytes.{Appends}
 use Rattle.kv_types.specs.declared.row.Row.{Row}
 use Rattle.kv_types.specs.Pages.{Map}
 use Rattle.kv_types.specs.{BatchContent, map_of}
-use Rattle.engine.specs.{Facts}
+use Rattle.disk.specs.{KeepsDisk}
+use Rattle.disk.specs.declared.Disk.{Ghosts}
+use Rattle.engine.specs.{Facts, IsOwned}
+use Rattle.node.specs.declared.stop.Stop.TheVariants as stop
+use Rattle.client.specs.PrintedRuns.{AppendsPart}
 use Rattle.client.specs.Text.{printed_row, store_text}
+use Rattle.dumps.specs.declared.dump_error.DumpError.{DumpError}
+use Rattle.dumps.specs.declared.dump_error.DumpError.TheVariants.{Store, Write}
 use Rattle.dumps.specs.Walks.{AreRowsOf, HasReadRows}
 
 -- the line of a row
@@ -41,11 +48,55 @@ pub record AreAllWritten (map : Map) (count : ℕ) (old new : Option (List ℕ))
   pub counted : count ≡ length rows
   pub wrote : Appends old new (flat_map row_line rows)
 
--- exactly the text of a store was written: of facts, and of the map of a list of batches
-pub record IsDumpOf (facts : Facts) (list : List BatchContent) (old new : Option (List ℕ))
-    : Type 0 where
+-- a beginning of the text of all rows of a map was written
+pub record AreBegun (map : Map) (old new : Option (List ℕ)) : Type 0 where
+  pub rows : List Row
+  pub is_all : AreRowsOf map rows
+  pub part : AppendsPart old new (flat_map row_line rows)
+
+-- the text of a store: of facts, and of the map of a list of batches
+pub record IsDumpText (facts : Facts) (list : List BatchContent) (text : List ℕ) : Type 0 where
   pub tables : List ℕ
   pub rows : List Row
   pub is_all : AreRowsOf (map_of list) rows
-  pub wrote : Appends old new (store_line facts (length list) tables
-      ++ (flat_map row_line rows ++ count_line (length rows) (length list)))
+  pub is : text ≡ store_line facts (length list) tables
+      ++ (flat_map row_line rows ++ count_line (length rows) (length list))
+
+-- exactly the text of a store was written: of facts, and of the map of a list of batches
+pub record IsDumpOf (facts : Facts) (list : List BatchContent) (old new : Option (List ℕ))
+    : Type 0 where
+  pub text : List ℕ
+  pub is : IsDumpText facts list text
+  pub wrote : Appends old new text
+
+-- ---- refusals
+
+-- refused for want of memory, or since the output takes no more
+abbrev pub IsOfOutput : DumpError → Type 0
+IsOfOutput error = (error ≡ Store stop.Memory) ⊎ (error ≡ Write)
+
+-- refused for one of these, or for the device
+abbrev pub IsDumpRefusal : DumpError → Type 0
+IsDumpRefusal error = (error ≡ Store stop.Disk) ⊎ IsOfOutput error
+
+-- a text was written, or a beginning of it where memory was short or the output took no more
+abbrev pub WritesText : {T : Type 0} → List ℕ → (old new : Option (List ℕ)) → Result T DumpError
+    → Type 0
+WritesText text old new (Ok x) = Appends old new text
+WritesText text old new (Err error) = IsOfOutput error × AppendsPart old new text
+
+-- a store was refused for the device, for want of memory or since the output took no more, and a
+-- beginning of its text was written
+pub record IsCutDump (facts : Facts) (list : List BatchContent) (old new : Option (List ℕ))
+    (error : DumpError) : Type 0 where
+  pub cause : IsDumpRefusal error
+  pub text : List ℕ
+  pub is : IsDumpText facts list text
+  pub part : AppendsPart old new text
+
+-- A disk was left so that it is the device that it was: a failure is counted exactly where the
+-- answer names the device.
+pub record LeavesDevice {D T : Type 0} (g : Ghosts D) (disk : D) (result : Result T DumpError)
+    : Type 0 where
+  pub left : D
+  pub kept : KeepsDisk g disk left (IsErrOf result (Store stop.Disk)) ⊥ IsOwned

@@ -1,18 +1,22 @@
 // The rows of a store, page by page in the order of their keys.
-ghost use Rattle.std.specs.Prelude.{◌≡◌, ◌∷◌, ◌++◌, [], List, drop, take, IfOk, OnOk};
+ghost use Rattle.std.specs.Prelude.{◌≡◌, ◌⊎◌, ◌∷◌, ◌++◌, [], List, drop, length, take};
+ghost use Rattle.std.specs.Prelude.{IfErr, IfOk, IsErrOf, MatchResult, OnOk};
 ghost use Rattle.std.specs.List.{flat_map};
+ghost use Rattle.disk.specs.{IsSame, KeepsDisk};
 ghost use Rattle.kv_types.specs.{BatchContent, map_of};
 ghost use Rattle.kv_types.specs.Pages.{page_of};
-ghost use Rattle.engine.specs.{EngineReads};
+ghost use Rattle.engine.specs.{EngineReads, IsReadable, engine_disk, look_ups};
+ghost use Rattle.node.specs.declared.stop.Stop.TheVariants as stop;
+ghost use Rattle.dumps.specs.declared.dump_error.DumpError.TheVariants.{Store};
 ghost use Rattle.dumps.specs.Walks.{all_from};
-ghost use Rattle.dumps.specs.Dumped.{AreAllWritten, row_line};
+ghost use Rattle.dumps.specs.Dumped.{AreAllWritten, AreBegun, IsDumpRefusal, row_line};
 
 use crate::dump_error::DumpError;
 use client::{RowText, print};
 use disk::Disk;
 use engine::Engine;
 use kv_types::bounds::MAX_ROWS;
-use kv_types::laws::{byte_order_is_strict, pages_agree};
+use kv_types::laws::{byte_order_is_strict, maps_agree, pages_agree};
 use kv_types::{Key, Number, Page, Range, Row};
 use node::Stop;
 use std::alloc::{AllocError, Global};
@@ -20,7 +24,8 @@ use std::io::Write;
 
 // The least key.
 fn least_key(alloc: Global) -> Result<Key, DumpError>
-    ensures { IfOk result (λ key. key ≡ []) }
+    ensures key { IfOk result (λ key. key ≡ []) }
+    ensures refused { IfErr result (λ error. error ≡ Store stop.Memory) }
 {
     match Key::new(Vec::new(alloc)) {
         Ok(key) => Ok(key),
@@ -28,7 +33,8 @@ fn least_key(alloc: Global) -> Result<Key, DumpError>
     }
 }
 
-// The page of the keys from this one on.
+// The page of the keys from this one on. An engine that reads a list refuses it for the device or
+// for memory alone.
 fn page_from<D: Disk + Drop>(
     alloc: Global,
     engine: &mut Engine<D>,
@@ -39,6 +45,12 @@ fn page_from<D: Disk + Drop>(
         IfOk result (λ page. page ≡ page_of (take at list) (all_from from)) }
     ensures reads { (list : List BatchContent) → EngineReads D.Disk engine.old list →
         OnOk result (EngineReads D.Disk engine.new list) }
+    ensures looks { look_ups engine.new ≡ look_ups engine.old }
+    ensures device { KeepsDisk D.Disk (engine_disk engine.old) (engine_disk engine.new)
+        (IsErrOf result (Store stop.Disk)) ⊥ IsSame }
+    ensures refused { (list : List BatchContent) → EngineReads D.Disk engine.old list →
+        IsReadable (look_ups engine.old).facts.floor (look_ups engine.old).committed at →
+        IfErr result IsDumpRefusal }
 {
     let Ok(range) = Range::new(from, None, false, MAX_ROWS) else {
         return Err(DumpError::Store(Stop::Memory));
@@ -73,10 +85,12 @@ fn behind(rows: &[Row], count: usize) -> &[Row]
     }
 }
 
-// The key of the last row.
+// The key of the last row. It is refused for memory, or where there is no row.
 fn last_key(rows: &[Row]) -> Result<Key, DumpError>
-    ensures { IfOk result (λ key. (front : List Row) × (last : Row)
+    ensures key { IfOk result (λ key. (front : List Row) × (last : Row)
         × (rows.now ≡ front ++ last ∷ []) × (key ≡ last.key)) }
+    ensures refused { IfErr result (λ error. (error ≡ Store stop.Memory)
+        ⊎ ((error ≡ Store stop.Damaged) × (length rows.now ≡ 0))) }
 {
     match rows.split_last() {
         Some((last, _front)) => Ok(last.key.clone()?),
@@ -85,19 +99,29 @@ fn last_key(rows: &[Row]) -> Result<Key, DumpError>
 }
 
 /// Writes all rows at a number, and answers how many. The rows of a page are flushed before the
-/// next page is read. Each page but the first begins with the last row of the one before it.
+/// next page is read. Each page but the first begins with the last row of the one before it, which
+/// it has: a row fits into a page, so one behind which rows are left has a row. `Memory` is also
+/// answered for more rows or pages than can be counted.
 pub fn write_rows<D: Disk + Drop, W: Write>(
     alloc: Global,
     engine: &mut Engine<D>,
     at: Number,
     out: &mut W,
 ) -> Result<u64, DumpError>
-    ensures { (list : List BatchContent) → EngineReads D.Disk engine.old list →
-        IfOk result (λ count. AreAllWritten (map_of (take at list)) count
-        (W.contents out.old) (W.contents out.new)) }
+    ensures rows { (list : List BatchContent) → EngineReads D.Disk engine.old list →
+        MatchResult result
+        (λ count. AreAllWritten (map_of (take at list)) count
+        (W.contents out.old) (W.contents out.new))
+        (λ _. AreBegun (map_of (take at list)) (W.contents out.old) (W.contents out.new)) }
+    ensures refused { (list : List BatchContent) → EngineReads D.Disk engine.old list →
+        IsReadable (look_ups engine.old).facts.floor (look_ups engine.old).committed at →
+        IfErr result IsDumpRefusal }
+    ensures device { KeepsDisk D.Disk (engine_disk engine.old) (engine_disk engine.new)
+        (IsErrOf result (Store stop.Disk)) ⊥ IsSame }
 {
     byte_order_is_strict(); // law: byte order is a strict order of all keys
     pages_agree(); // law: the page as a function is the page of a map
+    maps_agree(); // law: what a map has was put by an edit
     let mut text = Vec::new(alloc);
     let (mut from, mut known, mut count) = (least_key(alloc)?, 0, 0u64);
     for _ in 0..u64::MAX {

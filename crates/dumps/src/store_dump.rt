@@ -1,16 +1,19 @@
 // A store is opened and written out.
-ghost use Rattle.std.specs.Prelude.{◌≡◌, ℕ, List, OnOk};
-ghost use Rattle.std.specs.Io.KnownBytes.{Appends};
-ghost use Rattle.disk.specs.{contents};
+ghost use Rattle.std.specs.Prelude.{◌≡◌, ℕ, List, IfErr, IsErrOf, MatchResult, OnOk};
+ghost use Rattle.disk.specs.{IsSame, KeepsDisk, contents};
 ghost use Rattle.kv_types.specs.{BatchContent};
-ghost use Rattle.engine.specs.{EngineReads, Facts, FilesRepresent, facts_of, look_ups};
-ghost use Rattle.dumps.specs.Dumped.{IsDumpOf, count_line, store_line};
+ghost use Rattle.engine.specs.{EngineReads, Facts, FilesRepresent, engine_disk, facts_of, look_ups};
+ghost use Rattle.node.specs.declared.stop.Stop.TheVariants as stop;
+ghost use Rattle.dumps.specs.declared.dump_error.DumpError.TheVariants.{Store};
+ghost use Rattle.dumps.specs.Dumped.{IsCutDump, IsDumpOf, LeavesDevice, WritesText, count_line};
+ghost use Rattle.dumps.specs.Dumped.{store_line};
 
 use crate::dump_error::DumpError;
 use crate::row_walk::write_rows;
 use client::{StoreText, print};
 use disk::Disk;
 use engine::Engine;
+use kv_types::laws::pages_agree;
 use kv_types::{Limits, Number};
 use node::{Numbers, Stop};
 use std::alloc::Global;
@@ -39,8 +42,9 @@ fn write_numbers<D: Disk + Drop, W: Write>(
     engine: &Engine<D>,
     out: &mut W,
 ) -> Result<(), DumpError>
-    ensures { OnOk result ((tables : List ℕ) × Appends (W.contents out.old) (W.contents out.new)
-        (store_line (look_ups engine.now).facts (look_ups engine.now).count tables)) }
+    ensures { (tables : List ℕ) × WritesText
+        (store_line (look_ups engine.now).facts (look_ups engine.now).count tables)
+        (W.contents out.old) (W.contents out.new) result }
 {
     let mut text = Vec::new(alloc);
     let numbers = numbers_of(engine);
@@ -59,8 +63,7 @@ fn write_count<W: Write>(
     at: Number,
     out: &mut W,
 ) -> Result<(), DumpError>
-    ensures { OnOk result
-        (Appends (W.contents out.old) (W.contents out.new) (count_line count at)) }
+    ensures { WritesText (count_line count at) (W.contents out.old) (W.contents out.new) result }
 {
     let mut text = Vec::new(alloc);
     let at = at.get();
@@ -77,9 +80,14 @@ fn write_store<D: Disk + Drop, W: Write>(
     engine: &mut Engine<D>,
     out: &mut W,
 ) -> Result<(), DumpError>
-    ensures { (list : List BatchContent) → EngineReads D.Disk engine.old list → OnOk result
-        (IsDumpOf (facts_of engine.old) list (W.contents out.old) (W.contents out.new)) }
+    ensures dump { (list : List BatchContent) → EngineReads D.Disk engine.old list →
+        MatchResult result
+        (λ _. IsDumpOf (facts_of engine.old) list (W.contents out.old) (W.contents out.new))
+        (IsCutDump (facts_of engine.old) list (W.contents out.old) (W.contents out.new)) }
+    ensures device { KeepsDisk D.Disk (engine_disk engine.old) (engine_disk engine.new)
+        (IsErrOf result (Store stop.Disk)) ⊥ IsSame }
 {
+    pages_agree(); // law: a map has a page in each range
     write_numbers(alloc, engine, out)?;
     let at = engine.count();
     engine.set_committed(at);
@@ -89,16 +97,24 @@ fn write_store<D: Disk + Drop, W: Write>(
 
 /// Opens the store of a disk, and writes its numbers, all rows at its count in the order of their
 /// keys, and how many they are. The rows of a page are flushed before the next page is read, so
-/// after an error the text of the first ones may be out.
+/// after an error the text of the first ones may be out. `Memory` is also answered for more rows or
+/// pages than can be counted.
 pub fn dump_store<D: Disk + Drop, W: Write>(
     alloc: Global,
     disk: D,
     out: &mut W,
 ) -> Result<(), DumpError>
-    ensures { (facts : Facts) (list : List BatchContent) → D.is_honest disk →
+    ensures written { (facts : Facts) (list : List BatchContent) → D.is_honest disk →
         FilesRepresent facts list (contents (D.state disk)) → OnOk result
         (IsDumpOf facts list (W.contents out.old) (W.contents out.new)) }
+    ensures refused { (facts : Facts) (list : List BatchContent) → D.is_honest disk →
+        FilesRepresent facts list (contents (D.state disk)) → IfErr result
+        (IsCutDump facts list (W.contents out.old) (W.contents out.new)) }
+
+    // Of any disk: it is refused for the device exactly where a failure was counted.
+    ensures device { LeavesDevice D.Disk disk result }
 {
+    pages_agree(); // law: a map has a page in each range
     let mut engine = match Engine::open(alloc, disk, &Limits::default()) {
         Ok(engine) => engine,
         Err((e, disk)) => {

@@ -3,3 +3,5 @@ pub mod Refusals
 pub mod Openings
 pub mod StoreReads
 pub mod StoreWrites
+pub mod PageRows
+pub mod Cursors

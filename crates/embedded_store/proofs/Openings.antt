@@ -1,7 +1,7 @@
 -- The stores of engines that were opened or created.
 use Rattle.std.proofs.Common.{◌≡◌, ap, inl, inr, refl, subst, sym, ℕ, Bool, false, List, true, ◌∙◌}
 use Rattle.std.proofs.Math.Path.{fun_ext}
-use Rattle.std.specs.Prelude.{◌⊎◌, ◌↔◌, Result, Ok, Err, IfOk, IsFalse, IsTrue, MatchResult}
+use Rattle.std.specs.Prelude.{◌↔◌, Result, Ok, Err, IfOk, IsFalse, IsTrue, MatchResult}
 use Rattle.kv_types.specs.declared.Limits.{Limits}
 use Rattle.kv_types.specs.{BatchContent}
 use Rattle.disk.specs.declared.Disk.{Ghosts}
@@ -15,13 +15,13 @@ use Rattle.engine.specs.{ExplainsRefusal, Facts, FilesRepresent, IsEngineOf, IsJ
 use Rattle.engine.specs.{IsNotCreated, IsOneOf}
 use Rattle.engine.specs.{IsOpened, IsOwned, LookUps, OpensAs, engine_disk, facts_of, look_ups}
 use Rattle.embedded_store.specs.declared.error.OpenError.{OpenError}
-use Rattle.embedded_store.specs.declared.error.OpenError.TheVariants.{OfChain, Store}
+use Rattle.embedded_store.specs.declared.error.OpenError.TheVariants.{Store}
 use Rattle.embedded_store.specs.declared.store.EmbeddedStore.{EmbeddedStore}
 use Rattle.manifest.specs.{HasOnlyCreationFiles, OnlyLooks, WasCutShort}
 use Rattle.embedded_store.specs.Openings.{CreatesStore, ExplainsOpening, IsOpenedFrom}
 use Rattle.embedded_store.specs.Openings.{IsOwnStore, IsStoreOver, KeepsOpenedDisk, OpensContents}
 use Rattle.embedded_store.specs.Openings.{IsOfEnvironment, StandsAlone, disk_of_opening}
-use Rattle.embedded_store.specs.Stores.{IsFreshStore, store_disk, store_engine}
+use Rattle.embedded_store.specs.Stores.{IsFreshStore, store_engine}
 use Rattle.embedded_store.proofs.Looks.{leaves_behind, look_leaves}
 use Rattle.embedded_store.proofs.Refusals.{external_explains, explained, not_external}
 use Rattle.embedded_store.proofs.Refusals.{refused_externally, store_external}

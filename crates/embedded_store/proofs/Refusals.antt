@@ -1,6 +1,6 @@
 -- Refusals of an opening, by the errors of the layers below.
 use Rattle.std.proofs.Common.{◌≡◌, ap, inl, inr, refl, subst, sym, ◌∙◌}
-use Rattle.std.specs.Prelude.{◌⊎◌, ◌↔◌}
+use Rattle.std.specs.Prelude.{◌↔◌}
 use Rattle.disk.specs.declared.error.DiskError.{DiskError}
 use Rattle.disk.specs.declared.error.DiskError.TheVariants as device
 use Rattle.disk.specs.{Contents, IsEnvironmental}

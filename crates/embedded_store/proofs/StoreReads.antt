@@ -1,6 +1,6 @@
 -- Reads at a number, or at the newest one.
 use Rattle.std.proofs.Common.{◌≡◌, ℕ, ◌<◌, ◌≤◌, List, [], ◌∷◌, length, take, false, eqb}
-use Rattle.std.proofs.Common.{Option, None, Some, ap, arith, inl, inr, refl, ◌∙◌}
+use Rattle.std.proofs.Common.{Option, None, Some, ap, arith, inl, inr, refl}
 use Rattle.std.specs.Prelude.{◌⊎◌, Result, Ok, Err, IfErr}
 use Rattle.std.specs.List.{All}
 use Rattle.std.proofs.lemmas.Bool.Decides.{nat_tests}

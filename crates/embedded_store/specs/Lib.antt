@@ -2,3 +2,4 @@ pub mod Errors
 pub mod Alone
 pub mod Stores
 pub mod Openings
+pub mod Cursors

@@ -1,5 +1,5 @@
 -- What an opening finds on a disk: a store that stands alone, nothing, or files that are none.
-use Rattle.std.specs.Prelude.{◌≡◌, ◌⊎◌, ℕ, List, [], ◌∷◌}
+use Rattle.std.specs.Prelude.{◌≡◌, ◌⊎◌, List, []}
 use Rattle.std.specs.Prelude.{Result, Ok, Err, IsErrAnd, MatchResult}
 use Rattle.kv_types.specs.{BatchContent}
 use Rattle.disk.specs.{AlwaysLeaves, Contents, IsEnvironmental, KeepsDisk, OnlyLeaves}

@@ -73,9 +73,9 @@ IsReadRefusal told (Some at) e =
 
 -- ---- snapshots
 
--- whether the call answered, without its number
-abbrev pub whether : Result ℕ EngineError → Result (Unit {0}) EngineError
-whether (Ok n) = Ok tt
+-- whether the call answered, without its answer
+abbrev pub whether : {T : Type 0} → Result T EngineError → Result (Unit {0}) EngineError
+whether (Ok answer) = Ok tt
 whether (Err e) = Err e
 
 -- why a snapshot at the newest number is refused: an earlier call ended the store, as many are open

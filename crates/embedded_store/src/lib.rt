@@ -2,11 +2,13 @@
 #![tactic(auto)]
 
 mod alone;
+mod cursor;
 mod error;
 mod folder;
 mod opening;
 mod store;
 
+pub use cursor::RowCursor;
 pub use engine::{EngineError, MAX_SNAPSHOTS, Tended};
 pub use error::OpenError;
 pub use store::EmbeddedStore;

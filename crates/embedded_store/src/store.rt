@@ -2,6 +2,7 @@
 ghost use Rattle.std.specs.Prelude.{◌≡◌};
 ghost use Rattle.engine.specs.{look_ups};
 
+use crate::RowCursor;
 use disk::Disk;
 use engine::{Engine, EngineError, Tended};
 use kv_types::{Batch, Key, Number, Page, Range, Value};
@@ -19,7 +20,7 @@ pub struct EmbeddedStore<D: Disk + Drop> {
 }
 
 impl<D: Disk + Drop> EmbeddedStore<D> {
-    ghost use Rattle.std.specs.Prelude.{◌≡◌, ◌⊎◌, ◌≤◌, ◌∷◌, ◌++◌, [], List, length};
+    ghost use Rattle.std.specs.Prelude.{◌≡◌, ◌⊎◌, ◌≤◌, ◌∷◌, ◌++◌, [], List, None, length};
     ghost use Rattle.std.specs.Prelude.{IfErr, IfOk, MatchResult};
     ghost use Rattle.kv_types.specs.declared.bounds.TheConstants.{MAX_NUMBER};
     ghost use Rattle.kv_types.specs.{BatchContent, map_of};
@@ -32,6 +33,7 @@ impl<D: Disk + Drop> EmbeddedStore<D> {
     ghost use Rattle.engine.specs.Calls.{TendsAsDue};
     ghost use Rattle.compaction.specs.Outputs.{IsSameBeyond};
     ghost use Rattle.engine.specs.EngineError.TheVariants.{Disk, Exhausted, Memory};
+    ghost use Rattle.embedded_store.specs.Cursors.{CursorIsOf, cursor_number, cursor_row};
     ghost use Rattle.embedded_store.specs.Stores.{HoldsBatches, IsReadRefusal, IsSnapshotRefusal};
     ghost use Rattle.embedded_store.specs.Stores.{WritesBatch, first_batches, read_number, whether};
     ghost use Rattle.embedded_store.specs.Stores.{store_disk, store_engine, with_one_written};
@@ -102,6 +104,17 @@ impl<D: Disk + Drop> EmbeddedStore<D> {
         self.engine.rows(alloc, at, range)
     }
 
+    /// A cursor over the map at a number, or at the newest one, on no row. Its moves are refused
+    /// where the number cannot be read; that of an open snapshot can.
+    pub fn cursor(&self, alloc: Global, at: Option<Number>) -> RowCursor
+        ensures number { cursor_number result
+            ≡ read_number (look_ups (store_engine self.now)) at }
+        ensures none { cursor_row result ≡ None }
+        ensures fresh { (list : List BatchContent) → CursorIsOf list result }
+    {
+        RowCursor::new(alloc, self.number_of(at))
+    }
+
     /// Opens a snapshot at the newest number, and answers the number. Until it is released, it can
     /// be read. One number may have several.
     pub fn snapshot(&mut self) -> Result<Number, EngineError>
@@ -150,6 +163,11 @@ impl<D: Disk + Drop> EmbeddedStore<D> {
         ensures { result ≡ (look_ups (store_engine self.now)).facts.floor }
     {
         self.engine.floor()
+    }
+
+    /// Gives the store up: what is in memory is freed, and so is a folder's lock.
+    pub fn close(self) {
+        drop(self.into_disk());
     }
 
     /// The disk. What is in memory is freed.

@@ -20,6 +20,14 @@ mod damaged_slots;
 #[cfg(test)]
 mod edges;
 #[cfg(test)]
+mod embedded_courses;
+#[cfg(test)]
+mod embedded_cursors;
+#[cfg(test)]
+mod embedded_example;
+#[cfg(test)]
+mod embedded_openings;
+#[cfg(test)]
 mod faults;
 #[cfg(test)]
 mod folder_rows;

@@ -1,11 +1,34 @@
-use Rattle.std.proofs.Common.{subst}
-use Rattle.std.specs.Prelude.{OnOk}
-use Rattle.dumps.specs.Dumped.{IsDumpOf}
+use Rattle.engine.specs.{engine_disk}
+use Rattle.node.specs.Stops.{engine_stop}
+use Rattle.dumps.specs.declared.dump_error.DumpError.TheVariants.{Store}
+use Rattle.dumps.proofs.DeviceLemmas.{kept_of_opened, of_engine}
+use Rattle.dumps.proofs.StoreDumpLemmas.{dumped_in_part, dumped_whole, not_opened}
 use Rattle.dumps.proofs.store_dump.dump_store.Goals as goal
 
-pub returns : goal.returns
-returns g c = λ facts list honest read.
+-- the store was not opened
+pub returns-in-Err-clause-refused : goal.returns-in-Err-clause-refused
+returns-in-Err-clause-refused g c = λ facts list honest read.
+    let cut = not_opened c.pages_agree.ensures.agree facts list
+    (g.W.Write.contents c.args.out.now) (Store (engine_stop c.in-Err.e))
+    (of_engine c.in-Err.e ((c.in-Err.ensures.opened facts list honest).whole read)) in
+    rw c.from.ensures cut
+
+pub returns-clause-written : goal.returns-clause-written
+returns-clause-written g c = λ facts list honest read.
     let opened = (c.in-Ok.ensures.opened facts list honest).whole read in
-    subst (λ told. OnOk c.write_store-written.result (IsDumpOf told list
-    (g.W.Write.contents c.args.out.now) (g.W.Write.contents c.write_store-written.new.out)))
-    opened.facts (c.write_store-written.ensures list opened.holds.reads)
+    dumped_whole c.write_store-written.result facts list (g.W.Write.contents c.args.out.now)
+    (g.W.Write.contents c.write_store-written.new.out) opened.facts
+    (c.write_store-written.ensures.dump list opened.holds.reads)
+
+pub returns-clause-refused : goal.returns-clause-refused
+returns-clause-refused g c = λ facts list honest read.
+    let opened = (c.in-Ok.ensures.opened facts list honest).whole read in
+    dumped_in_part c.write_store-written.result facts list (g.W.Write.contents c.args.out.now)
+    (g.W.Write.contents c.write_store-written.new.out) opened.facts
+    (c.write_store-written.ensures.dump list opened.holds.reads)
+
+pub returns-clause-device : goal.returns-clause-device
+returns-clause-device g c = record {
+  left = engine_disk c.write_store-written.new.engine;
+  kept = kept_of_opened g.D.Disk c.in-Ok.ensures.kept c.write_store-written.ensures.device;
+}

@@ -1,4 +1,4 @@
-use Rattle.std.proofs.Common.{◌≡◌, subst}
+use Rattle.std.proofs.Common.{subst}
 use Rattle.disk.specs.{contents}
 use Rattle.engine.specs.EngineError.{EngineError}
 use Rattle.engine.specs.KeepingLemmas.{kept_as}

@@ -1,5 +1,4 @@
-use Rattle.std.proofs.Common.{◌≡◌, ◌++◌, ◌∷◌, [], ap, arith, List, subst, sym, ℕ, ◌∙◌}
-use Rattle.kv_types.specs.{BatchContent}
+use Rattle.std.proofs.Common.{◌++◌, ◌∷◌, [], ap, arith, subst, sym, ℕ, ◌∙◌}
 use Rattle.engine.specs.{IsOldOrNewSince, LookUps, facts_of, look_ups, with_committed}
 use Rattle.engine.specs.{with_one_more}
 use Rattle.embedded_store.specs.Stores.{store_disk, store_engine}
