@@ -1,6 +1,6 @@
 -- A cursor over the map of a store at a number: on which row it stands, and what its moves promise.
-use Rattle.std.specs.Prelude.{◌≡◌, ◌⊎◌, ◌+◌, ◌≤◌, ℕ, suc, List, [], Option, Some, None, Bool}
-use Rattle.std.specs.Prelude.{true, false}
+use Rattle.std.specs.Prelude.{◌≡◌, ◌⊎◌, ◌+◌, ◌≤◌, ◌++◌, ℕ, suc, List, [], Option, Some, None}
+use Rattle.std.specs.Prelude.{Bool, true, false, length}
 use Rattle.std.specs.Prelude.{Result, IfErr, IfOk}
 use Rattle.std.specs.List.{slice_get}
 use Rattle.kv_types.specs.{BatchContent, Rows, Span, map_of, row_size}
@@ -75,6 +75,11 @@ cursor_map cursor list = map_of (first_batches (Some cursor.at) list)
 abbrev pub CursorIsOf : List BatchContent → RowCursor → Type 0
 CursorIsOf list cursor =
     AreNeighbours cursor.is_backward (cursor_map cursor list) cursor.page.rows
+
+-- what a cursor has read is of its map too where more batches are written behind it
+abbrev pub CursorsOutliveWrites : Type 0
+CursorsOutliveWrites = (list more : List BatchContent) (cursor : RowCursor) →
+    cursor_number cursor ≤ length list → CursorIsOf list cursor → CursorIsOf (list ++ more) cursor
 
 -- nothing was read, and at most memory was wanting; or rows were read, and the call is refused as
 -- that was

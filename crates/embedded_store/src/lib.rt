@@ -5,6 +5,7 @@ mod alone;
 mod cursor;
 mod error;
 mod folder;
+pub mod laws;
 mod opening;
 mod store;
 

@@ -68,11 +68,11 @@ fn agrees_at<D: Disk + Drop>(
     rt: &impl Abort,
     alloc: Global,
     store: &mut EmbeddedStore<D>,
-    at: Option<Number>,
+    at: &Option<Number>,
     (index, count): (u64, u64),
 ) -> bool {
     let key = key_at(rt, alloc, index);
-    let found = store.get(alloc, &key, at).expect(rt, "a read");
+    let found = store.get(alloc, &key, *at).expect(rt, "a read");
     is_value(&found, plain(index, count))
 }
 
@@ -81,7 +81,7 @@ pub fn agrees<D: Disk + Drop>(
     rt: &impl Abort,
     alloc: Global,
     store: &mut EmbeddedStore<D>,
-    at: Option<Number>,
+    at: &Option<Number>,
     count: u64,
 ) -> bool {
     let mut all = true;
@@ -174,7 +174,7 @@ fn write_seven(rt: &impl Abort, alloc: Global, store: &mut Store, count: u64) {
     for more in 1..=7u64 {
         let batch = count.wrapping_add(more);
         write(rt, alloc, store, batch);
-        holds_at(rt, batch as usize, agrees(rt, alloc, store, None, batch));
+        holds_at(rt, batch as usize, agrees(rt, alloc, store, &None, batch));
         holds_at(rt, batch as usize, shows_all(rt, alloc, store, batch));
     }
 }
@@ -185,7 +185,7 @@ fn look_at_all(rt: &impl Abort, alloc: Global, store: &mut Store, count: u64) {
         holds_at(
             rt,
             at as usize,
-            agrees(rt, alloc, store, Some(number(at)), at),
+            agrees(rt, alloc, store, &Some(number(at)), at),
         );
     }
 }
@@ -222,7 +222,7 @@ fn read_snapshot<D: Disk + Drop>(rt: &impl Abort, alloc: Global, store: &mut Emb
     is_so(rt, snapshot == number(20), "at the newest number");
     fill(rt, alloc, store, 21, 60);
     is_so(rt, store.floor() == snapshot, "the floor rises to it alone");
-    is_so(rt, agrees(rt, alloc, store, Some(snapshot), 20), "its map");
+    is_so(rt, agrees(rt, alloc, store, &Some(snapshot), 20), "its map");
     is_so(rt, shows_all(rt, alloc, store, 20), "its rows");
     let early = refusal(rt, alloc, store, 19) == Some(EngineError::TooOld);
     is_so(rt, early, "a number below the floor");
@@ -240,7 +240,7 @@ fn run_course<D: Disk + Drop>(rt: &impl Abort, alloc: Global, store: &mut Embedd
     fill(rt, alloc, store, 61, 90);
     let old = refusal(rt, alloc, store, 20) == Some(EngineError::TooOld);
     is_so(rt, old, "its number is too old");
-    is_so(rt, agrees(rt, alloc, store, None, 90), "the newest map");
+    is_so(rt, agrees(rt, alloc, store, &None, 90), "the newest map");
 }
 
 #[test]
@@ -260,7 +260,7 @@ fn run_in_folder(rt: &impl Abort, host: &HostRuntime, folder: &str) {
     let mut store = found.ok().expect(rt, "the store again");
     is_so(
         rt,
-        agrees(rt, host.alloc(), &mut store, None, 90),
+        agrees(rt, host.alloc(), &mut store, &None, 90),
         "as it was",
     );
     store.close();
@@ -312,7 +312,7 @@ fn has_written(rt: &impl Abort, alloc: Global, store: &mut Store, written: u64) 
     let count = store.count().get();
     let more = count == written.saturating_add(1);
     is_so(rt, count == written || more, "its list");
-    is_so(rt, agrees(rt, alloc, store, None, count), "its map");
+    is_so(rt, agrees(rt, alloc, store, &None, count), "its map");
     write(rt, alloc, store, count.saturating_add(1));
 }
 

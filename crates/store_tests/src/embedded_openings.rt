@@ -15,7 +15,7 @@ fn is_made_again(rt: &impl Abort, alloc: Global, disk: MemDisk) {
     let mut store = opened(rt, alloc, disk);
     is_so(rt, store.count() == Number::ZERO, "no batches");
     fill(rt, alloc, &mut store, 1, 3);
-    is_so(rt, agrees(rt, alloc, &mut store, None, 3), "its map");
+    is_so(rt, agrees(rt, alloc, &mut store, &None, 3), "its map");
     store.close();
 }
 

@@ -1,0 +1,106 @@
+// The benchmarks, and their names.
+ghost use Rattle.std.specs.Prelude.{◌≡◌, ◌≢◌, MatchOption};
+ghost use Rattle.benchmarks.specs.Benchmarks.{name_of};
+
+use std::alloc::{AllocError, Global};
+
+/// A benchmark of LevelDB's `db_bench` by its name, or the chain's.
+#[derive(Clone, Copy, Debug, PartialEq, Eq)]
+pub enum Benchmark {
+    FillSeq,
+    FillSync,
+    FillRandom,
+    Overwrite,
+    ReadRandom,
+    ReadMissing,
+    ReadSeq,
+    ReadReverse,
+    SeekRandom,
+    Compact,
+    Open,
+    ChainSubmit,
+}
+
+impl Benchmark {
+    /// The benchmark of this name.
+    pub fn named(name: &str) -> Option<Benchmark>
+        ensures { MatchOption result ((it : Benchmark) → name.now ≢ name_of it)
+            (λ it. name.now ≡ name_of it) }
+    {
+        match name {
+            "fillseq" => Some(Benchmark::FillSeq),
+            "fillsync" => Some(Benchmark::FillSync),
+            "fillrandom" => Some(Benchmark::FillRandom),
+            "overwrite" => Some(Benchmark::Overwrite),
+            "readrandom" => Some(Benchmark::ReadRandom),
+            "readmissing" => Some(Benchmark::ReadMissing),
+            "readseq" => Some(Benchmark::ReadSeq),
+            "readreverse" => Some(Benchmark::ReadReverse),
+            "seekrandom" => Some(Benchmark::SeekRandom),
+            "compact" => Some(Benchmark::Compact),
+            "open" => Some(Benchmark::Open),
+            "chainsubmit" => Some(Benchmark::ChainSubmit),
+            _ => None,
+        }
+    }
+
+    pub fn name(self) -> &'static str
+        ensures { result.now ≡ name_of self }
+    {
+        match self {
+            Benchmark::FillSeq => "fillseq",
+            Benchmark::FillSync => "fillsync",
+            Benchmark::FillRandom => "fillrandom",
+            Benchmark::Overwrite => "overwrite",
+            Benchmark::ReadRandom => "readrandom",
+            Benchmark::ReadMissing => "readmissing",
+            Benchmark::ReadSeq => "readseq",
+            Benchmark::ReadReverse => "readreverse",
+            Benchmark::SeekRandom => "seekrandom",
+            Benchmark::Compact => "compact",
+            Benchmark::Open => "open",
+            Benchmark::ChainSubmit => "chainsubmit",
+        }
+    }
+
+    /// Whether it begins with a store without batches.
+    pub fn is_fresh(self) -> bool {
+        match self {
+            Benchmark::FillSeq | Benchmark::FillSync | Benchmark::FillRandom => true,
+            _ => false,
+        }
+    }
+
+    /// Puts of a batch with values of this length: 256, or as many as have a place in it.
+    pub fn puts(self, length: u64) -> u64 {
+        match self {
+            Benchmark::FillSync | Benchmark::ChainSubmit => 1,
+            _ => (60_000 / length.saturating_add(32)).clamp(1, 256),
+        }
+    }
+
+    /// How often its operation is done where a run is of so many: once at least; `compact` until
+    /// nothing is due.
+    pub fn operations(self, number: u64) -> u64 {
+        let part = match self {
+            Benchmark::Compact => return u64::MAX,
+            Benchmark::FillSync => 1_000,
+            Benchmark::Open => 10_000,
+            Benchmark::ChainSubmit => 10,
+            _ => 1,
+        };
+        (number / part).max(1)
+    }
+}
+
+/// The benchmarks that a text names, with commas between. `None` where one is none.
+pub fn benchmarks_in(alloc: Global, text: &str) -> Result<Option<Vec<Benchmark>>, AllocError> {
+    let mut found = Vec::new(alloc);
+    for name in text.split(',') {
+        match Benchmark::named(name) {
+            Some(it) => found.push(it)?,
+            None => return Ok(None),
+        }
+    }
+    Ok(Some(found))
+}

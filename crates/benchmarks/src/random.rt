@@ -1,0 +1,61 @@
+// Pseudo-random numbers, the same ones in each run.
+ghost use Rattle.std.specs.Prelude.{◌≡◌, ◌<◌, ◌%◌};
+ghost use Rattle.benchmarks.specs.Keys.{next_seed};
+
+use std::marker::Model;
+
+/// The divisor of the generator: 2^31 - 1.
+const DIVISOR: u64 = 2_147_483_647;
+
+/// The factor of the generator.
+const FACTOR: u64 = 16_807;
+
+/// The generator of Park and Miller, which LevelDB's benchmarks draw from. A contract sees it as
+/// its last number.
+#[derive(Clone, Copy, Debug)]
+pub struct Random {
+    seed: u32,
+}
+
+impl Model for Random {
+    ghost use Rattle.std.specs.Prelude.{ℕ};
+
+    ghost Value = { ℕ };
+
+    ghost view = { λ random. random.seed };
+
+    ghost inverse = { λ seed. record { seed = seed } };
+}
+
+impl Random {
+    /// The generator that begins with this seed, or with 1 in place of 0.
+    pub fn new(seed: u32) -> Random
+        ensures zero { seed ≡ 0 → result ≡ 1 }
+        ensures same { 0 < seed → result ≡ seed }
+    {
+        if seed == 0 {
+            return Random { seed: 1 };
+        }
+        Random { seed }
+    }
+
+    /// The next number, below 2^31 - 1.
+    pub fn next(&mut self) -> u32
+        ensures number { result ≡ next_seed self.old }
+        ensures seed { self.new ≡ next_seed self.old }
+        ensures limit { result < 2147483647 }
+    {
+        let next = u64::from(self.seed) * FACTOR % DIVISOR;
+        self.seed = next as u32;
+        self.seed
+    }
+
+    /// The next number's remainder below this bound, which counts as 1 where it is 0.
+    pub fn below(&mut self, bound: u64) -> u64
+        ensures number { 0 < bound → result ≡ next_seed self.old % bound }
+        ensures limit { 0 < bound → result < bound }
+        ensures seed { self.new ≡ next_seed self.old }
+    {
+        u64::from(self.next()) % bound.max(1)
+    }
+}
