@@ -8,3 +8,4 @@ pub mod Settling
 pub mod StatementResults
 pub mod StatementRuns
 pub mod PrintedRuns
+pub mod ReportedLemmas

@@ -1,3 +1,4 @@
 pub mod ScriptRuns
 pub mod Text
 pub mod PrintedRuns
+pub mod ReportedRuns

@@ -1,6 +1,7 @@
 //! A script is run statement by statement, and each is printed before the next begins.
-ghost use Rattle.std.specs.Prelude.{◌≡◌, ◌++◌, drop, replicate, OnOk, IfErr};
+ghost use Rattle.std.specs.Prelude.{◌≡◌, ◌++◌, drop, replicate, OnOk, IfErr, MatchResult};
 ghost use Rattle.client.specs.PrintedRuns.{HasEndedEarly, IsPrintedRun, IsReadyToRun};
+ghost use Rattle.client.specs.ReportedRuns.{ReportIsBegun, ReportIsPrinted};
 ghost use Rattle.client.specs.Text.{result_text};
 
 use crate::run_error::RunError;
@@ -52,9 +53,9 @@ fn make_text(
 /// the text of the last statement that was run. `Memory`: nothing is written of the statement that
 /// wanted it. After an error the run can't be taken up again.
 ///
-/// Nothing is promised of a world that has run events before, or whose nodes were started on what
-/// an earlier run left. The statements are run there as in any, but a flow does not deliver frames
-/// that were sent before, and a reply to an event before may stand at any line of the script.
+/// Of a world that has run events before, or whose nodes were started on what an earlier run left,
+/// only `reported` is promised. The statements are run there as in any. But a flow does not deliver
+/// frames that were sent before, and a reply to an event before may stand at any line.
 pub fn run_script<D: Crash + Drop, C: Carrier + Drop, W: Write>(
     alloc: Global,
     script: &Script,
@@ -67,6 +68,13 @@ pub fn run_script<D: Crash + Drop, C: Carrier + Drop, W: Write>(
     ensures ended { IsReadyToRun C.Carrier world.old script.now.setup
         script.now.statements.items → IfErr result (λ error. HasEndedEarly C.Carrier
         error world.new script.now.setup script.now.statements.items (W.contents out.old)
+        (W.contents out.new)) }
+
+    // In any world: what is printed is the text of the lines that it reports.
+    ensures reported { MatchResult result
+        (λ _. ReportIsPrinted world.old world.new script.now.statements.items
+        (W.contents out.old) (W.contents out.new))
+        (λ _. ReportIsBegun script.now.statements.items (W.contents out.old)
         (W.contents out.new)) }
 {
     let mut left = VecDeque::new(alloc);

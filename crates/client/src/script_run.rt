@@ -1,12 +1,14 @@
 //! Statements are run in a world: the events of each, one after another.
 ghost use Rattle.std.specs.Prelude.{◌≡◌, ℕ, List, [], ◌∷◌, ◌++◌, length, map, take, drop};
 ghost use Rattle.std.specs.Prelude.{OnOk, IfOk, ◌+◌, ◌-◌, if◌then◌else◌, Some, None, replicate};
+ghost use Rattle.std.specs.Prelude.{◌≤◌};
 ghost use Rattle.std.specs.Prelude.{true};
 ghost use Rattle.kv_types.specs.{has};
 ghost use Rattle.lab.specs.NodeLists.{at_epoch};
 ghost use Rattle.kv_types.specs.Snapshots.{without};
 ghost use Rattle.lab.specs.declared.Line.{Line};
-ghost use Rattle.lab.specs.{Choice, NamesNode, frames_in_steps, frames_of_step};
+ghost use Rattle.lab.specs.{AddsLines, Choice, NamesNode, frames_in_steps, frames_of_step};
+ghost use Rattle.client.specs.ReportedRuns.{IsReportedIn};
 ghost use Rattle.client.specs.ScriptRuns.{HasRunTo, HasSettled, HasTurned, IsRising, faultless};
 ghost use Rattle.client.specs.ScriptRuns.{Stretch, busy, deliveries, delivery, followed_by};
 ghost use Rattle.client.specs.ScriptRuns.{has_worked};
@@ -116,12 +118,13 @@ fn step<D: Crash + Drop, C: Carrier + Drop>(
     left: &mut VecDeque<u64>,
     event: &Event,
 ) -> Result<(), LabError>
-    ensures { (setup : Setup) (past : Stretch) → HasRunTo C.Carrier world.old setup past →
+    ensures ran { (setup : Setup) (past : Stretch) → HasRunTo C.Carrier world.old setup past →
         NamesNode setup.configs event.now.kind →
         OnOk result ((choice : Choice) × (lines : List Line)
         × HasRunTo C.Carrier world.new setup (followed_by past (one_step event.now choice lines))
         × (left.new.items ≡ left.old.items
         ++ places_after (frames_in_steps past.steps) (frames_of_step lines))) }
+    ensures adds { OnOk result (AddsLines 1 world.old world.new) }
 {
     let before = world.sent();
     world.step(alloc, event)?;
@@ -136,12 +139,13 @@ fn happen<D: Crash + Drop, C: Carrier + Drop>(
     left: &mut VecDeque<u64>,
     kind: EventKind,
 ) -> Result<(), LabError>
-    ensures { (setup : Setup) (past : Stretch) → HasRunTo C.Carrier world.old setup past →
+    ensures ran { (setup : Setup) (past : Stretch) → HasRunTo C.Carrier world.old setup past →
         NamesNode setup.configs kind → OnOk result ((choice : Choice) × (lines : List Line)
         × HasRunTo C.Carrier world.new setup
         (followed_by past (one_step (faultless kind) choice lines))
         × (left.new.items ≡ left.old.items
         ++ places_after (frames_in_steps past.steps) (frames_of_step lines))) }
+    ensures adds { OnOk result (AddsLines 1 world.old world.new) }
 {
     let fault = Fault::None;
     let event = Event { kind, fault };
@@ -156,7 +160,7 @@ fn flow<D: Crash + Drop, C: Carrier + Drop>(
     world: &mut World<D, C>,
     left: &mut VecDeque<u64>,
 ) -> Result<usize, LabError>
-    ensures { (setup : Setup) (past : Stretch) → HasRunTo C.Carrier world.old setup past →
+    ensures ran { (setup : Setup) (past : Stretch) → HasRunTo C.Carrier world.old setup past →
         IfOk result (λ count. (own : Stretch)
         × HasRunTo C.Carrier world.new setup (followed_by past own)
         × (own.events ≡ deliveries (left.old.items
@@ -164,6 +168,8 @@ fn flow<D: Crash + Drop, C: Carrier + Drop>(
         × (count ≡ length own.steps) × (count ≡ length own.events)
         × (left.new.items ≡ drop most (left.old.items
         ++ places_after (frames_in_steps past.steps) (frames_in_steps own.steps)))) }
+    ensures adds { IfOk result
+        (λ count. (count ≤ most) × AddsLines count world.old world.new) }
 {
     let mut count = 0;
     while count < MOST {
@@ -195,7 +201,7 @@ fn settle<D: Crash + Drop, C: Carrier + Drop>(
     left: &mut VecDeque<u64>,
     node: NodeId,
 ) -> Result<usize, LabError>
-    ensures { (setup : Setup) (past : Stretch) → HasRunTo C.Carrier world.old setup past →
+    ensures ran { (setup : Setup) (past : Stretch) → HasRunTo C.Carrier world.old setup past →
         has (at_epoch setup.configs 0) node ≡ true →
         IfOk result (λ count. (own : Stretch)
         × HasRunTo C.Carrier world.new setup (followed_by past own)
@@ -203,6 +209,8 @@ fn settle<D: Crash + Drop, C: Carrier + Drop>(
         × HasSettled own.steps
         × (left.new.items ≡ left.old.items
         ++ places_after (frames_in_steps past.steps) (frames_in_steps own.steps))) }
+    ensures adds { IfOk result
+        (λ count. (count ≤ most) × AddsLines count world.old world.new) }
 {
     let mut count = 0;
     while count < MOST {
@@ -223,11 +231,12 @@ pub fn run_statement<D: Crash + Drop, C: Carrier + Drop>(
     left: &mut VecDeque<u64>,
     statement: &Statement,
 ) -> Result<StatementResult, LabError>
-    ensures { (setup : Setup) (past : Stretch) → HasRunTo C.Carrier world.old setup past →
+    ensures ran { (setup : Setup) (past : Stretch) → HasRunTo C.Carrier world.old setup past →
         Names setup.configs statement.now.action →
         IsRising 0 (frames_in_steps past.steps) left.old.items →
         IfOk result (λ turn. HasTurned C.Carrier setup past statement.now turn world.old world.new
         left.old.items left.new.items) }
+    ensures reported { IfOk result (λ turn. IsReportedIn world.old world.new statement.now turn) }
 {
     let line = statement.line;
     match &statement.action {

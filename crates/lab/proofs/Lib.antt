@@ -25,3 +25,4 @@ mod Histories
 mod Freshness
 mod Reports
 mod FaultMarks
+mod LinesSoFarLemmas

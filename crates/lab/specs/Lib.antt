@@ -12,6 +12,7 @@ pub mod Runs
 pub mod History
 pub mod Worlds
 pub mod FaultMarks
+pub mod LinesSoFar
 pub use Rattle.configurations.specs.NodeLists
 pub use Rattle.configurations.specs.Configs
 pub use Rattle.configurations.specs.declared.error.ConfigError
@@ -25,6 +26,7 @@ pub use Rattle.node.specs.declared.stop.Stop
 pub use Rattle.engine.specs.Tended
 -- What crates above name.
 pub use Rattle.lab.specs.Events.{NamesNode, node_in}
+pub use Rattle.lab.specs.LinesSoFar.{AddsLines, lines_so_far}
 pub use Rattle.lab.specs.History.{ClientHistory, DisksHold, OneHistory}
 pub use Rattle.lab.specs.Runs.{AreNumbersOf, IsRun, IsRunOver}
 pub use Rattle.lab.specs.SimNodes.{Arrives, Choice}

@@ -12,6 +12,7 @@ ghost use Rattle.lab.specs.Worlds.{HasNoNode, HasRun, HasStepped, HaveLimits, Is
 ghost use Rattle.lab.specs.Worlds.{IsReportOf, IsRunSoFar, ShowsTables, WorldHasEnded};
 ghost use Rattle.lab.specs.Worlds.{WorldHasLimits, WorldKeepsLimits, WorldRun, direct_carrier};
 ghost use Rattle.lab.specs.Worlds.{empty_run, event_record, event_records, frames_in_steps};
+ghost use Rattle.lab.specs.LinesSoFar.{AddsLines, lines_so_far};
 ghost use Rattle.lab.specs.Transmissions.{carrier_of};
 
 use crate::delivery::{Posted, delivery_of};
@@ -230,6 +231,7 @@ impl<D: Disk + Drop, C: Carrier + Drop> World<D, C> {
         ensures carrier { carrier_of result ≡ carrier }
         ensures goes_on { WorldHasEnded result → ⊥ }
         ensures limits { HaveLimits nodes.items limits.now → WorldHasLimits result limits.now }
+        ensures none { lines_so_far result ≡ [] }
     {
         World {
             configs,
@@ -273,8 +275,7 @@ impl<D: Disk + Drop, C: Carrier + Drop> World<D, C> {
         self.frames.len() as u64
     }
 
-    /// The numbers of a node as it is now: none of one that is down, or that the world does not
-    /// have.
+    /// The numbers of a node as it is now: none of one that is down, or unknown to the world.
     pub fn numbers(&self, id: NodeId) -> Option<Numbers>
         ensures run { (run : WorldRun) → HasRun C.Carrier self.now run →
             has (at_epoch run.configs 0) id ≡ true →
@@ -292,21 +293,20 @@ impl<D: Disk + Drop, C: Carrier + Drop> World<D, C> {
 
     /// The lines of each event so far. The world keeps the disks.
     pub fn report(&self) -> &[Lines]
+        ensures kept { result.now ≡ lines_so_far self.now }
         ensures steps { (run : WorldRun) → HasRun C.Carrier self.now run → result.now ≡ run.steps }
         ensures run { (run : WorldRun) → HasRun C.Carrier self.now run →
             IsRunSoFar C.Carrier self.now run }
         ensures history { (run : WorldRun) → HasRun C.Carrier self.now run →
             HasHistory self.now run }
     {
-        // laws: reads at the last tail are fresh, and nothing is given up that may be needed
+        // laws: reads at the last tail are fresh, nothing that may be needed is given up, a run has
+        // one history and is made of its outcomes, a page is of a map, a node's disk represents it
         reads_fresh::<Batch>();
         keeps_enough::<Batch>();
-        // laws: a run of the model has one history, and is made of its outcomes
         one_history::<Batch>();
         run_is_outcomes::<Batch>();
-        // law: the page as a function is the page of a map
         kv_types::laws::pages_agree();
-        // law: the disk of a running node represents it
         node::laws::disks_represent::<D>();
         &self.steps
     }
@@ -320,8 +320,7 @@ impl<D: Disk + Drop, C: Carrier + Drop> World<D, C> {
         &self.events
     }
 
-    /// Lets the world go, with its nodes. No report is made. A crate that ends a world by this call
-    /// need not prove the drop of all that it holds.
+    /// Lets the world go, without a report. Who calls it need not prove the drop of what it holds.
     pub fn close(self) {
         drop(self);
     }
@@ -338,6 +337,7 @@ impl<D: Crash + Drop, C: Carrier + Drop> World<D, C> {
             → ⊥) (λ _. WorldHasEnded self.new) }
         ensures again { WorldHasEnded self.old → IsErr result }
         ensures limits { OnOk result (WorldKeepsLimits self.old self.new) }
+        ensures adds { OnOk result (AddsLines 1 self.old self.new) }
     {
         if self.ended {
             return Err(LabError::Memory);

@@ -1,15 +1,19 @@
 -- How a run in folders ends.
 use Rattle.std.proofs.Common.{◌≡◌, ◌⊎◌, inl, inr, ℕ, Bool, Option, None, Some, refl, sym, subst}
-use Rattle.std.proofs.Common.{false, List}
+use Rattle.std.proofs.Common.{false, List, [], ◌++◌, ap, ◌∙◌}
 use Rattle.std.specs.Prelude.{Result, Ok, Err, IfErr, IfOk, IfSome, MatchResult}
 use Rattle.disk.specs.declared.disk.Disk.{Ghosts}
 use Rattle.carriers.specs.declared.Carrier.{Ghosts as Carriers}
+use Rattle.lab.specs.declared.Line.{Line}
 use Rattle.lab.specs.declared.world.World.{World}
+use Rattle.lab.specs.{lines_so_far}
 use Rattle.client.specs.declared.run_error.RunError.{RunError}
 use Rattle.client.specs.declared.run_error.RunError.TheVariants as run
 use Rattle.client.specs.PrintedRuns.{AppendsPart, HasEndedEarly}
+use Rattle.client.specs.ReportedRuns.{ReportIsBegun, ReportIsPrinted}
 use Rattle.script_words.specs.Lines.{script_lines}
 use Rattle.scripts.specs.Faults.{script_fault, start}
+use Rattle.scripts.specs.Scripts.{IsScript}
 use Rattle.scripts.specs.declared.setup.Setup.{Setup}
 use Rattle.scripts.specs.declared.statement.Statement.{Statement}
 use Rattle.program.specs.declared.failure.Failure.{Failure}
@@ -18,7 +22,8 @@ use Rattle.program.specs.declared.folder_failure.LoopFailure.{LoopFailure}
 use Rattle.program.specs.declared.folder_failure.LoopFailure.TheVariants.{Run}
 use Rattle.program.specs.Failures.{IsFailureOf, failure_of}
 use Rattle.program.specs.FolderFailures.{IsLoopFailureOf, loop_failure_line}
-use Rattle.program.specs.FolderRuns.{EndsEarly, LoopEnds, LoopHasFailed, stopped_status}
+use Rattle.program.specs.FolderRuns.{EndsEarly, IsPrintedReport, LoopEnds, LoopHasFailed}
+use Rattle.program.specs.FolderRuns.{SpellsStatements, has_stop, stopped_status}
 
 -- ---- a run in a world
 
@@ -36,6 +41,22 @@ pub output_or_memory : (error : RunError) →
 output_or_memory run.Write = inl refl
 output_or_memory run.Memory = inr refl
 
+-- statements were printed as a world without lines reported them
+pub printed_report : {D C : Type 0} {g : Ghosts D} (world now : World D C g)
+    (statements : List Statement) (old new : Option (List ℕ)) (steps : List (List Line))
+    (stopped : Bool) → lines_so_far world ≡ [] → ReportIsPrinted world now statements old new →
+    steps ≡ lines_so_far now → stopped ≡ has_stop steps →
+    IsPrintedReport statements old new stopped
+printed_report world now statements old new steps stopped none report is stops = record {
+  places = report.places;
+  steps = report.steps;
+  written = report.text;
+  are = report.are;
+  wrote = report.wrote;
+  stops = stops ∙ ap has_stop (is ∙ report.added
+      ∙ ap (λ (l : List (List Line)). l ++ report.steps) none);
+}
+
 -- ---- a run in folders
 
 any_text : (text : Option (List ℕ)) (f : LoopFailure) → ((t : List ℕ) → IsLoopFailureOf t f) →
@@ -46,25 +67,47 @@ any_text (Some t) f is = is t
 -- the script was refused
 pub not_a_script : (text out : Option (List ℕ)) (f : Failure) →
     IfSome text (λ t. IsFailureOf false t f) → LoopHasFailed text out out (Run f)
-not_a_script text out f cause = record { cause = cause; untouched = λ _. refl }
+not_a_script text out f cause = record {
+  cause = cause;
+  untouched = λ _. refl;
+  begun = inl refl;
+}
 
 -- the run did not begin, for another cause
 pub not_begun : (text out : Option (List ℕ)) (f : LoopFailure) →
     ((t : List ℕ) → IsLoopFailureOf t f) → LoopHasFailed text out out f
-not_begun text out f is = record { cause = any_text text f is; untouched = λ _. refl }
+not_begun text out f is = record {
+  cause = any_text text f is;
+  untouched = λ _. refl;
+  begun = inl refl;
+}
 
 -- the run ended early
-pub cut_short : (text old new : Option (List ℕ)) (f : Failure) → (f ≡ Output) ⊎ (f ≡ Memory) →
-    LoopHasFailed text old new (Run f)
-cut_short text old new f (inl is) =
+pub cut_short : (text old new : Option (List ℕ)) (f : Failure) (setup : Setup)
+    (statements : List Statement) → (f ≡ Output) ⊎ (f ≡ Memory) →
+    IfSome text (λ t. IsScript 1 (script_lines t) setup statements) →
+    ReportIsBegun statements old new → LoopHasFailed text old new (Run f)
+cut_short text old new f setup statements (inl is) spelled begun =
     subst (λ (x : Failure). LoopHasFailed text old new (Run x)) (sym is) (record {
       cause = any_text text (Run Output) (λ t. tt);
       untouched = λ before. absurd before;
+      begun = inr (record {
+        setup = setup;
+        statements = statements;
+        spelled = spelled;
+        so = begun;
+      });
     })
-cut_short text old new f (inr is) =
+cut_short text old new f setup statements (inr is) spelled begun =
     subst (λ (x : Failure). LoopHasFailed text old new (Run x)) (sym is) (record {
       cause = any_text text (Run Memory) (λ t. tt);
       untouched = λ before. absurd before;
+      begun = inr (record {
+        setup = setup;
+        statements = statements;
+        spelled = spelled;
+        so = begun;
+      });
     })
 
 -- ---- the status
@@ -75,12 +118,34 @@ pub loop_ended : (ran : Result Bool LoopFailure) (answer : ℕ)
     MatchResult ran (λ stopped. (answer ≡ stopped_status stopped) × (new_err ≡ old_err))
     (λ failure. (answer ≡ 1) × AppendsPart old_err new_err (loop_failure_line failure)) →
     IfOk ran (λ _. IfSome text (λ t. script_fault (start false) 1 (script_lines t) ≡ None)) →
+    IfOk ran (λ stopped. SpellsStatements text
+    (λ statements. IsPrintedReport statements old_out new_out stopped)) →
     IfErr ran (LoopHasFailed text old_out new_out) →
     LoopEnds text old_out new_out old_err new_err answer
-loop_ended (Ok stopped) answer text old_out new_out old_err new_err is lawful failed =
-    inl (record { lawful = lawful; stopped = stopped; status = is.0; quiet = is.1 })
-loop_ended (Err failure) answer text old_out new_out old_err new_err is lawful failed =
+loop_ended (Ok stopped) answer text old_out new_out old_err new_err is lawful printed failed =
+    inl (record {
+      lawful = lawful;
+      stopped = stopped;
+      printed = printed;
+      status = is.0;
+      quiet = is.1;
+    })
+loop_ended (Err failure) answer text old_out new_out old_err new_err is lawful printed failed =
     inr (record { status = is.0; failure = failure; failed = failed; told = is.1 })
+
+unread : (text : Option (List ℕ)) (is_so : List Statement → Type 0) →
+    SpellsStatements text is_so → SpellsStatements None is_so
+unread text is_so spells = record {
+  setup = spells.setup;
+  statements = spells.statements;
+  spelled = tt;
+  so = spells.so;
+}
+
+unread_or_not : {P : Type 0} (text : Option (List ℕ)) (is_so : List Statement → Type 0) →
+    P ⊎ SpellsStatements text is_so → P ⊎ SpellsStatements None is_so
+unread_or_not text is_so (inl p) = inl p
+unread_or_not text is_so (inr spells) = inr (unread text is_so spells)
 
 -- whatever was read
 pub of_any_loop : (text old_out new_out old_err new_err : Option (List ℕ)) (answer : ℕ) →
@@ -89,13 +154,18 @@ pub of_any_loop : (text old_out new_out old_err new_err : Option (List ℕ)) (an
 of_any_loop text old_out new_out old_err new_err answer (inl ran) = inl (record {
   lawful = tt;
   stopped = ran.stopped;
+  printed = unread text _ ran.printed;
   status = ran.status;
   quiet = ran.quiet;
 })
 of_any_loop text old_out new_out old_err new_err answer (inr fails) = inr (record {
   status = fails.status;
   failure = fails.failure;
-  failed = record { cause = tt; untouched = fails.failed.untouched };
+  failed = record {
+    cause = tt;
+    untouched = fails.failed.untouched;
+    begun = unread_or_not text _ fails.failed.begun;
+  };
   told = fails.told;
 })
 
@@ -106,6 +176,6 @@ pub loop_reported : (failure : LoopFailure) (out old_err new_err : Option (List 
 loop_reported failure out old_err new_err answer one told = inr (record {
   status = one;
   failure = failure;
-  failed = record { cause = tt; untouched = λ _. refl };
+  failed = record { cause = tt; untouched = λ _. refl; begun = inl refl };
   told = told;
 })

@@ -12,10 +12,12 @@ use Rattle.client.specs.declared.run_error.RunError.{RunError}
 use Rattle.client.specs.declared.run_error.RunError.TheVariants as run
 use Rattle.client.specs.declared.statement_result.StatementResult.{StatementResult}
 use Rattle.client.specs.PrintedRuns.{AppendsPart, HasEndedEarly, HasRunStatements}
+use Rattle.client.specs.ReportedRuns.{AreReported, ReportIsBegun}
 use Rattle.client.specs.ScriptRuns.{Stretch}
 use Rattle.client.specs.Text.{run_text}
 use Rattle.script_words.specs.Lines.{script_lines}
 use Rattle.scripts.specs.Faults.{script_fault, start}
+use Rattle.scripts.specs.Scripts.{IsScript}
 use Rattle.scripts.specs.declared.setup.Setup.{Setup}
 use Rattle.scripts.specs.declared.statement.Statement.{Statement}
 use Rattle.program.specs.declared.failure.Failure.{Failure}
@@ -79,6 +81,27 @@ EndsEarly g h setup statements old new Memory = IsCutShortIn g h run.Memory setu
 EndsEarly g h setup statements old new Unreadable = ⊥
 EndsEarly g h setup statements old new (Script fault) = ⊥
 
+-- ---- a run in any world
+
+-- The statements were run in some world, exactly the text of the lines that it had of them was
+-- written, and this is whether a node stopped by itself in these.
+pub record IsPrintedReport (statements : List Statement) (old new : Option (List ℕ))
+    (stopped : Bool) : Type 0 where
+  pub places : List ℕ
+  pub steps : List (List Line)
+  pub written : List ℕ
+  pub are : AreReported statements places steps written
+  pub wrote : Appends old new written
+  pub stops : stopped ≡ has_stop steps
+
+-- what was read, where that is known, spells statements of which this is so
+pub record SpellsStatements (text : Option (List ℕ)) (is_so : List Statement → Type 0) : Type 0
+  where
+    pub setup : Setup
+    pub statements : List Statement
+    pub spelled : IfSome text (λ t. IsScript 1 (script_lines t) setup statements)
+    pub so : is_so statements
+
 -- ---- a run in folders
 
 -- the run did not begin
@@ -90,18 +113,25 @@ IsBeforeRun (Run Memory) = ⊥
 IsBeforeRun (Folder fault) = Unit {0}
 IsBeforeRun Network = Unit {0}
 
--- why a run in folders fails: a fault of the script is the one that it has, and where the run did
--- not begin nothing is written
+-- Why a run in folders fails: a fault of the script is the one that it has. Where the run did not
+-- begin nothing is written, and else nothing or a beginning of the text of some first statements.
 pub record LoopHasFailed (text old new : Option (List ℕ)) (failure : LoopFailure) : Type 0 where
   pub cause : IfSome text (λ t. IsLoopFailureOf t failure)
   pub untouched : IsBeforeRun failure → new ≡ old
+  pub begun : (new ≡ old)
+      ⊎ SpellsStatements text (λ statements. ReportIsBegun statements old new)
 
--- what was read, where that is known, is a script without a fault, and it was run
-pub record LoopIsRun (text old_err new_err : Option (List ℕ)) (answer : ℕ) : Type 0 where
-  pub lawful : IfSome text (λ t. script_fault (start false) 1 (script_lines t) ≡ None)
-  pub stopped : Bool
-  pub status : answer ≡ stopped_status stopped
-  pub quiet : new_err ≡ old_err
+-- What was read, where that is known, is a script without a fault. Exactly the text of the lines
+-- that some world had of its statements was written, and the status says whether a node stopped by
+-- itself in these.
+pub record LoopIsRun (text old_out new_out old_err new_err : Option (List ℕ)) (answer : ℕ) : Type 0
+  where
+    pub lawful : IfSome text (λ t. script_fault (start false) 1 (script_lines t) ≡ None)
+    pub stopped : Bool
+    pub printed : SpellsStatements text
+        (λ statements. IsPrintedReport statements old_out new_out stopped)
+    pub status : answer ≡ stopped_status stopped
+    pub quiet : new_err ≡ old_err
 
 -- the run failed, and the line that says why was told, or a beginning of it
 pub record LoopIsReported (text old_out new_out old_err new_err : Option (List ℕ)) (answer : ℕ)
@@ -114,7 +144,7 @@ pub record LoopIsReported (text old_out new_out old_err new_err : Option (List �
 -- how a run in folders ends
 abbrev pub LoopEnds : (text old_out new_out old_err new_err : Option (List ℕ)) → ℕ → Type 0
 LoopEnds text old_out new_out old_err new_err answer =
-    LoopIsRun text old_err new_err answer
+    LoopIsRun text old_out new_out old_err new_err answer
     ⊎ LoopIsReported text old_out new_out old_err new_err answer
 
 -- how the words `loop ..` end

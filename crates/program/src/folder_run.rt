@@ -1,11 +1,13 @@
 //! A script is run at nodes in folders.
-ghost use Rattle.std.specs.Prelude.{◌≡◌, ◌⊎◌, false, IfErr, IfOk, IfSome, None};
+ghost use Rattle.std.specs.Prelude.{◌≡◌, ◌⊎◌, [], false, IfErr, IfOk, IfSome, MatchResult, None};
 ghost use Rattle.std.specs.List.{list_any};
 ghost use Rattle.script_words.specs.Lines.{script_lines};
 ghost use Rattle.scripts.specs.Faults.{script_fault, start};
+ghost use Rattle.lab.specs.{lines_so_far};
 ghost use Rattle.client.specs.PrintedRuns.{IsReadyToRun};
-ghost use Rattle.program.specs.FolderRuns.{EndsEarly, IsRunThatStops, LoopHasFailed, has_stop};
-ghost use Rattle.program.specs.FolderRuns.{is_stop};
+ghost use Rattle.client.specs.ReportedRuns.{ReportIsBegun};
+ghost use Rattle.program.specs.FolderRuns.{EndsEarly, IsPrintedReport, IsRunThatStops};
+ghost use Rattle.program.specs.FolderRuns.{LoopHasFailed, SpellsStatements, has_stop, is_stop};
 ghost use Rattle.program.specs.declared.failure.Failure.TheVariants.{Memory, Output};
 ghost use Rattle.program.specs.declared.folder_failure.LoopFailure.TheVariants.{Network, Run};
 
@@ -91,6 +93,12 @@ fn run_world<D: Crash + Drop, C: Carrier + Drop, W: Write>(
         IfErr result (EndsEarly D.Disk C.Carrier script.now.setup script.now.statements.items
         (W.contents out.old) (W.contents out.new)) }
     ensures cause { IfErr result (λ failure. (failure ≡ Output) ⊎ (failure ≡ Memory)) }
+
+    // In any world that has no line yet.
+    ensures printed { lines_so_far world ≡ [] → MatchResult result
+        (IsPrintedReport script.now.statements.items (W.contents out.old) (W.contents out.new))
+        (λ _. ReportIsBegun script.now.statements.items (W.contents out.old)
+        (W.contents out.new)) }
 {
     let ran = run_script(alloc, script, &mut world, out);
     let stopped = has_stop(world.report());
@@ -112,6 +120,9 @@ where
     F: Alloc<A = Global> + Clone + Drop,
     ensures lawful { IfOk result (λ _. IfSome (R.remaining input.old) (λ text.
         script_fault (start false) 1 (script_lines text) ≡ None)) }
+    ensures printed { IfOk result (λ stopped. SpellsStatements (R.remaining input.old)
+        (λ statements. IsPrintedReport statements (W.contents out.old) (W.contents out.new)
+        stopped)) }
     ensures failed { IfErr result
         (LoopHasFailed (R.remaining input.old) (W.contents out.old) (W.contents out.new)) }
 {

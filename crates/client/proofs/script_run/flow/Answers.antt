@@ -1,36 +1,52 @@
 use Rattle.std.proofs.Common.{ℕ, List, subst, add-one, arith}
 use Rattle.client.specs.ScriptRuns.{followed_by}
 use Rattle.client.proofs.Flowing.{Flows, flows_none, flows_on, flowed_all, flowed_most, emptied}
+use Rattle.client.proofs.ReportedLemmas.{adds_more, adds_nothing}
 use Rattle.client.proofs.script_run.flow.Goals as goal
 
 -- no_stretch is delivered yet
 pub loop-count-init : goal.loop-count-init
-loop-count-init g c = λ setup past run.
-    flows_none c.args.world.now setup past c.args.left.now.items run
+loop-count-init g c = (
+  λ setup past run. flows_none c.args.world.now setup past c.args.left.now.items run,
+  (omega arith, adds_nothing c.args.world.now),
+)
 
-pub returns-in_default : goal.returns-in_default
-returns-in_default g c = λ setup past run.
+pub returns-in_default-clause-ran : goal.returns-in_default-clause-ran
+returns-in_default-clause-ran g c = λ setup past run.
     let world = c.loop-count.world in
     let old = c.args.left.now.items in
     let new = c.pop_front.new.self.items in
     let count = c.loop-count.count in
     let f = subst (λ (l : List ℕ). Flows g.C.Carrier world setup past old l count)
-    c.in_default.ensures.items (c.loop-count.invariant setup past run) in
+    c.in_default.ensures.items (c.loop-count.invariant.0 setup past run) in
     flowed_all world setup past old new count f
     (emptied c.loop-count.left.items new c.in_default.ensures.items
     c.in_default.ensures.rest)
 
 pub loop-count-preserved : goal.loop-count-preserved
-loop-count-preserved g c = λ setup past run.
-    let f = c.loop-count.invariant setup past run in
-    let gave = c.in_ok-happen.ensures setup (followed_by past f.own) f.run tt in
-    rw add-one (flows_on setup past c.args.left.now.items c.loop-count.world
-    c.happen.new.world c.loop-count.left.items c.pop_front.new.self.items
-    c.happen.new.left.items c.loop-count.count c.in-Some.place f c.in-Some.ensures.items
-    (omega (arith, c.loop-count-test.true)) gave.0 gave.1 gave.2 gave.3)
+loop-count-preserved g c = (
+  λ setup past run.
+      let f = c.loop-count.invariant.0 setup past run in
+      let gave = c.in_ok-happen.ensures.ran setup (followed_by past f.own) f.run tt in
+      rw add-one (flows_on setup past c.args.left.now.items c.loop-count.world
+      c.happen.new.world c.loop-count.left.items c.pop_front.new.self.items
+      c.happen.new.left.items c.loop-count.count c.in-Some.place f c.in-Some.ensures.items
+      (omega (arith, c.loop-count-test.true)) gave.0 gave.1 gave.2 gave.3),
+  (
+    omega (arith, c.loop-count-test.true),
+    adds_more c.args.world.now c.loop-count.world c.happen.new.world c.loop-count.count
+        c.loop-count.invariant.1.1 c.in_ok-happen.ensures.adds,
+  ),
+)
 
-pub returns : goal.returns
-returns g c = λ setup past run.
+pub returns-clause-ran : goal.returns-clause-ran
+returns-clause-ran g c = λ setup past run.
     flowed_most c.loop-count.world setup past c.args.left.now.items
-    c.loop-count.left.items c.loop-count.count (c.loop-count.invariant setup past run)
+    c.loop-count.left.items c.loop-count.count (c.loop-count.invariant.0 setup past run)
     (omega (arith, c.loop-count-test.false))
+
+pub returns-in_default-clause-adds : goal.returns-in_default-clause-adds
+returns-in_default-clause-adds g c = c.loop-count.invariant.1
+
+pub returns-clause-adds : goal.returns-clause-adds
+returns-clause-adds g c = c.loop-count.invariant.1

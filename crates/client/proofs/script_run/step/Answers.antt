@@ -2,8 +2,8 @@ use Rattle.client.specs.ScriptRuns.{followed_by, one_step, run_of}
 use Rattle.client.proofs.Flowing.{added}
 use Rattle.client.proofs.script_run.step.Goals as goal
 
-pub returns : goal.returns
-returns g c = λ setup past run named.
+pub returns-clause-ran : goal.returns-clause-ran
+returns-clause-ran g c = λ setup past run named.
     let ran = (c.in_ok-step.ensures.ran (run_of setup past) run.run).follows named in (
       ran.choice,
       ran.lines,

@@ -1,7 +1,7 @@
 use Rattle.std.proofs.Common.{ap, rules, ◌∙◌}
 use Rattle.client.specs.ScriptRuns.{run_of}
 use Rattle.program.specs.FolderRuns.{has_stop}
-use Rattle.program.proofs.FolderEnds.{ends_early, output_or_memory}
+use Rattle.program.proofs.FolderEnds.{ends_early, output_or_memory, printed_report}
 use Rattle.program.proofs.folder_run.run_world.Goals as goal
 
 pub returns-clause-run : goal.returns-clause-run
@@ -29,3 +29,10 @@ pub returns-in_err-ran-clause-cause : goal.returns-in_err-ran-clause-cause
 returns-in_err-ran-clause-cause g c =
     let cause = output_or_memory c.in_err-ran.field-0.0 in
     search (rules, cause)
+
+pub returns-clause-printed : goal.returns-clause-printed
+returns-clause-printed g c = λ none.
+    printed_report c.args.world c.run_script-ran.new.world c.args.script.now.statements.items
+    (g.W.Write.contents c.args.out.now) (g.W.Write.contents c.run_script-ran.new.out)
+    c.report.result.now c.has_stop-stopped.result none c.in_ok-ran.ensures.reported
+    c.report.ensures.kept c.has_stop-stopped.ensures

@@ -1,6 +1,6 @@
 use Rattle.program.specs.declared.failure.Failure.TheVariants.{Unreadable}
 use Rattle.program.specs.declared.folder_failure.LoopFailure.TheVariants.{Run}
-use Rattle.program.proofs.FolderEnds.{loop_reported}
+use Rattle.program.proofs.FolderEnds.{loop_ended, loop_reported, of_any_loop}
 use Rattle.program.proofs.folder_service.run_script_at.Goals as goal
 
 pub returns-in-Err-clause-ends : goal.returns-in-Err-clause-ends
@@ -8,3 +8,16 @@ returns-in-Err-clause-ends g c =
     loop_reported (Run Unreadable) (g.O.Write.contents c.args.out.now)
     (g.E.Write.contents c.args.err.now) (g.E.Write.contents c.report_loop.new.err)
     c.report_loop.result c.report_loop.ensures.status c.report_loop.ensures.text
+
+-- the script is standard input
+pub returns-then-eq-clause-ends : goal.returns-then-eq-clause-ends
+returns-then-eq-clause-ends g c =
+    let text = g.R.Read.remaining c.args.input.now in
+    let old_out = g.O.Write.contents c.args.out.now in
+    let new_out = g.O.Write.contents c.run_in_folders.new.out in
+    let old_err = g.E.Write.contents c.args.err.now in
+    let new_err = g.E.Write.contents c.end_loop.new.err in
+    of_any_loop text old_out new_out old_err new_err c.end_loop.result
+    (loop_ended c.run_in_folders.result c.end_loop.result text old_out new_out old_err new_err
+    c.end_loop.ensures c.run_in_folders.ensures.lawful c.run_in_folders.ensures.printed
+    c.run_in_folders.ensures.failed)

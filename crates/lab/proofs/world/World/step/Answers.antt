@@ -11,6 +11,7 @@ use Rattle.lab.specs.declared.sim_node.SimNode.{SimNode}
 use Rattle.lab.specs.declared.world.World.{World}
 use Rattle.lab.specs.Transmissions.{frame_sent}
 use Rattle.lab.specs.Worlds.{HasKept, HasNoNode, HaveLimits, IsIndexOf, PostedRefines}
+use Rattle.lab.proofs.LinesSoFarLemmas.{adds_none, adds_one}
 use Rattle.lab.proofs.Moves.{limited}
 use Rattle.lab.proofs.WorldSteps.{IsFoundFor, delivered_after, ends_so, ends_with, ignored_after}
 use Rattle.lab.proofs.WorldSteps.{keeps_limits, lost_applied, nothing_applied}
@@ -156,3 +157,27 @@ returns-clause-limits g c =
     c.in_ok-begin.ensures.begun.others
     (limited begun.nodes.items c.in-To.id c.in-To.input c.args.event.now.fault begun.limits h.did
     (mid g c).nodes.items h.took))) c.keep-2.ensures.kept
+
+-- ---- the lines of any world
+
+pub returns-in_default-index_of-clause-adds : goal.returns-in_default-index_of-clause-adds
+returns-in_default-index_of-clause-adds g c = adds_none c.args.self.now _
+    (ap (λ (w : World g.row.D.Denot g.row.C.Denot g.D.Disk). w.steps.items)
+    c.in_ok-begin.ensures.begun.others)
+
+pub returns-in-Nothing-clause-adds : goal.returns-in-Nothing-clause-adds
+returns-in-Nothing-clause-adds g c =
+    on_ok_weaker c.keep.result (adds_one c.args.self.now c.begin.new.self
+    (record c.begin.new.self { carrier = c.delivery_of.new.carrier }) c.keep.new.self
+    c.args.event.now _ _ c.in_ok-begin.ensures.begun refl) c.keep.ensures.kept
+
+pub returns-in-Lost-clause-adds : goal.returns-in-Lost-clause-adds
+returns-in-Lost-clause-adds g c =
+    on_ok_weaker c.keep-in-Lost.result (adds_one c.args.self.now c.begin.new.self
+    (record c.begin.new.self { carrier = c.delivery_of.new.carrier }) c.keep-in-Lost.new.self
+    c.args.event.now _ _ c.in_ok-begin.ensures.begun refl) c.keep-in-Lost.ensures.kept
+
+pub returns-clause-adds : goal.returns-clause-adds
+returns-clause-adds g c =
+    on_ok_weaker c.keep-2.result (adds_one c.args.self.now c.begin.new.self (mid g c)
+    c.keep-2.new.self c.args.event.now _ _ c.in_ok-begin.ensures.begun refl) c.keep-2.ensures.kept

@@ -1,0 +1,225 @@
+-- Statements that are run and printed in any world: one more of them.
+use Rattle.std.proofs.Common.{◌≡◌, ◌≤◌, ◌+◌, ◌<◌, ℕ, suc, List, [], ◌∷◌, ◌++◌, Option, length}
+use Rattle.std.proofs.Common.{take, drop, replicate, get_or, append_assoc, append-nil, ap, arith}
+use Rattle.std.proofs.Common.{length-append, refl, subst, sym, ◌∙◌, ◌-◌, ◌⊎◌, inl, inr, Bool}
+use Rattle.std.specs.Prelude.{if◌then◌else◌}
+use Rattle.std.proofs.Math.Seq.{take-suc}
+use Rattle.std.specs.Io.KnownBytes.{Appends}
+use Rattle.disk.specs.declared.disk.Disk.{Ghosts}
+use Rattle.lab.specs.declared.Line.{Line}
+use Rattle.lab.specs.declared.world.World.{World}
+use Rattle.lab.specs.{AddsLines, lines_so_far}
+use Rattle.kv_types.specs.declared.KvError.{KvError}
+use Rattle.lab.specs.declared.Event as lab
+use Rattle.lab.specs.Numbers.{Numbers}
+use Rattle.scripts.specs.declared.statement.Action.TheVariants.{Event, Invalid, Flow}
+use Rattle.scripts.specs.declared.statement.Action.TheVariants.{Settle, Show}
+use Rattle.scripts.specs.declared.statement.Statement.{Statement}
+use Rattle.client.specs.declared.statement_result.Note.TheVariants as note
+use Rattle.client.specs.ScriptRuns.{busy, most, shown}
+use Rattle.client.specs.declared.statement_result.StatementResult.{StatementResult}
+use Rattle.client.specs.PrintedRuns.{AppendsPart}
+use Rattle.client.specs.ReportedRuns.{AreReported, IsReportedIn, ReportIsBegun, ReportIsPrinted}
+use Rattle.client.specs.ReportedRuns.AreReported.{NoStatement, OneMore}
+use Rattle.client.specs.Text.{result_text}
+use Rattle.client.proofs.Printed.{appends_more, appends_none}
+
+-- ---- lines
+
+module _ {D C : Type 0} {g : Ghosts D} where
+  -- no event
+  pub adds_nothing : (world : World D C g) → AddsLines 0 world world
+  adds_nothing world =
+      record { more = []; few = omega arith; added = sym (append-nil (lines_so_far world)) }
+
+  -- one event more
+  pub adds_more : (old mid new : World D C g) (count : ℕ) → AddsLines count old mid →
+      AddsLines 1 mid new → AddsLines (count + 1) old new
+  adds_more old mid new count before next = record {
+    more = before.more ++ next.more;
+    few = omega (arith, length-append before.more next.more, before.few, next.few);
+    added = next.added ∙ ap (λ (l : List (List Line)). l ++ next.more) before.added
+        ∙ append_assoc (lines_so_far old) before.more next.more;
+  }
+
+-- ---- a statement
+
+busy_or_not : (left : List ℕ) → (busy left ≡ note.Nothing) ⊎ (busy left ≡ note.Busy)
+busy_or_not [] = inl refl
+busy_or_not (place ∷ left) = inr refl
+
+module _ {D C : Type 0} {g : Ghosts D} (old new : World D C g) (it : Statement)
+    (turn : StatementResult) where
+  pub reported_event : (event : lab.Event) → it.action ≡ Event event →
+      turn ≡ record { line = it.line; events = 1; silent = 0; note = note.Nothing } →
+      AddsLines 1 old new → IsReportedIn old new it turn
+  reported_event event is made adds = rw made (record {
+    answered = record { line = refl; did = rw is (refl, refl, refl) };
+    adds = adds;
+  })
+
+  pub reported_flow : (count : ℕ) (left : List ℕ) → it.action ≡ Flow →
+      turn ≡ record { line = it.line; events = count; silent = 0; note = busy left } →
+      count ≤ most → AddsLines count old new → IsReportedIn old new it turn
+  reported_flow count left is made few adds = rw made (record {
+    answered = record { line = refl; did = rw is (few, refl, busy_or_not left) };
+    adds = adds;
+  })
+
+  pub reported_settle : (node count : ℕ) (more : Bool) → it.action ≡ Settle node →
+      turn ≡ record {
+        line = it.line;
+        events = count;
+        silent = (if more then count else count - 1);
+        note = (if more then note.Busy else note.Nothing);
+      } → count ≤ most → AddsLines count old new → IsReportedIn old new it turn
+  reported_settle node count more is made few adds = rw made (record {
+    answered = record { line = refl; did = rw is (few, (more, refl, refl)) };
+    adds = adds;
+  })
+
+module _ {D C : Type 0} {g : Ghosts D} (world : World D C g) (it : Statement)
+    (turn : StatementResult) where
+  pub reported_invalid : (e : KvError) → it.action ≡ Invalid e →
+      turn ≡ record { line = it.line; events = 0; silent = 0; note = note.Invalid e } →
+      IsReportedIn world world it turn
+  reported_invalid e is made = rw made (record {
+    answered = record { line = refl; did = rw is (refl, refl, refl) };
+    adds = adds_nothing world;
+  })
+
+  pub reported_show : (node : ℕ) (numbers : Option Numbers) → it.action ≡ Show node →
+      turn ≡ record { line = it.line; events = 0; silent = 0; note = shown node numbers } →
+      IsReportedIn world world it turn
+  reported_show node numbers is made = rw made (record {
+    answered = record { line = refl; did = rw is (refl, refl, (numbers, refl)) };
+    adds = adds_nothing world;
+  })
+
+-- ---- texts
+
+drop_first : (first own : List (List Line)) → drop (length first) (first ++ own) ≡ own
+drop_first [] own = refl
+drop_first (s ∷ first) own = drop_first first own
+
+-- the lines behind so many of a world's are an event's own
+own_lines : (first own steps found : List (List Line)) (before : ℕ) → before ≡ length first →
+    steps ≡ first ++ own → found ≡ drop before steps → found ≡ own
+own_lines first own steps found before count is behind =
+    behind ∙ (ap (λ (l : List (List Line)). drop before l) is
+    ∙ (ap (λ (n : ℕ). drop n (first ++ own)) count ∙ drop_first first own))
+
+-- a beginning of a text behind another
+longer : (a b : List ℕ) (count : ℕ) → (n : ℕ) × (take n (a ++ b) ≡ a ++ take count b)
+longer [] b count = (count, refl)
+longer (x ∷ a) b count =
+    let left = longer a b count in (suc left.0, ap (λ (l : List ℕ). x ∷ l) left.1)
+
+part_behind : (old mid new : Option (List ℕ)) (a b : List ℕ) → Appends old mid a →
+    AppendsPart mid new b → AppendsPart old new (a ++ b)
+part_behind old mid new a b first part =
+    let n = longer a b part.count in
+    record {
+      count = n.0;
+      wrote = subst (λ (l : List ℕ). Appends old new l) (sym n.1)
+          (appends_more old mid new a (take part.count b) first part.wrote);
+    }
+
+part_of_all : (old new : Option (List ℕ)) (a : List ℕ) → Appends old new a → AppendsPart old new a
+part_of_all old new a wrote = subst (AppendsPart old new) (append-nil a)
+    (part_behind old new new a [] wrote (record { count = 0; wrote = appends_none new }))
+
+-- ---- statements
+
+module _ {D C : Type 0} {g : Ghosts D} where
+  -- the first statements were run in a world and printed
+  pub record ReportsSoFar (first now : World D C g) (done : List Statement) (places : List ℕ)
+      (before : ℕ) (old new : Option (List ℕ)) : Type 0 where
+    pub steps : List (List Line)
+    pub text : List ℕ
+    pub are : AreReported done places steps text
+    pub added : lines_so_far now ≡ lines_so_far first ++ steps
+    pub count : before ≡ length (lines_so_far now)
+    pub wrote : Appends old new text
+
+  pub reports_none : (world : World D C g) (before : ℕ) (out : Option (List ℕ)) →
+      before ≡ length (lines_so_far world) → ReportsSoFar world world [] [] before out out
+  reports_none world before out count = record {
+    steps = [];
+    text = [];
+    are = NoStatement;
+    added = sym (append-nil (lines_so_far world));
+    count = count;
+    wrote = appends_none out;
+  }
+
+  -- the run ended for memory behind them
+  pub begun_so_far : (first now : World D C g) (all : List Statement) (i : ℕ) (places : List ℕ)
+      (before : ℕ) (old new : Option (List ℕ)) →
+      ReportsSoFar first now (take i all) places before old new → ReportIsBegun all old new
+  begun_so_far first now all i places before old new r = record {
+    count = i;
+    places = places;
+    steps = r.steps;
+    text = r.text;
+    are = r.are;
+    part = part_of_all old new r.text r.wrote;
+  }
+
+  -- all statements were run
+  pub all_reported : (first now : World D C g) (done all : List Statement) (places : List ℕ)
+      (before : ℕ) (old new : Option (List ℕ)) → done ≡ all →
+      ReportsSoFar first now done places before old new → ReportIsPrinted first now all old new
+  all_reported first now done all places before old new is r = record {
+    places = places;
+    steps = r.steps;
+    text = r.text;
+    are = subst (λ (l : List Statement). AreReported l places r.steps r.text) is r.are;
+    added = r.added;
+    wrote = r.wrote;
+  }
+
+-- the next statement was run, and its text made of its own lines
+module _ {D C : Type 0} {g : Ghosts D} (first world now : World D C g)
+    (all : List Statement) (i : ℕ) (d it : Statement) (turn : StatementResult)
+    (places more_places : List ℕ) (before : ℕ) (steps found : List (List Line)) (text : List ℕ)
+    (old mid : Option (List ℕ)) (within : i < length all) (at : it ≡ get_or all i d)
+    (r : ReportsSoFar first world (take i all) places before old mid)
+    (is : IsReportedIn world now it turn) (reports : steps ≡ lines_so_far now)
+    (behind : found ≡ drop before steps)
+    (added : more_places ≡ places ++ replicate turn.events turn.line)
+    (made : text ≡ result_text more_places turn found) where
+  one_more : AreReported (take (suc i) all) more_places (r.steps ++ is.adds.more) (r.text ++ text)
+  one_more =
+      let own = own_lines (lines_so_far world) is.adds.more steps found before r.count
+      (reports ∙ is.adds.added) behind in
+      let same : text ≡ result_text (places ++ replicate turn.events turn.line) turn is.adds.more =
+      rw (made, own, added) refl in
+      rw (take-suc all i d within, ← at, same, added)
+      (OneMore (take i all) places r.steps r.text r.are it turn is.adds.more is.answered
+      is.adds.few)
+
+  -- .. of which the output took a beginning
+  pub begun_with_one : (new : Option (List ℕ)) → AppendsPart mid new text →
+      ReportIsBegun all old new
+  begun_with_one new part = record {
+    count = suc i;
+    places = more_places;
+    steps = r.steps ++ is.adds.more;
+    text = r.text ++ text;
+    are = one_more;
+    part = part_behind old mid new r.text text r.wrote part;
+  }
+
+  -- .. which was written
+  pub reports_more : (new : Option (List ℕ)) → Appends mid new text →
+      ReportsSoFar first now (take (suc i) all) more_places (length steps) old new
+  reports_more new wrote = record {
+    steps = r.steps ++ is.adds.more;
+    text = r.text ++ text;
+    are = one_more;
+    added = is.adds.added ∙ ap (λ (l : List (List Line)). l ++ is.adds.more) r.added
+        ∙ append_assoc (lines_so_far first) r.steps is.adds.more;
+    count = ap length reports;
+    wrote = appends_more old mid new r.text text r.wrote wrote;
+  }

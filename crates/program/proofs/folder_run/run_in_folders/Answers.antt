@@ -1,0 +1,21 @@
+use Rattle.std.proofs.Common.{rules}
+use Rattle.program.proofs.FolderEnds.{cut_short}
+use Rattle.program.proofs.folder_run.run_in_folders.Goals as goal
+
+pub returns-clause-printed : goal.returns-clause-printed
+returns-clause-printed g c = record {
+  setup = c.in_ok-script.script.setup;
+  statements = c.in_ok-script.script.statements.items;
+  spelled = c.in_ok-script.ensures.found;
+  so = c.in_ok-run_world.ensures.printed c.over-world.ensures.none;
+}
+
+-- the run ended early
+pub returns-in_err-run_world-clause-failed : goal.returns-in_err-run_world-clause-failed
+returns-in_err-run_world-clause-failed g c =
+    let failed = cut_short (g.R.Read.remaining c.args.input.now) (g.W.Write.contents c.args.out.now)
+    (g.W.Write.contents c.run_world.new.out) c.in_err-run_world.field-0.0
+    c.in_ok-script.script.setup c.in_ok-script.script.statements.items
+    c.in_err-run_world.ensures.cause c.in_ok-script.ensures.found
+    (c.in_err-run_world.ensures.printed c.over-world.ensures.none) in
+    search (rules, failed)
