@@ -8,7 +8,8 @@ use Rattle.kv_types.specs.Content.{BatchContent}
 use Rattle.kv_types.specs.Spelling.{batch_bytes, IsBatch}
 use Rattle.byte_fields.specs.{text_bytes, text_at}
 use Rattle.kv_types.specs.Reading.{ReadsBytes, RefusesBytes, batch_at}
-use Rattle.byte_fields.specs.FieldsLemmas.{IsBytes, text_begins, text_again}
+use Rattle.byte_fields.specs.FieldsLemmas.{IsBytes}
+use Rattle.byte_fields.specs.TextsLemmas.{text_begins, text_again}
 use Rattle.kv_types.specs.BatchesLemmas.{front_again}
 
 pub text_found : {X : Type 0} (view : X → List ℕ × List ℕ) (limit : ℕ) (bytes : List ℕ)

@@ -1,5 +1,5 @@
 -- The two laws: what is read is spelled so, and what is spelled so is read.
-use Rattle.std.proofs.Common.{◌≡◌, ℕ, zero, suc, ◌+◌, ◌-◌, ◌≤◌, Bool, true, false}
+use Rattle.std.proofs.Common.{◌≡◌, ℕ, zero, suc, ◌+◌, ◌-◌, ◌<◌, ◌^◌, ◌≤◌, Bool, true, false}
 use Rattle.std.proofs.Common.{cond, eqb, ltb, List, [], ◌∷◌, ◌++◌, length, Option, Some, None}
 use Rattle.std.proofs.Common.{refl, sym, ap, subst, ◌∙◌, append_assoc, arith}
 use Rattle.std.specs.List.{flat_map, AllByRecursion}
@@ -7,16 +7,16 @@ use Rattle.std.specs.Int.{w16, to_be_bytes}
 use Rattle.std.proofs.lemmas.Bool.{eqb-true, ltb-false, le-ltb}
 use Rattle.std.proofs.lemmas.List.{append-nil, nil_from_length, length-append}
 use Rattle.std.proofs.lemmas.List.Elements.{All-from_recursion, recursion_from_All}
-use Rattle.std.proofs.lemmas.List.Concat.{flat_map-cons}
 use Rattle.kv_types.specs.declared.bounds.TheConstants.{MAX_KEY, MAX_VALUE, MAX_EDITS, MAX_BATCH}
 use Rattle.kv_types.specs.declared.edit.Edit.{Edit}
 use Rattle.kv_types.specs.declared.edit.Edit.TheVariants.{Put, Delete}
 use Rattle.kv_types.specs.Spelling.{edit_bytes, batch_bytes, IsEdit, IsBatch, SpellingsDiffer}
-use Rattle.byte_fields.specs.{text_bytes, ◌>>=◌, length_at, text_at}
-use Rattle.kv_types.specs.Reading.{edit_at, edits_at, batch_at, batch_of}
+use Rattle.byte_fields.specs.{text_bytes, ◌>>=◌, many, number_at, text_at}
+use Rattle.kv_types.specs.Reading.{edit_at, batch_at, batch_of}
 use Rattle.byte_fields.specs.FieldsLemmas.{IsBytes, IsBytes-rest, bind_some, guard_some, some_is}
-use Rattle.byte_fields.specs.FieldsLemmas.{BeginsWith, text_again, BeginsWith-then, number_begins}
-use Rattle.byte_fields.specs.FieldsLemmas.{number_again, text_begins}
+use Rattle.byte_fields.specs.FieldsLemmas.{BeginsWith, BeginsWith-then}
+use Rattle.byte_fields.specs.ReadersLemmas.{Reads, many_again, many_begin, number_reads, wide16}
+use Rattle.byte_fields.specs.TextsLemmas.{text_begins, text_again}
 
 guard_ended : {A : Type 0} (b : Bool) (x y : A) → cond b (Some x) None ≡ Some y
     → (b ≡ true) × (x ≡ y)
@@ -76,43 +76,12 @@ edit_again (Put key value) rest fits =
     ) refl
 edit_again (Delete key) rest fits = rw (text_again MAX_KEY key rest fits (omega arith)) refl
 
-edits_take : (n : ℕ) (bytes : List ℕ) (x : List Edit × List ℕ) → IsBytes bytes
-    → edits_at n bytes ≡ Some x
-    → BeginsWith bytes (flat_map edit_bytes x.0) x.1 × (length x.0 ≡ n) × AllByRecursion IsEdit x.0
-unfolding edits_at
-edits_take zero bytes x fits e =
-    let made : List Edit × List ℕ = ([], bytes) in
-    subst (λ (y : List Edit × List ℕ). BeginsWith bytes (flat_map edit_bytes y.0) y.1
-    × (length y.0 ≡ 0)
-    × AllByRecursion IsEdit y.0) (some_is made x e)
-    (record { parts = refl; rest_fits = fits }, refl, tt)
-edits_take (suc n) bytes x fits e =
-    let a = bind_some (edit_at bytes)
-    (λ first. edits_at n first.1 >>= λ others. Some (first.0 ∷ others.0, others.1)) x e in
-    let b = bind_some (edits_at n a.0.1) (λ others. Some (a.0.0 ∷ others.0, others.1)) x a.2 in
-    let first = edit_takes bytes a.0 fits a.1 in
-    let second = edits_take n a.0.1 b.0 first.0.rest_fits b.1 in
-    let both = BeginsWith-then bytes (edit_bytes a.0.0) a.0.1
-    (flat_map edit_bytes b.0.0) b.0.1 first.0 second.0 in
-    let made : List Edit × List ℕ = (a.0.0 ∷ b.0.0, b.0.1) in
-    subst (λ (y : List Edit × List ℕ). BeginsWith bytes (flat_map edit_bytes y.0) y.1
-    × (length y.0 ≡ suc n) × AllByRecursion IsEdit y.0) (some_is made x b.2)
-    (rw flat_map-cons both, ap suc second.1, (first.1, second.2))
+-- edits are read as they are spelled
+edit_reads : Reads IsEdit edit_bytes edit_at
+edit_reads = record { takes = edit_takes; again = edit_again }
 
-edits_again : (edits : List Edit) (rest : List ℕ) → AllByRecursion IsEdit edits
-    → edits_at (length edits) (flat_map edit_bytes edits ++ rest) ≡ Some (edits, rest)
-unfolding edits_at
-edits_again [] rest fits = refl
-edits_again (edit ∷ edits) rest fits =
-    let regrouped : flat_map edit_bytes (edit ∷ edits) ++ rest
-    ≡ edit_bytes edit ++ (flat_map edit_bytes edits ++ rest) = ap (λ (x : List ℕ). x ++ rest)
-    (flat_map-cons edit_bytes edit edits)
-    ∙ append_assoc (edit_bytes edit) (flat_map edit_bytes edits) rest in
-    ap (edits_at (suc (length edits))) regrouped
-    ∙ rw (
-      edit_again edit (flat_map edit_bytes edits ++ rest) fits.0,
-      edits_again edits rest fits.1,
-    ) refl
+count_reads : Reads (λ n. n < 2 ^ 16) (to_be_bytes w16) (number_at w16)
+count_reads = number_reads w16 (2 ^ 16) wide16
 
 -- ---- a batch at the front
 
@@ -121,7 +90,7 @@ abbrev limited : List ℕ → List Edit × List ℕ → Option (List Edit × Lis
 limited bytes read = cond (ltb MAX_BATCH (length bytes - length read.1)) None (Some read)
 
 abbrev not_none : List ℕ → ℕ × List ℕ → Option (List Edit × List ℕ)
-not_none bytes n = cond (ltb n.0 1) None (edits_at n.0 n.1 >>= limited bytes)
+not_none bytes n = cond (ltb n.0 1) None (many edit_at n.0 n.1 >>= limited bytes)
 
 abbrev counted : List ℕ → ℕ × List ℕ → Option (List Edit × List ℕ)
 counted bytes n = cond (ltb MAX_EDITS n.0) None (not_none bytes n)
@@ -145,15 +114,15 @@ pub batch_begins : (bytes : List ℕ) (x : List Edit × List ℕ) → IsBytes by
     → batch_at bytes ≡ Some x → BeginsWith bytes (batch_bytes x.0) x.1 × IsBatch x.0
 unfolding batch_at
 batch_begins bytes x fits e =
-    let a = bind_some (length_at bytes) (counted bytes) x e in
+    let a = bind_some (number_at w16 bytes) (counted bytes) x e in
     let n = a.0 in
     let g = guard_some (ltb MAX_EDITS n.0) (not_none bytes n) x a.2 in
-    let h = guard_some (ltb n.0 1) (edits_at n.0 n.1 >>= limited bytes) x g.1 in
-    let b = bind_some (edits_at n.0 n.1) (limited bytes) x h.1 in
+    let h = guard_some (ltb n.0 1) (many edit_at n.0 n.1 >>= limited bytes) x g.1 in
+    let b = bind_some (many edit_at n.0 n.1) (limited bytes) x h.1 in
     let read = b.0 in
     let i = guard_some (ltb MAX_BATCH (length bytes - length read.1)) (Some read) x b.2 in
-    let first = number_begins bytes n fits a.1 in
-    let second = edits_take n.0 n.1 read first.rest_fits b.1 in
+    let first = (count_reads.takes bytes n fits a.1).0 in
+    let second = many_begin edit_reads n.0 n.1 read first.rest_fits b.1 in
     let texts = flat_map edit_bytes read.0 in
     let both = BeginsWith-then bytes (to_be_bytes w16 n.0) n.1 texts read.1 first second.0 in
     let whole : BeginsWith bytes (batch_bytes read.0) read.1 =
@@ -172,17 +141,18 @@ front_again edits rest is =
     let texts = flat_map edit_bytes edits in
     let whole = batch_bytes edits ++ rest in
     let regrouped = append_assoc (to_be_bytes w16 (length edits)) texts rest in
-    let count : length_at whole ≡ Some (length edits, texts ++ rest) = ap length_at regrouped
-    ∙ number_again (length edits) (texts ++ rest) (omega (arith, is.few)) in
+    let count : number_at w16 whole ≡ Some (length edits, texts ++ rest) =
+    ap (number_at w16) regrouped
+    ∙ count_reads.again (length edits) (texts ++ rest) (omega (arith, is.few)) in
     let few : ltb MAX_EDITS (length edits) ≡ false = le-ltb _ _ is.few in
     let some : ltb (length edits) 1 ≡ false = le-ltb _ _ is.some in
-    let each = edits_again edits rest (recursion_from_All IsEdit edits is.each) in
+    let each = many_again edit_reads edits rest (recursion_from_All IsEdit edits is.each) in
     let short : ltb MAX_BATCH (length whole - length rest) ≡ false =
     le-ltb _ _ (omega (arith, is.short, length-append (batch_bytes edits) rest)) in
     ap (λ (r : Option (ℕ × List ℕ)). r >>= counted whole) count
     ∙ ap (λ (t : Bool). cond t None (not_none whole (length edits, texts ++ rest))) few
     ∙ ap (λ (t : Bool). cond t None
-    (edits_at (length edits) (texts ++ rest) >>= limited whole)) some
+    (many edit_at (length edits) (texts ++ rest) >>= limited whole)) some
     ∙ ap (λ (r : Option (List Edit × List ℕ)). r >>= limited whole) each
     ∙ ap (λ (t : Bool). cond t None (Some (edits, rest))) short
 

@@ -1,7 +1,8 @@
 -- Reading a batch from left to right.
 use Rattle.std.specs.Prelude.{◌≡◌, ℕ, zero, suc, ◌-◌, List, [], ◌∷◌, length, nat_lt}
 use Rattle.std.specs.Prelude.{◌==◌, Option, Some, None, Result, Ok, Err, if◌then◌else◌}
-use Rattle.byte_fields.specs.{◌>>=◌, length_at, text_at}
+use Rattle.std.specs.Int.{w16}
+use Rattle.byte_fields.specs.{Reader, many, number_at, ◌>>=◌, text_at}
 use Rattle.kv_types.specs.declared.bounds.TheConstants.{MAX_KEY, MAX_VALUE, MAX_EDITS, MAX_BATCH}
 use Rattle.kv_types.specs.declared.edit.Edit.{Edit}
 use Rattle.kv_types.specs.declared.edit.Edit.TheVariants.{Put, Delete}
@@ -20,8 +21,8 @@ abbrev pub ReadsBytes : {X Y : Type 0} → (X → Y) → Result X KvError → Op
 ReadsBytes view (Ok x) read = read ≡ Some (view x)
 ReadsBytes view (Err e) read = RefusesBytes e read
 
--- an edit, by its first byte, and the bytes behind it
-unfoldable pub edit_at : List ℕ → Option (Edit × List ℕ)
+-- an edit, by its first byte
+unfoldable pub edit_at : Reader Edit
 edit_at [] = None
 edit_at (zero ∷ rest) = None
 edit_at (suc zero ∷ rest) = do
@@ -33,20 +34,12 @@ edit_at (suc (suc zero) ∷ rest) = do
   Some (Delete key.0, key.1)
 edit_at (suc (suc (suc b)) ∷ rest) = None
 
--- a given number of edits, and the bytes behind them
-unfoldable pub edits_at : ℕ → List ℕ → Option (List Edit × List ℕ)
-edits_at zero bytes = Some ([], bytes)
-edits_at (suc n) bytes = do
-  first ← edit_at bytes
-  others ← edits_at n first.1
-  Some (first.0 ∷ others.0, others.1)
-
--- the edits of a batch, spelled within the limit, and the bytes behind them
-unfoldable pub batch_at : List ℕ → Option (BatchContent × List ℕ)
+-- the edits of a batch, spelled within the limit
+unfoldable pub batch_at : Reader BatchContent
 batch_at bytes = do
-  n ← length_at bytes
+  n ← number_at w16 bytes
   if nat_lt MAX_EDITS n.0 then None else (if nat_lt n.0 1 then None else do
-    edits ← edits_at n.0 n.1
+    edits ← many edit_at n.0 n.1
     if nat_lt MAX_BATCH (length bytes - length edits.1) then None else Some edits)
 
 -- the edits of a batch, if no bytes are left behind them

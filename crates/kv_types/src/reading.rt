@@ -1,7 +1,7 @@
 // Keys, values, edits and batches, read from their bytes.
 ghost use Rattle.std.specs.Prelude.{◌≡◌};
-ghost use Rattle.kv_types.specs.Reading.{ReadsBytes, edit_at, edits_at, batch_at, batch_of};
-ghost use Rattle.byte_fields.specs.{text_at};
+ghost use Rattle.kv_types.specs.Reading.{ReadsBytes, edit_at, batch_at, batch_of};
+ghost use Rattle.byte_fields.specs.{many, text_at};
 
 use crate::bounds::{MAX_BATCH, MAX_EDITS, MAX_KEY, MAX_VALUE};
 use crate::{Edit, Key, KvError, Value};
@@ -45,7 +45,7 @@ fn edit_of(alloc: Global, bytes: &[u8]) -> Result<(Edit, &[u8]), KvError>
 }
 
 fn edits_in(alloc: Global, count: usize, bytes: &[u8]) -> Result<(Vec<Edit>, &[u8]), KvError>
-    ensures { ReadsBytes (λ x. (x.0.items, x.1.now)) result (edits_at count bytes.now) }
+    ensures { ReadsBytes (λ x. (x.0.items, x.1.now)) result (many edit_at count bytes.now) }
 {
     // An edit has at least three bytes, so the bytes bound the memory that is taken.
     let mut edits = Vec::with_capacity(alloc, count.min(bytes.len() / 3))?;

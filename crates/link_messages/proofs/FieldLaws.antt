@@ -13,7 +13,8 @@ use Rattle.kv_types.specs.declared.bounds.TheConstants.{MAX_NUMBER}
 use Rattle.kv_types.specs.{IsBatch, batch_bytes as batch_text, row_size, batch_at}
 use Rattle.byte_fields.specs.{text_bytes, ◌>>=◌, text_at, only, number_at}
 use Rattle.byte_fields.specs.FieldsLemmas.{IsBytes, bind_some, some_is}
-use Rattle.byte_fields.specs.FieldsLemmas.{BeginsWith, text_begins, text_again}
+use Rattle.byte_fields.specs.FieldsLemmas.{BeginsWith}
+use Rattle.byte_fields.specs.TextsLemmas.{text_begins, text_again}
 use Rattle.kv_types.specs.BatchesLemmas.{batch_begins, front_again}
 use Rattle.chain_model.specs.declared.Refusal.{Refusal}
 use Rattle.chain_model.specs.declared.Refusal.TheVariants as refused

@@ -6,7 +6,7 @@ use Rattle.std.proofs.lemmas.Bool.{leb-true, le-leb}
 use Rattle.kv_types.specs.declared.bounds.TheConstants.{MAX_KEY, MAX_VALUE, MAX_NUMBER}
 use Rattle.byte_fields.specs.{◌>>=◌, text_at}
 use Rattle.byte_fields.specs.FieldsLemmas.{IsBytes, IsBytes-rest, bind_some, some_is, BeginsWith}
-use Rattle.byte_fields.specs.FieldsLemmas.{text_begins, text_again}
+use Rattle.byte_fields.specs.TextsLemmas.{text_begins, text_again}
 use Rattle.byte_fields.specs.ReadersLemmas.{Reads, both_reads, made_reads, only_reads, right_reads}
 use Rattle.byte_fields.specs.ReadersLemmas.{number_reads, wide64}
 use Rattle.kv_types.specs.{Entry}

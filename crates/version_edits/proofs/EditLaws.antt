@@ -18,7 +18,7 @@ use Rattle.kv_types.specs.Order.{IsBelow}
 use Rattle.kv_types.specs.{stored_cmp}
 use Rattle.kv_types.specs.ByteOrderLemmas.{lt_below}
 use Rattle.byte_fields.specs.FieldsLemmas.{IsBytes, IsBytes-rest, BeginsWith, bind_some, some_is}
-use Rattle.byte_fields.specs.FieldsLemmas.{text_begins, text_again}
+use Rattle.byte_fields.specs.TextsLemmas.{text_begins, text_again}
 use Rattle.version_edits.specs.declared.line.TheConstants.{MAX_NEXT}
 use Rattle.version_edits.specs.declared.error.EditError.{EditError}
 use Rattle.version_edits.specs.declared.error.EditError.TheVariants as edit_error

@@ -1,8 +1,10 @@
 use Rattle.std.proofs.Common.{◌≡◌, ◌-◌}
-use Rattle.kv_types.specs.Reading.{edits_at}
-use Rattle.kv_types.proofs.Loop.{with_front}
+use Rattle.byte_fields.specs.{many}
+use Rattle.byte_fields.specs.LoopLemmas.{with_front}
+use Rattle.kv_types.specs.Reading.{edit_at}
 use Rattle.kv_types.proofs.reading.edits_in.Given as goal
 
 abbrev pub invariant-loop : goal.invariant-loop
 invariant-loop l =
-    with_front l.edits.items (edits_at (l.count - l.counter) l.rest) ≡ edits_at l.count l.bytes
+    with_front l.edits.items (many edit_at (l.count - l.counter) l.rest)
+    ≡ many edit_at l.count l.bytes
