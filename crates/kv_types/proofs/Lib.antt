@@ -5,3 +5,4 @@ pub mod Walks
 pub mod PageLaws
 pub mod Loop
 pub mod Fronts
+pub mod Words

@@ -22,15 +22,23 @@ below-Less (x ∷ a) (y ∷ b) e =
     (λ is same. inr (same, below-Less a b (ap (λ o. ordering_then o rest) (sym is) ∙ e)))
     (λ is gt. let h : Greater ≡ Less = ap (λ o. ordering_then o rest) (sym is) ∙ e in absurd cc)
 
-nat_cmp-Less : (x y : ℕ) → x < y → nat_cmp x y ≡ Less
+-- a lower number compares as less
+pub nat_cmp-Less : (x y : ℕ) → x < y → nat_cmp x y ≡ Less
 nat_cmp-Less x y lt =
     by_ranked (x < y) (x ≡ y) (y < x) (nat_cmp x y) (ranked x y (nat_cmp x y) refl)
     (λ is h. is) (λ is h. absurd (omega (arith, lt, h))) (λ is h. absurd (omega (arith, lt, h)))
 
-nat_cmp-Equal : (x y : ℕ) → x ≡ y → nat_cmp x y ≡ Equal
+-- a number compares as equal to itself
+pub nat_cmp-Equal : (x y : ℕ) → x ≡ y → nat_cmp x y ≡ Equal
 nat_cmp-Equal x y same =
     by_ranked (x < y) (x ≡ y) (y < x) (nat_cmp x y) (ranked x y (nat_cmp x y) refl)
     (λ is h. absurd (omega (arith, same, h))) (λ is h. is) (λ is h. absurd (omega (arith, same, h)))
+
+-- a higher number compares as greater
+pub nat_cmp-Greater : (x y : ℕ) → y < x → nat_cmp x y ≡ Greater
+nat_cmp-Greater x y gt =
+    by_ranked (x < y) (x ≡ y) (y < x) (nat_cmp x y) (ranked x y (nat_cmp x y) refl)
+    (λ is h. absurd (omega (arith, gt, h))) (λ is h. absurd (omega (arith, gt, h))) (λ is h. is)
 
 -- what is below compares as less
 pub Less-below : (a b : List ℕ) → IsBelow a b → slice_cmp nat_cmp a b ≡ Less

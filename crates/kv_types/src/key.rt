@@ -133,6 +133,6 @@ impl Ord for Key {
     ghost matches_eq = { texts_ties };
 
     fn cmp(&self, other: &Key) -> Ordering {
-        self.bytes.as_slice().cmp(&other.bytes.as_slice())
+        self.lent().cmp(other.lent())
     }
 }

@@ -4,6 +4,7 @@ ghost use Rattle.kv_types.specs.StoredKeys.{lent_key, stored_cmp};
 
 use crate::Key;
 use crate::bounds::MAX_KEY;
+use byte_fields::read_u64;
 use std::alloc::{AllocError, Global};
 use std::cmp::Ordering;
 use std::marker::Model;
@@ -50,7 +51,7 @@ impl<'a> LentKey<'a> {
     pub fn cmp(self, other: LentKey) -> Ordering
         ensures { result ≡ stored_cmp (lent_key self.entry) (lent_key other.entry) }
     {
-        self.bytes.cmp(&other.bytes)
+        order(self.bytes, other.bytes)
     }
 
     /// Whether two stored keys are equal.
@@ -70,6 +71,20 @@ impl<'a> LentKey<'a> {
             Err(_) => unreachable!(),
         }
     }
+}
+
+// The order of bytes. Eight at a time are compared, as numbers.
+fn order(a: &[u8], b: &[u8]) -> Ordering
+    ensures { result ≡ stored_cmp a.now b.now }
+{
+    let (mut bytes, mut others) = (a, b);
+    while let (Some((x, rest)), Some((y, other_rest))) = (read_u64(bytes), read_u64(others)) {
+        if x != y {
+            return x.cmp(&y);
+        }
+        (bytes, others) = (rest, other_rest);
+    }
+    bytes.cmp(&others)
 }
 
 /// Memory for a stored key, which is used again for others.

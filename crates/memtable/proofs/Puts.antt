@@ -1,5 +1,5 @@
 -- A map with one more version of a key.
-use Rattle.std.proofs.Common.{◌≡◌, ℕ, ◌<◌, sym, ap, ap₂, ◌∙◌, subst, List, [], ◌∷◌, length, ◌+◌}
+use Rattle.std.proofs.Common.{◌≡◌, ℕ, ◌<◌, sym, ap, ap₂, ◌∙◌, subst, List, ◌∷◌, length, ◌+◌}
 use Rattle.std.proofs.Common.{◌==◌, ◌^◌, ◌-◌, ◌<◌, ◌≤◌, min, Bool, true, false, not, cond, Option}
 use Rattle.std.proofs.Common.{Some, None, refl, arith}
 use Rattle.std.specs.List.{slice_get}
@@ -12,12 +12,10 @@ use Rattle.std.proofs.lemmas.Slice.Eq.{bytes_eq-Decides}
 use Rattle.kv_types.specs.declared.edit.Edit.{Edit}
 use Rattle.kv_types.specs.Maps.{key_of, value_put, last_edit}
 use Rattle.kv_types.specs.{StoredKey, stored_cmp}
-use Rattle.kv_types.specs.StoredKeysLemmas.{stored_total}
 use Rattle.memtable.specs.declared.version.Version.{Version}
 use Rattle.memtable.specs.declared.version.Versions.{Versions}
 use Rattle.memtable.specs.Versions.{all_of, with_version, lacks}
 use Rattle.memtable.specs.Sizes.{capped_sum, edit_size, edits_size}
-use Rattle.std.specs.Cmp.{tied_itself}
 use Rattle.std.proofs.Common.{inl, inr, suc, drop, get_or}
 use Rattle.std.proofs.Math.Seq.{drop-cons}
 use Rattle.std.proofs.Math.Nat.{min-eq_left, min-eq_right}
@@ -48,55 +46,19 @@ pub updated : (m n : VersionMap) (key : StoredKey) (w : Versions) (v : Version)
     (versions_at m q)
 updated m n key w v gets is q = updated_by m n key q w v (bytes_eq key q) refl (gets q) is
 
--- the key had versions, and what the borrow wrote stands at it
-pub followed : (m inserted n : VersionMap) (key own : StoredKey) (before fresh w : Versions)
-    (v : Version)
-    → own ≡ key → Some before ≡ get stored_cmp m own
-    → ((q : StoredKey) → get stored_cmp inserted q ≡ cond (is_eq (stored_cmp own q))
-    (Some fresh) (get stored_cmp m q))
-    → ((q : StoredKey) → get stored_cmp n q ≡ cond (is_eq (stored_cmp key q)) (Some w)
-    (get stored_cmp inserted q))
-    → all_of w ≡ with_version (all_of before) v
-    → (q : StoredKey) → versions_at n q ≡ cond (bytes_eq key q) (with_version (versions_at m q) v)
-    (versions_at m q)
-followed m inserted n key own before fresh w v e had puts writes is =
-    let at : Some before ≡ get stored_cmp m key =
-    subst (λ k. Some before ≡ get stored_cmp m k) e had in
-    updated m n key w v
-    (λ q. writes q ∙ (ap (cond (is_eq (stored_cmp key q)) (Some w))
-    (puts q ∙ ap (λ k. cond (is_eq (stored_cmp k q)) (Some fresh)
-    (get stored_cmp m q)) e)
-    ∙ twice (is_eq (stored_cmp key q)) (Some w) (Some fresh) (get stored_cmp m q)))
-    (is ∙ ap (λ o. with_version (found o) v) at)
-  where
-    twice : (b : Bool) (x y z : Option Versions) → cond b x (cond b y z) ≡ cond b x z
-    twice true x y z = refl
-    twice false x y z = refl
-
--- what was inserted is found
-pub found_there : (m n : VersionMap) (key own : StoredKey) (fresh : Versions) → own ≡ key
-    → ((q : StoredKey) → get stored_cmp n q ≡ cond (is_eq (stored_cmp own q))
-    (Some fresh) (get stored_cmp m q))
-    → get stored_cmp n key ≡ Some fresh
-found_there m n key own fresh e puts =
-    puts key ∙ (ap (λ k. cond (is_eq (stored_cmp k key)) (Some fresh)
-    (get stored_cmp m key)) e
-    ∙ ap (λ b. cond b (Some fresh) (get stored_cmp m key))
-    (ap is_eq (tied_itself stored_total key)))
-
--- the key had none
-pub begun : (m n : VersionMap) (key own : StoredKey) (w : Versions) (v : Version) → own ≡ key
-    → None ≡ get stored_cmp m own
-    → ((q : StoredKey) → get stored_cmp n q ≡ cond (is_eq (stored_cmp own q)) (Some w)
+-- what was written at an entry of the map stands at its key
+pub entered : (m n written : VersionMap) (key own : StoredKey) (w : Versions) (v : Version)
+    → own ≡ key → n ≡ written
+    → ((q : StoredKey) → get stored_cmp written q ≡ cond (is_eq (stored_cmp own q)) (Some w)
     (get stored_cmp m q))
-    → all_of w ≡ v ∷ []
+    → all_of w ≡ with_version (versions_at m own) v
     → (q : StoredKey) → versions_at n q ≡ cond (bytes_eq key q) (with_version (versions_at m q) v)
     (versions_at m q)
-begun m n key own w v e had gets is =
-    let by_key = subst (λ k. (q : StoredKey) → get stored_cmp n q ≡ cond
-    (is_eq (stored_cmp k q)) (Some w) (get stored_cmp m q)) e gets in
-    updated m n key w v by_key (is ∙ ap (λ o. with_version (found o) v)
-    (had ∙ ap (get stored_cmp m) e))
+entered m n written key own w v e same writes is =
+    updated m n key w v
+    (subst (λ k. (q : StoredKey) → get stored_cmp n q ≡ cond (is_eq (stored_cmp k q)) (Some w)
+    (get stored_cmp m q)) e (λ q. ap (λ x. get stored_cmp x q) same ∙ writes q))
+    (is ∙ ap (λ k. with_version (versions_at m k) v) e)
 
 pub lacks_in : (m : VersionMap) (key own : StoredKey) (number : ℕ) (o : Option Versions)
     (added : Bool)

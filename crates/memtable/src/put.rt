@@ -13,6 +13,7 @@ use crate::version::{Version, Versions};
 use kv_types::{Edit, StoredKey, Value};
 use std::alloc::{AllocError, Global};
 use std::collections::BTreeMap;
+use std::collections::btree_map::Entry;
 
 /// A copy of the value that an edit leaves.
 fn value_of(edit: &Edit) -> Result<Option<Value>, AllocError>
@@ -47,12 +48,12 @@ fn put(
     ensures is_added { IfOk result (λ added.
         added ≡ lacks (versions_at map.old key.now) version.number) }
 {
-    let Some(before) = map.insert(key.clone()?, Versions::new(alloc, version))? else {
-        return Ok(true);
-    };
-    match map.get_mut(key) {
-        Some(versions) => versions.follow(before),
-        None => unreachable!(),
+    match map.entry(key.clone()?)? {
+        Entry::Occupied(entry) => entry.into_mut().push(version),
+        Entry::Vacant(entry) => {
+            entry.insert(Versions::new(alloc, version));
+            Ok(true)
+        }
     }
 }
 

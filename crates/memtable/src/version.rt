@@ -5,6 +5,7 @@ ghost use Rattle.memtable.specs.Versions.{all_of, with_version, lacks, IsRisingL
 
 use kv_types::Value;
 use std::alloc::{AllocError, Global};
+use std::mem::replace;
 
 /// What a batch left at a key: a value, or the key's deletion.
 #[derive(Drop)]
@@ -31,21 +32,18 @@ impl Versions {
         }
     }
 
-    /// Puts its only version behind those that were there before, unless the newest of them has
-    /// its number. Says whether it did.
-    pub fn follow(&mut self, before: Versions) -> Result<bool, AllocError>
-        requires { all_of self.old ≡ self.old.newest ∷ [] }
-        ensures all { OnOk result (all_of self.new ≡ with_version (all_of before) self.old.newest) }
+    /// Adds a version behind those that are there, unless the newest of them has its number. Says
+    /// whether it did.
+    pub fn push(&mut self, version: Version) -> Result<bool, AllocError>
+        ensures all { OnOk result (all_of self.new ≡ with_version (all_of self.old) version) }
         ensures is_added { IfOk result (λ added.
-            added ≡ lacks (all_of before) self.old.newest.number) }
+            added ≡ lacks (all_of self.old) version.number) }
     {
-        if before.newest.number == self.newest.number {
-            *self = before;
+        if self.newest.number == version.number {
             return Ok(false);
         }
-        let Versions { mut older, newest } = before;
-        older.push(newest)?;
-        self.older = older;
+        let before = replace(&mut self.newest, version);
+        self.older.push(before)?;
         Ok(true)
     }
 

@@ -1,35 +1,42 @@
-use Rattle.std.proofs.Common.{◌≡◌, subst, sym, ap, ◌∙◌, refl}
-use Rattle.std.specs.Option.{IsSome}
-use Rattle.std.proofs.lemmas.Option.{same_Some}
+use Rattle.std.proofs.Common.{◌≡◌, ◌∙◌, sym, ap, subst, Some, None}
 use Rattle.std.proofs.lemmas.Result.{on_ok_weaker}
-use Rattle.memtable.specs.declared.version.Versions.{Versions}
+use Rattle.std.specs.BTreeMap.Entry.{entry_key, entry_map_ref, entry_value}
+use Rattle.std.specs.BTreeMap.Entry.{map_with_value, MatchEntry}
+use Rattle.std.specs.BTreeMap.{get, get_key, ContainsKey}
+use Rattle.kv_types.specs.{stored_cmp}
 use Rattle.memtable.specs.Versions.{all_of, with_version}
-use Rattle.memtable.proofs.Puts.{begun, followed, found_there}
+use Rattle.memtable.specs.Maps.{found}
+use Rattle.memtable.proofs.Puts.{entered}
 use Rattle.memtable.proofs.put.put.Goals as goal
 
--- the key is new
-pub returns-in_default-clause-puts : goal.returns-in_default-clause-puts
-returns-in_default-clause-puts c =
-    begun c.args.map.now c.insert.new.self c.args.key.now c.in_ok-clone.field-0 c.new.result
-    c.args.version c.in_ok-clone.ensures (sym c.in_default.is ∙ c.in_ok-before.ensures.old)
-    c.in_ok-before.ensures.updates.0 c.new.ensures.all
-
 -- the key had versions
-pub returns-clause-puts : goal.returns-clause-puts
-returns-clause-puts c =
-    let inserted = c.insert.new.self in
-    let key = c.args.key.now in
+pub returns-in-Occupied-clause-puts : goal.returns-in-Occupied-clause-puts
+returns-in-Occupied-clause-puts c =
+    let e = c.in_ok-entry.ensures in
     let own = c.in_ok-clone.field-0 in
-    let lent = c.in-Some-get_mut.versions.now in
-    let there = found_there c.args.map.now inserted key own c.new.result c.in_ok-clone.ensures
-    c.in_ok-before.ensures.updates.0 in
-    let is : lent ≡ c.new.result = same_Some lent c.new.result (c.in-Some-get_mut.ensures.value
-    ∙ there) in
-    let newest = ap (λ (v : Versions). v.newest) is ∙ c.new.ensures.newest in
-    let writes = (c.get_mut.follows.holds c.follow.new.self).3
-    (subst IsSome c.in-Some-get_mut.ensures.value refl) in
-    on_ok_weaker c.follow.result (λ all.
-    followed c.args.map.now inserted (c.get_mut.follows.lender c.follow.new.self) key own
-    c.in-Some.before c.new.result c.follow.new.self c.args.version c.in_ok-clone.ensures
-    (sym c.in-Some.is ∙ c.in_ok-before.ensures.old) c.in_ok-before.ensures.updates.0 writes.0
-    (all ∙ ap (with_version (all_of c.in-Some.before)) newest)) c.follow.ensures.all
+    let w = c.push.new.self in
+    let same = sym e.same_map ∙ ap (λ x. (entry_map_ref x).ghost_name) c.in-Occupied.is in
+    let ends = c.map-in-Occupied-2-1.given.1 same in
+    let had = ap found (sym c.into_mut.ensures.value ∙ (ap entry_value (sym c.in-Occupied.is)
+    ∙ e.value)) in
+    on_ok_weaker c.push.result (λ all. entered c.args.map.now _ _ c.args.key.now own w
+    c.args.version c.in_ok-clone.ensures
+    (ends ∙ ap (λ x. map_with_value x w) (sym c.in-Occupied.is)) (e.update.0 w).0
+    (all ∙ ap (λ xs. with_version xs c.args.version) had)) c.push.ensures.all
+
+-- the key is new
+pub returns-in-Vacant-clause-puts : goal.returns-in-Vacant-clause-puts
+returns-in-Vacant-clause-puts c =
+    let e = c.in_ok-entry.ensures in
+    let map = c.args.map.now in
+    let own = c.in_ok-clone.field-0 in
+    let w = c.insert.result.now in
+    let same = sym e.same_map ∙ ap (λ x. (entry_map_ref x).ghost_name) c.in-Vacant.is in
+    let ends = c.map-in-Vacant-2-1.given.1 same in
+    let none : get stored_cmp map own ≡ None = subst (λ x. MatchEntry x
+    (ContainsKey stored_cmp map own × (get_key stored_cmp map own ≡ Some (entry_key x)))
+    (get stored_cmp map own ≡ None)) c.in-Vacant.is e.found in
+    entered map _ _ c.args.key.now own w c.args.version c.in_ok-clone.ensures
+    (ends ∙ ap (λ x. map_with_value x w) (sym c.in-Vacant.is)) (e.update.0 w).0
+    (ap all_of c.insert.ensures.value ∙ (c.new.ensures.all
+    ∙ ap (λ o. with_version (found o) c.args.version) (sym none)))
