@@ -5,7 +5,7 @@ use Rattle.std.specs.Prelude.{take, drop, get_or, Contains, All}
 use Rattle.std.specs.Int.{w64, from_be_bytes, IsBitSet}
 use Rattle.sha2.specs.Sha256.{sha256}
 
--- the two hashes of a key: the first eight bytes of its SHA-256, and the next eight
+-- the first hash of a key: the first eight bytes of its SHA-256
 abbrev pub first_hash : List ℕ → ℕ
 first_hash key = from_be_bytes w64 (take 8 (sha256 key))
 

@@ -1,7 +1,7 @@
 // A folder as a disk. No contract says what the system does with its files, so this disk claims
 // neither that it is honest nor that it is reliable.
 ghost use Rattle.std.specs.Prelude.{◌≡◌, ◌≤◌, ◌<◌, ◌^◌, ◌-◌, [], None, IfOk, IsErrOf, OnOk};
-ghost use Rattle.std.specs.Prelude.{vec_len};
+ghost use Rattle.std.specs.Prelude.{false, true, vec_len};
 ghost use Rattle.disk.specs.{Absent};
 
 use crate::failure_count::FailureCount;
@@ -29,7 +29,8 @@ pub struct DirDisk<R> {
 impl<R: Files<File = File> + Alloc<A = Global> + Clone + Drop> DirDisk<R> {
     /// The folder at this path. It need not be there, and is not made.
     pub fn new(rt: R, folder: &str) -> Result<DirDisk<R>, AllocError>
-        ensures { IfOk result (λ disk. ⟦<DirDisk<R> as Disk>⟧.failures disk ≡ 0) }
+        ensures count { IfOk result (λ disk. ⟦<DirDisk<R> as Disk>⟧.failures disk ≡ 0) }
+        ensures writes { IfOk result (λ disk. disk.writes ≡ true) }
     {
         DirDisk::over(rt, folder, true)
     }
@@ -37,13 +38,14 @@ impl<R: Files<File = File> + Alloc<A = Global> + Clone + Drop> DirDisk<R> {
     /// The folder at this path, whose files are opened to be read alone. What would change one
     /// fails, before the system is called.
     pub fn to_read(rt: R, folder: &str) -> Result<DirDisk<R>, AllocError>
-        ensures { IfOk result (λ disk. ⟦<DirDisk<R> as Disk>⟧.failures disk ≡ 0) }
+        ensures count { IfOk result (λ disk. ⟦<DirDisk<R> as Disk>⟧.failures disk ≡ 0) }
+        ensures reads { IfOk result (λ disk. disk.writes ≡ false) }
     {
         DirDisk::over(rt, folder, false)
     }
 
     fn over(rt: R, folder: &str, writes: bool) -> Result<DirDisk<R>, AllocError>
-        ensures { IfOk result (λ disk. disk.failures.count ≡ 0) }
+        ensures { IfOk result (λ disk. (disk.failures.count ≡ 0) × (disk.writes ≡ writes)) }
     {
         let alloc = rt.alloc();
         Ok(DirDisk {
@@ -73,7 +75,8 @@ impl<R: Files<File = File> + Alloc<A = Global> + Clone + Drop> DirDisk<R> {
 
     // Whether a call is made that changes files.
     fn may_write(&self) -> Result<(), DiskError>
-        ensures { 2 ^ 64 - 1 ≤ self.now.failures.count → IsErrOf result DiskError.Failed }
+        ensures last { 2 ^ 64 - 1 ≤ self.now.failures.count → IsErrOf result DiskError.Failed }
+        ensures reads { self.now.writes ≡ false → IsErrOf result DiskError.Failed }
     {
         if !self.writes {
             return Err(DiskError::Failed);
@@ -114,6 +117,7 @@ impl<R: Files<File = File> + Alloc<A = Global> + Clone + Drop> DirDisk<R> {
     fn write_in(&mut self, file: u64, at: u64, bytes: &[u8]) -> Result<(), DiskError>
         ensures count { self.new.failures.count ≡ self.old.failures.count }
         ensures last { 2 ^ 64 - 1 ≤ self.old.failures.count → IsErrOf result DiskError.Failed }
+        ensures reads { self.old.writes ≡ false → IsErrOf result DiskError.Failed }
     {
         self.may_write()?;
         if ends_out_of_range(at, bytes.len()) {
@@ -126,6 +130,7 @@ impl<R: Files<File = File> + Alloc<A = Global> + Clone + Drop> DirDisk<R> {
     fn cut_in(&mut self, file: u64, length: u64) -> Result<(), DiskError>
         ensures count { self.new.failures.count ≡ self.old.failures.count }
         ensures last { 2 ^ 64 - 1 ≤ self.old.failures.count → IsErrOf result DiskError.Failed }
+        ensures reads { self.old.writes ≡ false → IsErrOf result DiskError.Failed }
     {
         self.may_write()?;
         self.reach(file, false)?;
@@ -135,6 +140,7 @@ impl<R: Files<File = File> + Alloc<A = Global> + Clone + Drop> DirDisk<R> {
     fn remove_in(&mut self, file: u64) -> Result<(), DiskError>
         ensures count { self.new.failures.count ≡ self.old.failures.count }
         ensures last { 2 ^ 64 - 1 ≤ self.old.failures.count → IsErrOf result DiskError.Failed }
+        ensures reads { self.old.writes ≡ false → IsErrOf result DiskError.Failed }
     {
         self.may_write()?;
         let path = path_of(self.rt.alloc(), self.folder.as_str(), file)?;

@@ -7,6 +7,7 @@ mod lock;
 mod names;
 mod open_file;
 mod open_files;
+mod read_only;
 mod system;
 mod unchanged;
 

@@ -3,6 +3,7 @@ ghost use Rattle.std.specs.Prelude.{◌≡◌, ◌≤◌, ◌^◌, ◌-◌, [], 
 ghost use Rattle.disk.specs.{Absent, IsSame};
 
 use crate::failure_count::FailureCount;
+use crate::read_only::ReadOnly;
 use disk::{Disk, DiskError};
 use std::alloc::Global;
 
@@ -11,7 +12,7 @@ use std::alloc::Global;
 /// else of its answers.
 #[derive(Drop)]
 pub struct Unchanged<D: Disk> {
-    disk: D,
+    inner: ReadOnly<D>,
     removed: Vec<u64>,
     failures: FailureCount,
 }
@@ -19,11 +20,11 @@ pub struct Unchanged<D: Disk> {
 impl<D: Disk + Drop> Unchanged<D> {
     /// A disk over this one, none of whose files is left out.
     pub fn new(alloc: Global, disk: D) -> Unchanged<D>
-        ensures inner { result.disk ≡ disk }
+        ensures inner { result.inner.disk ≡ disk }
         ensures count { ⟦<Unchanged<D> as Disk>⟧.failures result ≡ 0 }
     {
         Unchanged {
-            disk,
+            inner: ReadOnly::new(disk),
             removed: Vec::new(alloc),
             failures: FailureCount::new(),
         }
@@ -31,9 +32,9 @@ impl<D: Disk + Drop> Unchanged<D> {
 
     /// The disk inside.
     pub fn into_disk(self) -> D
-        ensures { result ≡ self.disk }
+        ensures { result ≡ self.inner.disk }
     {
-        self.disk
+        self.inner.into_disk()
     }
 
     // Whether a call is made of the file: it was not removed.
@@ -48,52 +49,52 @@ impl<D: Disk + Drop> Unchanged<D> {
     }
 
     fn numbers(&mut self) -> Result<Vec<u64>, DiskError>
-        ensures same { D.is_honest self.old.disk →
-            IsSame (D.state self.old.disk) (D.state self.new.disk) }
+        ensures same { D.is_honest self.old.inner.disk →
+            IsSame (D.state self.old.inner.disk) (D.state self.new.inner.disk) }
         ensures count { self.new.failures.count ≡ self.old.failures.count }
         ensures last { 2 ^ 64 - 1 ≤ self.old.failures.count → IsErrOf result DiskError.Failed }
     {
         self.failures.works()?;
-        let mut numbers = self.disk.files()?;
+        let mut numbers = self.inner.files()?;
         let removed = &self.removed;
         numbers.retain(|number| !removed.contains(&*number));
         Ok(numbers)
     }
 
     fn measure(&mut self, file: u64) -> Result<u64, DiskError>
-        ensures same { D.is_honest self.old.disk →
-            IsSame (D.state self.old.disk) (D.state self.new.disk) }
+        ensures same { D.is_honest self.old.inner.disk →
+            IsSame (D.state self.old.inner.disk) (D.state self.new.inner.disk) }
         ensures count { self.new.failures.count ≡ self.old.failures.count }
         ensures last { 2 ^ 64 - 1 ≤ self.old.failures.count → IsErrOf result DiskError.Failed }
     {
         self.may_look(file)?;
-        self.disk.length(file)
+        self.inner.length(file)
     }
 
     fn fill(&mut self, file: u64, at: u64, into: &mut [u8]) -> Result<(), DiskError>
-        ensures same { D.is_honest self.old.disk →
-            IsSame (D.state self.old.disk) (D.state self.new.disk) }
+        ensures same { D.is_honest self.old.inner.disk →
+            IsSame (D.state self.old.inner.disk) (D.state self.new.inner.disk) }
         ensures count { self.new.failures.count ≡ self.old.failures.count }
         ensures last { 2 ^ 64 - 1 ≤ self.old.failures.count → IsErrOf result DiskError.Failed }
     {
         self.may_look(file)?;
-        self.disk.read(file, at, into)
+        self.inner.read(file, at, into)
     }
 
     fn look_for(&mut self, file: u64) -> Result<(), DiskError>
-        ensures same { D.is_honest self.old.disk →
-            IsSame (D.state self.old.disk) (D.state self.new.disk) }
+        ensures same { D.is_honest self.old.inner.disk →
+            IsSame (D.state self.old.inner.disk) (D.state self.new.inner.disk) }
         ensures count { self.new.failures.count ≡ self.old.failures.count }
         ensures last { 2 ^ 64 - 1 ≤ self.old.failures.count → IsErrOf result DiskError.Failed }
     {
         self.may_look(file)?;
-        self.disk.length(file)?;
+        self.inner.length(file)?;
         Ok(())
     }
 
     fn leave_out(&mut self, file: u64) -> Result<(), DiskError>
-        ensures same { D.is_honest self.old.disk →
-            IsSame (D.state self.old.disk) (D.state self.new.disk) }
+        ensures same { D.is_honest self.old.inner.disk →
+            IsSame (D.state self.old.inner.disk) (D.state self.new.inner.disk) }
         ensures count { self.new.failures.count ≡ self.old.failures.count }
         ensures last { 2 ^ 64 - 1 ≤ self.old.failures.count → IsErrOf result DiskError.Failed }
     {

@@ -30,7 +30,7 @@ abbrev pub count : (Entry → Bool) → List Entry → ℕ
 count test [] = 0
 count test (entry ∷ entries) = if test entry then suc (count test entries) else count test entries
 
--- the entries from where the walk position on
+-- how many entries are left, from where the walk stands on
 abbrev pub left_on : List Entry → Direction → Position → ℕ
 left_on entries way (On here) = count (λ entry. not (is_met_first way entry here)) entries
 left_on entries way Off = 0

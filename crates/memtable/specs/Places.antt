@@ -1,4 +1,4 @@
--- Where a cursor over a map position.
+-- Where a cursor over a map stands.
 use Rattle.std.specs.Prelude.{◌≡◌, ◌<◌, length, slice_get, Option, Some, None, Bool, true}
 use Rattle.std.specs.Prelude.{false}
 use Rattle.std.specs.BTreeMap.{get}

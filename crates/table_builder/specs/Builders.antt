@@ -75,8 +75,8 @@ abbrev pub AddOutcome : {T : Type 0} → List Entry → Entry → Result T Table
 AddOutcome entries entry (Ok _) slot new = Builds slot new (entries ++ entry ∷ [])
 AddOutcome entries entry (Err e) slot new = AddRefusal e entries entry
 
--- The answers of `add` of any disk, where the builder has these entries in memory: it has this one
--- behind them, or no room for it, unless it is refused for damage.
+-- The answers of `add` on any disk, where the builder has these entries in memory: after Ok it has
+-- this one behind them. It is refused as on an honest disk, or for damage.
 abbrev pub HeldOutcome : {T : Type 0} → List Entry → Entry → Result T TableError → Builder → Type 0
 HeldOutcome entries entry (Ok _) new = HoldsEntries new (entries ++ entry ∷ [])
 HeldOutcome entries entry (Err e) new = (e ≡ table.Damaged → ⊥) → AddRefusal e entries entry

@@ -21,7 +21,7 @@ digest content = take 8 (sha256 content)
 abbrev pub sealed : List ℕ → List ℕ
 sealed content = content ++ digest content
 
--- a number in four or eight bytes, the most significant first
+-- a number in four bytes, the most significant first
 abbrev pub be32 : ℕ → List ℕ
 be32 n = to_be_bytes w32 n
 

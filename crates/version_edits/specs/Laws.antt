@@ -1,6 +1,7 @@
 -- The laws of the definitions that contracts use.
-use Rattle.std.specs.Prelude.{◌≤◌, List, length}
+use Rattle.std.specs.Prelude.{◌≡◌, ◌≤◌, ◌^◌, List, length}
 use Rattle.record_log.specs.declared.log.TheConstants.{MAX_RECORD}
+use Rattle.version_edits.specs.declared.line.TheConstants.{MAX_LINES, MAX_NEXT}
 use Rattle.version_edits.specs.Versions.{Change, IsFit, StoreVersion, after_all, changed, empty}
 use Rattle.version_edits.specs.Edits.{IsChange, change_text}
 use Rattle.version_edits.specs.Lawful.{IsVersion}
@@ -20,3 +21,9 @@ FitEditsAreShort = (version : StoreVersion) (change : Change) → IsFit version 
 abbrev pub HistoriesAreLawful : Type 0
 HistoriesAreLawful = (changes : List Change) → IsEditHistory changes →
     IsVersion (after_all empty changes)
+
+-- the bounds of a version, as numbers: of its next file and the first number of a log, and how many
+-- logs and how many tables it has at most
+pub record LineBoundsAre : Type 0 where
+  pub next : MAX_NEXT ≡ 2 ^ 63
+  pub lines : MAX_LINES ≡ 4096

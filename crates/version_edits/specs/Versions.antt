@@ -80,7 +80,7 @@ table_is_before a b = nat_lt a.level b.level || (a.level == b.level &&
 abbrev pub with_table : List TableLine → TableLine → List TableLine
 with_table tables line = placed table_is_before tables line
 
--- what is left of logs and of tables when some are given up
+-- the logs that are left when those of these files are given up
 abbrev pub logs_left : List ℕ → List LogLine → List LogLine
 logs_left gone logs = filter (λ line. not (list_any (λ file. file == line.file) gone)) logs
 

@@ -2,6 +2,7 @@
 //! laws.
 ghost use Rattle.version_edits.specs.Edits.{ChangesDiffer};
 ghost use Rattle.version_edits.specs.Laws.{EditsKeepVersions, FitEditsAreShort, HistoriesAreLawful};
+ghost use Rattle.version_edits.specs.Laws.{LineBoundsAre};
 
 use configurations::laws::test_decides_config;
 
@@ -25,4 +26,10 @@ pub fn fit_edits_are_short()
 /// Edits of which each may be taken give a version.
 pub fn histories_are_lawful()
     ensures { HistoriesAreLawful }
+{}
+
+/// The bounds of a version as numbers.
+// law: of `MAX_NEXT` and `MAX_LINES`
+pub fn line_bounds_are()
+    ensures { LineBoundsAre }
 {}

@@ -1,0 +1,48 @@
+// A disk that is only read.
+ghost use Rattle.std.specs.Prelude.{◌≡◌};
+ghost use Rattle.disk.specs.{IsSame};
+
+use disk::{Disk, DiskError};
+
+/// A disk of which files are only listed, measured and read. The disk is private to this file, so
+/// who has it here has no other call of it.
+#[derive(Drop)]
+pub struct ReadOnly<D: Disk> {
+    disk: D,
+}
+
+impl<D: Disk + Drop> ReadOnly<D> {
+    pub fn new(disk: D) -> ReadOnly<D>
+        ensures { result.disk ≡ disk }
+    {
+        ReadOnly { disk }
+    }
+
+    /// The disk.
+    pub fn into_disk(self) -> D
+        ensures { result ≡ self.disk }
+    {
+        self.disk
+    }
+
+    pub fn files(&mut self) -> Result<Vec<u64>, DiskError>
+        ensures { D.is_honest self.old.disk →
+            IsSame (D.state self.old.disk) (D.state self.new.disk) }
+    {
+        self.disk.files()
+    }
+
+    pub fn length(&mut self, file: u64) -> Result<u64, DiskError>
+        ensures { D.is_honest self.old.disk →
+            IsSame (D.state self.old.disk) (D.state self.new.disk) }
+    {
+        self.disk.length(file)
+    }
+
+    pub fn read(&mut self, file: u64, at: u64, into: &mut [u8]) -> Result<(), DiskError>
+        ensures { D.is_honest self.old.disk →
+            IsSame (D.state self.old.disk) (D.state self.new.disk) }
+    {
+        self.disk.read(file, at, into)
+    }
+}
