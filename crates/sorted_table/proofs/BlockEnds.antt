@@ -1,89 +1,125 @@
--- A walk over the entries of a block to its last one.
-use Rattle.std.proofs.Common.{◌≡◌, ℕ, ◌+◌, ◌<◌, List, [], ◌∷◌, ◌++◌, length, Some, None, All}
-use Rattle.std.proofs.Common.{refl, ap, ◌∙◌, arith, length-append}
+-- The entries of a block at its ends, and at a place that divides them.
+use Rattle.std.proofs.Common.{◌≡◌, ℕ, zero, suc, ◌-◌, ◌≤◌, ◌<◌, List, [], ◌∷◌, length, Option}
+use Rattle.std.proofs.Common.{Some, None, All, refl, sym, ap, subst, ◌∙◌, arith, get_or}
 use Rattle.std.specs.List.{slice_get}
-use Rattle.std.proofs.lemmas.List.Concat.{flat_map-cons}
-use Rattle.std.proofs.lemmas.List.Elements.{recursion_from_All}
-use Rattle.byte_fields.specs.FieldsLemmas.{IsBytes}
+use Rattle.std.specs.Option.{option_map}
+use Rattle.std.proofs.lemmas.Option.{slice_get-get_or, slice_get_past}
+use Rattle.std.proofs.lemmas.List.Elements.{All-from_recursion, recursion_from_All}
+use Rattle.byte_fields.specs.FieldsLemmas.{some_is}
 use Rattle.kv_types.specs.{Entry}
-use Rattle.table_format.specs.EntriesLemmas.{entry_reads}
-use Rattle.table_format.specs.FrontsLemmas.{entry_long}
-use Rattle.table_format.specs.PassedLemmas.{After, Passed, all_read, never_none, passed_next}
-use Rattle.table_format.specs.PassedLemmas.{split_of}
-use Rattle.table_format.specs.RisingLemmas.{last_push}
-use Rattle.table_format.specs.{IsTableEntry, entries_bytes, entry_bytes, last_entry, table_entry_at}
+use Rattle.table_files.specs.{ReadsEntries, entry_read}
+use Rattle.table_files.specs.EntryReadsLemmas.{count_read}
+use Rattle.table_format.specs.{last_entry}
+use Rattle.sorted_table.specs.EntrySplits.{SplitsEntries}
+use Rattle.sorted_table.specs.Searches.{FindsFirstWithout, IsEarlier, IsFirstWithout}
+use Rattle.sorted_table.proofs.StartSearches.{entry_of_start, places_agree}
 
--- the entries that were passed begin and end with these
-pub record PassedEnds (first last : Entry) (text rest : List ℕ) : Type 0 where
-  pub entries : List Entry
-  pub passed : Passed IsTableEntry entry_bytes text rest entries
-  pub start : slice_get entries 0 ≡ Some first
-  pub end : last_entry entries ≡ Some last
+-- ---- ends
 
--- the first entry was passed
-pub ends_begin : (text : List ℕ) (first : Entry) (rest : List ℕ) → IsBytes text
-    → table_entry_at text ≡ Some (first, rest) → PassedEnds first first text rest
-ends_begin text first rest fits read = record {
-  entries = first ∷ [];
-  passed = passed_next entry_reads text text [] first rest
-      (record { spelled = refl; each = tt; fits = fits }) read;
-  start = refl;
-  end = refl;
+-- the last entry stands at the last place
+last_there : (entries : List Entry) → slice_get entries (length entries - 1) ≡ last_entry entries
+last_there [] = refl
+last_there (x ∷ []) = refl
+last_there (x ∷ y ∷ entries) =
+    let at : length (x ∷ y ∷ entries) - 1 ≡ suc (length (y ∷ entries) - 1) = omega arith in
+    ap (slice_get (x ∷ y ∷ entries)) at ∙ last_there (y ∷ entries)
+
+-- what is read at place k is entry k
+pub read_there : (block starts : List ℕ) (entries : List Entry) → ReadsEntries block starts entries
+    → (k start : ℕ) (entry : Entry) → slice_get starts k ≡ Some start
+    → entry_read block start ≡ Some entry → slice_get entries k ≡ Some entry
+read_there block starts entries is k start entry at read =
+    let e = entry_of_start block starts entries is k start at in
+    e.1 ∙ ap Some (some_is e.0 entry (sym e.2 ∙ read))
+
+-- what is read at the last place is the last entry
+pub read_last : (block starts : List ℕ) (entries : List Entry) → ReadsEntries block starts entries
+    → (start : ℕ) (entry : Entry) → slice_get starts (length starts - 1) ≡ Some start
+    → entry_read block start ≡ Some entry → last_entry entries ≡ Some entry
+read_last block starts entries is start entry at read =
+    sym (last_there entries)
+    ∙ ap (λ n. slice_get entries (n - 1)) (sym (count_read block starts entries is))
+    ∙ read_there block starts entries is (length starts - 1) start entry at read
+
+-- ---- places that divide
+
+-- one entry more in front comes before the place
+more_before : (place x : Entry) (entries : List Entry) (first : Option Entry)
+    → IsEarlier place x → FindsFirstWithout (IsEarlier place) entries first
+    → FindsFirstWithout (IsEarlier place) (x ∷ entries) first
+more_before place x entries None early all =
+    All-from_recursion (IsEarlier place) (x ∷ entries)
+    (early, recursion_from_All (IsEarlier place) entries all)
+more_before place x entries (Some entry) early first = record {
+  before = x ∷ first.before;
+  after = first.after;
+  split = ap (λ l. x ∷ l) first.split;
+  with = All-from_recursion (IsEarlier place) (x ∷ first.before)
+      (early, recursion_from_All (IsEarlier place) first.before first.with);
+  without = first.without;
 }
 
--- an entry behind stays the first one
-start_stays : (entries : List Entry) (first entry : Entry) → slice_get entries 0 ≡ Some first
-    → slice_get (entries ++ entry ∷ []) 0 ≡ Some first
-start_stays [] first entry is = absurd cc
-start_stays (x ∷ entries) first entry is = is
-
--- one entry more was passed
-pub ends_next : (first last : Entry) (text rest : List ℕ) (entry : Entry) (behind : List ℕ)
-    → PassedEnds first last text rest → table_entry_at rest ≡ Some (entry, behind)
-    → PassedEnds first entry text behind
-ends_next first last text rest entry behind w read = record {
-  entries = w.entries ++ entry ∷ [];
-  passed = passed_next entry_reads text rest w.entries entry behind w.passed read;
-  start = start_stays w.entries first entry w.start;
-  end = last_push w.entries entry;
+-- the entry behind those that come before the place is the first that does not
+pub first_behind : (entries : List Entry) (place : Entry) (n : ℕ) → SplitsEntries entries place n
+    → FindsFirstWithout (IsEarlier place) entries (slice_get entries n)
+first_behind [] place n s = All-from_recursion (IsEarlier place) [] tt
+first_behind (x ∷ entries) place zero s = record {
+  before = [];
+  after = entries;
+  split = refl;
+  with = All-from_recursion (IsEarlier place) [] tt;
+  without = s.behind 0 x (omega arith) refl;
 }
+first_behind (x ∷ entries) place (suc n) s =
+    let within = s.within in
+    more_before place x entries (slice_get entries n) (s.before 0 x (omega arith) refl)
+    (first_behind entries place n (record {
+      within = omega (arith, within);
+      before = λ k e lt at. s.before (suc k) e (omega (arith, lt)) at;
+      behind = λ k e le at. s.behind (suc k) e (omega (arith, le)) at;
+    }))
 
-entry_full : (entry : Entry) → 0 < length (entry_bytes entry)
-entry_full entry = omega (arith, entry_long entry)
+-- ---- the search
 
-left : (first last : Entry) (text rest : List ℕ) (w : PassedEnds first last text rest)
-    (all : List Entry) → All IsTableEntry all → text ≡ entries_bytes all
-    → After IsTableEntry entry_bytes rest w.entries all
-left first last text rest w all each is =
-    split_of entry_reads entry_full text rest w.entries all w.passed
-    (recursion_from_All IsTableEntry all each) is
+none_by : (found : Option Entry) → option_map Some found ≡ None → found ≡ None
+none_by None is = refl
+none_by (Some entry) is = absurd cc
 
--- entries that are left are read
-pub ends_none : (first last : Entry) (text rest : List ℕ) → PassedEnds first last text rest
-    → (all : List Entry) → All IsTableEntry all → text ≡ entries_bytes all → 0 < length rest
-    → table_entry_at rest ≡ None → ⊥
-ends_none first last text rest w all each is some none =
-    let a = left first last text rest w all each is in
-    never_none entry_reads rest a.after a.each a.spelled some none
+module _ (block starts : List ℕ) (entries : List Entry) (place : Entry) (n : ℕ)
+    (is : ReadsEntries block starts entries) (split : SplitsEntries entries place n) where
+  -- where no place is left all entries come before
+  pub all_before : slice_get starts n ≡ None → All (IsEarlier place) entries
+  all_before none =
+      subst (FindsFirstWithout (IsEarlier place) entries)
+      (none_by (slice_get entries n) (sym (places_agree block starts entries is n)
+      ∙ ap (option_map (entry_read block)) none))
+      (first_behind entries place n split)
 
--- all entries were passed
-pub ends_all : (first last : Entry) (text rest : List ℕ) → PassedEnds first last text rest
-    → (all : List Entry) → All IsTableEntry all → text ≡ entries_bytes all → length rest ≡ 0
-    → (slice_get all 0 ≡ Some first) × (last_entry all ≡ Some last)
-ends_all first last text rest w all each is none =
-    let same : all ≡ w.entries = all_read entry_bytes entry_full rest w.entries all
-    (left first last text rest w all each is) none in
-    (ap (λ l. slice_get l 0) same ∙ w.start, ap last_entry same ∙ w.end)
+  -- what is read at the place is the first entry that does not come before
+  pub first_read : (start : ℕ) (entry : Entry) → slice_get starts n ≡ Some start
+      → entry_read block start ≡ Some entry → IsFirstWithout (IsEarlier place) entries entry
+  first_read start entry at read =
+      subst (FindsFirstWithout (IsEarlier place) entries)
+      (read_there block starts entries is n start entry at read)
+      (first_behind entries place n split)
 
--- where no entry is read there is none
-pub none_read : (all : List Entry) (text : List ℕ) → All IsTableEntry all
-    → text ≡ entries_bytes all → table_entry_at text ≡ None → length all ≡ 0
-none_read [] text each is none = refl
-none_read (x ∷ all) text each is none =
-    let size : length (entries_bytes (x ∷ all)) ≡ length (entry_bytes x) + length
-    (entries_bytes all) =
-    ap length (flat_map-cons entry_bytes x all)
-    ∙ length-append (entry_bytes x) (entries_bytes all) in
-    absurd (never_none entry_reads text (x ∷ all)
-    (recursion_from_All IsTableEntry (x ∷ all) each) is
-    (omega (arith, ap length is, size, entry_full x)) none)
+-- ---- lent lists
+
+-- the entries that are read of equal lists
+pub lent_reads : (entries : List Entry) (block starts bytes places : List ℕ) → bytes ≡ block
+    → places ≡ starts → ReadsEntries block starts entries → ReadsEntries bytes places entries
+lent_reads entries block starts bytes places same is reads =
+    subst (λ l. ReadsEntries l places entries) (sym same)
+    (subst (λ l. ReadsEntries block l entries) (sym is) reads)
+
+-- a place that was found in an equal list
+pub lent_place : (starts places : List ℕ) (n start : ℕ) → places ≡ starts
+    → start ≡ get_or places n start → n < length places → slice_get starts n ≡ Some start
+lent_place starts places n start same is within =
+    ap (λ l. slice_get l n) (sym same) ∙ slice_get-get_or places n start within ∙ ap Some (sym is)
+
+-- there is none behind the end of an equal list
+pub lent_end : (starts places : List ℕ) (n : ℕ) → places ≡ starts → length places ≤ n
+    → slice_get starts n ≡ None
+lent_end starts places n same past =
+    ap (λ l. slice_get l n) (sym same) ∙ slice_get_past places n past

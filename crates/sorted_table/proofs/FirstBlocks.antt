@@ -4,13 +4,12 @@ use Rattle.std.proofs.Common.{MatchResult, sym, ap, subst, ◌∙◌, arith, IfO
 use Rattle.std.specs.Option.{IfSome, IsSomeAnd, ok_or}
 use Rattle.std.specs.List.{slice_get}
 use Rattle.std.specs.Rc.{rc_slice_items}
-use Rattle.std.specs.Global.{Global}
-use Rattle.std.specs.declared.rc.RcSlice.{RcSlice}
 use Rattle.disk.specs.{IsEnvironmental, State}
 use Rattle.table_format.specs.{IsBlock, block_entries}
 use Rattle.table_format.specs.declared.IndexLine.{IndexLine}
 use Rattle.table_format.specs.declared.FileError.{FileError}
 use Rattle.table_format.specs.declared.FileError.TheVariants as reading
+use Rattle.table_files.specs.declared.block.CheckedBlock.{CheckedBlock}
 use Rattle.table_files.specs.{BlockAnswer, known_block_answered}
 use Rattle.sorted_table.specs.declared.block_place.BlockPlace.{BlockPlace}
 use Rattle.sorted_table.specs.BlockPlaces.{PlaceReads}
@@ -29,9 +28,9 @@ block_of_line disk file lines n line t within at =
 
 pub block_answer : (disk : State) (file : ℕ) (lines : List IndexLine) (n : ℕ) (line : IndexLine)
     (t : HasLines (disk file) lines) (b : BlockNumber t.bytes t.represents.blocks line n)
-    (result : Result (RcSlice ℕ Global) FileError)
+    (result : Result CheckedBlock FileError)
     → BlockAnswer disk file line.place line.len result
-    → MatchResult result (λ block. IsBlock (rc_slice_items block) (block_entries b.block))
+    → MatchResult result (λ block. IsBlock (rc_slice_items block.bytes) (block_entries b.block))
     (IsEnvironmental reading.Disk reading.Memory)
 block_answer disk file lines n line t b (Ok block) answer =
     let is = known_block_answered disk file line.place line.len (Ok block) t.bytes
@@ -73,7 +72,8 @@ ok_part P Q (Err e) m = tt
 pub first_place : (lines : List IndexLine) (n : ℕ) (line : IndexLine) (size : ℕ)
     → slice_get lines n ≡ Some line → size ≡ line.len → (it : Option BlockPlace)
     → IfSome it (λ place. (place.line ≡ n) × (place.at ≡ 0))
-    → IfSome it (λ place. length place.starts.items ≤ size) → IfOk (ok_or it reading.Damaged)
+    → IfSome it (λ place. length (rc_slice_items place.block.starts) ≤ size)
+    → IfOk (ok_or it reading.Damaged)
     (λ place. (place.line ≡ n) × (place.at ≡ 0) × IsBounded lines place)
 first_place lines n line size at len (Some place) first few =
     let same : block_size (slice_get lines place.line) ≡ line.len =

@@ -2,7 +2,6 @@ pub mod SearchesLemmas
 pub mod LookupsLemmas
 pub mod LinesLemmas
 pub mod BlockEnds
-pub mod BlockWalks
 pub mod LineBlocks
 pub mod TailsLemmas
 pub mod FilterLemmas
@@ -10,7 +9,6 @@ pub mod KeptDisk
 pub mod TableLookups
 pub mod GreatestKeys
 -- cursors
-pub mod StartWalks
 pub mod StartSearches
 pub mod BlockNumbers
 pub mod FirstBlocks

@@ -11,7 +11,7 @@ use Rattle.merge_iter.specs.{EntryPrecedes, IsFirst, Off, On, Broken, Position, 
 use Rattle.merge_iter.specs.EntryOrder.{not_both}
 use Rattle.merge_iter.specs.ListPlacesLemmas.{Earlier, off_empty, on_first, turned}
 use Rattle.table_format.specs.{AreRising}
-use Rattle.sorted_table.specs.EntryReads.{SplitsEntries}
+use Rattle.sorted_table.specs.EntrySplits.{SplitsEntries}
 use Rattle.sorted_table.specs.RisingEntries.{at_contained, contained_at, in_order}
 use Rattle.sorted_table.specs.TableCursors.{entry_position}
 

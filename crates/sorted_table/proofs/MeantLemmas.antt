@@ -8,14 +8,13 @@ use Rattle.std.proofs.lemmas.List.Concat.{flat_map-cons}
 use Rattle.std.proofs.lemmas.Option.{slice_get_within}
 use Rattle.std.specs.List.{slice_get}
 use Rattle.std.specs.Rc.{rc_slice_items}
-use Rattle.std.specs.Global.{Global}
-use Rattle.std.specs.declared.rc.RcSlice.{RcSlice}
 use Rattle.disk.specs.{IsEnvironmental, Slot, State, seen}
 use Rattle.byte_fields.specs.FieldsLemmas.{some_is}
 use Rattle.kv_types.specs.OrderLemmas.{Among, Rises, rises_from_AllPairs}
 use Rattle.kv_types.specs.{Entry}
 use Rattle.merge_iter.specs.{EntryPrecedes}
 use Rattle.merge_iter.specs.declared.Direction.TheVariants.{Forward}
+use Rattle.table_files.specs.declared.block.CheckedBlock.{CheckedBlock}
 use Rattle.table_files.specs.{BlockAnswer, IsPartAt}
 use Rattle.table_format.specs.RisingLemmas.{last_push}
 use Rattle.table_format.specs.{Block, IsBlock, IsCheckedBlock}
@@ -49,11 +48,11 @@ parts_of lines n file part line is at =
 
 -- so it is an answer of a read
 pub line_read : (disk : State) (file : ℕ) (lines : List IndexLine) (n : ℕ) (line : IndexLine)
-    (block : RcSlice ℕ Global) → slice_get lines n ≡ Some line
-    → IsBlockAtLine lines n (disk file) (rc_slice_items block)
+    (block : CheckedBlock) → slice_get lines n ≡ Some line
+    → IsBlockAtLine lines n (disk file) (rc_slice_items block.bytes)
     → BlockAnswer disk file line.place line.len (Ok block)
 line_read disk file lines n line block at is =
-    let p = parts_of lines n (disk file) (rc_slice_items block) line is at in
+    let p = parts_of lines n (disk file) (rc_slice_items block.bytes) line is at in
     (p.0, (p.1, p.2))
 
 -- a read that is damaged finds no block at the line
@@ -78,15 +77,15 @@ one_part (Some bytes) place a b len is other =
 
 -- a block that was read and does not lie where the line says is none at the line
 pub misplaced : (disk : State) (file : ℕ) (lines : List IndexLine) (n : ℕ) (line : IndexLine)
-    (block : RcSlice ℕ Global) → slice_get lines n ≡ Some line
+    (block : CheckedBlock) → slice_get lines n ≡ Some line
     → BlockAnswer disk file line.place line.len (Ok block)
-    → ((entries : List Entry) → IsBlock (rc_slice_items block) entries
+    → ((entries : List Entry) → IsBlock (rc_slice_items block.bytes) entries
     → AreAtLine lines n line entries → ⊥)
     → (e : FileError) → LineBlockAnswer lines n (disk file) (Err e)
 misplaced disk file lines n line block at answer never e damaged part is =
     let p = parts_of lines n (disk file) part line is at in
-    let same : part ≡ rc_slice_items block = one_part (seen (disk file)) line.place part
-    (rc_slice_items block) (p.0 ∙ sym answer.0) p.1 answer.1.0 in
+    let same : part ≡ rc_slice_items block.bytes = one_part (seen (disk file)) line.place part
+    (rc_slice_items block.bytes) (p.0 ∙ sym answer.0) p.1 answer.1.0 in
     ∥∥₁_elim is.checked never_twice (λ it.
     never it.0 (subst (λ (b : List ℕ). IsBlock b it.0) same it.1)
     (subst (λ (l : IndexLine). AreAtLine lines n l it.0)
@@ -94,9 +93,9 @@ misplaced disk file lines n line block at answer never e damaged part is =
 
 -- a block that was read and lies where the line says is the one at the line
 pub placed : (disk : State) (file : ℕ) (lines : List IndexLine) (n : ℕ) (line : IndexLine)
-    (block : RcSlice ℕ Global) → slice_get lines n ≡ Some line
+    (block : CheckedBlock) → slice_get lines n ≡ Some line
     → BlockAnswer disk file line.place line.len (Ok block)
-    → ((entries : List Entry) → IsBlock (rc_slice_items block) entries
+    → ((entries : List Entry) → IsBlock (rc_slice_items block.bytes) entries
     → AreAtLine lines n line entries)
     → LineBlockAnswer lines n (disk file) (Ok block)
 placed disk file lines n line block at answer lies = record {

@@ -4,8 +4,6 @@ use Rattle.std.proofs.Common.{Result, Ok, Err, MatchResult, sym, subst, ◌∙�
 use Rattle.std.proofs.Math.Logic.{∥∥₁_elim, ∥∥₁_map}
 use Rattle.std.specs.Prelude.{IsSomeAnd, IsTrue, MatchOption, ◌≤◌, ◌<◌, length, refl}
 use Rattle.std.specs.Rc.{rc_slice_items}
-use Rattle.std.specs.declared.rc.RcSlice.{RcSlice}
-use Rattle.std.specs.Global.{Global}
 use Rattle.bloom.specs.{Covers, CoversHashed, hashes_of}
 use Rattle.std.specs.List.{slice_get}
 use Rattle.std.proofs.lemmas.Option.{slice_get_within}
@@ -28,6 +26,7 @@ use Rattle.sorted_table.proofs.FirstBlocks.{block_of_line}
 use Rattle.sorted_table.proofs.LinesLemmas.{line_first, no_line}
 use Rattle.sorted_table.proofs.MeantLemmas.{line_read}
 use Rattle.sorted_table.proofs.TableLookups.{block_for, result_up}
+use Rattle.table_files.specs.declared.block.CheckedBlock.{CheckedBlock}
 use Rattle.table_files.specs.{known_block_answered}
 use Rattle.sorted_table.specs.Tails.{HasTail}
 
@@ -76,10 +75,10 @@ none_behind file lines key at n past =
 
 -- the block was read
 pub line_answers : (file : Slot) (lines : List IndexLine) (n : ℕ) (line : IndexLine)
-    (key : StoredKey) (at : ℕ) (block : RcSlice ℕ Global)
+    (key : StoredKey) (at : ℕ) (block : CheckedBlock)
     (result : Result (Option FoundVersion) FileError) → slice_get lines n ≡ Some line
     → LineBlockAnswer lines n file (Ok block)
-    → ((entries : List Entry) → IsBlock (rc_slice_items block) entries
+    → ((entries : List Entry) → IsBlock (rc_slice_items block.bytes) entries
     → MatchResult result (LookupFinds entries key at) (λ e. e ≡ Memory))
     → LineAnswer lines n file key at result
 line_answers file lines n line key at block (Ok found) there is finds =
@@ -87,7 +86,7 @@ line_answers file lines n line key at block (Ok found) there is finds =
     (λ line. ∥ FindsAtLine lines n file key at found ∥₁)) (sym there)
     (∥∥₁_map is.checked (λ it.
     record {
-      part = rc_slice_items block;
+      part = rc_slice_items block.bytes;
       entries = it.0;
       there = is;
       is_block = it.1;
@@ -124,11 +123,11 @@ block_at file lines t n line at =
 -- a lookup in the block of the first line that does not end before is a lookup in the table
 pub found_as : (file : Slot) (table : Table) (entries : List Entry)
     (s : TableServes file table entries) (lines : List IndexLine) (n : ℕ) (key : StoredKey) (at : ℕ)
-    (block : RcSlice ℕ Global) (result : Result (Option FoundVersion) FileError)
+    (block : CheckedBlock) (result : Result (Option FoundVersion) FileError)
     → lines ≡ rc_slice_items table.lines → n < length lines
     → (AreRising (map end_spot lines) → IsLinePlace lines (spot key at) n)
-    → IsBlockAtLine lines n file (rc_slice_items block)
-    → ((mine : List Entry) → IsBlock (rc_slice_items block) mine
+    → IsBlockAtLine lines n file (rc_slice_items block.bytes)
+    → ((mine : List Entry) → IsBlock (rc_slice_items block.bytes) mine
     → MatchResult result (LookupFinds mine key at) (λ e. e ≡ Memory))
     → MatchResult result (LookupFinds entries key at) (IsEnvironmental Disk Memory)
 found_as file table entries s lines n key at block result are within place read finds =

@@ -13,9 +13,10 @@ use Rattle.merge_iter.specs.declared.Direction.TheVariants.{Forward}
 use Rattle.merge_iter.specs.{EntryPrecedes, chain, entry_cmp}
 use Rattle.merge_iter.specs.OrderLemmas.{less_iff}
 use Rattle.table_format.specs.Blocks.{AreRising}
-use Rattle.sorted_table.specs.EntryReads.{ReadsEntries, SplitsEntries, entry_read, is_read_before}
+use Rattle.table_files.specs.{ReadsEntries, entry_read}
+use Rattle.sorted_table.specs.EntrySplits.{SplitsEntries, is_read_before}
 use Rattle.sorted_table.specs.RisingEntries.{in_order}
-use Rattle.sorted_table.proofs.StartWalks.{count_read}
+use Rattle.table_files.specs.EntryReadsLemmas.{count_read}
 
 -- ---- entries by their places
 

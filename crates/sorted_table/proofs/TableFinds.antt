@@ -5,6 +5,7 @@ use Rattle.std.proofs.Common.{Bool, false, Contains, Result, Ok, Err, OnOk, refl
 use Rattle.std.proofs.Common.{◌∙◌, arith}
 use Rattle.std.proofs.Common.{zero, suc, [], ◌∷◌, length-append}
 use Rattle.std.specs.List.{slice_get}
+use Rattle.std.specs.Rc.{rc_slice_items}
 use Rattle.disk.specs.{Slot, seen}
 use Rattle.kv_types.specs.{Entry}
 use Rattle.merge_iter.specs.declared.CursorError.{CursorError}
@@ -164,7 +165,7 @@ module _ (file : Slot) (lines : List IndexLine) (t : HasLines file lines) where
   -- the first entry of the next block
   pub finds_next_block : {R : Type 0} (result : Result R CursorError) (was : Bool)
       (o : Option BlockPlace) (p : BlockPlace) (n : ℕ) (failed : Bool) (place : Option BlockPlace)
-      → o ≡ Some p → IfSome o (IsPlaceIn blocks) → p.at + 1 ≡ length p.starts.items
+      → o ≡ Some p → IfSome o (IsPlaceIn blocks) → p.at + 1 ≡ length (rc_slice_items p.block.starts)
       → n ≡ p.line + 1
       → OnOk result ((failed ≡ false) × HasEntered lines n Forward place)
       → OnOk result (IfSome place (IsPlaceIn blocks))

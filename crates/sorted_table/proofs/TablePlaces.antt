@@ -14,14 +14,15 @@ use Rattle.byte_fields.specs.{◌>>=◌}
 use Rattle.merge_iter.specs.declared.Direction.TheVariants.{Forward, Backward}
 use Rattle.table_format.specs.{Block, block_entries, block_lines, entries_of_blocks}
 use Rattle.table_format.specs.declared.IndexLine.{IndexLine}
+use Rattle.table_files.specs.declared.block.CheckedBlock.{CheckedBlock}
 use Rattle.sorted_table.specs.declared.block_place.BlockPlace.{BlockPlace}
-use Rattle.sorted_table.specs.EntryReads.{ReadsEntries, entry_read}
+use Rattle.table_files.specs.{ReadsEntries, entry_read}
 use Rattle.sorted_table.specs.BlockPlaces.{IsMovedTo, place_entry}
 use Rattle.sorted_table.specs.TableCursors.{HasEntered, IsPlaceIn, entry_position}
 use Rattle.sorted_table.specs.TableCursors.{table_position}
 use Rattle.sorted_table.proofs.BlockNumbers.{around, length-block_lines}
 use Rattle.sorted_table.proofs.StartSearches.{entry_of_start}
-use Rattle.sorted_table.proofs.StartWalks.{count_read}
+use Rattle.table_files.specs.EntryReadsLemmas.{count_read}
 
 -- another place of the same block
 pub moved_in : (blocks : List Block) (old new : BlockPlace) (at : ℕ) → IsMovedTo at old new
@@ -29,10 +30,9 @@ pub moved_in : (blocks : List Block) (old new : BlockPlace) (at : ℕ) → IsMov
 moved_in blocks old new at m p = record {
   block = p.block;
   present = ap (slice_get blocks) m.line ∙ p.present;
-  reads = subst (λ b. ReadsEntries (rc_slice_items b) new.starts.items (block_entries p.block))
-      (sym m.block)
-      (subst (λ s. ReadsEntries (rc_slice_items old.block) s.items (block_entries p.block))
-      (sym m.starts) p.reads);
+  reads = subst (λ (b : CheckedBlock).
+      ReadsEntries (rc_slice_items b.bytes) (rc_slice_items b.starts) (block_entries p.block))
+      (sym m.block) p.reads;
 }
 
 -- ---- numbers of entries
@@ -113,9 +113,10 @@ bind_at o f start is = ap (λ x. x >>= f) is
 
 -- how many entries the place's block has
 pub count_of : (blocks : List Block) (place : BlockPlace) (p : IsPlaceIn blocks place)
-    → length place.starts.items ≡ length (block_entries p.block)
+    → length (rc_slice_items place.block.starts) ≡ length (block_entries p.block)
 count_of blocks place p =
-    count_read (rc_slice_items place.block) place.starts.items (block_entries p.block) p.reads
+    count_read (rc_slice_items place.block.bytes) (rc_slice_items place.block.starts)
+    (block_entries p.block) p.reads
 
 -- an entry of the table
 pub record EntryAt (blocks : List Block) (place : BlockPlace) : Type 0 where
@@ -127,13 +128,13 @@ pub entry_at : (blocks : List Block) (place : BlockPlace) → IsPlaceIn blocks p
     → EntryAt blocks place
 entry_at blocks place p =
     let within = place.within in
-    elim (slice_get_cases place.starts.items place.at).1 [
+    elim (slice_get_cases (rc_slice_items place.block.starts) place.at).1 [
       | inl (start, lt, is, at) ↦
-          let e = entry_of_start (rc_slice_items place.block) place.starts.items
-          (block_entries p.block) p.reads place.at start is in
+          let e = entry_of_start (rc_slice_items place.block.bytes)
+          (rc_slice_items place.block.starts) (block_entries p.block) p.reads place.at start is in
           record {
             entry = e.0;
-            is = bind_at _ (entry_read (rc_slice_items place.block)) start is ∙ e.2;
+            is = bind_at _ (entry_read (rc_slice_items place.block.bytes)) start is ∙ e.2;
             there = entry_in blocks place.line place.at p.block e.0 p.present e.1;
           }
       | inr (past, is) ↦ absurd (omega (arith, past, within))

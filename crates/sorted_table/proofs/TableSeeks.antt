@@ -5,6 +5,7 @@ use Rattle.std.proofs.Common.{Option, Some, None, Bool, false, All, Ok, refl, sy
 use Rattle.std.proofs.Common.{arith}
 use Rattle.std.proofs.Common.{◌⊎◌, inl, inr, get_or, length-append, take-append-drop}
 use Rattle.std.proofs.lemmas.Grind.{flat_map-append}
+use Rattle.std.specs.Rc.{rc_slice_items}
 use Rattle.std.specs.List.{slice_get}
 use Rattle.std.proofs.lemmas.List.{get_or-take, length-take, take_all}
 use Rattle.std.proofs.lemmas.List.Elements.{recursion_from_All}
@@ -21,7 +22,7 @@ use Rattle.table_format.specs.{data_bytes, end_spot, entries_of_blocks}
 use Rattle.table_format.specs.declared.IndexLine.{IndexLine}
 use Rattle.sorted_table.specs.declared.block_place.BlockPlace.{BlockPlace}
 use Rattle.sorted_table.specs.BlockPlaces.{IsMovedTo, place_entry}
-use Rattle.sorted_table.specs.EntryReads.{SplitsEntries}
+use Rattle.sorted_table.specs.EntrySplits.{SplitsEntries}
 use Rattle.sorted_table.specs.RisingEntries.{in_order}
 use Rattle.sorted_table.specs.Searches.{EndsEarlier, IsLinePlace}
 use Rattle.sorted_table.specs.TableCursors.{FileHolds, HasLines, IsPlaceIn, entry_position}
@@ -204,7 +205,7 @@ module _ (file : Slot) (lines : List IndexLine) (t : HasLines file lines) (key :
         let inside = q.within in
         let count = count_of bs p there in
         let few : q.at < length (block_entries there.block) =
-        omega (arith, inside, count, ap (λ v. length v.items) m.starts) in
+        omega (arith, inside, count, ap (λ b. length (rc_slice_items b.starts)) m.block) in
         let here : one_block n there.block = ap (slice_get bs) (sym line) ∙ there.present in
         let same : number_of bs q ≡ first_number bs n + q.at =
         ap (λ k. first_number bs k + q.at) (m.line ∙ line) in

@@ -1,5 +1,5 @@
 pub mod BlockPlaces
-pub mod EntryReads
+pub mod EntrySplits
 pub mod LineSizes
 pub mod LineSizesLemmas
 pub mod Meant

@@ -2,13 +2,12 @@
 use Rattle.std.specs.Prelude.{◌≡◌, ℕ, ◌+◌, List, length, slice_get, Some, IfSome}
 use Rattle.std.specs.Prelude.{Result, Ok, Err}
 use Rattle.std.specs.Rc.{rc_slice_items}
-use Rattle.std.specs.declared.rc.RcSlice.{RcSlice}
-use Rattle.std.specs.Global.{Global}
 use Rattle.disk.specs.{Slot, seen}
 use Rattle.kv_types.specs.{Entry}
 use Rattle.merge_iter.specs.declared.Direction.TheVariants.{Forward}
 use Rattle.merge_iter.specs.{EntryPrecedes}
 use Rattle.table_files.specs.{IsPartAt}
+use Rattle.table_files.specs.declared.block.CheckedBlock.{CheckedBlock}
 use Rattle.table_format.specs.{IsBlock, end_spot, last_entry}
 use Rattle.table_format.specs.declared.IndexLine.{IndexLine}
 use Rattle.table_format.specs.declared.FileError.{FileError}
@@ -51,9 +50,9 @@ pub record IsBlockAtLine (lines : List IndexLine) (n : ℕ) (file : Slot) (part 
 
 -- The answers of a search for the block of line n: the block that the file has for it, and
 -- `Damaged` only where it has none.
-abbrev pub LineBlockAnswer : List IndexLine → ℕ → Slot → Result (RcSlice ℕ Global) FileError
+abbrev pub LineBlockAnswer : List IndexLine → ℕ → Slot → Result CheckedBlock FileError
     → Type 0
-LineBlockAnswer lines n file (Ok block) = IsBlockAtLine lines n file (rc_slice_items block)
+LineBlockAnswer lines n file (Ok block) = IsBlockAtLine lines n file (rc_slice_items block.bytes)
 LineBlockAnswer lines n file (Err e) =
     e ≡ Damaged → (part : List ℕ) → IsBlockAtLine lines n file part → ⊥
 

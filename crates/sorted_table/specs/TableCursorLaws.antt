@@ -21,7 +21,7 @@ use Rattle.sorted_table.specs.LineSizesLemmas.{steps_within}
 use Rattle.sorted_table.specs.RisingEntries.{rising_apart}
 use Rattle.sorted_table.specs.MovedFiles.{MovesFiles, moves_itself, moves_through}
 use Rattle.sorted_table.specs.Meant.{AreAsMeant}
-use Rattle.sorted_table.specs.EntryReads.{entry_read}
+use Rattle.table_files.specs.{entry_read}
 use Rattle.sorted_table.specs.TableCursors.{CursorServes, FileHolds, entry_position}
 use Rattle.sorted_table.specs.TableCursors.{table_position}
 
@@ -68,12 +68,12 @@ fits_at block None is = tt
 pub table_fits : (has_failed : Bool) (place : Option BlockPlace)
     → IfOn (table_position has_failed place) IsTableEntry
 table_fits has_failed (Some place) =
-    let block = rc_slice_items place.block in
-    let starts = place.starts.items in
+    let block = rc_slice_items place.block.bytes in
+    let starts = rc_slice_items place.block.starts in
     let P : ℕ → Type 0 = λ start. IsSomeAnd (entry_read block start) IsTableEntry in
     fits_at block (slice_get starts place.at)
     (λ s here. subst P (get_or_from_slice_get starts place.at s s here)
-    (All-get_or P starts place.at s (slice_get_within starts place.at s here) place.read))
+    (All-get_or P starts place.at s (slice_get_within starts place.at s here) place.block.read))
 table_fits true None = tt
 table_fits false None = tt
 

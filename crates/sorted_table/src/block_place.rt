@@ -1,65 +1,42 @@
 //! A place in a block.
-ghost use Rattle.std.specs.Prelude.{◌≡◌, ◌<◌, ◌≤◌, ◌+◌, ◌-◌, List, Some, IfOk, IfSome, IsTrue};
+ghost use Rattle.std.specs.Prelude.{◌≡◌, ◌<◌, ◌≤◌, ◌+◌, ◌-◌, List, Some, IfSome, IsTrue};
 ghost use Rattle.std.specs.Prelude.{IsSomeAnd, length};
-ghost use Rattle.std.proofs.Props.{props};
 ghost use Rattle.std.specs.Rc.{rc_slice_items};
 ghost use Rattle.kv_types.specs.{Entry, lent_key};
 ghost use Rattle.merge_iter.specs.{spot};
 ghost use Rattle.table_format.specs.{AreRising, IsBlock, lent_entry};
-ghost use Rattle.sorted_table.specs.EntryReads.{AreRead, SplitsEntries};
+ghost use Rattle.sorted_table.specs.EntrySplits.{SplitsEntries};
 
-use crate::starts::{count_before, entry_from, starts_in};
+use crate::starts::{count_before, entry_from};
 use kv_types::LentKey;
 use merge_iter::Direction;
-use std::alloc::AllocError;
-use std::rc::RcSlice;
+use table_files::CheckedBlock;
 use table_format::LentEntry;
 
-/// An entry of a block, and where each entry of the block starts. The block is that of a line of
-/// an index.
+/// An entry of a block. The block is that of a line of an index.
 #[derive(Drop)]
 pub struct BlockPlace {
     line: usize,
-    block: RcSlice<u8>,
-    starts: Vec<usize>,
+    block: CheckedBlock,
     at: usize,
-    ghost read: { AreRead (rc_slice_items block) starts.items } by { Prim.hlevel props },
-    ghost within: { at < length starts.items },
+    ghost within: { at < length (rc_slice_items block.starts) },
 }
 
 impl BlockPlace {
     ghost use Rattle.sorted_table.specs.BlockPlaces.{IsAtEnd, IsMovedTo, PlaceReads, place_entry};
 
-    /// The first entry of a block, if the bytes are one. The memory of `starts` is used again.
-    pub fn new(
-        line: usize,
-        block: RcSlice<u8>,
-        starts: Vec<usize>,
-    ) -> Result<Option<BlockPlace>, AllocError>
-        ensures first { IfOk result
-            (λ it. IfSome it (λ place. (place.line ≡ line) × (place.at ≡ 0))) }
-        ensures few { IfOk result (λ it. IfSome it
-            (λ place. length place.starts.items ≤ length (rc_slice_items block))) }
-        ensures entries { (entries : List Entry) → IsBlock (rc_slice_items block) entries →
-            IfOk result (λ it. IsSomeAnd it (λ place. PlaceReads place entries)) }
+    /// The first entry of a block, if it has entries.
+    pub fn new(line: usize, block: CheckedBlock) -> Option<BlockPlace>
+        ensures first { IfSome result (λ place. (place.line ≡ line) × (place.at ≡ 0)) }
+        ensures few { IfSome result (λ place.
+            length (rc_slice_items place.block.starts) ≤ length (rc_slice_items block.bytes)) }
+        ensures entries { (entries : List Entry) → IsBlock (rc_slice_items block.bytes) entries →
+            IsSomeAnd result (λ place. PlaceReads place entries) }
     {
-        let Some(starts) = starts_in(&block, starts)? else {
-            return Ok(None);
-        };
-        if starts.is_empty() {
-            return Ok(None);
+        if block.starts.is_empty() {
+            return None;
         }
-        Ok(Some(BlockPlace {
-            line,
-            block,
-            starts,
-            at: 0,
-        }))
-    }
-
-    /// The memory of the places.
-    pub fn into_starts(self) -> Vec<usize> {
-        self.starts
+        Some(BlockPlace { line, block, at: 0 })
     }
 
     /// The number of the block's line.
@@ -73,7 +50,7 @@ impl BlockPlace {
     pub fn entry(&self) -> LentEntry<'_>
         ensures { place_entry self.now ≡ Some (lent_entry result) }
     {
-        match entry_from(&self.block, self.starts[self.at]) {
+        match entry_from(&self.block.bytes, self.block.starts[self.at]) {
             Some(entry) => entry,
             None => unreachable!(),
         }
@@ -83,9 +60,9 @@ impl BlockPlace {
     pub fn advance(&mut self) -> bool
         ensures moved { IsTrue result → IsMovedTo (self.old.at + 1) self.old self.new }
         ensures last { (IsTrue result → ⊥) → IsMovedTo self.old.at self.old self.new
-            × (self.old.at + 1 ≡ length self.old.starts.items) }
+            × (self.old.at + 1 ≡ length (rc_slice_items self.old.block.starts)) }
     {
-        if self.at + 1 < self.starts.len() {
+        if self.at + 1 < self.block.starts.len() {
             self.at += 1;
             true
         } else {
@@ -115,7 +92,7 @@ impl BlockPlace {
     {
         self.at = match way {
             Direction::Forward => 0,
-            Direction::Backward => self.starts.len() - 1,
+            Direction::Backward => self.block.starts.len() - 1,
         };
         self
     }
@@ -128,11 +105,13 @@ impl BlockPlace {
             (SplitsEntries entries (spot (lent_key key.entry) number) (length entries) → ⊥) →
             SplitsEntries entries (spot (lent_key key.entry) number) self.new.at }
     {
-        let at = count_before(&self.block, &self.starts, key, number);
-        if at < self.starts.len() {
+        let block = &self.block;
+        let at = count_before(&block.bytes, &block.starts, key, number);
+        let count = block.starts.len();
+        if at < count {
             self.at = at;
             return;
         }
-        self.at = self.starts.len() - 1;
+        self.at = count - 1;
     }
 }

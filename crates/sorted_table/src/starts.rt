@@ -1,16 +1,13 @@
-//! The places of the entries of a block, and the entries read there.
-ghost use Rattle.std.specs.Prelude.{◌≡◌, ◌≤◌, List, IfOk, IfSome, IsSomeAnd, length};
-ghost use Rattle.std.specs.Prelude.{option_map};
+//! The entries that are read at places of a block, and the search among them.
+ghost use Rattle.std.specs.Prelude.{◌≡◌, ◌≤◌, List, length, option_map};
 ghost use Rattle.kv_types.specs.{Entry, lent_key};
 ghost use Rattle.merge_iter.specs.{spot};
-ghost use Rattle.table_format.specs.{AreRising, IsBlock, lent_entry};
-ghost use Rattle.sorted_table.specs.EntryReads.{AreRead, ReadsEntries, SplitsEntries, entry_read};
-ghost use Rattle.sorted_table.specs.EntryReads.{is_read_before};
+ghost use Rattle.table_format.specs.{AreRising, lent_entry};
+ghost use Rattle.table_files.specs.{ReadsEntries, entry_read};
+ghost use Rattle.sorted_table.specs.EntrySplits.{SplitsEntries, is_read_before};
 
-use byte_fields::read_u32;
 use kv_types::LentKey;
 use merge_iter::order;
-use std::alloc::AllocError;
 use table_format::{LentEntry, entry_of};
 
 /// The entry that starts at this place of the bytes, if there is one.
@@ -22,30 +19,6 @@ pub fn entry_from(bytes: &[u8], start: usize) -> Option<LentEntry<'_>>
     }
     let (entry, _rest) = entry_of(&bytes[start..])?;
     Some(entry)
-}
-
-/// The place of each entry of a block, if the bytes are one. The places are put into the memory of
-/// `starts`.
-pub fn starts_in(block: &[u8], mut starts: Vec<usize>) -> Result<Option<Vec<usize>>, AllocError>
-    ensures read { IfOk result (λ it. IfSome it (λ starts. AreRead block.now starts.items)) }
-    ensures few { IfOk result
-        (λ it. IfSome it (λ starts. length starts.items ≤ length block.now)) }
-    ensures entries { (entries : List Entry) → IsBlock block.now entries → IfOk result
-        (λ it. IsSomeAnd it (λ starts. ReadsEntries block.now starts.items entries)) }
-{
-    starts.clear();
-    let Some((count, entries)) = read_u32(block) else {
-        return Ok(None);
-    };
-    let mut rest = entries;
-    for _done in 0..count {
-        let Some((_entry, after)) = entry_of(rest) else {
-            return Ok(None);
-        };
-        starts.push(block.len() - rest.len())?;
-        rest = after;
-    }
-    Ok(Some(starts))
 }
 
 // Whether the entry that starts there comes before that key and number.

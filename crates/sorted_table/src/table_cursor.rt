@@ -37,22 +37,13 @@ fn cursor_error(e: FileError) -> CursorError
     }
 }
 
-// The memory that a place keeps the starts of entries in.
-fn starts_of(alloc: Global, place: Option<BlockPlace>) -> Vec<usize> {
-    match place {
-        Some(place) => place.into_starts(),
-        None => Vec::new(alloc),
-    }
-}
-
-// The first entry of the block of a line. The memory of `starts` is used again.
+// The first entry of the block of a line.
 fn first_of<D: Disk + Drop>(
     alloc: Global,
     files: &mut CachedDisk<D>,
     file: u64,
     lines: &RcSlice<IndexLine>,
     line: usize,
-    starts: Vec<usize>,
 ) -> Result<BlockPlace, FileError>
     requires { line < length (rc_slice_items lines.now) }
     ensures device { ReadsDisk ⟦<CachedDisk<D> as Disk>⟧ files.old files.new result }
@@ -67,7 +58,7 @@ fn first_of<D: Disk + Drop>(
         HasLines (⟦<CachedDisk<D> as Disk>⟧.state files.old file) (rc_slice_items lines.now) → ⊥ }
 {
     let block = block_of_line(alloc, files, file, lines, line)?;
-    BlockPlace::new(line, block, starts)?.ok_or(FileError::Damaged)
+    BlockPlace::new(line, block).ok_or(FileError::Damaged)
 }
 
 /// A cursor over the entries of a table. It shares the lines of the index with its table, and
@@ -116,7 +107,6 @@ impl<D: Disk + Drop> TableCursor<D> {
         files: &mut CachedDisk<D>,
         line: usize,
         way: Direction,
-        starts: Vec<usize>,
     ) -> Result<(), CursorError>
         ensures table { (self.new.file ≡ self.old.file) × (self.new.lines ≡ self.old.lines) }
         ensures moved { EntersBlock ⟦<CachedDisk<D> as Disk>⟧ self.old.file
@@ -136,7 +126,7 @@ impl<D: Disk + Drop> TableCursor<D> {
             self.has_failed = false;
             return Ok(());
         }
-        match first_of(self.alloc, files, self.file, &self.lines, line, starts) {
+        match first_of(self.alloc, files, self.file, &self.lines, line) {
             Ok(place) => {
                 self.place = Some(place.at_end(way));
                 self.has_failed = false;
@@ -164,8 +154,7 @@ impl<D: Disk + Drop> TableCursor<D> {
         if self.has_block(line) {
             return Ok(());
         }
-        let starts = starts_of(self.alloc, self.place.take());
-        self.enter(files, line, Direction::Forward, starts)
+        self.enter(files, line, Direction::Forward)
     }
 }
 
@@ -241,7 +230,7 @@ impl<D: Disk + Drop> Cursor for TableCursor<D> {
             return Ok(());
         }
         let line = place.line() + 1;
-        self.enter(files, line, Direction::Forward, place.into_starts())
+        self.enter(files, line, Direction::Forward)
     }
 
     fn prev(&mut self, files: &mut CachedDisk<D>) -> Result<(), CursorError> {
@@ -257,7 +246,7 @@ impl<D: Disk + Drop> Cursor for TableCursor<D> {
             self.has_failed = false;
             return Ok(());
         }
-        self.enter(files, line - 1, Direction::Backward, place.into_starts())
+        self.enter(files, line - 1, Direction::Backward)
     }
 
     fn seek(
@@ -278,14 +267,12 @@ impl<D: Disk + Drop> Cursor for TableCursor<D> {
     }
 
     fn first(&mut self, files: &mut CachedDisk<D>) -> Result<(), CursorError> {
-        let starts = starts_of(self.alloc, self.place.take());
-        self.enter(files, 0, Direction::Forward, starts)
+        self.enter(files, 0, Direction::Forward)
     }
 
     fn last(&mut self, files: &mut CachedDisk<D>) -> Result<(), CursorError> {
-        let starts = starts_of(self.alloc, self.place.take());
         let line = self.lines.len().saturating_sub(1);
-        self.enter(files, line, Direction::Backward, starts)
+        self.enter(files, line, Direction::Backward)
     }
 
     ghost laws = { table_laws ⟦<CachedDisk<D> as Disk>⟧ (λ c. c.file) (λ c. rc_slice_items c.lines)

@@ -4,8 +4,6 @@ use Rattle.std.proofs.Common.{false, is_some}
 use Rattle.std.proofs.Math.Logic.{∥∥₁_elim}
 use Rattle.std.proofs.Common.{Option, Some, None, Result, Err, refl, sym, ap, subst, ◌∙◌}
 use Rattle.std.specs.Prelude.{IsSomeAnd, IsNone, MatchOption}
-use Rattle.std.specs.declared.rc.RcSlice.{RcSlice}
-use Rattle.std.specs.Global.{Global}
 use Rattle.std.proofs.lemmas.List.{length-take, length-drop}
 use Rattle.kv_types.specs.{Entry}
 use Rattle.disk.specs.{State, seen}
@@ -14,6 +12,7 @@ use Rattle.disk.specs.declared.DiskError.{DiskError}
 use Rattle.disk.specs.declared.DiskError.TheVariants.{Failed, NoFile, Short, Memory}
 use Rattle.table_format.specs.{IsBlock, IsCheckedBlock, file_error}
 use Rattle.table_format.specs.declared.FileError.{FileError}
+use Rattle.table_files.specs.declared.block.CheckedBlock.{CheckedBlock}
 use Rattle.table_files.specs.BlockReads.{IsPartAt, BlockAnswer}
 
 -- what never holds has one proof at most
@@ -71,10 +70,10 @@ short_file (Some bytes) place part short at checked =
 
 -- what a refused read says
 pub refused : (e : DiskError) (disk : State) (file place len : ℕ)
-    (result : Result (RcSlice ℕ Global) FileError) → result ≡ Err (file_error e)
+    (result : Result CheckedBlock FileError) → result ≡ Err (file_error e)
     → IsRefusalOf e disk file (place + len) → BlockAnswer disk file place len result
 refused e disk file place len result is refusal =
-    subst (λ (r : Result (RcSlice ℕ Global) FileError). BlockAnswer disk file place len r)
+    subst (λ (r : Result CheckedBlock FileError). BlockAnswer disk file place len r)
     (sym is) (answer e refusal)
   where
     answer : (e : DiskError) → IsRefusalOf e disk file (place + len)

@@ -10,10 +10,9 @@ use Rattle.std.specs.Ordering.{nat_cmp}
 use Rattle.std.specs.BTreeMap.{BTreeMap, get, is_at, Updates}
 use Rattle.std.specs.Map.{lookup}
 use Rattle.std.specs.Rc.{rc_slice_items}
-use Rattle.std.specs.declared.rc.RcSlice.{RcSlice}
-use Rattle.std.specs.Global.{Global}
 use Rattle.lru.specs.LruCache.{LruCache, lru_cache, put_entries, promoted}
 use Rattle.lru.proofs.CallerLemmas.{Contains-lookup, Contains-promoted, Contains-put_entries}
+use Rattle.table_files.specs.declared.block.CheckedBlock.{CheckedBlock}
 use Rattle.table_files.specs.Kept.{NumberedBlocks, NumbersDiffer, NumbersAreBelow, IsKeptBlock}
 
 -- ---- keys of blocks
@@ -97,10 +96,10 @@ promoted_below numbers blocks test next below = (
 
 -- a block that is found
 pub found_kept : (numbers : BTreeMap ℕ ℕ) (blocks : NumberedBlocks) (file number place : ℕ)
-    (block copy : RcSlice ℕ Global) → get nat_cmp numbers file ≡ Some number
+    (block copy : CheckedBlock) → get nat_cmp numbers file ≡ Some number
     → lookup (is_key (number, place)) blocks ≡ Some block
-    → rc_slice_items copy ≡ rc_slice_items block
-    → IsKeptBlock numbers blocks file place (rc_slice_items copy)
+    → rc_slice_items copy.bytes ≡ rc_slice_items block.bytes
+    → IsKeptBlock numbers blocks file place (rc_slice_items copy.bytes)
 found_kept numbers blocks file number place block copy known found same =
     let h = Contains-lookup (is_key (number, place)) blocks block found in
     record {
@@ -176,21 +175,21 @@ unchanged old new same file number e =
 -- ---- a block more
 
 abbrev pub Blocks : Type 0
-Blocks = LruCache (ℕ × ℕ) (RcSlice ℕ Global)
+Blocks = LruCache (ℕ × ℕ) CheckedBlock
 
 -- what `put` does to the blocks, whatever it answers
 pub record Puts {X E : Type 0} (was now : Blocks) (result : Result X E) (number place : ℕ)
-    (block : RcSlice ℕ Global) : Type 0 where
+    (block : CheckedBlock) : Type 0 where
   pub entries : OnOk result (now ≡ lru_cache (put_entries is_key was (number, place) block) was.cap)
   pub err : OnErr result (now ≡ was)
 
 -- each block was there, or is the new one
-abbrev pub IsOldOrPut : Blocks → ℕ → ℕ → RcSlice ℕ Global → ℕ → ℕ → RcSlice ℕ Global → Type 0
+abbrev pub IsOldOrPut : Blocks → ℕ → ℕ → CheckedBlock → ℕ → ℕ → CheckedBlock → Type 0
 IsOldOrPut was number place put n p block = Contains was.entries ((n, p), block)
     ⊎ ((n ≡ number) × (p ≡ place) × (block ≡ put))
 
-put_new : (was : Blocks) (number place : ℕ) (put : RcSlice ℕ Global) (n p : ℕ)
-    (block : RcSlice ℕ Global)
+put_new : (was : Blocks) (number place : ℕ) (put : CheckedBlock) (n p : ℕ)
+    (block : CheckedBlock)
     → Contains (put_entries is_key was (number, place) put) ((n, p), block)
     → IsOldOrPut was number place put n p block
 put_new was number place put n p block c =
@@ -205,8 +204,8 @@ put_new was number place put n p block c =
     ]
 
 old_or_put : {X E : Type 0} (was now : Blocks) (result : Result X E) (number place : ℕ)
-    (put : RcSlice ℕ Global) → Puts was now result number place put
-    → (n p : ℕ) (block : RcSlice ℕ Global) → Contains now.entries ((n, p), block)
+    (put : CheckedBlock) → Puts was now result number place put
+    → (n p : ℕ) (block : CheckedBlock) → Contains now.entries ((n, p), block)
     → IsOldOrPut was number place put n p block
 old_or_put was now (Ok x) number place put puts n p block c =
     put_new was number place put n p block
@@ -215,7 +214,7 @@ old_or_put was now (Err e) number place put puts n p block c =
     inl (subst (λ (l : Blocks). Contains l.entries ((n, p), block)) puts.err c)
 
 module _ {X E : Type 0} (numbers : BTreeMap ℕ ℕ) (was now : Blocks) (result : Result X E)
-    (file number place : ℕ) (put : RcSlice ℕ Global)
+    (file number place : ℕ) (put : CheckedBlock)
     (known : get nat_cmp numbers file ≡ Some number) (puts : Puts was now result number place put)
   where
     pub put_below : (next : ℕ) → NumbersAreBelow numbers was.entries next
@@ -231,7 +230,7 @@ module _ {X E : Type 0} (numbers : BTreeMap ℕ ℕ) (was now : Blocks) (result 
     pub put_kept : NumbersDiffer numbers → (f p : ℕ) (bytes : List ℕ)
         → IsKeptBlock numbers now.entries f p bytes
         → IsKeptBlock numbers was.entries f p bytes
-        ⊎ ((f ≡ file) × (p ≡ place) × (bytes ≡ rc_slice_items put))
+        ⊎ ((f ≡ file) × (p ≡ place) × (bytes ≡ rc_slice_items put.bytes))
     put_kept differ f p bytes k =
         elim (old_or_put was now result number place put puts k.number p k.block k.kept) [
           | inl old ↦ inl (record {
@@ -244,6 +243,6 @@ module _ {X E : Type 0} (numbers : BTreeMap ℕ ℕ) (was now : Blocks) (result 
           | inr new ↦ inr (
             differ f file number (k.known ∙ ap Some new.0) known,
             new.1,
-            sym k.spelled ∙ ap rc_slice_items new.2,
+            sym k.spelled ∙ ap (λ (b : CheckedBlock). rc_slice_items b.bytes) new.2,
           )
         ]

@@ -1,3 +1,4 @@
 pub mod KeptLemmas
+pub mod StartWalks
 pub mod BlocksStay
 pub mod BlockReadsLemmas

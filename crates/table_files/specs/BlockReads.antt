@@ -5,13 +5,12 @@ use Rattle.std.proofs.Common.{inl, inr, refl, sym, ap, subst, ◌∙◌, arith}
 use Rattle.std.proofs.lemmas.List.{length-take, length-drop}
 use Rattle.std.specs.Option.{option_map}
 use Rattle.std.specs.Rc.{rc_slice_items}
-use Rattle.std.specs.declared.rc.RcSlice.{RcSlice}
-use Rattle.std.specs.Global.{Global}
 use Rattle.disk.specs.{IsEnvironmental, State, seen}
 use Rattle.kv_types.specs.{Entry}
 use Rattle.table_format.specs.{IsBlock, IsCheckedBlock}
 use Rattle.table_format.specs.declared.FileError.{FileError}
 use Rattle.table_format.specs.declared.FileError.TheVariants as reading
+use Rattle.table_files.specs.declared.block.CheckedBlock.{CheckedBlock}
 use Rattle.table_files.specs.declared.cache.BlockCache.{BlockCache}
 use Rattle.table_files.specs.Caches.{CacheHolds}
 
@@ -32,9 +31,10 @@ AreBlocksAt disk cache = (file place : ℕ) (part : List ℕ) → CacheHolds cac
 
 -- The answers of a read of a block of this length: the block that the file has there, or `Damaged`
 -- where it has none.
-abbrev pub BlockAnswer : State → ℕ → ℕ → ℕ → Result (RcSlice ℕ Global) FileError → Type 0
+abbrev pub BlockAnswer : State → ℕ → ℕ → ℕ → Result CheckedBlock FileError → Type 0
 BlockAnswer disk file place len (Ok block) =
-    (length (rc_slice_items block) ≡ len) × IsBlockAt disk file place (rc_slice_items block)
+    (length (rc_slice_items block.bytes) ≡ len)
+    × IsBlockAt disk file place (rc_slice_items block.bytes)
 BlockAnswer disk file place len (Err reading.Damaged) =
     (part : List ℕ) → length part ≡ len → IsBlockAt disk file place part → ⊥
 BlockAnswer disk file place len (Err reading.Disk) = Unit {0}
@@ -46,10 +46,10 @@ BlockAnswer disk file place len (Err reading.Memory) = Unit {0}
 -- block, but for the device and want of memory.
 abbrev pub KnownBlocksAreAnswered : Type 0
 KnownBlocksAreAnswered = (disk : State) (file place len : ℕ)
-    (result : Result (RcSlice ℕ Global) FileError) (bytes : List ℕ) (entries : List Entry) →
+    (result : Result CheckedBlock FileError) (bytes : List ℕ) (entries : List Entry) →
     BlockAnswer disk file place len result → seen (disk file) ≡ Some bytes →
     place + len ≤ length bytes → IsBlock (take len (drop place bytes)) entries →
-    MatchResult result (λ block. rc_slice_items block ≡ take len (drop place bytes))
+    MatchResult result (λ block. rc_slice_items block.bytes ≡ take len (drop place bytes))
     (IsEnvironmental reading.Disk reading.Memory)
 
 -- the part of this length that the file has there
@@ -71,7 +71,7 @@ is_part file bytes place len is size =
 -- a block that is known to read is answered, or the device or memory refuses it
 pub known_block_answered : KnownBlocksAreAnswered
 known_block_answered disk file place len (Ok block) bytes entries answer is within known =
-    part_of (seen (disk file)) bytes (rc_slice_items block) place len is answer.0 answer.1.0
+    part_of (seen (disk file)) bytes (rc_slice_items block.bytes) place len is answer.0 answer.1.0
 known_block_answered disk file place len (Err reading.Damaged) bytes entries answer is within known
     =
     let size : length (take len (drop place bytes)) ≡ len =

@@ -3,12 +3,11 @@ use Rattle.std.specs.Prelude.{◌≡◌, ℕ, ◌<◌, List, Some, Contains}
 use Rattle.std.specs.Ordering.{nat_cmp}
 use Rattle.std.specs.BTreeMap.{BTreeMap, get}
 use Rattle.std.specs.Rc.{rc_slice_items}
-use Rattle.std.specs.declared.rc.RcSlice.{RcSlice}
-use Rattle.std.specs.Global.{Global}
+use Rattle.table_files.specs.declared.block.CheckedBlock.{CheckedBlock}
 
 -- blocks by the number of their file in a cache and by their place
 abbrev pub NumberedBlocks : Type 0
-NumberedBlocks = List ((ℕ × ℕ) × RcSlice ℕ Global)
+NumberedBlocks = List ((ℕ × ℕ) × CheckedBlock)
 
 -- no two files have one number
 abbrev pub NumbersDiffer : BTreeMap ℕ ℕ → Type 0
@@ -19,14 +18,14 @@ NumbersDiffer numbers = (file other number : ℕ) → get nat_cmp numbers file �
 abbrev pub NumbersAreBelow : BTreeMap ℕ ℕ → NumberedBlocks → ℕ → Type 0
 NumbersAreBelow numbers blocks next =
     ((file number : ℕ) → get nat_cmp numbers file ≡ Some number → number < next)
-    × ((number place : ℕ) (block : RcSlice ℕ Global) → Contains blocks ((number, place), block)
+    × ((number place : ℕ) (block : CheckedBlock) → Contains blocks ((number, place), block)
     → number < next)
 
 -- the bytes of a block that is kept under the file's number and the place
 pub record IsKeptBlock (numbers : BTreeMap ℕ ℕ) (blocks : NumberedBlocks) (file place : ℕ)
     (bytes : List ℕ) : Type 0 where
   pub number : ℕ
-  pub block : RcSlice ℕ Global
+  pub block : CheckedBlock
   pub known : get nat_cmp numbers file ≡ Some number
   pub kept : Contains blocks ((number, place), block)
-  pub spelled : rc_slice_items block ≡ bytes
+  pub spelled : rc_slice_items block.bytes ≡ bytes

@@ -5,11 +5,11 @@ ghost use Rattle.std.specs.BTreeMap.{get};
 ghost use Rattle.std.specs.Rc.{rc_slice_items};
 ghost use Rattle.table_files.specs.Kept.{NumbersDiffer, NumbersAreBelow};
 
+use crate::block::CheckedBlock;
 use lru::LruCache;
 use std::alloc::{AllocError, Global};
 use std::collections::BTreeMap;
 use std::num::NonZeroUsize;
-use std::rc::RcSlice;
 
 /// The blocks of files that were used last.
 ///
@@ -20,7 +20,7 @@ pub struct BlockCache {
     // The numbers of files, by their numbers on the disk.
     numbers: BTreeMap<u64, u64>,
     // By the number here and the place in the file.
-    blocks: LruCache<(u64, u64), RcSlice<u8>>,
+    blocks: LruCache<(u64, u64), CheckedBlock>,
     // The first number that no file has had.
     next: u64,
     ghost apart: { NumbersDiffer numbers },
@@ -43,9 +43,9 @@ impl BlockCache {
     }
 
     /// The block that is kept for a place of the file.
-    pub fn get(&mut self, file: u64, place: u64) -> Result<Option<RcSlice<u8>>, AllocError>
+    pub fn get(&mut self, file: u64, place: u64) -> Result<Option<CheckedBlock>, AllocError>
         ensures found { IfOk result (λ found. IfSome found (λ block.
-            CacheHolds self.old file place (rc_slice_items block))) }
+            CacheHolds self.old file place (rc_slice_items block.bytes))) }
         ensures keeps { AddsNoBlock self.old self.new }
     {
         let Some(number) = self.numbers.get(&file) else {
@@ -78,10 +78,10 @@ impl BlockCache {
     }
 
     /// Keeps a block for a place of the file, where there is memory for it.
-    pub fn keep(&mut self, file: u64, place: u64, block: &RcSlice<u8>)
+    pub fn keep(&mut self, file: u64, place: u64, block: &CheckedBlock)
         ensures { (f p : ℕ) (bytes : List ℕ) → CacheHolds self.new f p bytes →
             CacheHolds self.old f p bytes
-            ⊎ ((f ≡ file) × (p ≡ place) × (bytes ≡ rc_slice_items block.now)) }
+            ⊎ ((f ≡ file) × (p ≡ place) × (bytes ≡ rc_slice_items block.now.bytes)) }
     {
         let Some(number) = self.number_of(file) else {
             return;

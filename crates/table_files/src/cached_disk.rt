@@ -5,12 +5,12 @@ ghost use Rattle.disk.specs.{IsSame, IsStill, KeepsDisk};
 ghost use Rattle.table_format.specs.declared.FileError.TheVariants.{Disk};
 ghost use Rattle.table_files.specs.BlockReads.{AreBlocksAt, BlockAnswer};
 
+use crate::block::CheckedBlock;
 use crate::cache::BlockCache;
 use crate::read::read_block;
 use disk::{Crash, Disk, DiskError, Fault, Junk};
 use std::alloc::{AllocFailed, Global};
 use std::num::NonZeroUsize;
-use std::rc::RcSlice;
 use table_format::FileError;
 
 /// The most blocks that a cache keeps.
@@ -70,16 +70,16 @@ impl<D: Disk + Drop> CachedDisk<D> {
         file: u64,
         place: u64,
         len: usize,
-    ) -> Result<RcSlice<u8>, FileError>
+    ) -> Result<CheckedBlock, FileError>
         ensures kept { KeepsDisk ⟦<CachedDisk<D> as Disk>⟧ self.old self.new (IsErrOf result Disk) ⊥
             IsSame }
         ensures answers { ⟦<CachedDisk<D> as Disk>⟧.is_honest self.old →
             BlockAnswer (⟦<CachedDisk<D> as Disk>⟧.state self.old) file place len result }
-        ensures len { IfOk result (λ block. length (rc_slice_items block) ≡ len) }
+        ensures len { IfOk result (λ block. length (rc_slice_items block.bytes) ≡ len) }
         ensures still { IsStill ⟦<CachedDisk<D> as Disk>⟧ self.old self.new }
     {
         if let Some(block) = self.cache.get(file, place)? {
-            if block.len() == len {
+            if block.bytes.len() == len {
                 return Ok(block);
             }
         }

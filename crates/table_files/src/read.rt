@@ -5,9 +5,9 @@ ghost use Rattle.disk.specs.{IsSame, IsStill, KeepsDisk};
 ghost use Rattle.table_format.specs.declared.FileError.TheVariants.{Disk};
 ghost use Rattle.table_files.specs.BlockReads.{BlockAnswer};
 
+use crate::block::CheckedBlock;
 use disk::Disk;
 use std::alloc::Global;
-use std::rc::RcSlice;
 use table_format::{FileError, entries_of};
 
 /// The bytes from a place of the file on, if they are a block. It needs one device call.
@@ -17,10 +17,10 @@ pub fn read_block<D: Disk>(
     file: u64,
     place: u64,
     len: usize,
-) -> Result<RcSlice<u8>, FileError>
+) -> Result<CheckedBlock, FileError>
     ensures kept { KeepsDisk D.Disk disk.old disk.new (IsErrOf result Disk) ⊥ IsSame }
     ensures answers { D.is_honest disk.old → BlockAnswer (D.state disk.old) file place len result }
-    ensures len { IfOk result (λ block. length (rc_slice_items block) ≡ len) }
+    ensures len { IfOk result (λ block. length (rc_slice_items block.bytes) ≡ len) }
     ensures still { IsStill D.Disk disk.old disk.new }
 {
     let mut bytes = vec![in alloc; 0u8; len]?;
@@ -28,5 +28,5 @@ pub fn read_block<D: Disk>(
     if entries_of(&bytes).is_none() {
         return Err(FileError::Damaged);
     }
-    Ok(RcSlice::from_vec(bytes)?)
+    Ok(CheckedBlock::new(alloc, bytes)?)
 }

@@ -58,7 +58,7 @@ fn has_block(
     byte: u8,
 ) -> bool {
     let block = files.block(alloc, file, 0, BLOCK).expect(rt, "a block");
-    block.as_slice() == block_of(rt, alloc, byte).as_slice()
+    block.bytes.as_slice() == block_of(rt, alloc, byte).as_slice()
 }
 
 /// How many of ten reads in turn answer the file's own block.

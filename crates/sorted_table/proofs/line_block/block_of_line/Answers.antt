@@ -1,7 +1,6 @@
-use Rattle.std.proofs.Common.{List, length, refl, rules, sym, subst}
+use Rattle.std.proofs.Common.{length, refl, rules}
 use Rattle.std.proofs.lemmas.Option.{slice_get_read}
 use Rattle.std.proofs.lemmas.Result.{err_from_is_err_and}
-use Rattle.table_format.specs.{IsBlock}
 use Rattle.table_format.specs.declared.FileError.TheVariants as reading
 use Rattle.sorted_table.proofs.KeptDisk.{kept_alike}
 use Rattle.sorted_table.proofs.MeantLemmas.{misplaced, placed, unread_line}
@@ -34,8 +33,7 @@ returns-then-not-is_at_line-clause-answers g c = λ honest.
     misplaced (g.D.Disk.state c.args.files.now.disk) c.args.file lines c.args.number line
     c.in_ok-block.block at (c.in_ok-block.ensures.answers honest)
     (λ entries is lies.
-    let yes = (c.is_at_line.ensures entries
-    (subst (λ (b : List _). IsBlock b entries) (sym c.deref.ensures.value) is)).1 lies in
+    let yes = (c.is_at_line.ensures entries is).1 lies in
     absurd cc) reading.Damaged
 
 pub returns-clause-answers : goal.returns-clause-answers
@@ -46,5 +44,4 @@ returns-clause-answers g c = λ honest.
     c.index-lines-number.is in
     placed (g.D.Disk.state c.args.files.now.disk) c.args.file lines c.args.number line
     c.in_ok-block.block at (c.in_ok-block.ensures.answers honest)
-    (λ entries is. (c.is_at_line.ensures entries
-    (subst (λ (b : List _). IsBlock b entries) (sym c.deref.ensures.value) is)).0 (search rules))
+    (λ entries is. (c.is_at_line.ensures entries is).0 (search rules))

@@ -1,5 +1,5 @@
 use Rattle.std.proofs.Common.{sym}
-use Rattle.sorted_table.proofs.StartWalks.{none_behind}
+use Rattle.table_files.specs.EntryReadsLemmas.{none_behind}
 use Rattle.sorted_table.proofs.starts.entry_from.Goals as goal
 
 pub returns-then-start-bytes : goal.returns-then-start-bytes

@@ -34,7 +34,7 @@ returns-clause-first g c =
     let at = some_of lines n c.requires in
     rw c.ok_or.ensures.value (first_place lines n at.0 _ at.1 (c.in_ok-block.ensures.len at.0
     (subst (λ l. slice_get l n ≡ Some at.0) (sym c.deref.ensures.value) at.1))
-    c.in_ok-new.field-0 c.in_ok-new.ensures.first c.in_ok-new.ensures.few)
+    c.new.result c.new.ensures.first c.new.ensures.few)
 
 pub returns-clause-reads : goal.returns-clause-reads
 returns-clause-reads g c = λ m honest agree t.
@@ -44,13 +44,13 @@ returns-clause-reads g c = λ m honest agree t.
     let at = some_of lines n c.requires in
     let b = block_of_line disk c.args.file lines n at.0 t c.requires at.1 in
     let read = subst (λ l. IsBlockAtLine l n (g.D.Disk.state c.args.files.now.disk c.args.file)
-    (rc_slice_items c.in_ok-block.block)) c.deref.ensures.value
+    (rc_slice_items c.in_ok-block.block.bytes)) c.deref.ensures.value
     (c.in_ok-block.ensures.answers honest) in
     let right = block_answer disk c.args.file lines n at.0 t b (Ok c.in_ok-block.block)
     (line_read disk c.args.file lines n at.0 c.in_ok-block.block at.1
-    (agree n (rc_slice_items c.in_ok-block.block) read)) in
-    rw c.ok_or.ensures.value (place_in disk c.args.file lines n at.0 t b c.in_ok-new.field-0
-    c.in_ok-new.ensures.first (c.in_ok-new.ensures.entries (block_entries b.block) right))
+    (agree n (rc_slice_items c.in_ok-block.block.bytes) read)) in
+    rw c.ok_or.ensures.value (place_in disk c.args.file lines n at.0 t b c.new.result
+    c.new.ensures.first (c.new.ensures.entries (block_entries b.block) right))
 
 pub returns-clause-damaged : goal.returns-clause-damaged
 returns-clause-damaged g c = λ is honest t.
@@ -60,9 +60,9 @@ returns-clause-damaged g c = λ is honest t.
     let at = some_of lines n c.requires in
     let b = block_of_line disk c.args.file lines n at.0 t c.requires at.1 in
     let read = subst (λ l. IsBlockAtLine l n (disk c.args.file)
-    (rc_slice_items c.in_ok-block.block)) c.deref.ensures.value
+    (rc_slice_items c.in_ok-block.block.bytes)) c.deref.ensures.value
     (c.in_ok-block.ensures.answers honest) in
     let right = block_answer disk c.args.file lines n at.0 t b (Ok c.in_ok-block.block)
     (line_read disk c.args.file lines n at.0 c.in_ok-block.block at.1 read) in
-    places_are_right (λ place. PlaceReads place (block_entries b.block)) c.in_ok-new.field-0
-    (sym c.ok_or.ensures.value ∙ is) (c.in_ok-new.ensures.entries (block_entries b.block) right)
+    places_are_right (λ place. PlaceReads place (block_entries b.block)) c.new.result
+    (sym c.ok_or.ensures.value ∙ is) (c.new.ensures.entries (block_entries b.block) right)

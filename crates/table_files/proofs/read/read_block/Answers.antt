@@ -21,8 +21,8 @@ returns-then-is_none-clause-still g c = λ honest.
     still_same (still (g.D.Disk.state c.args.disk.now) (g.D.Disk.past c.args.disk.now))
     (c.read.ensures.passes honest).moment (c.read.ensures.kept.disk.files honest)
 
-pub returns-in_err-from_vec-clause-still : goal.returns-in_err-from_vec-clause-still
-returns-in_err-from_vec-clause-still g c = λ honest.
+pub returns-in_err-new-clause-still : goal.returns-in_err-new-clause-still
+returns-in_err-new-clause-still g c = λ honest.
     still_same (still (g.D.Disk.state c.args.disk.now) (g.D.Disk.past c.args.disk.now))
     (c.read.ensures.passes honest).moment (c.read.ensures.kept.disk.files honest)
 

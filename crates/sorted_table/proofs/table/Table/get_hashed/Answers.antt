@@ -7,7 +7,6 @@ use Rattle.disk.specs.{IsEnvironmental}
 use Rattle.disk.specs.StillLemmas.{still}
 use Rattle.merge_iter.specs.{spot}
 use Rattle.table_format.specs.declared.FileError.TheVariants as reading
-use Rattle.table_format.specs.{IsBlock}
 use Rattle.sorted_table.specs.Meant.{IsBlockAtLine}
 use Rattle.sorted_table.specs.Open.{LookupFinds}
 use Rattle.sorted_table.proofs.BlockNumbers.{some_of}
@@ -127,8 +126,7 @@ returns g c = record {
       c.find_in.result c.deref-lines.ensures.value
       (omega (arith, c.if-number-lines.false)) c.line_place-number.ensures.place
       (c.in_ok-block.ensures.answers honest)
-      (λ mine is. c.find_in.ensures.found mine
-      (subst (λ (p : List ℕ). IsBlock p mine) (sym c.deref.ensures.value) is));
+      c.find_in.ensures.found;
   checked = λ honest opened.
       let covers = not_denied c.args.self.now.filter.items (lent_key c.args.key) c.args.hashes
       c.denies.result c.requires c.denies.ensures.covered c.if-denies.false in
@@ -141,13 +139,12 @@ returns g c = record {
       c.deref-lines.ensures.value c.line_place-number.ensures.place
       (line_answers file lines n at.0 (lent_key c.args.key) c.args.at c.in_ok-block.block
       c.find_in.result
-      at.1 (c.in_ok-block.ensures.answers honest) (λ mine is. c.find_in.ensures.found mine
-      (subst (λ (p : List ℕ). IsBlock p mine) (sym c.deref.ensures.value) is)));
+      at.1 (c.in_ok-block.ensures.answers honest) c.find_in.ensures.found);
   meant = λ honest meant entries s agree.
       let file = g.D.Disk.state c.args.files.now.disk c.args.self.now.file in
       let lines = c.deref-lines.result.now in
       let n = c.line_place-number.result in
-      let part = rc_slice_items c.in_ok-block.block in
+      let part = rc_slice_items c.in_ok-block.block.bytes in
       let mine = rc_slice_items c.args.self.now.lines in
       let read : IsBlockAtLine mine n file part = subst (λ l. IsBlockAtLine l n file part)
       c.deref-lines.ensures.value (c.in_ok-block.ensures.answers honest) in
@@ -161,8 +158,7 @@ returns g c = record {
       c.find_in.result c.deref-lines.ensures.value
       (omega (arith, c.if-number-lines.false)) c.line_place-number.ensures.place
       here
-      (λ mine is. c.find_in.ensures.found mine
-      (subst (λ (p : List ℕ). IsBlock p mine) (sym c.deref.ensures.value) is)));
+      c.find_in.ensures.found);
   unread = search rules;
   still = search rules;
 }

@@ -28,7 +28,7 @@ returns-clause-found c =
     ≡ Some c.in-Some-peek.block.now =
     sym c.peek.ensures ∙ ap option_copied c.in-Some-peek.is in
     found_kept old.numbers old.blocks.entries c.args.file c.in-Some.number.now c.args.place
-    c.in-Some-peek.block.now c.in_ok-found.found known found c.in_ok-found.ensures.cases
+    c.in-Some-peek.block.now c.in_ok-found.found known found c.in_ok-found.ensures
 
 pub returns-clause-keeps : goal.returns-clause-keeps
 returns-clause-keeps c = λ file place bytes k.

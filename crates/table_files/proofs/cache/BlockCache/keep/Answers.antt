@@ -20,5 +20,5 @@ returns-in-Ok c = λ f p bytes k.
     c.args.place c.in-Ok.copy c.in-Some.ensures.number
     (record { entries = c.put.ensures.entries; err = c.put.ensures.err }) old.apart f p bytes k) [
       | inl was ↦ inl (c.number_of.ensures.keeps f p bytes was)
-      | inr new ↦ inr (new.0, new.1, new.2 ∙ c.in-Ok.ensures.cases)
+      | inr new ↦ inr (new.0, new.1, new.2 ∙ c.in-Ok.ensures)
     ]

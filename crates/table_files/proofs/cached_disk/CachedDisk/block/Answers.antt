@@ -50,7 +50,7 @@ invariant_of-self-2 g c = record {
       let right = blocks_stay (g.D.Disk.state old.disk) disk old.cache c.get.new.self
       (old.checked was) (c.read_block.ensures.kept.files was) c.get.ensures.keeps in
       let there = (c.in_ok-block-2.ensures.answers was).1 in
-      let block = rc_slice_items c.in_ok-block-2.block in
+      let block = rc_slice_items c.in_ok-block-2.block.bytes in
       blocks_and_one disk c.get.new.self c.keep.new.self c.args.file c.args.place block right
       (same_block (g.D.Disk.state old.disk) disk c.args.file c.args.place block
       (c.read_block.ensures.kept.files was c.args.file) there) c.keep.ensures;

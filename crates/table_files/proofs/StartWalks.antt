@@ -6,36 +6,22 @@ use Rattle.std.proofs.Common.{append_assoc, length-append, take-append-drop}
 use Rattle.std.specs.List.{AllByRecursion}
 use Rattle.std.specs.Option.{option_map}
 use Rattle.std.specs.Int.{w32}
-use Rattle.std.proofs.lemmas.List.{drop_at, drop_all, length-map, map-append, length-take}
+use Rattle.std.proofs.lemmas.List.{drop_at, map-append, length-take}
 use Rattle.std.proofs.lemmas.Grind.{flat_map-append}
 use Rattle.std.proofs.lemmas.List.Concat.{flat_map-cons}
 use Rattle.std.proofs.lemmas.List.Elements.{All-from_recursion, recursion_from_All}
 use Rattle.kv_types.specs.{Entry}
-use Rattle.byte_fields.specs.{text_at}
 use Rattle.byte_fields.specs.FieldsLemmas.{IsBytes, some_is}
 use Rattle.byte_fields.specs.Readers.{number_at}
 use Rattle.table_format.specs.Blocks.{IsBlock, IsTableEntry, be32, block_content}
 use Rattle.table_format.specs.Blocks.{digest, entries_bytes, entry_bytes}
-use Rattle.table_format.specs.Reading.{key_at, table_entry_at}
+use Rattle.table_format.specs.Reading.{table_entry_at}
 use Rattle.table_format.specs.EntriesLemmas.{entry_reads}
 use Rattle.table_format.specs.FrontsLemmas.{few_entries, same_entries, split_each}
 use Rattle.table_format.specs.PartsLemmas.{length_reads}
 use Rattle.table_format.specs.PassedLemmas.{Passed, passed_next}
-use Rattle.sorted_table.specs.EntryReads.{AreRead, ReadsEntries, entry_read}
-
--- ---- one entry
-
-nothing_read : table_entry_at [] ≡ None
-unfolding table_entry_at key_at text_at
-nothing_read = refl
-
--- behind the end nothing is read
-pub none_behind : (bytes : List ℕ) (start : ℕ) → length bytes < start
-    → entry_read bytes start ≡ None
-none_behind bytes start past =
-    ap (λ (rest : List ℕ). option_map (λ x. x.0) (table_entry_at rest))
-    (drop_all start bytes (omega arith))
-    ∙ ap (option_map (λ x. x.0)) nothing_read
+use Rattle.table_files.specs.EntryReads.{AreRead, ReadsEntries, entry_read}
+use Rattle.table_files.specs.EntryReadsLemmas.{count_read}
 
 -- ---- entries behind a head
 
@@ -58,12 +44,6 @@ walk_begins block first count fits e =
       head = be32 count;
       split = t.0.parts;
     }
-
--- as many entries as places
-pub count_read : (block starts : List ℕ) (entries : List Entry) → ReadsEntries block starts entries
-    → length starts ≡ length entries
-count_read block starts entries is =
-    sym (length-map starts (entry_read block)) ∙ ap length is ∙ length-map entries Some
 
 pub rest_within : (block first rest starts : List ℕ) → StartsWalked block first rest starts
     → length starts + length rest ≤ length block

@@ -1,6 +1,6 @@
 use Rattle.std.proofs.Common.{◌≡◌, length}
-use Rattle.sorted_table.proofs.StartWalks.{StartsWalked}
-use Rattle.sorted_table.proofs.starts.starts_in.Given as goal
+use Rattle.table_files.proofs.StartWalks.{StartsWalked}
+use Rattle.table_files.proofs.block.starts_in.Given as goal
 
 abbrev pub invariant-loop-done : goal.invariant-loop-done
 invariant-loop-done l = record {

@@ -1,16 +1,16 @@
 use Rattle.std.proofs.Common.{length, subst, sym, arith, ap}
 use Rattle.table_format.specs.{lent_entry}
-use Rattle.sorted_table.proofs.StartWalks.{StartsWalked, all_read, are_read, block_begins}
-use Rattle.sorted_table.proofs.StartWalks.{no_entry, rest_within, walk_begins, walk_goes_on}
-use Rattle.sorted_table.proofs.starts.starts_in.Goals as goal
+use Rattle.table_files.proofs.StartWalks.{StartsWalked, all_read, are_read, block_begins}
+use Rattle.table_files.proofs.StartWalks.{no_entry, rest_within, walk_begins, walk_goes_on}
+use Rattle.table_files.proofs.block.starts_in.Goals as goal
 
 pub loop-done-init : goal.loop-done-init
 loop-done-init c = record {
   walked = subst (StartsWalked c.args.block.now c.in-Some.entries.now c.in-Some.entries.now)
-      (sym c.clear.ensures.items)
+      (sym c.new-starts.ensures.items)
       (walk_begins c.args.block.now c.in-Some.entries.now c.in-Some.count
       (λ i. omega (arith, c.type_inv.block i)) c.in-Some.ensures);
-  number = ap length c.clear.ensures.items;
+  number = ap length c.new-starts.ensures.items;
 }
 
 pub returns-in_default-entry_of-clause-entries : goal.returns-in_default-entry_of-clause-entries
