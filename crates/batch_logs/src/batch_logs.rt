@@ -12,7 +12,7 @@ ghost use Rattle.batch_logs.specs.BatchLogs.{end_of_log, first_number, line_of, 
 ghost use Rattle.batch_logs.specs.BatchLogs.{newest_file, newest_length, next_number};
 ghost use Rattle.batch_logs.specs.BatchLogs.{oldest_first};
 
-use crate::layout::{batch_of, batch_record};
+use crate::layout::{batch_of, spell_record};
 use disk::Disk;
 use disk::laws::{durable_file_is_left, durable_is_left};
 use kv_types::laws::spellings_differ;
@@ -35,6 +35,8 @@ pub struct BatchLogs {
     // The logs but the newest, in order.
     older: Vec<BatchLog>,
     newest: BatchLog,
+    // The record that was appended last, whose memory the next one takes.
+    spelled: Vec<u8>,
 }
 
 /// The batch of this number, read from the log that has it.
@@ -77,6 +79,7 @@ impl BatchLogs {
         BatchLogs {
             older: Vec::new(alloc),
             newest,
+            spelled: Vec::new(alloc),
         }
     }
 
@@ -84,7 +87,12 @@ impl BatchLogs {
     pub(crate) fn of(older: Vec<BatchLog>, newest: BatchLog) -> BatchLogs
         ensures { (result.older.items ≡ older.items) × (result.newest ≡ newest) }
     {
-        BatchLogs { older, newest }
+        let spelled = Vec::new(*older.allocator());
+        BatchLogs {
+            older,
+            newest,
+            spelled,
+        }
     }
 
     /// The number of the oldest batch, or of the next one.
@@ -130,8 +138,8 @@ impl BatchLogs {
         // laws: a crash leaves what is durable, file by file
         durable_is_left();
         durable_file_is_left();
-        let record = batch_record(alloc, number.get(), batch)?;
-        self.newest.log.append(alloc, disk, &record)?;
+        spell_record(&mut self.spelled, number.get(), batch)?;
+        self.newest.log.append(alloc, disk, &self.spelled)?;
         Ok(())
     }
 

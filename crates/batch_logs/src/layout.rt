@@ -1,5 +1,5 @@
 // The records of a store's logs of batches.
-ghost use Rattle.std.specs.Prelude.{◌≡◌, ◌⊎◌, IfOk, IfErr, IsErrOf};
+ghost use Rattle.std.specs.Prelude.{◌≡◌, ◌⊎◌, IfOk, IfErr, IsErrOf, OnOk};
 ghost use Rattle.kv_types.specs.{BatchContent, IsBatch};
 ghost use Rattle.batch_logs.specs.Layout.{batch_record};
 
@@ -7,15 +7,14 @@ use kv_types::{Batch, KvError};
 use std::alloc::{AllocError, Global};
 use store_tables::EngineError;
 
-/// The record of a batch with its number.
-pub(crate) fn batch_record(alloc: Global, number: u64, batch: &Batch) -> Result<Vec<u8>, AllocError>
-    ensures { IfOk result (λ bytes.
-        (bytes.items ≡ batch_record number batch.now) × IsBatch batch.now) }
+/// Makes these bytes the record of a batch with its number.
+pub(crate) fn spell_record(out: &mut Vec<u8>, number: u64, batch: &Batch) -> Result<(), AllocError>
+    ensures { OnOk result
+        ((out.new.items ≡ batch_record number batch.now) × IsBatch batch.now) }
 {
-    let mut out = Vec::with_capacity(alloc, 8 + batch.spelled_len())?;
+    out.clear();
     out.extend_from_slice(&number.to_be_bytes())?;
-    batch.spell_into(&mut out)?;
-    Ok(out)
+    batch.spell_into(out)
 }
 
 /// The batch of a record, if the record has this number.

@@ -10,8 +10,8 @@ use Rattle.batch_logs.proofs.Records.{spelled_fits}
 use Rattle.batch_logs.proofs.batch_logs.BatchLogs.append.Goals as goal
 
 -- nothing was written
-pub returns-in_err-record : goal.returns-in_err-record
-returns-in_err-record g c = record {
+pub returns-in_err-spell_record : goal.returns-in_err-spell_record
+returns-in_err-spell_record g c = record {
   kept = search rules;
   appended = λ first batches honest h. record {
     list = refuses c.from_residual.result _
@@ -30,11 +30,11 @@ pub returns-in_err-append : goal.returns-in_err-append
 returns-in_err-append g c =
     let self = c.args.self.now in
     let batch = c.args.batch.now in
-    let spelled = c.deref.ensures.value ∙ c.in_ok-record.ensures.0 in
+    let spelled = c.deref.ensures.value ∙ c.in_ok-spell_record.ensures.0 in
     let one : c.deref.result.now ≡ batch_record (next_number self) batch =
     spelled ∙ ap (λ n. batch_record n batch) (c.get.ensures.same ∙ c.requires.next) in
     let fits = spelled_fits c.deref.result.now c.get.result batch spelled
-    c.in_ok-record.ensures.1 in
+    c.in_ok-spell_record.ensures.1 in
     record {
       kept = search rules;
       appended = λ first batches honest h.
@@ -67,7 +67,7 @@ returns g c =
     let self = c.args.self.now in
     let batch = c.args.batch.now in
     let one : c.deref.result.now ≡ batch_record (next_number self) batch =
-    c.deref.ensures.value ∙ c.in_ok-record.ensures.0
+    c.deref.ensures.value ∙ c.in_ok-spell_record.ensures.0
     ∙ ap (λ n. batch_record n batch) (c.get.ensures.same ∙ c.requires.next) in
     let told = c.in_ok-append.ensures.told in
     record {
@@ -81,6 +81,7 @@ returns g c =
                 (record {
                   older = self.older;
                   newest = record { first = self.newest.first; log = c.append.new.self };
+                  spelled = c.spell_record.new.out;
                 })
                 refl refl (c.append.ensures.kept.files honest) c.requires.usable.apart refl
                 told.0.start (c.in_ok-append.ensures.appended records honest h.newest.log);

@@ -12,14 +12,15 @@ use Rattle.batch_logs.proofs.batch_logs.BatchLogs.begin.Goals as goal
 
 -- the newest log is behind the older ones, and the new one is the newest
 begun_so : (g : _) (c : goal.After-push_reserved g) → AreBegun c.args.self.now
-    (record { older = c.push_reserved.new.self; newest = c.replace-last.new.dest }) c.args.file
+    (record c.args.self.now { older = c.push_reserved.new.self; newest = c.replace-last.new.dest })
+    c.args.file
 begun_so g c =
     let self = c.args.self.now in
     let new : BatchLog = record {
       first = self.newest.first + c.len.result;
       log = c.in_ok-log.log;
     } in
-    begun self (record { older = c.push_reserved.new.self; newest = c.replace-last.new.dest })
+    begun self (record self { older = c.push_reserved.new.self; newest = c.replace-last.new.dest })
     c.args.file new c.replace-last.ensures.after
     (c.push_reserved.ensures.items
     ∙ ap (λ l. l ++ c.replace-last.result ∷ []) c.in_ok-reserve.ensures.items
@@ -32,7 +33,7 @@ pub returns : goal.returns
 returns g c =
     let self = c.args.self.now in
     let after : BatchLogs =
-    record { older = c.push_reserved.new.self; newest = c.replace-last.new.dest } in
+    record self { older = c.push_reserved.new.self; newest = c.replace-last.new.dest } in
     let new = g.D.Disk.state c.create.new.disk in
     let b = begun_so g c in
     record {
