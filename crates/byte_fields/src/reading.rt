@@ -1,41 +1,43 @@
-//! Readers of numbers and texts, which borrow what they read.
+//! Readers of numbers and texts, which borrow what they read. Those of numbers are inlined, since
+//! the order of keys and each entry that is read call them.
 ghost use Rattle.std.specs.Prelude.{◌≡◌, ◌≤◌, length, IfSome};
 ghost use Rattle.std.specs.Int.{w16, w32, w64};
 ghost use Rattle.byte_fields.specs.Texts.{text_at};
 ghost use Rattle.byte_fields.specs.Readers.{ReadsFront, number_at};
 
 /// The number in the first two bytes, and the bytes behind it.
+#[inline(always)]
 pub fn read_u16(bytes: &[u8]) -> Option<(u16, &[u8])>
     ensures { ReadsFront (λ x. (x.0, x.1.now)) result (number_at w16 bytes.now) }
 {
-    if bytes.len() < 2 {
-        return None;
+    match bytes {
+        [a, b, rest @ ..] => Some((u16::from_be_bytes([*a, *b]), rest)),
+        _ => None,
     }
-    let (front, rest) = bytes.split_at(2);
-    Some((u16::from_be_bytes([front[0], front[1]]), rest))
 }
 
 /// The number in the first four bytes, and the bytes behind it.
+#[inline(always)]
 pub fn read_u32(bytes: &[u8]) -> Option<(u32, &[u8])>
     ensures { ReadsFront (λ x. (x.0, x.1.now)) result (number_at w32 bytes.now) }
 {
-    if bytes.len() < 4 {
-        return None;
+    match bytes {
+        [a, b, c, d, rest @ ..] => Some((u32::from_be_bytes([*a, *b, *c, *d]), rest)),
+        _ => None,
     }
-    let (f, rest) = bytes.split_at(4);
-    Some((u32::from_be_bytes([f[0], f[1], f[2], f[3]]), rest))
 }
 
 /// The number in the first eight bytes, and the bytes behind it.
+#[inline(always)]
 pub fn read_u64(bytes: &[u8]) -> Option<(u64, &[u8])>
     ensures { ReadsFront (λ x. (x.0, x.1.now)) result (number_at w64 bytes.now) }
 {
-    if bytes.len() < 8 {
-        return None;
+    match bytes {
+        [a, b, c, d, e, f, g, h, rest @ ..] => {
+            Some((u64::from_be_bytes([*a, *b, *c, *d, *e, *f, *g, *h]), rest))
+        }
+        _ => None,
     }
-    let (f, rest) = bytes.split_at(8);
-    let number = u64::from_be_bytes([f[0], f[1], f[2], f[3], f[4], f[5], f[6], f[7]]);
-    Some((number, rest))
 }
 
 /// The text behind its length of two bytes, if it has at most `limit` bytes, and the bytes behind

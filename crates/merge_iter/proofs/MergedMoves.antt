@@ -1,6 +1,6 @@
 -- From moves of the children to those of their union.
 use Rattle.std.proofs.Common.{◌≡◌, ◌+◌, ℕ, ap, ◌∙◌, refl, subst, inl, inr, length, get_or, List}
-use Rattle.std.proofs.Common.{Some, Result}
+use Rattle.std.proofs.Common.{Option, Some, Result}
 use Rattle.std.specs.List.{slice_get}
 use Rattle.merge_iter.specs.declared.direction.Direction.{Direction}
 use Rattle.merge_iter.specs.declared.error.CursorError.{CursorError}
@@ -33,10 +33,10 @@ tells_merged S T Broken f h r on to t = absurd on
 
 -- the child that the union stands on, where it can step
 pub child_at : {C : Type 0} (position : C → Position) (xs : List C) (at : Place) (was : Direction)
-    (k : ℕ) (x : C) → at ≡ place.On was k → CanStep (union_position position xs at) → x ≡ get_or xs
-    k x
+    (k : ℕ) (second : Option ℕ) (x : C) → at ≡ place.On was k second
+    → CanStep (union_position position xs at) → x ≡ get_or xs k x
     → (slice_get xs k ≡ Some x) × (union_position position xs at ≡ position x)
-child_at position xs at was k x e can is =
+child_at position xs at was k second x e can is =
     let h : CanStep (child_position position (slice_get xs k)) =
     subst (λ p. CanStep (union_position position xs p)) e can in
     elim (slice_get_cases xs k).1 [

@@ -1,20 +1,24 @@
 -- From where the children stand to where their union stands.
-use Rattle.std.proofs.Common.{◌≡◌, ◌↔◌, ◌<◌, ◌≤◌, ◌+◌, ℕ, ◌⊎◌, inl, inr, refl, sym, ◌∙◌, ap, subst}
+use Rattle.std.proofs.Common.{◌≡◌, ◌↔◌, ◌<◌, ◌≤◌, ℕ, ◌⊎◌, inl, inr, refl, sym, ◌∙◌, ap, subst}
 use Rattle.std.proofs.Common.{List, [], ◌∷◌, zero, suc, slice_set, length, Some, None, arith}
-use Rattle.std.proofs.Common.{get_or, Result, Ok, Err}
+use Rattle.std.proofs.Common.{Result, Ok, Err, Option}
 use Rattle.std.specs.List.{slice_get}
-use Rattle.std.proofs.lemmas.Option.{slice_get_within, slice_get_read}
+use Rattle.std.proofs.lemmas.Option.{slice_get_within}
 use Rattle.std.specs.declared.cmp.Ordering.TheVariants.{Equal}
 use Rattle.merge_iter.specs.declared.direction.Direction.{Direction}
 use Rattle.kv_types.specs.{Entry}
 use Rattle.merge_iter.specs.Order.{entry_cmp, EntryPrecedes}
-use Rattle.merge_iter.specs.Positions.{Position, On, Off, Broken, IsFirst, IsOn, IfOn, WalkStart}
+use Rattle.merge_iter.specs.Positions.{Position, On, Off, Broken, IsFirst, IsOn, IfOn}
+use Rattle.merge_iter.specs.Positions.{WalkStart}
 use Rattle.merge_iter.specs.Positions.{AtEnd, At, After, WalkMeets}
 use Rattle.merge_iter.specs.Merging.{UnionHolds, IsBest, IsNearest, ChildrenAreFirst, IsOpposite}
+use Rattle.merge_iter.specs.Merging.{IsPlaced, IsSecond, child_position}
+use Rattle.merge_iter.specs.Merging.{union_position}
+use Rattle.merge_iter.specs.declared.place.Place.TheVariants as place
 use Rattle.merge_iter.specs.Moves.{MoveFinds}
 use Rattle.merge_iter.specs.Unions.{same_first}
 use Rattle.merge_iter.specs.declared.error.CursorError.{CursorError}
-use Rattle.merge_iter.specs.EntryOrder.{IsUpward, upward, entry_total, never, not_both, chain}
+use Rattle.merge_iter.specs.EntryOrder.{IsUpward, upward, entry_total, not_both, chain}
 use Rattle.merge_iter.specs.EntryOrder.{cases, same_right, equal_back, equal_apart}
 
 -- a child that is not on the entry steps past it by standing still
@@ -132,13 +136,13 @@ ahead way H P entry p Off f late h k c = f p (h, k)
 ahead way H P entry p Broken f late h k c = f
 
 module _ {C : Type 0} (holds : C → Entry → Type 0) (position : C → Position) where
-  pub settled : (way : Direction) (start : WalkStart) (children : List C) (k n : ℕ)
-      → length children ≤ n
+  pub settled : (way : Direction) (start : WalkStart) (children : List C) (but n k : ℕ)
+      → length children ≤ but → length children ≤ n
       → ChildrenAreFirst holds position way start children
-      → (best : IsBest position way children n k)
+      → (best : IsBest position way children but n k)
       → IsFirst way (λ p. UnionHolds holds children p × WalkMeets way start p) (On best.entry)
       × ChildrenAreFirst holds position way (At best.entry) children
-  settled way start children k n all first best =
+  settled way start children but n k past all first best =
       let P : Entry → Type 0 = WalkMeets way start in
       let up = upward way start in
       let here : IsFirst way (λ p. holds best.child p × P p) (On best.entry) =
@@ -147,7 +151,7 @@ module _ {C : Type 0} (holds : C → Entry → Type 0) (position : C → Positio
       let late : (j : ℕ) (d : C) → slice_get children j ≡ Some d → (q : Entry) → position d ≡ On q
       → EntryPrecedes way q best.entry → ⊥ =
       λ j d is q on. let w : j < length children = slice_get_within children j d is in
-      best.best j d q (omega arith) is on in (
+      best.best j d q (omega arith) (λ e. omega (arith, e)) is on in (
         (
           ((k, best.child, best.found, here.0.0), here.0.1),
           λ other h c. ahead way (holds h.0.1) P best.entry other (position h.0.1)
@@ -157,88 +161,38 @@ module _ {C : Type 0} (holds : C → Entry → Type 0) (position : C → Positio
             (first j d is),
       )
 
+  -- the union stands on the best child
+  pub placed : (way : Direction) (start : WalkStart) (children : List C) (but n k : ℕ)
+      (second : Option ℕ) → length children ≤ but → length children ≤ n
+      → ChildrenAreFirst holds position way start children
+      → IsBest position way children but n k → IsSecond position way children k second
+      → IsFirst way (λ p. UnionHolds holds children p × WalkMeets way start p)
+      (union_position position children (place.On way k second))
+      × IsPlaced holds position children (place.On way k second)
+  placed way start children but n k second past all first best next =
+      let r = settled way start children but n k past all first best in
+      let P : Entry → Type 0 = λ p. UnionHolds holds children p × WalkMeets way start p in (
+        subst (λ s. IsFirst way P (child_position position s)) (sym best.found)
+            (subst (λ s. IsFirst way P s) (sym best.on) r.0),
+        (best.child, best.entry, best.found, best.on, r.1, next),
+      )
+
   none_on : (way : Direction) (P : Entry → Type 0) (s : Position) → IsFirst way P s → (IsOn s → ⊥)
       → (p : Entry) → P p → ⊥
   none_on way P (On q) f none = absurd (none tt)
   none_on way P Off f none = f
   none_on way P Broken f none = absurd f
 
-  pub settled_off : (way : Direction) (start : WalkStart) (children : List C) (n : ℕ)
-      → length children ≤ n
-      → ChildrenAreFirst holds position way start children → IsNearest position way children n None
+  pub settled_off : (way : Direction) (start : WalkStart) (children : List C) (but n : ℕ)
+      → length children ≤ but → length children ≤ n
+      → ChildrenAreFirst holds position way start children
+      → IsNearest position way children but n None
       → IsFirst way (λ p. UnionHolds holds children p × WalkMeets way start p) Off
-  settled_off way start children n all first none =
+  settled_off way start children but n past all first none =
       λ other h. let w : h.0.0 < length children = slice_get_within children h.0.0 h.0.1 h.0.2 in
       none_on way (λ p. holds h.0.1 p × WalkMeets way start p) (position h.0.1)
-      (first h.0.0 h.0.1 h.0.2) (none h.0.0 h.0.1 (omega arith) h.0.2) other (h.0.3, h.1)
-
-up_to : (j i : ℕ) → j < i + 1 → (j < i) ⊎ (j ≡ i)
-up_to j i l = grind arith
-
-on_row : (s : Position) → IsOn s → (entry : Entry) × (s ≡ On entry)
-on_row (On entry) h = (entry, refl)
-on_row Off h = absurd h
-on_row Broken h = absurd h
-
-module _ {C : Type 0} (position : C → Position) where
-  at_one : (xs : List C) (i j : ℕ) (c d : C) → slice_get xs i ≡ Some c → slice_get xs j ≡ Some d
-      → j ≡ i → d ≡ c
-  at_one xs i j c d p q e = let h : Some d ≡ Some c = sym q ∙ (ap (slice_get xs) e ∙ p) in cc
-
-  -- child i is the best of i + 1 children, where no earlier one comes before it
-  pub takes : (way : Direction) (children : List C) (i : ℕ) (c : C) → slice_get children i ≡ Some c
-      → IsOn (position c)
-      → ((entry : Entry) → position c ≡ On entry → (j : ℕ) (d : C) (q : Entry) → j < i → slice_get
-      children j ≡ Some d → position d ≡ On q → EntryPrecedes way q entry → ⊥)
-      → IsBest position way children (i + 1) i
-  takes way children i c at on earlier =
-      let r = on_row (position c) on in
-      record {
-        within = slice_get_within children i c at;
-        child = c;
-        entry = r.0;
-        found = at;
-        on = r.1;
-        best = λ j d q l is stood precedes. elim (up_to j i l) [
-          | inl k ↦ earlier r.0 r.1 j d q k is stood precedes
-          | inr e ↦
-              let same : On q ≡ On r.0 = sym stood ∙ (ap position (at_one children i j c d at is e)
-              ∙ r.1) in
-              let entries : q ≡ r.0 = cc in
-              never way r.0 (subst (λ x. EntryPrecedes way x r.0) entries precedes)
-        ];
-      }
-
-  pub takes_first : (way : Direction) (children : List C) (i : ℕ) (c : C) → slice_get children i ≡
-      Some c → IsOn (position c) → IsNearest position way children i None → IsBest position way
-      children (i + 1) i
-  takes_first way children i c at on none = takes way children i c at on
-      (λ entry is j d q l found stood precedes. none j d l found (subst IsOn (sym stood) tt))
-
-  -- the best stays
-  pub keeps : (way : Direction) (children : List C) (i k : ℕ) (c : C) → slice_get children i ≡ Some
-      c → (b : IsBest position way children i k) → ((q : Entry) → position c ≡ On q → EntryPrecedes
-      way q b.entry → ⊥) → IsBest position way children (i + 1) k
-  keeps way children i k c at b late = record {
-    within = b.within;
-    child = b.child;
-    entry = b.entry;
-    found = b.found;
-    on = b.on;
-    best = λ j d q l is stood precedes. elim (up_to j i l) [
-      | inl m ↦ b.best j d q m is stood precedes
-      | inr e ↦ late q (subst (λ x. position x ≡ On q) (at_one children i j c d at is e) stood)
-          precedes
-    ];
-  }
-
-  pub takes_over : (way : Direction) (children : List C) (i k : ℕ) (c : C) → slice_get children i ≡
-      Some c → IsOn (position c) → (b : IsBest position way children i k)
-      → ((q : Entry) → position c ≡ On q → EntryPrecedes way q b.entry) → IsBest position way
-      children (i + 1) i
-  takes_over way children i k c at on b sooner = takes way children i c at on
-      (λ entry is j d q l found stood precedes. b.best j d q l found stood
-      (chain way q entry b.entry precedes (sooner entry is)))
+      (first h.0.0 h.0.1 h.0.2)
+      (none h.0.0 h.0.1 (omega arith) (λ e. omega (arith, e)) h.0.2) other (h.0.3, h.1)
 
 pub get_set : {C : Type 0} (xs : List C) (i : ℕ) (v : C) (j : ℕ) (c : C) → slice_get
     (slice_set xs i v) j ≡ Some c → ((j ≡ i) × (c ≡ v)) ⊎ ((j ≡ i → ⊥) × (slice_get xs j ≡ Some c))
@@ -253,14 +207,6 @@ pub if_on : (s s' : Position) (P : Entry → Entry → Type 0) (a b : Entry) →
     → IfOn s (λ x. IfOn s' (λ y. P x y)) → P a b
 if_on s s' P a b e e2 h = subst (λ v. IfOn v (λ y. P a y)) e2
     (subst (λ v. IfOn v (λ x. IfOn s' (λ y. P x y))) e h)
-
-pub best_child : {C : Type 0} (position : C → Position) (way : Direction) (xs : List C) (n k : ℕ)
-    (b : IsBest position way xs n k) (d : C) → d ≡ get_or xs k d → position d ≡ On b.entry
-best_child position way xs n k b d e =
-    let same : Some d ≡ Some b.child = sym (slice_get_read xs (length xs) k d refl b.within e)
-    ∙ b.found in
-    let alike : d ≡ b.child = cc in
-    ap position alike ∙ b.on
 
 pub turn_step : (was way : Direction) (H : Entry → Type 0) (entry : Entry) (s s' : Position)
     (r : Result (Unit {0}) CursorError) → IsOn s → IsOpposite was way

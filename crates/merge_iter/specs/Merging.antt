@@ -32,22 +32,35 @@ module _ {C : Type 0} where
       (i j : ℕ) (c d : C) (a b : Entry) → slice_get children i ≡ Some c →
       slice_get children j ≡ Some d → holds c a → holds d b → entry_cmp a b ≡ Equal → i ≡ j
 
-  -- of the first n children, child k stands on the entry that is met first
-  pub record IsBest (position : C → Position) (way : Direction) (children : List C) (n k : ℕ)
+  -- of the first n children without one, child k stands on the entry that is met first
+  pub record IsBest (position : C → Position) (way : Direction) (children : List C) (but n k : ℕ)
       : Type 0 where
     pub within : k < length children
+    pub apart : k ≡ but → ⊥
     pub child : C
     pub entry : Entry
     pub found : slice_get children k ≡ Some child
     pub on : position child ≡ On entry
-    pub best : (j : ℕ) (d : C) (q : Entry) → j < n → slice_get children j ≡ Some d →
-        position d ≡ On q → EntryPrecedes way q entry → ⊥
+    pub best : (j : ℕ) (d : C) (q : Entry) → j < n → (j ≡ but → ⊥) →
+        slice_get children j ≡ Some d → position d ≡ On q → EntryPrecedes way q entry → ⊥
 
-  -- the child of the first n whose entry is met first; none where none stands on an entry
-  abbrev pub IsNearest : (C → Position) → Direction → List C → ℕ → Option ℕ → Type 0
-  IsNearest position way children n None =
-      (j : ℕ) (d : C) → j < n → slice_get children j ≡ Some d → IsOn (position d) → ⊥
-  IsNearest position way children n (Some k) = IsBest position way children n k
+  -- the child of the first n without one whose entry is met first; none where none stands on an
+  -- entry
+  abbrev pub IsNearest : (C → Position) → Direction → List C → ℕ → ℕ → Option ℕ → Type 0
+  IsNearest position way children but n None =
+      (j : ℕ) (d : C) → j < n → (j ≡ but → ⊥) → slice_get children j ≡ Some d → IsOn (position d)
+      → ⊥
+  IsNearest position way children but n (Some k) = IsBest position way children but n k
+
+  -- the second child, if one is named, is the nearest of all but child k
+  abbrev pub IsSecond : (C → Position) → Direction → List C → ℕ → Option ℕ → Type 0
+  IsSecond position way children k None = Unit {0}
+  IsSecond position way children k (Some other) =
+      IsBest position way children k (length children) other
+
+  -- all children but child k are as they were
+  abbrev pub OthersStay : ℕ → List C → List C → Type 0
+  OthersStay k old new = (j : ℕ) → (j ≡ k → ⊥) → slice_get new j ≡ slice_get old j
 
   -- each child stands on the first of its entries that a walk from there meets
   abbrev pub ChildrenAreFirst : (C → Entry → Type 0) → (C → Position) → Direction → WalkStart
@@ -63,15 +76,18 @@ module _ {C : Type 0} where
 
   -- where the union stands
   abbrev pub union_position : (C → Position) → List C → Place → Position
-  union_position position children (place.On way k) = child_position position (slice_get children k)
+  union_position position children (place.On way k second) =
+      child_position position (slice_get children k)
   union_position position children place.Off = Off
   union_position position children place.Broken = Broken
 
-  -- the union is on child k: each child stands on its first entry from there on
+  -- the union is on child k: each child stands on its first entry from there on, and the second one
+  -- is the nearest of the others
   abbrev pub IsPlaced : (C → Entry → Type 0) → (C → Position) → List C → Place → Type 0
-  IsPlaced holds position children (place.On way k) =
+  IsPlaced holds position children (place.On way k second) =
       (c : C) × (entry : Entry) × (slice_get children k ≡ Some c) × (position c ≡ On entry)
       × ChildrenAreFirst holds position way (At entry) children
+      × IsSecond position way children k second
   IsPlaced holds position children place.Off = Unit {0}
   IsPlaced holds position children place.Broken = Unit {0}
 
@@ -95,7 +111,7 @@ module _ {C : Type 0} where
 
   -- the steps that a union has left, by its place
   abbrev pub merged_left : (C → Direction → ℕ) → (C → ℕ) → List C → Place → Direction → ℕ
-  merged_left left most children (place.On was k) way = left_along left most children was way
+  merged_left left most children (place.On was k second) way = left_along left most children was way
   merged_left left most children place.Off way = 0
   merged_left left most children place.Broken way = 0
 

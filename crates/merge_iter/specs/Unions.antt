@@ -122,13 +122,14 @@ module _ {C S : Type 0} (holds : C → S → Entry → Type 0) (sound : C → S 
     placed_on : (xs : List C) (a b : S) → AllStay xs a b → EachChild (λ c. sound c a) xs
         → (at : Place) → IsPlaced (λ c. holds c a) position xs at
         → IsPlaced (λ c. holds c b) position xs at
-    placed_on xs a b k each (place.On way n) p = (
+    placed_on xs a b k each (place.On way n second) p = (
       p.0,
       p.1,
       p.2,
       p.3,
       λ i c e. first_kept way (At p.1) (position c) (holds c a) (holds c b)
           (k i c e (each i c e)).1 (p.4 i c e),
+      p.5,
     )
     placed_on xs a b k each place.Off p = tt
     placed_on xs a b k each place.Broken p = tt
@@ -178,10 +179,11 @@ module _ {C S : Type 0} (holds : C → S → Entry → Type 0) (sound : C → S 
 
     merged_within : (xs : List C) (at : Place) (way : Direction) → merged_left left most xs at way ≤
         merged_most most xs
-    merged_within xs (place.On Forward k) Forward = let h = left_all Forward xs in omega (arith, h)
-    merged_within xs (place.On Forward k) Backward = omega arith
-    merged_within xs (place.On Backward k) Forward = omega arith
-    merged_within xs (place.On Backward k) Backward = let h = left_all Backward xs in
+    merged_within xs (place.On Forward k second) Forward =
+        let h = left_all Forward xs in omega (arith, h)
+    merged_within xs (place.On Forward k second) Backward = omega arith
+    merged_within xs (place.On Backward k second) Forward = omega arith
+    merged_within xs (place.On Backward k second) Backward = let h = left_all Backward xs in
         omega (arith, h)
     merged_within xs place.Off way = omega arith
     merged_within xs place.Broken way = omega arith
@@ -215,10 +217,12 @@ module _ {C S K : Type 0} {as_is : S → K} {is_intact : K → S → Type 0}
   -- nor has the union
   all_within : (xs : List C) (at : Place) (way : Direction) → merged_left left most xs at way ≤
       merged_most most xs
-  all_within xs (place.On Forward k) Forward = let h = every_left Forward xs in omega (arith, h)
-  all_within xs (place.On Forward k) Backward = omega arith
-  all_within xs (place.On Backward k) Forward = omega arith
-  all_within xs (place.On Backward k) Backward = let h = every_left Backward xs in omega (arith, h)
+  all_within xs (place.On Forward k second) Forward =
+      let h = every_left Forward xs in omega (arith, h)
+  all_within xs (place.On Forward k second) Backward = omega arith
+  all_within xs (place.On Backward k second) Forward = omega arith
+  all_within xs (place.On Backward k second) Backward =
+      let h = every_left Backward xs in omega (arith, h)
   all_within xs place.Off way = omega arith
   all_within xs place.Broken way = omega arith
 
@@ -256,6 +260,6 @@ module _ {C : Type 0} (position : C → Position)
   -- so does the one on which the union stands
   pub union_fits : (children : List C) (at : Place)
       → IfOn (union_position position children at) IsTableEntry
-  union_fits children (place.On way k) = child_fits (slice_get children k)
+  union_fits children (place.On way k second) = child_fits (slice_get children k)
   union_fits children place.Off = tt
   union_fits children place.Broken = tt

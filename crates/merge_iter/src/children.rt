@@ -5,8 +5,8 @@ ghost use Rattle.kv_types.specs.{Entry, lent_key};
 ghost use Rattle.merge_iter.specs.Order.{spot};
 ghost use Rattle.merge_iter.specs.Positions.{WalkStart, AtEnd, At, After, WalkMeets, IsOn};
 ghost use Rattle.merge_iter.specs.Positions.{IsFirst, IsBroken};
-ghost use Rattle.merge_iter.specs.Merging.{IsNearest, IsOpposite, IsPlaced};
-ghost use Rattle.merge_iter.specs.Merging.{union_position, merged_left};
+ghost use Rattle.merge_iter.specs.Merging.{IsNearest, IsOpposite, IsPlaced, IsSecond};
+ghost use Rattle.merge_iter.specs.Merging.{OthersStay, union_position, merged_left};
 ghost use Rattle.merge_iter.specs.declared.direction.Direction.{Direction as Way};
 ghost use Rattle.merge_iter.specs.declared.direction.Direction.TheVariants.{Forward};
 ghost use Rattle.merge_iter.specs.LentCursors.{AreFirst, AreSound, MovesChildren};
@@ -19,17 +19,21 @@ use crate::error::CursorError;
 use crate::place::Place;
 use kv_types::LentKey;
 
-// The nearest of the first children, with child `i` as one more of them.
+// The nearest of the first children but child `but`, with child `i` as one more of them.
 fn nearer<C: Cursor>(
     children: &Vec<C>,
     way: Direction,
+    but: usize,
     found: Option<usize>,
     i: usize,
 ) -> Option<usize>
     requires room { i < vec_len children.now }
-    requires so_far { IsNearest C.position way children.now.items i found }
-    ensures { IsNearest C.position way children.now.items (i + 1) result }
+    requires so_far { IsNearest C.position way children.now.items but i found }
+    ensures { IsNearest C.position way children.now.items but (i + 1) result }
 {
+    if i == but {
+        return found;
+    }
     let child = &children[i];
     if !child.valid() {
         return found;
@@ -45,13 +49,13 @@ fn nearer<C: Cursor>(
     }
 }
 
-// The child whose entry a walk in this direction meets first.
-fn nearest<C: Cursor>(children: &Vec<C>, way: Direction) -> Option<usize>
-    ensures { IsNearest C.position way children.now.items (vec_len children.now) result }
+// Of the children but child `but`, the one whose entry a walk in this direction meets first.
+fn nearest<C: Cursor>(children: &Vec<C>, way: Direction, but: usize) -> Option<usize>
+    ensures { IsNearest C.position way children.now.items but (vec_len children.now) result }
 {
     let mut found = None;
     for i in 0..children.len() {
-        found = nearer(children, way, found, i);
+        found = nearer(children, way, but, found, i);
     }
     found
 }
@@ -67,9 +71,50 @@ pub fn settle<C: Cursor>(children: &Vec<C>, way: Direction) -> Place
         ≤ sum_by (λ c. C.left c way) children.now.items }
     ensures unbroken { IsBroken (union_position C.position children.now.items result) → ⊥ }
 {
-    match nearest(children, way) {
-        Some(k) => Place::On(way, k),
+    match nearest(children, way, children.len()) {
+        Some(k) => Place::On(way, k, nearest(children, way, k)),
         None => Place::Off,
+    }
+}
+
+/// Where the union stands, once child `k` has moved, and where it was moved in the same direction,
+/// the others stand as they did, with the nearest of them as the second one.
+pub fn resettle<C: Cursor>(
+    children: &Vec<C>,
+    was: Direction,
+    k: usize,
+    second: Option<usize>,
+    way: Direction,
+) -> Place
+    requires room { k < vec_len children.now }
+    ensures settles { (meant : C.Meant) (start : WalkStart) (source : C.Source) →
+        (was ≡ way → IsSecond C.position way children.now.items k second) → AreFirst C.Cursor
+        meant way start children.now.items source → IsFirst way (λ p. union_of C.Cursor meant
+        children.now.items source p × WalkMeets way start p) (union_position C.position
+        children.now.items result) × IsPlaced (λ c. C.holds meant c source) C.position
+        children.now.items result }
+    ensures left { merged_left C.left C.most children.now.items result way
+        ≤ sum_by (λ c. C.left c way) children.now.items }
+    ensures unbroken { IsBroken (union_position C.position children.now.items result) → ⊥ }
+{
+    if !is_same(was, way) {
+        return settle(children, way);
+    }
+    let Some(other_place) = second else {
+        return settle(children, way);
+    };
+    if other_place >= children.len() {
+        return settle(children, way);
+    }
+    let other = &children[other_place];
+    if !other.valid() {
+        return settle(children, way);
+    }
+    let child = &children[k];
+    if child.valid() && precedes(way, child, other) {
+        Place::On(way, k, second)
+    } else {
+        Place::On(way, other_place, nearest(children, way, other_place))
     }
 }
 
@@ -138,8 +183,9 @@ fn step_at<C: Cursor>(
 ) -> Result<(), CursorError>
     requires room { k < vec_len children.old }
     requires on { (c : C) → slice_get children.old.items k ≡ Some c → IsOn (C.position c) }
-    ensures { StepsChildren C.Cursor way way k children.old.items source.old children.new.items
-        source.new result }
+    ensures steps { StepsChildren C.Cursor way way k children.old.items source.old
+        children.new.items source.new result }
+    ensures others { OthersStay k children.old.items children.new.items }
 {
     step(&mut children[k], way, source)
 }
@@ -171,8 +217,9 @@ pub fn advance<C: Cursor>(
 ) -> Result<(), CursorError>
     requires room { k < vec_len children.old }
     requires on { (c : C) → slice_get children.old.items k ≡ Some c → IsOn (C.position c) }
-    ensures { StepsChildren C.Cursor was way k children.old.items source.old children.new.items
-        source.new result }
+    ensures steps { StepsChildren C.Cursor was way k children.old.items source.old
+        children.new.items source.new result }
+    ensures others { was ≡ way → OthersStay k children.old.items children.new.items }
 {
     if is_same(was, way) {
         step_at(children, k, way, source)

@@ -8,7 +8,7 @@ ghost use Rattle.merge_iter.specs.Unions.{union_fits, union_laws};
 ghost use Rattle.merge_iter.specs.LentCursors.{AreDisjoint, AreSound, IsUnion, MovesCursor};
 ghost use Rattle.merge_iter.specs.LentCursors.{StepsCursor, union_of};
 
-use crate::children::{advance, seek_all, settle, start_all};
+use crate::children::{advance, resettle, seek_all, settle, start_all};
 use crate::cursor::Cursor;
 use crate::direction::Direction;
 use crate::error::CursorError;
@@ -49,7 +49,7 @@ impl<C: Cursor> Merged<C> {
         ensures { StepsCursor ⟦<Merged<C> as Cursor>⟧ way self.old source.old self.new source.new
             result }
     {
-        let Place::On(was, k) = self.place else {
+        let Place::On(was, k, second) = self.place else {
             return Err(CursorError::Failed);
         };
         if !self.children[k].valid() {
@@ -57,7 +57,7 @@ impl<C: Cursor> Merged<C> {
         }
         self.place = Place::Broken;
         advance(&mut self.children, was, k, way, source)?;
-        self.place = settle(&self.children, way);
+        self.place = resettle(&self.children, was, k, second, way);
         Ok(())
     }
 
@@ -106,7 +106,7 @@ impl<C: Cursor> Cursor for Merged<C> {
 
     fn valid(&self) -> bool {
         match self.place {
-            Place::On(_, k) => match self.children.get(k) {
+            Place::On(_, k, _) => match self.children.get(k) {
                 Some(child) => child.valid(),
                 None => false,
             },
@@ -117,7 +117,7 @@ impl<C: Cursor> Cursor for Merged<C> {
 
     fn key(&self) -> LentKey<'_> {
         match self.place {
-            Place::On(_, k) => self.children[k].key(),
+            Place::On(_, k, _) => self.children[k].key(),
             Place::Off => LentKey::empty(),
             Place::Broken => LentKey::empty(),
         }
@@ -125,7 +125,7 @@ impl<C: Cursor> Cursor for Merged<C> {
 
     fn number(&self) -> u64 {
         match self.place {
-            Place::On(_, k) => self.children[k].number(),
+            Place::On(_, k, _) => self.children[k].number(),
             Place::Off => 0,
             Place::Broken => 0,
         }
@@ -133,7 +133,7 @@ impl<C: Cursor> Cursor for Merged<C> {
 
     fn value(&self) -> Option<&[u8]> {
         match self.place {
-            Place::On(_, k) => self.children[k].value(),
+            Place::On(_, k, _) => self.children[k].value(),
             Place::Off => None,
             Place::Broken => None,
         }

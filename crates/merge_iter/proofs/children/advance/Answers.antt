@@ -5,14 +5,14 @@ use Rattle.merge_iter.specs.Moves.{law_at}
 use Rattle.merge_iter.proofs.Loops.{across, left_most, always_ok}
 use Rattle.merge_iter.proofs.children.advance.Goals as goal
 
-pub returns-then-is_same : goal.returns-then-is_same
-returns-then-is_same g c =
+pub returns-then-is_same-clause-steps : goal.returns-then-is_same-clause-steps
+returns-then-is_same-clause-steps g c =
     subst (λ was. StepsChildren g.C.Cursor was c.args.way c.args.k c.args.children.now.items
     c.args.source.now c.step_at.new.children.items c.step_at.new.source c.step_at.result)
-    (sym (c.is_same.ensures.same.0 c.if-is_same.true)) c.step_at.ensures
+    (sym (c.is_same.ensures.same.0 c.if-is_same.true)) c.step_at.ensures.steps
 
-pub returns-else-is_same : goal.returns-else-is_same
-returns-else-is_same g c = record {
+pub returns-else-is_same-clause-steps : goal.returns-else-is_same-clause-steps
+returns-else-is_same-clause-steps g c = record {
   moved = c.turn_all.ensures.moved;
   ends =
       let e = across g.C.Cursor.left g.C.Cursor.most c.args.was c.args.way c.args.children.now.items
@@ -32,3 +32,12 @@ returns-else-is_same g c = record {
       (c.is_same.ensures.turned (λ h. let f = c.if-is_same.false in
       let t : IsTrue c.is_same.result = h in cc)) all first;
 }
+
+pub returns-then-is_same-clause-others : goal.returns-then-is_same-clause-others
+returns-then-is_same-clause-others g c same = c.step_at.ensures.others
+
+pub returns-else-is_same-clause-others : goal.returns-else-is_same-clause-others
+returns-else-is_same-clause-others g c same =
+    let f = c.if-is_same.false in
+    let t : IsTrue c.is_same.result = c.is_same.ensures.same.1 same in
+    cc

@@ -2,11 +2,12 @@ use Rattle.std.proofs.Common.{refl, length, arith}
 use Rattle.std.proofs.lemmas.Option.{slice_get_read}
 use Rattle.merge_iter.specs.Moves.{law_at, one_move}
 use Rattle.merge_iter.specs.LentCursors.{AreIntact, IsIntact}
+use Rattle.merge_iter.proofs.Nearest.{others_stay}
 use Rattle.merge_iter.proofs.Loops.{fewer, none_moved, move_one, stepped, tells_on}
 use Rattle.merge_iter.proofs.children.step_at.Goals as goal
 
-pub returns : goal.returns
-returns g c =
+pub returns-clause-steps : goal.returns-clause-steps
+returns-clause-steps g c =
     let at = slice_get_read c.args.children.now.items (length c.args.children.now.items) c.args.k
     c.index_mut.result.now refl (search (arith, c.requires.room)) c.index_mut.ensures.value in
     record {
@@ -36,3 +37,7 @@ returns g c =
           at atx on apart all first (one_move c.step.ensures.moves meant)
           (c.step.ensures.finds meant (all c.args.k c.index_mut.result.now at));
     }
+
+pub returns-clause-others : goal.returns-clause-others
+returns-clause-others g c =
+    others_stay c.args.children.now.items c.args.k c.step.new.child
