@@ -1,29 +1,37 @@
 -- The stores of engines that were opened or created.
 use Rattle.std.proofs.Common.{◌≡◌, ap, inl, inr, refl, subst, sym, ℕ, Bool, false, List, true, ◌∙◌}
+use Rattle.std.proofs.Common.{[], ◌∷◌}
 use Rattle.std.proofs.Math.Path.{fun_ext}
 use Rattle.std.specs.Prelude.{◌↔◌, Result, Ok, Err, IfOk, IsFalse, IsTrue, MatchResult}
+use Rattle.std.specs.Prelude.{Contains}
 use Rattle.kv_types.specs.declared.Limits.{Limits}
 use Rattle.kv_types.specs.{BatchContent}
 use Rattle.disk.specs.declared.Disk.{Ghosts}
 use Rattle.disk.specs.{AlwaysLeaves, Contents, IsCrashOutcome, IsEnvironmental, KeepsDisk}
-use Rattle.disk.specs.{OnlyLeaves, State, contents}
+use Rattle.disk.specs.{IsStill, OnlyLeaves, State, contents, seen}
+use Rattle.disk.specs.StillLemmas.{still_more}
 use Rattle.engine.specs.EngineError.TheVariants as engine
 use Rattle.engine.specs.EngineError.{EngineError}
 use Rattle.engine.specs.declared.Engine.{Engine}
 use Rattle.engine.specs.KeepingLemmas.{kept_as, neither}
-use Rattle.engine.specs.{ExplainsRefusal, Facts, FilesRepresent, IsEngineOf, IsJustOpened}
-use Rattle.engine.specs.{IsNotCreated, IsOneOf}
-use Rattle.engine.specs.{IsOpened, IsOwned, LookUps, OpensAs, engine_disk, facts_of, look_ups}
+use Rattle.engine.specs.{EngineHolds, ExplainsRefusal, Facts, FilesRepresent, HasFirstFiles}
+use Rattle.engine.specs.{HasOnlyFiles, IsEngineOf, IsJustOpened, IsNewEngine, IsNotCreated, IsOneOf}
+use Rattle.engine.specs.{IsOpened, IsOwned, LookUps, OpensAs, engine_disk, engine_files, facts_of}
+use Rattle.engine.specs.{AreAlone, AreReadAlike, TendedStore, first_facts, kept_files, look_ups}
+use Rattle.engine.specs.{tended_version}
 use Rattle.embedded_store.specs.declared.error.OpenError.{OpenError}
 use Rattle.embedded_store.specs.declared.error.OpenError.TheVariants.{Store}
 use Rattle.embedded_store.specs.declared.store.EmbeddedStore.{EmbeddedStore}
 use Rattle.manifest.specs.{HasOnlyCreationFiles, OnlyLooks, WasCutShort}
-use Rattle.embedded_store.specs.Openings.{CreatesStore, ExplainsOpening, IsOpenedFrom}
-use Rattle.embedded_store.specs.Openings.{IsOwnStore, IsStoreOver, KeepsOpenedDisk, OpensContents}
-use Rattle.embedded_store.specs.Openings.{IsOfEnvironment, StandsAlone, disk_of_opening}
-use Rattle.embedded_store.specs.Stores.{IsFreshStore, store_engine}
+use Rattle.embedded_store.specs.Alone.{IsAloneAs}
+use Rattle.embedded_store.specs.Openings.{CreatesStore, ExplainsOpening, IsFirstStore}
+use Rattle.embedded_store.specs.Openings.{IsOfEnvironment, IsOpenedAs, IsOpenedFrom, IsOwnStore}
+use Rattle.embedded_store.specs.Openings.{IsStoreOver, KeepsOpenedDisk, KeepsRefusedFiles}
+use Rattle.embedded_store.specs.Openings.{OpensContents, StandsAlone, disk_of_opening}
+use Rattle.embedded_store.specs.Stores.{IsFreshStore, store_disk, store_engine}
 use Rattle.embedded_store.proofs.Looks.{leaves_behind, look_leaves}
-use Rattle.embedded_store.proofs.Refusals.{external_explains, explained, not_external}
+use Rattle.embedded_store.proofs.Refusals.{chain_is_store, explained, external_explains}
+use Rattle.embedded_store.proofs.Refusals.{external_is_store, files_not_external, not_external}
 use Rattle.embedded_store.proofs.Refusals.{refused_externally, store_external}
 
 module _ {D : Type 0} (g : Ghosts D) where
@@ -55,16 +63,61 @@ module _ {D : Type 0} (g : Ghosts D) where
       (subst (λ (f : Facts). OpensAs left f (look_ups engine).count)
       (sym (same_facts engine store is)) opens)
 
+  -- its tends work on the same
+  same_store : (engine : Engine D g) (store : EmbeddedStore D g) → IsStoreOver engine store →
+      engine_files (store_engine store) ≡ engine_files engine
+  same_store engine store is =
+      ap (λ (it : TendedStore D). kept_files (tended_version it)) is.stays.work
+
+  -- and the files that the engine has are its own
+  pub opened_as : (disk : D) (engine : Engine D g) (store : EmbeddedStore D g) →
+      IsStoreOver engine store → StandsAlone (facts_of engine) →
+      IsOpened (contents (g.state disk)) engine →
+      AreReadAlike (engine_files engine) (g.state disk) (g.state (engine_disk engine)) →
+      HasOnlyFiles g engine (engine_files engine) → IsOpenedAs (contents (g.state disk)) store
+  opened_as disk engine store is alone opens alike swept = record {
+    opened = opened_from (contents (g.state disk)) engine store is opens;
+    alone = subst StandsAlone (sym (same_facts engine store is)) alone;
+    alike = λ file has.
+        ap (λ (d : D). seen (g.state d file)) is.disk
+        ∙ alike file (subst (λ (l : List ℕ). Contains l file) (same_store engine store is) has);
+    swept = λ honest.
+        subst (λ (l : List ℕ). AreAlone l (g.state (store_disk store)))
+        (sym (same_store engine store is))
+        (subst (λ (d : D). AreAlone (engine_files engine) (g.state d)) (sym is.disk)
+        (swept (subst g.is_honest is.disk honest)));
+  }
+
+  -- the store of an engine that was created
+  pub first_store : (engine : Engine D g) (id : ℕ) (ids : List ℕ) (given : Limits)
+      (store : EmbeddedStore D g) → IsAloneAs id ids → g.is_honest (engine_disk engine) →
+      EngineHolds g engine [] → IsNewEngine id ids given engine → IsStoreOver engine store →
+      IsFirstStore store
+  first_store engine id ids given store alone honest holds new is = record {
+    facts = same_facts engine store is ∙ ap (λ (l : LookUps). l.facts) new.told
+        ∙ ap (λ (n : ℕ). first_facts n ids) alone.0
+        ∙ ap (λ (l : List ℕ). first_facts 1 l) alone.1;
+    holds = is.stays.holds [] holds;
+    files = subst (λ (d : D). HasFirstFiles (g.state d) 1 (1 ∷ [])) (sym is.disk)
+        (subst (λ (l : List ℕ). HasFirstFiles (g.state (engine_disk engine)) 1 l) alone.1
+        (subst (λ (n : ℕ). HasFirstFiles (g.state (engine_disk engine)) n ids) alone.0
+        (new.files honest)));
+  }
+
   -- what an engine that was opened promises, its store or the refusal does
-  pub own_opens : (disk : D) (left : Contents) (engine : Engine D g)
+  pub own_opens : (disk : D) (engine : Engine D g)
       (result : Result (EmbeddedStore D g) (OpenError × D)) →
-      ((facts : Facts) (list : List BatchContent) → FilesRepresent facts list left →
-      IsEngineOf g facts list engine) → IsOpened left engine → (IsNotCreated left → ⊥) →
+      ((facts : Facts) (list : List BatchContent) →
+      FilesRepresent facts list (contents (g.state disk)) → IsEngineOf g facts list engine) →
+      IsOpened (contents (g.state disk)) engine →
+      AreReadAlike (engine_files engine) (g.state disk) (g.state (engine_disk engine)) →
+      HasOnlyFiles g engine (engine_files engine) →
+      (IsNotCreated (contents (g.state disk)) → ⊥) →
       ((facts : Facts) (list : List BatchContent) (facts' : Facts) (list' : List BatchContent) →
       OnlyLeaves (IsOneOf facts list facts' list') (g.state disk) →
       AlwaysLeaves g disk (engine_disk engine) (IsOneOf facts list facts' list')) →
-      IsOwnStore engine result → OpensContents g disk left result
-  own_opens disk left engine (Ok store) found opens created leaves is = record {
+      IsOwnStore engine result → OpensContents g disk (contents (g.state disk)) result
+  own_opens disk engine (Ok store) found opens alike swept created leaves is = record {
     opened = λ facts list files.
         let it = found facts list files in (
           subst StandsAlone it.facts is.0,
@@ -74,12 +127,12 @@ module _ {D : Type 0} (g : Ghosts D) where
           },
         );
     created = λ cut. absurd (created cut.0);
-    told = inl (opened_from left engine store is.1 opens);
+    told = inl (opened_as disk engine store is.1 is.0 opens alike swept);
     any_moment = λ facts list facts' list' only.
         subst (λ (d : D). AlwaysLeaves g disk d (IsOneOf facts list facts' list'))
         (sym is.1.disk) (leaves facts list facts' list' only);
   }
-  own_opens disk left engine (Err refused) found opens created leaves is = record {
+  own_opens disk engine (Err refused) found opens alike swept created leaves is = record {
     opened = λ facts list files.
         inr (
           is.0,
@@ -87,7 +140,12 @@ module _ {D : Type 0} (g : Ghosts D) where
               is.1 (subst StandsAlone (sym (found facts list files).facts) alone),
         );
     created = λ cut. absurd (created cut.0);
-    told = subst (ExplainsOpening left) (sym is.0) tt;
+    told = subst (ExplainsOpening (contents (g.state disk))) (sym is.0) (record {
+      facts = facts_of engine;
+      count = (look_ups engine).count;
+      opens = opens;
+      other = is.1;
+    });
     any_moment = λ facts list facts' list' only.
         subst (λ (d : D). AlwaysLeaves g disk d (IsOneOf facts list facts' list'))
         (sym is.2) (leaves facts list facts' list' only);
@@ -188,6 +246,49 @@ module _ {D : Type 0} (g : Ghosts D) where
       (λ facts list files. subst (IsEnvironmental engine.Disk engine.Memory) is
       (refuses facts list files)) none
       (λ same only. let no : false ≡ true = found.1 only in cc) leaves)
+
+  -- ---- what a refusal leaves
+
+  -- a chain's store is no such refusal
+  pub own_still : (disk : D) (engine : Engine D g)
+      (result : Result (EmbeddedStore D g) (OpenError × D)) → IsOwnStore engine result →
+      KeepsRefusedFiles g disk result
+  own_still disk engine (Ok store) is = tt
+  own_still disk engine (Err refused) is = λ none.
+      absurd (chain_is_store refused.0 is.0 none)
+
+  -- nor is a want of the device or of memory
+  created_still : (disk : D) (result : Result (EmbeddedStore D g) (OpenError × D)) →
+      (g.is_honest disk → CreatesStore result) → KeepsRefusedFiles g disk result
+  created_still disk (Ok store) made = tt
+  created_still disk (Err refused) made = λ none honest.
+      absurd (external_is_store refused.0 (made honest) none)
+
+  -- a creation if the disk is free, behind an opening that left what it found
+  pub free_still : (disk mid : D) (is_free : Bool)
+      (result : Result (EmbeddedStore D g) (OpenError × D)) →
+      (g.is_honest disk → g.is_honest mid) → IsStill g disk mid →
+      (g.is_honest mid → IsTrue is_free → CreatesStore result) →
+      (IsFalse is_free → result ≡ Err (Store engine.NotCreated, mid)) →
+      KeepsRefusedFiles g disk result
+  free_still disk mid true result honest left made refused =
+      created_still disk result (λ at. made (honest at) refl)
+  free_still disk mid false result honest left made refused =
+      subst (KeepsRefusedFiles g disk) (sym (refused refl)) (λ none. left)
+
+  -- the engine's refusal, which left what it found where it is for files
+  pub refused_still : (disk after : D) (e : EngineError) (s : OpenError) → s ≡ Store e →
+      ((IsEnvironmental engine.Disk engine.Memory e → ⊥) → IsStill g disk after) →
+      KeepsRefusedFiles g disk (Err (s, after))
+  refused_still disk after e s is left = λ none. left (files_not_external e s is none)
+
+  -- behind a look
+  pub look_still : {failed : Type 0} (old mid : D)
+      (result : Result (EmbeddedStore D g) (OpenError × D)) → OnlyLooks g old mid failed →
+      KeepsRefusedFiles g mid result → KeepsRefusedFiles g old result
+  look_still old mid (Ok store) looks left = tt
+  look_still old mid (Err refused) looks left = λ none honest.
+      still_more (looks.still honest) (left none (looks.kept.honest.1 honest))
 
   -- ---- an opening behind a look
 

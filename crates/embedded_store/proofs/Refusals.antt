@@ -8,10 +8,10 @@ use Rattle.engine.specs.EngineError.{EngineError}
 use Rattle.engine.specs.EngineError.TheVariants as engine
 use Rattle.engine.specs.{ExplainsRefusal}
 use Rattle.embedded_store.specs.declared.error.OpenError.{OpenError}
-use Rattle.embedded_store.specs.declared.error.OpenError.TheVariants.{Store}
+use Rattle.embedded_store.specs.declared.error.OpenError.TheVariants.{OfChain, Store}
 use Rattle.embedded_store.specs.Errors.{disk_refusal}
 use Rattle.manifest.specs.{HasOnlyCreationFiles, WasCutShort}
-use Rattle.embedded_store.specs.Openings.{ExplainsOpening, IsOfEnvironment}
+use Rattle.embedded_store.specs.Openings.{ExplainsOpening, IsOfEnvironment, IsOfNoStore}
 
 -- a refusal of the engine is for the device exactly where its cause is
 pub store_told : (e : EngineError) (s : OpenError) → s ≡ Store e →
@@ -68,3 +68,22 @@ pub not_external : (e : EngineError) → e ≡ engine.NotCreated →
     IsEnvironmental engine.Disk engine.Memory e → ⊥
 not_external e is (inl device) = cc
 not_external e is (inr memory) = cc
+
+-- ---- refusals for files
+
+-- the refusal of a chain's store is not for files that are none
+pub chain_is_store : (s : OpenError) → s ≡ OfChain → IsOfNoStore s → ⊥
+chain_is_store s is (inl damaged) = cc
+chain_is_store s is (inr none) = cc
+
+-- nor is one for the device or for memory
+pub external_is_store : (s : OpenError) → IsOfEnvironment s → IsOfNoStore s → ⊥
+external_is_store s (inl device) (inl damaged) = cc
+external_is_store s (inl device) (inr none) = cc
+external_is_store s (inr memory) (inl damaged) = cc
+external_is_store s (inr memory) (inr none) = cc
+
+-- and the engine's for such files is for neither
+pub files_not_external : (e : EngineError) (s : OpenError) → s ≡ Store e → IsOfNoStore s →
+    IsEnvironmental engine.Disk engine.Memory e → ⊥
+files_not_external e s is none why = external_is_store s (store_external e s is why) none

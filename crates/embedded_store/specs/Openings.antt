@@ -1,14 +1,17 @@
 -- What an opening finds on a disk: a store that stands alone, nothing, or files that are none.
-use Rattle.std.specs.Prelude.{◌≡◌, ◌⊎◌, List, []}
-use Rattle.std.specs.Prelude.{Result, Ok, Err, IsErrAnd, MatchResult}
+use Rattle.std.specs.Prelude.{◌≡◌, ◌⊎◌, ℕ, List, [], ◌∷◌, Contains}
+use Rattle.std.specs.Prelude.{Result, Ok, Err, IfErr, IsErrAnd, MatchResult}
 use Rattle.kv_types.specs.{BatchContent}
-use Rattle.disk.specs.{AlwaysLeaves, Contents, IsEnvironmental, KeepsDisk, OnlyLeaves}
+use Rattle.disk.specs.{AlwaysLeaves, Contents, IsEnvironmental, IsStill, KeepsDisk, OnlyLeaves}
+use Rattle.disk.specs.{contents}
 use Rattle.disk.specs.declared.Disk.{Ghosts}
 use Rattle.manifest.specs.{HasOnlyCreationFiles, WasCutShort}
 use Rattle.engine.specs.EngineError.TheVariants as engine
 use Rattle.engine.specs.declared.Engine.{Engine}
-use Rattle.engine.specs.{Facts, FilesRepresent, IsDamaged, IsNotCreated, IsOneOf, IsOpened}
-use Rattle.engine.specs.{IsOwned, StaysAsItWas, engine_disk, facts_of, look_ups, with_committed}
+use Rattle.engine.specs.{Facts, FilesRepresent, HasFirstFiles, HasOnlyFiles, IsDamaged}
+use Rattle.engine.specs.{IsNotCreated, IsOneOf, IsOpened, IsOwned, OpensAs, StaysAsItWas}
+use Rattle.engine.specs.{engine_disk, engine_files, facts_of, first_facts, look_ups}
+use Rattle.engine.specs.{with_committed}
 use Rattle.embedded_store.specs.declared.error.OpenError.{OpenError}
 use Rattle.embedded_store.specs.declared.error.OpenError.TheVariants.{InUse, OfChain, Store}
 use Rattle.embedded_store.specs.declared.store.EmbeddedStore.{EmbeddedStore}
@@ -23,10 +26,21 @@ StandsAlone facts = IsAloneAs facts.id facts.ids
 abbrev pub IsOfEnvironment : OpenError → Type 0
 IsOfEnvironment = IsEnvironmental (Store engine.Disk) (Store engine.Memory)
 
+-- refused for files that are none of a store
+abbrev pub IsOfNoStore : OpenError → Type 0
+IsOfNoStore e = (e ≡ Store engine.Damaged) ⊎ (e ≡ Store engine.NotCreated)
+
+-- the files open as a store that does not stand alone
+pub record IsOfChain (left : Contents) : Type 0 where
+  pub facts : Facts
+  pub count : ℕ
+  pub opens : OpensAs left facts count
+  pub other : StandsAlone facts → ⊥
+
 -- why a disk with this content has no store for those who embed it
 abbrev pub ExplainsOpening : Contents → OpenError → Type 0
 ExplainsOpening left InUse = ⊥
-ExplainsOpening left OfChain = Unit {0}
+ExplainsOpening left OfChain = IsOfChain left
 ExplainsOpening left (Store engine.Disk) = Unit {0}
 ExplainsOpening left (Store engine.Memory) = Unit {0}
 ExplainsOpening left (Store engine.Damaged) = IsDamaged left
@@ -60,17 +74,31 @@ module _ {D : Type 0} {g : Ghosts D} where
       (λ refused. IsOfEnvironment refused.0
       ⊎ ((refused.0 ≡ OfChain) × (StandsAlone facts → ⊥)))
 
-  -- a new store without batches, or the device or memory refuses that
+  -- a new store: it stands alone, has no batches, and its disk has the files of a new store and no
+  -- other
+  pub record IsFirstStore (store : EmbeddedStore D g) : Type 0 where
+    pub facts : facts_of (store_engine store) ≡ first_facts 1 (1 ∷ [])
+    pub holds : HoldsBatches g store []
+    pub files : HasFirstFiles (g.state (store_disk store)) 1 (1 ∷ [])
+
+  -- a new store, or the device or memory refuses that
   abbrev pub CreatesStore : Result (EmbeddedStore D g) (OpenError × D) → Type 0
   CreatesStore result =
-      MatchResult result (λ store. HoldsBatches g store [])
-      (λ refused. IsOfEnvironment refused.0)
+      MatchResult result IsFirstStore (λ refused. IsOfEnvironment refused.0)
+
+  -- the content opens as the store, which stands alone; its files read as before, and its disk has
+  -- no other
+  pub record IsOpenedAs (left : Contents) (store : EmbeddedStore D g) : Type 0 where
+    pub opened : IsOpened left (store_engine store)
+    pub alone : StandsAlone (facts_of (store_engine store))
+    pub alike : (file : ℕ) → Contains (engine_files (store_engine store)) file →
+        contents (g.state (store_disk store)) file ≡ left file
+    pub swept : HasOnlyFiles g (store_engine store) (engine_files (store_engine store))
 
   -- what the content is of which an opening made a store: that of the store, or what a creation may
-  -- have left that was cut short, and then the store has no batches
+  -- have left that was cut short, and then the store is a new one
   abbrev pub IsOpenedFrom : Contents → EmbeddedStore D g → Type 0
-  IsOpenedFrom left store =
-      IsOpened left (store_engine store) ⊎ (WasCutShort left × HoldsBatches g store [])
+  IsOpenedFrom left store = IsOpenedAs left store ⊎ (WasCutShort left × IsFirstStore store)
 
   -- the store is the one over this engine, all of whose batches are committed
   pub record IsStoreOver (engine : Engine D g) (store : EmbeddedStore D g) : Type 0 where
@@ -91,6 +119,11 @@ module _ {D : Type 0} (g : Ghosts D) where
   abbrev pub KeepsOpenedDisk : D → Result (EmbeddedStore D g) (OpenError × D) → Type 0
   KeepsOpenedDisk disk result = KeepsDisk g disk (disk_of_opening result)
       (IsErrAnd result (λ refused. refused.0 ≡ Store engine.Disk)) ⊥ IsOwned
+
+  -- an opening that is refused for files that are none of a store leaves them as they were
+  abbrev pub KeepsRefusedFiles : D → Result (EmbeddedStore D g) (OpenError × D) → Type 0
+  KeepsRefusedFiles disk result =
+      IfErr result (λ refused. IsOfNoStore refused.0 → IsStill g disk refused.1)
 
   -- Where a crash before the opening leaves only files of one of two stores, so does one at each
   -- moment since it began.

@@ -18,8 +18,10 @@ use Rattle.table_files.specs.{inner_disk}
 use Rattle.table_files.specs.declared.cached_disk.CachedDisk.{CachedDisk}
 use Rattle.engine.specs.declared.engine.Engine.{Engine}
 use Rattle.engine.specs.Calls.{ChangesList, ChangesSnapshots, KeepsEngine, ListFollows, ReadsEngine}
+use Rattle.engine.specs.Calls.{tended_of}
 use Rattle.engine.specs.Engines.{HasEnded, LookUps, engine_disk, facts_of, look_ups}
 use Rattle.engine.specs.LentFiles.{files_ghosts}
+use Rattle.engine.specs.Tends.{TendedStore}
 use Rattle.engine.specs.UnderWay.{MergesOfEngineLast}
 use Rattle.engine.proofs.Engines.{goes_on, kept_inside, none_since}
 use Rattle.engine.proofs.Results.{closed_by, ends_by, no_refusal, off_of, works_on_ok}
@@ -88,6 +90,7 @@ module _ {D T : Type 0} (g : Ghosts D) (it : Engine D g) (e : EngineError)
   reads_none keeps = record {
     keeps = keeps;
     told = refl;
+    work = refl;
     kept = λ list. follows_none it it list list;
     still = λ honest. still _ _;
   }
@@ -118,6 +121,7 @@ pub snapshots_none : {D : Type 0} (g : Ghosts D) (it : Engine D g) (e : EngineEr
 snapshots_none g it e after result told keeps = record {
   keeps = keeps;
   told = each result told;
+  work = refl;
   kept = λ list. follows_none g it e result told it it list list;
   disk = refl;
 }
@@ -132,10 +136,10 @@ snapshots_none g it e after result told keeps = record {
 -- what a read keeps of an engine that works, which its refusal ends
 pub reads_so : {D T : Type 0} (g : Ghosts D) → HeldFilesAreLeft → MergesOfEngineLast g →
     (old new : Engine D g) (result : Result T EngineError) → (HasEnded old → ⊥) →
-    OnlyReads (files_ghosts g) old.files new.files IsSame result → new.store ≡ old.store →
-    new.merge ≡ old.merge → look_ups new ≡ look_ups old → new.has_ended ≡ is_err result →
-    ReadsEngine g old new result
-reads_so g laws lasts old new result works reads store merge told ended =
+    OnlyReads (files_ghosts g) old.files new.files IsSame result →
+    tended_of new ≡ tended_of old → look_ups new ≡ look_ups old →
+    new.has_ended ≡ is_err result → ReadsEngine g old new result
+reads_so {D = D} g laws lasts old new result works reads work told ended =
     let off = off_of old.has_ended works in
     record {
       keeps = record {
@@ -145,9 +149,10 @@ reads_so g laws lasts old new result works reads store merge told ended =
         refusal = λ other. absurd (no_refusal result reads.causes other);
       };
       told = told;
+      work = work;
       kept = λ list. goes_on g laws lasts old new list result (record {
-        store = store;
-        merge = merge;
+        store = ap (λ (it : TendedStore D). it.store) work;
+        merge = ap (λ (it : TendedStore D). it.merge) work;
         honest = reads.kept.honest.1;
         same = reads.kept.files;
       }) (works_on_ok result new.has_ended ended);

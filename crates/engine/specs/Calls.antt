@@ -1,11 +1,12 @@
 -- What the calls of an engine answer, and what they make of its disk.
 use Rattle.std.specs.Prelude.{◌≡◌, ◌⊎◌, ◌↔◌, ℕ, ◌<◌, List, [], length, true, false}
-use Rattle.std.specs.Prelude.{Result, Ok, Err, IsErrOf, IfOk, IsErrAnd, MatchResult, OnOk}
+use Rattle.std.specs.Prelude.{None, Result, Ok, Err, IsErrOf, IfOk, IsErrAnd, MatchResult, OnOk}
 use Rattle.kv_types.specs.Snapshots.{is_open}
 use Rattle.kv_types.specs.declared.Limits.{Limits}
 use Rattle.kv_types.specs.{BatchContent}
 use Rattle.disk.specs.declared.Disk.{Ghosts}
 use Rattle.disk.specs.{AlwaysLeaves, Contents, IsEnvironmental, IsSame, IsStill, KeepsDisk, State}
+use Rattle.compaction.specs.{turn_key}
 use Rattle.engine.specs.declared.engine.Engine.{Engine}
 use Rattle.store_tables.specs.declared.error.EngineError.{EngineError}
 use Rattle.store_tables.specs.declared.error.EngineError.TheVariants as engine
@@ -74,6 +75,20 @@ IsNoDamage result = IsErrOf result engine.Damaged → ⊥
 
 -- ---- what a call keeps
 
+-- what a tend of an engine works on
+abbrev pub tended_of : {D : Type 0} {g : Ghosts D} → Engine D g → TendedStore D
+tended_of engine = tended_store engine.store engine.merge engine.turn
+
+-- the merge that is under way stays, and so do the keys last taken from each level
+pub record MergeStays {D : Type 0} {g : Ghosts D} (old new : Engine D g) : Type 0 where
+  pub merge : new.merge ≡ old.merge
+  pub turn : new.turn ≡ old.turn
+
+-- no merge is under way, and no key was taken from any level
+pub record HasNoMerge {D : Type 0} {g : Ghosts D} (engine : Engine D g) : Type 0 where
+  pub none : engine.merge ≡ None
+  pub turns : (level : ℕ) → turn_key engine.turn level ≡ None
+
 -- An engine that has ended answers `Failed`, and no other does. External refusals and `Damaged` end
 -- it, and no others do; those others change nothing.
 pub record KeepsEngine {D T : Type 0} (g : Ghosts D) (old new : Engine D g)
@@ -104,8 +119,9 @@ pub record ReadsEngine {D T : Type 0} (g : Ghosts D) (old new : Engine D g)
     (result : Result T EngineError) : Type 0 where
   -- no file changes, and a device that works never fails
   pub keeps : KeepsEngine g old new result ⊥ IsSame
-  -- what the engine tells stays
+  -- what the engine tells stays, and what a tend works on
   pub told : look_ups new ≡ look_ups old
+  pub work : tended_of new ≡ tended_of old
   -- and so does its list
   pub kept : (list : List BatchContent) → ListFollows g old new list list result
   -- a crash at any moment leaves what it might have left before
@@ -119,6 +135,8 @@ pub record ChangesSnapshots {D : Type 0} (g : Ghosts D) (old new : Engine D g)
   -- what the engine tells changes so, or stays where the call is refused
   pub told : MatchResult result (λ _. look_ups new ≡ after (look_ups old))
       (λ _. look_ups new ≡ look_ups old)
+  -- what a tend works on stays
+  pub work : tended_of new ≡ tended_of old
   -- its list stays
   pub kept : (list : List BatchContent) → ListFollows g old new list list result
   -- and its disk is the same
@@ -140,11 +158,14 @@ pub record ChangesList {D T : Type 0} (g : Ghosts D) (old new : Engine D g)
   pub meant : (list : List BatchContent) → EngineWasMeant g old list → AlwaysLeaves g
       (engine_disk old) (engine_disk new) (WereOneOf (facts_of old) list facts (after list))
 
--- an engine has ended if it had, and reads and holds each list that it did
+-- an engine has ended if it had, a tend works on the same, and it reads and holds each list that it
+-- did, or was meant to
 pub record StaysAsItWas {D : Type 0} (g : Ghosts D) (old new : Engine D g) : Type 0 where
   pub ended : HasEnded new ↔ HasEnded old
+  pub work : tended_of new ≡ tended_of old
   pub reads : (list : List BatchContent) → EngineReads g old list → EngineReads g new list
   pub holds : (list : List BatchContent) → EngineHolds g old list → EngineHolds g new list
+  pub meant : (list : List BatchContent) → EngineWasMeant g old list → EngineWasMeant g new list
 
 -- this is said of each list that the engine reads, and of each that it was meant to
 pub record OfEachList {D : Type 0} (g : Ghosts D) (engine : Engine D g)
@@ -157,10 +178,6 @@ pub record OfEachList {D : Type 0} (g : Ghosts D) (engine : Engine D g)
 -- the disk reads as no files of the engine
 abbrev pub IsAdrift : {D : Type 0} (g : Ghosts D) → Engine D g → Type 0
 IsAdrift g engine = (list : List BatchContent) → EngineReads g engine list → ⊥
-
--- what a tend of an engine works on
-abbrev pub tended_of : {D : Type 0} {g : Ghosts D} → Engine D g → TendedStore D
-tended_of engine = tended_store engine.store engine.merge engine.turn
 
 -- what a tend of any disk did
 abbrev pub IsTendOf : {D : Type 0} {g : Ghosts D} → Engine D g → Engine D g → Tended → Type 0
@@ -203,8 +220,8 @@ KeepsOwnedDisk g disk result =
     KeepsDisk g disk (disk_after result) (IsErrAnd result (λ refused. refused.0 ≡ engine.Disk)) ⊥
     IsOwned
 
--- a store without batches, of node x in the first configuration, with these limits; its disk has
--- the files of a new store, and no other
+-- a store without batches and without a merge, of node x in the first configuration, with these
+-- limits; its disk has the files of a new store, and no other
 pub record IsNewEngine {D : Type 0} {g : Ghosts D} (x : ℕ) (ids : List ℕ) (limits : Limits)
     (engine : Engine D g) : Type 0 where
   pub works : HasEnded engine → ⊥
@@ -216,9 +233,10 @@ pub record IsNewEngine {D : Type 0} {g : Ghosts D} (x : ℕ) (ids : List ℕ) (l
     snapshots = [];
   }
   pub files : g.is_honest (engine_disk engine) → HasFirstFiles (g.state (engine_disk engine)) x ids
+  pub rests : HasNoMerge engine
 
--- an opened engine has these limits and no open snapshot, and knows only the batches below the
--- floor to be committed; its disk has no file that its version does not name
+-- an opened engine has these limits, no open snapshot and no merge, and knows only the batches below
+-- the floor to be committed; its disk has no file that its version does not name
 pub record IsJustOpened {D : Type 0} {g : Ghosts D} (given : Limits) (engine : Engine D g) : Type 0
   where
     pub works : HasEnded engine → ⊥
@@ -226,6 +244,7 @@ pub record IsJustOpened {D : Type 0} {g : Ghosts D} (given : Limits) (engine : E
     pub limits : (look_ups engine).limits ≡ given
     pub snapshots : (look_ups engine).snapshots ≡ []
     pub swept : HasOnlyFiles g engine (engine_files engine)
+    pub rests : HasNoMerge engine
 
 -- the engine tells these facts, and its disk represents them and the list
 pub record IsEngineOf {D : Type 0} (g : Ghosts D) (told : Facts) (list : List BatchContent)

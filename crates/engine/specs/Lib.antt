@@ -13,7 +13,9 @@ pub use Rattle.engine.specs.Calls.{IsTendOf, OpensEngineFor}
 pub use Rattle.engine.specs.Calls.{IsAdrift, IsReadableAnswer, IsTendAnswer, TendsAlike, disk_after}
 pub use Rattle.engine.specs.Calls.{IsCloseAnswer, IsOpenAnswer, MayOpen}
 pub use Rattle.engine.specs.Calls.{ChangesList, ChangesSnapshots, OfEachList, ReadsEngine}
-pub use Rattle.engine.specs.Calls.{KeepsOwnedDisk, StaysAsItWas}
+pub use Rattle.engine.specs.Calls.{HasNoMerge, KeepsOwnedDisk, MergeStays, StaysAsItWas}
+pub use Rattle.engine.specs.Calls.{tended_of}
+pub use Rattle.engine.specs.Tends.{TendedStore, tended_version}
 pub use Rattle.engine.specs.Engines.{AreOrdered, HasEnded, HasLongFile, HasOnlyFiles, EngineHolds}
 pub use Rattle.engine.specs.Engines.{HasNearlyFullLog, HasNearlyFullSlot, IsNearlyFull}
 pub use Rattle.engine.specs.Engines.{counting_slot_file}
@@ -31,7 +33,10 @@ pub use Rattle.store_tables.specs.KeepingLemmas
 pub use Rattle.store_tables.specs.Errors.{EndsEngine, IsEnd}
 pub use Rattle.store_files.specs.Adopting.{IsLaterConfig, facts_with_config}
 pub use Rattle.store_files.specs.Files.{Facts, IsOwned, first_facts}
-pub use Rattle.store_files.specs.StoreFiles.{FilesRepresent, IsDamaged, IsOneOf, OpensAs}
+pub use Rattle.store_files.specs.StoreFiles.{FilesRepresent, HasFirstFiles, IsDamaged, IsOneOf}
+pub use Rattle.store_files.specs.StoreFiles.{OpensAs}
 pub use Rattle.store_files.specs.StoreFiles.{StillLeavesOneOf, WereMeant, WereOneOf}
+pub use Rattle.store_files.specs.Openings.{kept_files}
+pub use Rattle.store_files.specs.Settling.{AreAlone, AreReadAlike}
 pub use Rattle.store_files.specs.Tending.{IsSameBeside}
 pub use Rattle.manifest.specs.{IsNotCreated}

@@ -13,7 +13,7 @@ use store_files::laws::{held_files_are_left, open_files_are_apart};
 impl<D: Disk + Drop> Engine<D> {
     ghost use Rattle.std.specs.Prelude.{◌≡◌, IfErr, MatchResult};
     ghost use Rattle.disk.specs.{IsEnvironmental, IsSameBut};
-    ghost use Rattle.engine.specs.Calls.{ChangesList, OfEachList};
+    ghost use Rattle.engine.specs.Calls.{ChangesList, MergeStays, OfEachList};
     ghost use Rattle.engine.specs.Engines.{HasNearlyFullSlot, counting_slot_file, facts_of};
     ghost use Rattle.engine.specs.Engines.{look_ups, with_facts};
     ghost use Rattle.store_files.specs.Adopting.{IsLaterConfig, facts_with_config};
@@ -29,6 +29,7 @@ impl<D: Disk + Drop> Engine<D> {
             (λ _. look_ups self.new ≡ with_facts (look_ups self.old)
             (facts_with_config (facts_of self.old) epoch config.now))
             (λ _. look_ups self.new ≡ look_ups self.old) }
+        ensures merging { MergeStays self.old self.new }
         ensures met { OfEachList D.Disk self.old (λ list.
             IfErr result (IsEnvironmental Disk Memory)) }
     {

@@ -1,7 +1,8 @@
 //! One node's store.
-ghost use Rattle.std.specs.Prelude.{◌≡◌, IfOk, IfErr, false};
+ghost use Rattle.std.specs.Prelude.{◌≡◌, ℕ, IfOk, IfErr, None, false};
 ghost use Rattle.store_tables.specs.declared.error.EngineError.TheVariants.{Disk, Memory};
 ghost use Rattle.table_files.specs.{inner_disk};
+ghost use Rattle.compaction.specs.{turn_key};
 ghost use Rattle.store_files.specs.OpenFiles.{AreCounted, AreUsableFiles, known_facts};
 ghost use Rattle.store_files.specs.UsableProps.{props};
 ghost use Rattle.engine.specs.Snapshots.{AreReadable};
@@ -45,6 +46,7 @@ fn files_over<D: Disk + Drop>(
     limits: &Limits,
 ) -> Result<(CachedDisk<D>, Turn), (EngineError, D)>
     ensures files { IfOk result (λ made. inner_disk made.0 ≡ disk) }
+    ensures turns { IfOk result (λ made. (level : ℕ) → turn_key made.1 level ≡ None) }
     ensures refused { IfErr result (λ refused.
         (refused.0 ≡ EngineError.Memory) × (refused.1 ≡ disk)) }
 {
@@ -66,7 +68,7 @@ impl<D: Disk + Drop> Engine<D> {
     ghost use Rattle.engine.specs.Calls.{ChangesList, ExplainsRefusal, IsAdrift, IsJustOpened};
     ghost use Rattle.engine.specs.Calls.{IsNewEngine, IsOpened, IsTendOf, TendsAsDue};
     ghost use Rattle.engine.specs.Calls.{KeepsOwnedDisk, OfEachList, OpensEngineFor, ReadsEngine};
-    ghost use Rattle.engine.specs.Calls.{StaysAsItWas, disk_after};
+    ghost use Rattle.engine.specs.Calls.{MergeStays, StaysAsItWas, disk_after};
     ghost use Rattle.engine.specs.Engines.{AreOrdered, EngineHolds, FactsRise, HasEnded};
     ghost use Rattle.engine.specs.Engines.{RaisesFactsAtMost};
     ghost use Rattle.engine.specs.Engines.{HasNearlyFullLog, IsNearlyFull};
@@ -179,6 +181,7 @@ impl<D: Disk + Drop> Engine<D> {
             (λ n. (look_ups self.new ≡ with_one_more (look_ups self.old))
             × (n ≡ (look_ups self.new).count))
             (λ _. look_ups self.new ≡ look_ups self.old) }
+        ensures merging { MergeStays self.old self.new }
         ensures met { OfEachList D.Disk self.old (λ list. IfErr result
             (λ e. IsEnvironmental Disk Memory e
             ⊎ ((e ≡ EngineError.Exhausted) × (MAX_NUMBER ≤ (look_ups self.old).count)))) }

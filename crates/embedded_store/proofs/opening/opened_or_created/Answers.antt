@@ -3,9 +3,9 @@ use Rattle.disk.specs.{contents}
 use Rattle.engine.specs.EngineError.{EngineError}
 use Rattle.engine.specs.KeepingLemmas.{kept_as}
 use Rattle.engine.specs.{ExplainsRefusal}
-use Rattle.embedded_store.proofs.Openings.{free_opens, own_fresh, own_kept, own_opens}
-use Rattle.embedded_store.proofs.Openings.{refused_opens}
-use Rattle.embedded_store.proofs.Refusals.{store_told}
+use Rattle.embedded_store.proofs.Openings.{free_opens, free_still, own_fresh, own_kept, own_opens}
+use Rattle.embedded_store.proofs.Openings.{own_still, refused_opens, refused_still}
+use Rattle.embedded_store.proofs.Refusals.{not_external, store_told}
 use Rattle.embedded_store.proofs.opening.opened_or_created.Goals as goal
 
 -- the store of the engine that was opened
@@ -17,9 +17,10 @@ returns-in-Ok-clause-kept g c =
 pub returns-in-Ok-clause-opens : goal.returns-in-Ok-clause-opens
 returns-in-Ok-clause-opens g c = λ honest.
     let opens = c.in-Ok.ensures.told honest in
-    own_opens g.D.Disk c.args.disk (contents (g.D.Disk.state c.args.disk)) c.in-Ok.engine
-    c.own.result (λ facts list files. (c.in-Ok.ensures.opened facts list honest).whole files)
-    opens (c.version_is_one.ensures.created _ _ opens.manifest)
+    own_opens g.D.Disk c.args.disk c.in-Ok.engine c.own.result
+    (λ facts list files. (c.in-Ok.ensures.opened facts list honest).whole files)
+    opens (c.in-Ok.ensures.alike honest) c.in-Ok.ensures.fresh.swept
+    (c.version_is_one.ensures.created _ _ opens.manifest)
     (λ facts list facts' list' only.
     (c.in-Ok.ensures.any_moment facts list facts' list' honest).whole only) c.own.ensures
 
@@ -28,7 +29,18 @@ returns-in-Ok-clause-fresh g c =
     own_fresh g.D.Disk c.args.limits.now c.in-Ok.engine c.own.result c.in-Ok.ensures.fresh
     c.own.ensures
 
+pub returns-in-Ok-clause-still : goal.returns-in-Ok-clause-still
+returns-in-Ok-clause-still g c =
+    own_still g.D.Disk c.args.disk c.in-Ok.engine c.own.result c.own.ensures
+
 -- a creation, if the disk is free
+pub returns-in-NotCreated-clause-still : goal.returns-in-NotCreated-clause-still
+returns-in-NotCreated-clause-still g c =
+    free_still g.D.Disk c.args.disk c.in-Err.disk c.args.is_free c.created_if_free.result
+    c.in-Err.ensures.kept.honest.1
+    (c.in-Err.ensures.still (λ why. not_external c.in-Err.e c.in-NotCreated.is why))
+    c.created_if_free.ensures.created c.created_if_free.ensures.refused
+
 pub returns-in-NotCreated-clause-opens : goal.returns-in-NotCreated-clause-opens
 returns-in-NotCreated-clause-opens g c = λ honest.
     let left = contents (g.D.Disk.state c.args.disk) in
@@ -54,5 +66,7 @@ returns-in_default g c = record {
       (c.in-Err.ensures.told honest) (λ same only. c.in_default.not-NotCreated same)
       (λ facts list facts' list' only.
       (c.in-Err.ensures.any_moment facts list facts' list' honest).whole only);
+  still = refused_still g.D.Disk c.args.disk c.in-Err.disk c.in-Err.e c.from.result c.from.ensures
+      c.in-Err.ensures.still;
   fresh = tt;
 }

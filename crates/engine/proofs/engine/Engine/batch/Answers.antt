@@ -26,4 +26,4 @@ pub returns-clause-reads : goal.returns-clause-reads
 returns-clause-reads g c =
     reads_so g.D.Disk c.held_files_are_left.ensures c.merges_outlive_calls.ensures c.args.self.now _
     c.batch-answer.result (λ h. let off = c.if-self.false in cc) c.batch-answer.ensures.reads refl
-    refl refl c.is_err-self.ensures.value
+    refl c.is_err-self.ensures.value

@@ -34,6 +34,7 @@ returns-clause-changes g c =
     record {
       keeps = keeps_on g.D.Disk c.args.self.now _ tt refl works works;
       told = search rules;
+      work = refl;
       kept = λ list.
           goes_on g.D.Disk c.held_files_are_left.ensures c.merges_outlive_calls.ensures
           c.args.self.now _ list _ (record {

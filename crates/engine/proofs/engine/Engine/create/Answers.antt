@@ -20,6 +20,7 @@ returns-in-Ok-clause-begun g c = record {
   works = not_true;
   told = told_of c.in-Ok.ensures.begun.facts c.in-Ok.ensures.begun.none c.new.ensures;
   files = λ honest. c.in-Ok.ensures.first (c.create.ensures.kept.honest.0 honest);
+  rests = record { none = refl; turns = c.in_ok-files.ensures.turns };
 }
 
 -- the disk is the device that it was

@@ -59,6 +59,7 @@ returns-in-Ok-clause-fresh g c = record {
   limits = refl;
   snapshots = c.new.ensures;
   swept = λ honest. (c.in-Ok.ensures.swept (c.open.ensures.opens.kept.honest.0 honest)).alone;
+  rests = record { none = refl; turns = c.in_ok-files.ensures.turns };
 }
 
 -- and those that it names read as before

@@ -43,4 +43,4 @@ pub returns-clause-reads : goal.returns-clause-reads
 returns-clause-reads g c =
     reads_so g.D.Disk c.held_files_are_left.ensures c.merges_outlive_calls.ensures c.args.self.now _
     c.rows-answer.result (λ h. let failed = c.in_ok-may_read.ensures.closed.1 h in cc)
-    c.rows-answer.ensures.reads refl refl refl c.is_err-self.ensures.value
+    c.rows-answer.ensures.reads refl refl c.is_err-self.ensures.value
