@@ -32,6 +32,12 @@ IsSentTo node sent delivery.Nothing = ⊥
 IsSentTo node sent delivery.Lost = Unit {0}
 IsSentTo node sent (delivery.To x got) = (x ≡ node) × (got ≡ sent)
 
+-- whatever a carrier made of what was sent to this node, it arrives nowhere else
+abbrev pub IsAddressedTo : ℕ → Delivery → Type 0
+IsAddressedTo node delivery.Nothing = ⊥
+IsAddressedTo node delivery.Lost = Unit {0}
+IsAddressedTo node (delivery.To x got) = x ≡ node
+
 -- it was lost on its way
 abbrev pub DeliveryWasLost : Delivery → Type 0
 DeliveryWasLost delivery.Nothing = ⊥

@@ -2,7 +2,8 @@
 ghost use Rattle.std.specs.Prelude.{◌≡◌, ◌↔◌, IfOk};
 ghost use Rattle.link_messages.specs.declared.Frame.{Frame};
 ghost use Rattle.link_messages.specs.{IsFrame, frame_bytes};
-ghost use Rattle.carriers.specs.Deliveries.{DeliveryWasLost, IsSentTo, input_of, request_input};
+ghost use Rattle.carriers.specs.Deliveries.{DeliveryWasLost, IsAddressedTo, IsSentTo, input_of};
+ghost use Rattle.carriers.specs.Deliveries.{request_input};
 ghost use Rattle.carriers.specs.Transmissions.{HasCarriedMore, delivery_lost, one_transmission};
 
 use crate::{Carrier, LabError, Peer, Received, send, send_bytes};
@@ -96,6 +97,7 @@ pub fn send_request<C: Carrier>(
     ensures faithful { C.is_faithful carrier.new ↔ C.is_faithful carrier.old }
     ensures arrives { C.is_faithful carrier.old →
         IfOk result (IsSentTo node (request_input frame)) }
+    ensures addressed { IfOk result (IsAddressedTo node) }
     ensures lost { IfOk result (λ it. DeliveryWasLost it → C.loses) }
     ensures asked { IfOk result (λ it. HasCarriedMore C.has_carried carrier.old carrier.new
         (one_transmission Peer.Client (Peer.Node node) (frame_bytes frame) (delivery_lost it))) }
@@ -118,6 +120,7 @@ pub fn send_posted<C: Carrier>(
     ensures faithful { C.is_faithful carrier.new ↔ C.is_faithful carrier.old }
     ensures arrives { (frame : Frame) → IsFrame frame → bytes.now ≡ frame_bytes frame →
         C.is_faithful carrier.old → IfOk result (IsSentTo to (input_of frame)) }
+    ensures addressed { IfOk result (IsAddressedTo to) }
     ensures lost { IfOk result (λ it. DeliveryWasLost it → C.loses) }
     ensures asked { IfOk result (λ it. HasCarriedMore C.has_carried carrier.old carrier.new
         (one_transmission (Peer.Node from) (Peer.Node to) bytes.now (delivery_lost it))) }

@@ -16,17 +16,17 @@ use Rattle.chain_model.specs.Rules.{if_readable, read}
 use Rattle.chain_model.specs.System.{Answered, Ask, Deliver, SystemEvent, Lost, Notice, Outcome}
 use Rattle.chain_model.specs.System.{Start}
 use Rattle.chain_model.specs.System.{Stop, Tend, Tick, SystemState, answers, node_of, outcome}
-use Rattle.chain_model.specs.System.{reached}
+use Rattle.chain_model.specs.System.{first_state, reached}
 use Rattle.chain_model.specs.Headline.{batches, submitted}
 use Rattle.chain_model.specs.Order.{InOrder, IsInSubmittedOrder, AckIsTrue, ForwardIsTrue}
 use Rattle.chain_model.specs.Freshness.{IsAtMost, ReadsFresh}
 use Rattle.chain_model.specs.Retention.{KeepsEnough}
 use Rattle.kv_types.specs.ListsLemmas.{begins-length, begins_refl, begins_trans}
-use Rattle.kv_types.specs.ListsLemmas.{every_map, part_more}
+use Rattle.kv_types.specs.ListsLemmas.{every_map, part_more, part_trans}
 use Rattle.chain_model.proofs.Configuration.{IsChain, before_part, before_tail, created_has}
 use Rattle.chain_model.proofs.Configuration.{last_epoch}
 use Rattle.chain_model.proofs.Configuration.{later_leaves_out, later_part, tail_has}
-use Rattle.chain_model.proofs.Submitted.{handed}
+use Rattle.chain_model.proofs.Submitted.{accepted, accepted_part, handed}
 use Rattle.chain_model.proofs.Invariant.{FrameOk, ReplyOk, WorldOk, lists_of}
 use Rattle.chain_model.proofs.WorldGrowth.{only_grows}
 use Rattle.chain_model.proofs.Queries.{least_above}
@@ -88,7 +88,8 @@ tells_committed cs events lists (Ack to e from committed have) ok = (ok.1.0, (ok
 
 module _ {A : Type 0} (cs : List (List ℕ)) (lawful : IsChain cs) where
   -- all that holds after every run
-  holds : (events : List (SystemEvent A)) → WorldOk cs events (handed events) (reached cs events)
+  holds : (events : List (SystemEvent A))
+      → WorldOk cs events (accepted cs events (first_state cs)) (reached cs events)
   holds events = reached_ok cs lawful events
 
   -- a node goes by the configuration of its epoch
@@ -154,8 +155,10 @@ module _ {A : Type 0} (cs : List (List ℕ)) (lawful : IsChain cs) where
             ((only_grows cs c.before c.later).nodes y).list));
         known = λ x. let k = ((holds events).nodes x).sound.known in (k.0, (k.1.0, k.1.1, k.1.2));
         committed = safe events;
-        taken = λ x. taken_of events (node_of cs events x).list
-            ((holds events).nodes x).sound.handed;
+        taken = λ x.
+            let l = (node_of cs events x).list in
+            taken_of events l (part_trans l (accepted cs events (first_state cs)) (handed events)
+            ((holds events).nodes x).sound.handed (accepted_part cs events (first_state cs)));
         epochs = λ x. ((holds events).nodes x).sound.in_range;
         configured = known events;
         notices = λ x e later in_range. subst (λ c. leaves_out (at_epoch cs e) c ≡ true)

@@ -6,11 +6,11 @@ use Rattle.std.proofs.lemmas.Bool.{cases_lt}
 use Rattle.kv_types.specs.{IsPrefix, Part, place, has}
 use Rattle.configurations.specs.{last_of}
 use Rattle.chain_model.specs.Requests.{Closed, Committed, Opened, Refused, Response, Shows}
-use Rattle.chain_model.specs.System.{SystemEvent, node_of, reached}
+use Rattle.chain_model.specs.System.{SystemEvent, first_state, node_of, reached}
 use Rattle.kv_types.specs.ListsLemmas.{begins-place, begins_nil, begins_shorter, part_begins}
 use Rattle.kv_types.specs.ListsLemmas.{part_trans, take_begins}
 use Rattle.chain_model.proofs.Configuration.{IsChain, last_epoch, someone}
-use Rattle.chain_model.proofs.Submitted.{WasHandedIn, handed}
+use Rattle.chain_model.proofs.Submitted.{WasHandedIn, accepted}
 use Rattle.chain_model.proofs.Invariant.{ReplyOk, Safe, WorldOk, lists_of}
 use Rattle.chain_model.proofs.Reached.{reached_ok}
 
@@ -24,7 +24,7 @@ Speaks events B _ = Unit {0}
 pub record OneHistory {A : Type 0} (cs : List (List ℕ)) (events : List (SystemEvent A)) : Type 0
   where
     pub B : List A
-    pub taken : Part B (handed events)
+    pub taken : Part B (accepted cs events (first_state cs))
     pub speaks : AllByRecursion (Speaks events B) (reached cs events).replies
     pub stands : (x : ℕ) → has (last_of cs) x ≡ true → IsPrefix B (node_of cs events x).list
 
@@ -98,12 +98,13 @@ pub one_history : {A : Type 0} (cs : List (List ℕ)) (events : List (SystemEven
     → OneHistory cs events
 one_history cs events lawful =
     let w = reached cs events in
-    let ok : WorldOk cs events (handed events) w = reached_ok cs lawful events in
+    let told = accepted cs events (first_state cs) in
+    let ok : WorldOk cs events told w = reached_ok cs lawful events in
     let z = someone (last_of cs) (last_epoch cs lawful).1.2 in
     let b = longest events cs (lists_of w) w.replies ok.replies in
     record {
       B = b.0;
-      taken = part_trans b.0 (lists_of w z.0) (handed events) (part_begins (b.1.1 z.0 z.1))
+      taken = part_trans b.0 (lists_of w z.0) told (part_begins (b.1.1 z.0 z.1))
           (ok.nodes z.0).sound.handed;
       speaks = agree_all events cs (lists_of w) z.0 z.1 b.0 b.1.1 w.replies ok.replies
           (omega (arith, b.1.0));

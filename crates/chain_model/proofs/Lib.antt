@@ -14,5 +14,6 @@ pub mod History
 pub mod Consequences
 pub mod NodeMaps
 pub mod WorldMaps
+pub mod Refusals
 pub mod Places
 pub mod Outcomes

@@ -1,7 +1,8 @@
 -- The headline of batches from that of batches with their places, which the machine does not look
 -- into.
 use Rattle.std.proofs.Common.{◌≡◌, inl, inr, ℕ, suc, ◌+◌, List, [], ◌∷◌, ◌++◌, length, map, Some}
-use Rattle.std.proofs.Common.{sym, refl, ◌∙◌, ap, ap₂, subst, arith}
+use Rattle.std.proofs.Common.{◌≢◌, sym, refl, ◌∙◌, ap, ap₂, subst, arith}
+use Rattle.kv_types.specs.ListsLemmas.{part_trans}
 use Rattle.std.specs.List.{AllByRecursion}
 use Rattle.std.proofs.lemmas.List.Elements.{All-from_recursion}
 use Rattle.std.proofs.lemmas.List.{map-append, take-map}
@@ -14,8 +15,10 @@ use Rattle.chain_model.specs.System.{SystemState, first_state, node_of, reached,
 use Rattle.chain_model.specs.Headline.{ResponseAgrees, OneList, batches, submitted, numbered}
 use Rattle.chain_model.specs.Maps.{event_map, reply_map, request_map, world_map}
 use Rattle.chain_model.proofs.Configuration.{IsChain}
-use Rattle.chain_model.proofs.Submitted.{WasHandedIn, handed}
+use Rattle.chain_model.proofs.Submitted.{WasHandedIn, accepted, accepted_part, handed}
 use Rattle.chain_model.proofs.History.{OneHistory, Speaks, one_history}
+use Rattle.chain_model.proofs.Refusals.{AreNumbered, RefusedIsNot, parts_are_not, refused_is_not}
+use Rattle.chain_model.proofs.Outcomes.{run_is_outcomes}
 use Rattle.chain_model.proofs.WorldMaps.{run_map}
 
 module _ {A : Type 0} where
@@ -153,22 +156,50 @@ module _ {A : Type 0} where
   numbered_append i (Stop x ∷ es) fs = one_more (Stop x) i es fs (numbered_append (suc i) es fs)
   numbered_append i (Lost ∷ es) fs = one_more Lost i es fs (numbered_append (suc i) es fs)
 
+  -- events with places have the numbers of these, and so have their batches
+  tagged_are : (k : ℕ) (es : List (SystemEvent A)) → AreNumbered k (tagged k es)
+  tagged_are k [] = tt
+  tagged_are k (Ask x j (Submit b) went ∷ es) = ((refl, (refl, tt)), tagged_are (suc k) es)
+  tagged_are k (Ask x j (Read at) went ∷ es) = ((refl, tt), tagged_are (suc k) es)
+  tagged_are k (Ask x j (Open at) went ∷ es) = ((refl, tt), tagged_are (suc k) es)
+  tagged_are k (Ask x j (Close s) went ∷ es) = ((refl, tt), tagged_are (suc k) es)
+  tagged_are k (Tick x went ∷ es) = ((tt, tt), tagged_are (suc k) es)
+  tagged_are k (Tend x rises gives_up went ∷ es) = ((tt, tt), tagged_are (suc k) es)
+  tagged_are k (Notice x e went ∷ es) = ((tt, tt), tagged_are (suc k) es)
+  tagged_are k (Deliver p went ∷ es) = ((tt, tt), tagged_are (suc k) es)
+  tagged_are k (Start x went ∷ es) = ((tt, tt), tagged_are (suc k) es)
+  tagged_are k (Stop x ∷ es) = ((tt, tt), tagged_are (suc k) es)
+  tagged_are k (Lost ∷ es) = ((tt, tt), tagged_are (suc k) es)
+
+  -- a refusal in a run of batches with places is of none of these, which the run has accepted
+  refused_in : (cs : List (List ℕ)) (es : List (SystemEvent A)) (B : List (ℕ × A))
+      → Part B (accepted cs (tagged 1 es) (first_state cs))
+      → AllByRecursion (RefusedIsNot 1 B) (reached cs (tagged 1 es)).replies
+  refused_in cs es B part =
+      let told = accepted cs (tagged 1 es) (first_state cs) in
+      subst (λ (rs : List (Response (ℕ × A))). AllByRecursion (RefusedIsNot 1 B) rs)
+      (sym (run_is_outcomes cs (tagged 1 es)).replies)
+      (parts_are_not 1 B told _ part
+      (refused_is_not cs 1 (tagged 1 es) (first_state cs) (tagged_are 1 es)))
+
   -- a reply that speaks of batches with places agrees with the list
   agrees_with : (es : List (SystemEvent A)) (B : List (ℕ × A)) (r : Response (ℕ × A))
-      → Speaks (tagged 1 es) B r → ResponseAgrees B (reply_map batch_of r)
-  agrees_with es B (Committed i n) (p, (was, at)) =
+      → Speaks (tagged 1 es) B r → RefusedIsNot 1 B r → ResponseAgrees B (reply_map batch_of r)
+  agrees_with es B (Committed i n) (p, (was, at)) none =
       (p.1, at ∙ ap (λ k. Some (k, p.1)) (number_tagged 1 es i p was))
-  agrees_with es B (Shows i s l) ok = (ok.0, ap (map batch_of) ok.1 ∙ sym (take-map batch_of s B))
-  agrees_with es B (Opened i s) ok = tt
-  agrees_with es B (Closed i s) ok = tt
-  agrees_with es B (Refused i why) ok = tt
+  agrees_with es B (Shows i s l) ok none =
+      (ok.0, ap (map batch_of) ok.1 ∙ sym (take-map batch_of s B))
+  agrees_with es B (Opened i s) ok none = tt
+  agrees_with es B (Closed i s) ok none = tt
+  agrees_with es B (Refused i why) ok none = All-from_recursion (λ (p : ℕ × A). p.0 ≢ i) B none.1
 
   -- all replies that speak of batches with places agree with the list
   agree_with : (es : List (SystemEvent A)) (B : List (ℕ × A)) (rs : List (Response (ℕ × A)))
-      → AllByRecursion (Speaks (tagged 1 es) B) rs
+      → AllByRecursion (Speaks (tagged 1 es) B) rs → AllByRecursion (RefusedIsNot 1 B) rs
       → AllByRecursion (ResponseAgrees B) (map (reply_map batch_of) rs)
-  agree_with es B [] ok = tt
-  agree_with es B (r ∷ rs) ok = (agrees_with es B r ok.0, agree_with es B rs ok.1)
+  agree_with es B [] ok none = tt
+  agree_with es B (r ∷ rs) ok none =
+      (agrees_with es B r ok.0 none.0, agree_with es B rs ok.1 none.1)
 
   -- the headline, of batches and places
   pub one_list : (cs : List (List ℕ)) (es : List (SystemEvent A)) → IsChain cs → OneList cs es
@@ -180,10 +211,13 @@ module _ {A : Type 0} where
       (untagged 1 es) in
       record {
         B = h.B;
-        taken = subst (λ l. Part h.B l) (handed_tagged 1 es) h.taken;
+        taken = subst (λ l. Part h.B l) (handed_tagged 1 es)
+            (part_trans h.B (accepted cs (tagged 1 es) (first_state cs)) (handed (tagged 1 es))
+            h.taken (accepted_part cs (tagged 1 es) (first_state cs)));
         agrees = All-from_recursion (ResponseAgrees h.B) w.replies
             (subst (λ (v : SystemState A). AllByRecursion (ResponseAgrees h.B) v.replies) is
-            (agree_with es h.B (reached cs (tagged 1 es)).replies h.speaks));
+            (agree_with es h.B (reached cs (tagged 1 es)).replies h.speaks
+            (refused_in cs es h.B h.taken)));
         stands = λ x last.
             let b = h.stands x last in
             let mapped : IsPrefix (batches h.B) (map batch_of (node_of cs (tagged 1 es) x).list) =

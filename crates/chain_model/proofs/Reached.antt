@@ -7,7 +7,7 @@ use Rattle.chain_model.specs.System.{SystemEvent, SystemState, first_state, stat
 use Rattle.chain_model.specs.System.{run}
 use Rattle.kv_types.specs.ListsLemmas.{begins_nil, begins_refl}
 use Rattle.chain_model.proofs.Configuration.{IsChain}
-use Rattle.chain_model.proofs.Submitted.{WasHandedIn, all_told, handed}
+use Rattle.chain_model.proofs.Submitted.{WasHandedIn, accepted, all_told}
 use Rattle.chain_model.proofs.Invariant.{WorldOk}
 use Rattle.chain_model.proofs.WorldGrowth.{run_append}
 use Rattle.chain_model.proofs.Worlds.{Along, TailsIn, run_ok}
@@ -85,7 +85,7 @@ module _ {A : Type 0} (cs : List (List ℕ)) (lawful : IsChain cs) (events : Lis
               (along (before ++ f ∷ []) later next),
         )
 
-    pub reached_ok : WorldOk cs events (handed events) (reached cs events)
+    pub reached_ok : WorldOk cs events (accepted cs events (first_state cs)) (reached cs events)
     reached_ok =
         run_ok cs lawful events events (all_told (WasHandedIn events) events (λ i b was. was)) []
         (first_state cs) (along [] events refl)

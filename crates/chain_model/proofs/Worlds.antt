@@ -1,9 +1,10 @@
 -- Each event keeps the invariant of a world, so a run does.
 use Rattle.std.proofs.Common.{◌≡◌, ℕ, List, [], ◌∷◌, ◌++◌, length, Option, Some, None, Bool, true}
+use Rattle.std.proofs.Common.{◌∙◌}
 use Rattle.std.proofs.Common.{◌==◌, nat_lt, sym, refl, ap, subst, append_assoc, append-nil}
 use Rattle.std.proofs.Common.{eqb-true, eq-eqb, ltb-true}
 use Rattle.std.specs.List.{AllByRecursion}
-use Rattle.std.proofs.lemmas.Bool.{cond_both, cond-true}
+use Rattle.std.proofs.lemmas.Bool.{cond_both, cond-true, false≢true}
 use Rattle.kv_types.specs.{IsPrefix, Part, place}
 use Rattle.configurations.specs.{at_epoch, is_tail}
 use Rattle.chain_model.specs.declared.refusal.Refusal.TheVariants as refusal
@@ -14,7 +15,8 @@ use Rattle.chain_model.specs.Messages.{Message, addressee}
 use Rattle.chain_model.specs.Requests.{Close, Open, Read, Request, Submit}
 use Rattle.chain_model.specs.Machine.{Answer, MachineState, dropped_for, refused, silent, started}
 use Rattle.chain_model.specs.Machine.{stopped}
-use Rattle.chain_model.specs.Rules.{ask, notice, receive, tend, tick}
+use Rattle.chain_model.specs.Rules.{ask, longer_for, notice, receive, submit, tail_commits, tend}
+use Rattle.chain_model.specs.Rules.{tick}
 use Rattle.chain_model.specs.System.{Answered, Ask, Deliver, SystemEvent, Lost, Notice, Outcome}
 use Rattle.chain_model.specs.System.{Start}
 use Rattle.chain_model.specs.System.{Stop, StoppedAfter, StoppedBefore, Tend, Tick, StepResult}
@@ -26,7 +28,9 @@ use Rattle.chain_model.specs.Order.{WasCommitted}
 use Rattle.kv_types.specs.ListsLemmas.{begins_refl, every_append, every_map, every_place}
 use Rattle.kv_types.specs.ListsLemmas.{part_both, part_wider}
 use Rattle.chain_model.proofs.Configuration.{IsChain}
-use Rattle.chain_model.proofs.Submitted.{IsHandIn, WasHandedIn, handed, handed_by}
+use Rattle.chain_model.proofs.Submitted.{IsHandIn, WasHandedIn, accepted, accepted_by}
+use Rattle.chain_model.proofs.Submitted.{due_refuses_none, has_refusal}
+use Rattle.chain_model.proofs.Cases.{submit_cases}
 use Rattle.chain_model.proofs.Invariant.{FrameOk, NodeOk, ReplyOk, WorldOk, frame_grows, lists_of}
 use Rattle.chain_model.proofs.Invariant.{node_grows, reply_grows}
 use Rattle.chain_model.proofs.Growth.{ask_goes_on, notice_goes_on, receive_goes_on, tend_goes_on}
@@ -183,6 +187,29 @@ module _ {A : Type 0} (cs : List (List ℕ)) (lawful : IsChain cs) (events : Lis
       lifted at (given lists))
       (refuses_ok x i refusal.NotRunning)
 
+  -- a submit that the node refused, however the step ended
+  refused_went_ok : (x i : ℕ) (b : A) (went : StepResult)
+      → has_refusal (as_completed x (w.nodes x) (submit x (w.nodes x) i b) went).replies ≡ true
+      → Holds (as_completed x (w.nodes x) (submit x (w.nodes x) i b) went)
+  refused_went_ok x i b Answered is =
+      let n = w.nodes x in
+      let m = tail_commits x (longer_for n i b) in
+      submit_cases (λ a. has_refusal a.replies ≡ true → Holds (answers x a)) x n i b
+      (λ why _. refuses_ok x i why)
+      (λ kept head is. absurd (false≢true (sym (due_refuses_none A m.committed m.pending) ∙ is))) is
+  refused_went_ok x i b StoppedBefore is = absurd (false≢true is)
+  refused_went_ok x i b StoppedAfter is = absurd (false≢true is)
+
+  -- a submit that was refused changes no list
+  pub refused_submit_ok : (x i : ℕ) (b : A) (went : StepResult)
+      → has_refusal (outcome w cs (Ask x i (Submit b) went)).replies ≡ true
+      → Holds (outcome w cs (Ask x i (Submit b) went))
+  refused_submit_ok x i b went =
+      let n = w.nodes x in
+      cond_both n.running (as_completed x n (submit x n i b) went)
+      (answers x (refused n i refusal.NotRunning)) (λ o. has_refusal o.replies ≡ true → Holds o)
+      (λ up. refused_went_ok x i b went) (λ down is. refuses_ok x i refusal.NotRunning)
+
   -- a tick
   pub ticked_ok : (x : ℕ) (went : StepResult) → Holds (outcome w cs (Tick x went))
   ticked_ok x went = takes_ok x (λ n. tick x n) went (tick_goes_on x (w.nodes x)).grows.list
@@ -255,31 +282,39 @@ module _ {A : Type 0} (cs : List (List ℕ)) (lawful : IsChain cs) (events : Lis
     -- every event keeps the invariant
     pub happens_ok : (h : List A) (w : SystemState A) → WorldOk cs events h w → (e : SystemEvent A)
         → EventOk e
-        → TailsIn cs events (state_after cs w e) → WorldOk cs events (h ++ handed_by e)
+        → TailsIn cs events (state_after cs w e) → WorldOk cs events (h ++ accepted_by cs w e)
         (state_after cs w e)
-    happens_ok h w ok (Ask x i (Submit b) went) told tails = asked_ok cs lawful events h w ok
-        (b ∷ []) x i (Submit b) went
+    happens_ok h w ok (Ask x i (Submit b) went) told tails =
+        let e = Ask x i (Submit b) went in
+        cond_both (has_refusal (outcome w cs e).replies) [] (b ∷ [])
+        (λ r. WorldOk cs events (h ++ r) (state_after cs w e))
+        (λ is. refused_submit_ok cs lawful events h w ok [] x i b went is tails)
+        (λ not. asked_ok cs lawful events h w ok (b ∷ []) x i (Submit b) went
         (λ lists. (
           told i b (refl, refl),
           part_both (w.nodes x).list h b
               (ok.nodes x).sound.handed,
-        )) tails
-    happens_ok h w ok (Ask x i (Read at) went) told tails = asked_ok cs lawful events h w ok [] x i
-        (Read at) went (λ lists. tt) tails
-    happens_ok h w ok (Ask x i (Open at) went) told tails = asked_ok cs lawful events h w ok [] x i
-        (Open at) went (λ lists. tt) tails
-    happens_ok h w ok (Ask x i (Close s) went) told tails = asked_ok cs lawful events h w ok [] x i
-        (Close s) went (λ lists. tt) tails
-    happens_ok h w ok (Tick x went) told tails = ticked_ok cs lawful events h w ok [] x went tails
-    happens_ok h w ok (Tend x rises gives_up went) told tails =
-        tended_ok cs lawful events h w ok [] x rises gives_up went tails
-    happens_ok h w ok (Notice x e went) told tails = noticed_ok cs lawful events h w ok [] x e went
-        tails
-    happens_ok h w ok (Deliver p went) told tails = delivered_ok cs lawful events h w ok [] p went
-        (place w.frames p) refl tails
-    happens_ok h w ok (Start x went) told tails = start_ok cs lawful events h w ok [] x went tails
-    happens_ok h w ok (Stop x) told tails = stop_ok cs lawful events h w ok [] x tails
-    happens_ok h w ok Lost told tails = nothing_ok cs lawful events h w ok []
+        )) tails)
+    happens_ok h w ok (Ask x i (Read at) went) told tails = asked_ok cs lawful events h w ok
+        (accepted_by cs w (Ask x i (Read at) went)) x i (Read at) went (λ lists. tt) tails
+    happens_ok h w ok (Ask x i (Open at) went) told tails = asked_ok cs lawful events h w ok
+        (accepted_by cs w (Ask x i (Open at) went)) x i (Open at) went (λ lists. tt) tails
+    happens_ok h w ok (Ask x i (Close s) went) told tails = asked_ok cs lawful events h w ok
+        (accepted_by cs w (Ask x i (Close s) went)) x i (Close s) went (λ lists. tt) tails
+    happens_ok h w ok (Tick x went) told tails =
+        ticked_ok cs lawful events h w ok (accepted_by cs w (Tick x went)) x went tails
+    happens_ok h w ok (Tend x rises gives_up went) told tails = tended_ok cs lawful events h w ok
+        (accepted_by cs w (Tend x rises gives_up went)) x rises gives_up went tails
+    happens_ok h w ok (Notice x e went) told tails =
+        noticed_ok cs lawful events h w ok (accepted_by cs w (Notice x e went)) x e went tails
+    happens_ok h w ok (Deliver p went) told tails = delivered_ok cs lawful events h w ok
+        (accepted_by cs w (Deliver p went)) p went (place w.frames p) refl tails
+    happens_ok h w ok (Start x went) told tails =
+        start_ok cs lawful events h w ok (accepted_by cs w (Start x went)) x went tails
+    happens_ok h w ok (Stop x) told tails =
+        stop_ok cs lawful events h w ok (accepted_by cs w (Stop x)) x tails
+    happens_ok h w ok Lost told tails =
+        nothing_ok cs lawful events h w ok (accepted_by cs w Lost)
 
     -- of every world on the way
     abbrev pub Along : List (SystemEvent A) → SystemState A → Type 0
@@ -289,10 +324,11 @@ module _ {A : Type 0} (cs : List (List ℕ)) (lawful : IsChain cs) (events : Lis
     -- every run keeps the invariant
     pub run_ok : (es : List (SystemEvent A)) → AllByRecursion EventOk es → (h : List A)
         (w : SystemState A)
-        → Along es w → WorldOk cs events h w → WorldOk cs events (h ++ handed es) (run cs es w)
+        → Along es w → WorldOk cs events h w
+        → WorldOk cs events (h ++ accepted cs es w) (run cs es w)
     run_ok [] told h w along ok = subst (λ l. WorldOk cs events l w) (sym (append-nil h)) ok
     run_ok (e ∷ es) told h w along ok =
         subst (λ l. WorldOk cs events l (run cs es (state_after cs w e)))
-        (append_assoc h (handed_by e) (handed es))
-        (run_ok es told.1 (h ++ handed_by e) (state_after cs w e) along.1
+        (append_assoc h (accepted_by cs w e) (accepted cs es (state_after cs w e)))
+        (run_ok es told.1 (h ++ accepted_by cs w e) (state_after cs w e) along.1
         (happens_ok h w ok e told.0 along.0))

@@ -1,7 +1,7 @@
 -- The state of one node, and the answer of a step. Definitions without a source are this store's
 -- profile.
 use Rattle.std.specs.Prelude.{ℕ, List, [], ◌∷◌, length, Option, Some, None, Bool, true, false}
-use Rattle.std.specs.Prelude.{if◌then◌else◌, ◌==◌, nat_le, min}
+use Rattle.std.specs.Prelude.{if◌then◌else◌, nat_le}
 use Rattle.configurations.specs.{is_tail}
 use Rattle.chain_model.specs.declared.refusal.Refusal.{Refusal}
 use Rattle.chain_model.specs.declared.drop_reason.DropReason.{DropReason}

@@ -23,7 +23,8 @@ pub use drop_reason::DropReason;
 pub use refusal::Refusal;
 
 /// For every lawful list of configurations and every list of events there is one list of batches.
-/// Every read and acknowledgement agrees with it, and it is a prefix of each last node's list.
+/// Every read, acknowledgement and refusal agrees with it, and it is a prefix of each last node's
+/// list.
 pub fn one_history<B>()
     ensures { (cs : Configurations) (events : List (SystemEvent B)) → Lawful cs →
         OneList cs events }

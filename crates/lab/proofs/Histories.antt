@@ -118,7 +118,7 @@ module _ (pages : PagesAgree) where
   agrees_by B kind (Shows i s l) agrees = shown B kind i s l agrees
   agrees_by B kind (Opened i s) agrees = (tt, tt)
   agrees_by B kind (Closed i s) agrees = (tt, tt)
-  agrees_by B kind (Refused i why) agrees = (tt, tt)
+  agrees_by B kind (Refused i why) agrees = (agrees, tt)
 
   replied : (B : List Placed) (kind : EventKind) (replies : List (Response BatchContent)) →
       AllByRecursion (ResponseAgrees B) replies → Each B kind (reply_lines kind replies)

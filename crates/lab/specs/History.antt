@@ -1,5 +1,5 @@
 -- The headline: one list of batches of which clients see beginnings, and which the disks hold.
-use Rattle.std.specs.Prelude.{◌≡◌, ℕ, ◌<◌, ◌≤◌, List, length, take, Some, true, All}
+use Rattle.std.specs.Prelude.{◌≡◌, ◌≢◌, ℕ, ◌<◌, ◌≤◌, List, length, take, Some, true, All}
 use Rattle.std.specs.List.{AllPairs, AllZip}
 use Rattle.kv_types.specs.{BatchContent, map_of, IsPrefix, place, has}
 use Rattle.kv_types.specs.Pages.{IsPage}
@@ -31,10 +31,11 @@ IsSubmitted events placed =
 
 -- An acknowledgement of n to request i says that place n of B is the batch of event i. A read at s
 -- shows what its key has in the map of B's first s batches, or the page of its range in this map.
--- No other line speaks of B.
+-- A refusal of request i says that B has no batch of event i. No other line speaks of B.
 abbrev pub LineAgrees : List Placed → EventKind → Line → Type 0
 LineAgrees B asked (line.Replied (reply.Committed i n)) =
     (batch : BatchContent) × (place B n ≡ Some (i, batch))
+LineAgrees B asked (line.Replied (reply.Refused i why)) = All (λ placed. placed.0 ≢ i) B
 LineAgrees B (kind.Get node key at) (line.Replied (reply.Value i s value)) =
     (s ≤ length B) × (value ≡ map_of (take s (batches B)) key)
 LineAgrees B (kind.Rows node range at) (line.Replied (reply.Rows i s page)) =
@@ -50,7 +51,7 @@ pub record ClientHistory (events : List Event) (steps : List (List Line)) (B : L
   pub submitted : All (IsSubmitted events) B
   -- .. and stand in the order of their submits, none twice
   pub ordered : AllPairs (λ a b. a.0 < b.0) B
-  -- every read and every acknowledgement agrees with it
+  -- every read, acknowledgement and refusal agrees with it
   pub agrees : AllZip (λ event lines. All (LineAgrees B event.kind) lines) events steps
 
 -- ---- what the disks hold

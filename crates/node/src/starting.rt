@@ -3,12 +3,13 @@ ghost use Rattle.std.specs.Prelude.{◌≡◌, ℕ, IfOk, IfErr};
 ghost use Rattle.disk.specs.{contents, IsEnvironmental, IsStill};
 ghost use Rattle.chain_model.specs.{created, started};
 ghost use Rattle.chain_core.specs.{Machine};
-ghost use Rattle.engine.specs.{IsJustOpened, engine_disk, look_ups};
+ghost use Rattle.engine.specs.{IsJustOpened, IsNewEngine, engine_disk, look_ups};
 ghost use Rattle.node.specs.declared.stop.Stop.TheVariants.{Disk, Memory};
 ghost use Rattle.node.specs.Outputs.{AlwaysRefines};
 ghost use Rattle.node.specs.Starts.{BeginsAs, CoreStartsFrom, ExplainsStart, KeepsReceived};
 ghost use Rattle.node.specs.Starts.{RunsOpened, disk_behind};
-ghost use Rattle.node.specs.Steps.{DiskRefines, DiskRefinesOneOf, IsReady, node_limits};
+ghost use Rattle.node.specs.Steps.{DiskRefines, DiskRefinesOneOf, IsReady, engine_of};
+ghost use Rattle.node.specs.Steps.{node_limits};
 
 use crate::{Node, Stop};
 use chain_core::{CoreState, PersistentState};
@@ -62,6 +63,8 @@ impl<D: Disk + Drop> Node<D> {
     ) -> Result<Node<D>, (Stop, D)>
         ensures kept { KeepsReceived disk result }
         ensures created { D.is_honest disk → BeginsAs id (created config.now) result }
+        ensures begun { IfOk result (λ node. IsNewEngine id config.now limits.now
+            (engine_of node)) }
         ensures works { IfOk result IsReady }
         ensures limits { IfOk result (λ node. node_limits node ≡ limits.now) }
     {
