@@ -1,5 +1,5 @@
 -- The names of benchmarks.
-use Rattle.std.specs.Prelude.{ℕ, List, codes}
+use Rattle.std.specs.Prelude.{ℕ, Bool, true, false, List, codes}
 use Rattle.benchmarks.specs.declared.benchmark.Benchmark.{Benchmark}
 use Rattle.benchmarks.specs.declared.benchmark.Benchmark.TheVariants as bench
 
@@ -17,3 +17,18 @@ name_of bench.SeekRandom = codes "seekrandom"
 name_of bench.Compact = codes "compact"
 name_of bench.Open = codes "open"
 name_of bench.ChainSubmit = codes "chainsubmit"
+
+-- those that begin with a store without batches, for which one that stands there is removed
+abbrev pub is_fresh : Benchmark → Bool
+is_fresh bench.FillSeq = true
+is_fresh bench.FillSync = true
+is_fresh bench.FillRandom = true
+is_fresh bench.Overwrite = false
+is_fresh bench.ReadRandom = false
+is_fresh bench.ReadMissing = false
+is_fresh bench.ReadSeq = false
+is_fresh bench.ReadReverse = false
+is_fresh bench.SeekRandom = false
+is_fresh bench.Compact = false
+is_fresh bench.Open = false
+is_fresh bench.ChainSubmit = false

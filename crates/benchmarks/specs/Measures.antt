@@ -1,7 +1,8 @@
--- The line of the table for what was measured.
-use Rattle.std.specs.Prelude.{ℕ, ◌*◌, ◌/◌, ◌%◌, ◌-◌, ◌^◌, List, [], ◌∷◌, ◌++◌, false}
+-- The line of the table for what was measured, and the one for what is done so far.
+use Rattle.std.specs.Prelude.{ℕ, ◌*◌, ◌/◌, ◌%◌, ◌-◌, ◌^◌, List, [], ◌∷◌, ◌++◌, codes, false}
 use Rattle.std.specs.Fmt.{decimal, format_spec, padded_integral, styled_text}
 use Rattle.benchmarks.specs.declared.measure.Measure.{Measure}
+use Rattle.benchmarks.specs.declared.measure.ProgressLine.{ProgressLine}
 use Rattle.benchmarks.specs.Benchmarks.{name_of}
 
 -- a number at the right of a column of this width
@@ -23,3 +24,13 @@ measure_text it =
     ++ (column 8 (each / 1000) ++ (46 ∷ (thousandths (each % 1000)
     ++ (column 12 (it.operations * 1000000000 / it.nanos)
     ++ (column 8 (tenths / 10) ++ (46 ∷ decimal (tenths % 10)))))))
+
+-- the same, as in no time
+abbrev pub without_time : Measure → Measure
+without_time it = record it { nanos = 0 }
+
+-- name, and how many operations of how many are done
+abbrev pub progress_text : ProgressLine → List ℕ
+progress_text it =
+    name_of it.benchmark ++ (codes ": " ++ (decimal it.done
+    ++ (codes " of " ++ decimal it.all)))

@@ -1,6 +1,6 @@
 // The benchmarks, and their names.
 ghost use Rattle.std.specs.Prelude.{◌≡◌, ◌≢◌, MatchOption};
-ghost use Rattle.benchmarks.specs.Benchmarks.{name_of};
+ghost use Rattle.benchmarks.specs.Benchmarks.{is_fresh, name_of};
 
 use std::alloc::{AllocError, Global};
 
@@ -64,7 +64,9 @@ impl Benchmark {
     }
 
     /// Whether it begins with a store without batches.
-    pub fn is_fresh(self) -> bool {
+    pub fn is_fresh(self) -> bool
+        ensures { result ≡ is_fresh self }
+    {
         match self {
             Benchmark::FillSeq | Benchmark::FillSync | Benchmark::FillRandom => true,
             _ => false,

@@ -1,5 +1,5 @@
 // The keys of benchmarks: a number's 16 digits.
-ghost use Rattle.std.specs.Prelude.{◌≡◌, ◌<◌, ◌++◌, ◌∷◌, [], IfOk};
+ghost use Rattle.std.specs.Prelude.{◌≡◌, ◌<◌, ◌++◌, ◌∷◌, [], IfErr, IfOk};
 ghost use Rattle.benchmarks.specs.Keys.{digit_of, eight_digits, key_text};
 
 use kv_types::{Key, KvError};
@@ -31,7 +31,8 @@ fn eight_digits(number: u64) -> [u8; 8]
 
 /// The last 16 digits of a number, as text.
 fn digits(alloc: Global, number: u64) -> Result<Vec<u8>, KvError>
-    ensures { IfOk result (λ text. text.items ≡ key_text number) }
+    ensures text { IfOk result (λ text. text.items ≡ key_text number) }
+    ensures refused { IfErr result (λ e. e ≡ KvError.Memory) }
 {
     let mut text = Vec::with_capacity(alloc, 17)?;
     text.extend_from_slice(&eight_digits(number / 100_000_000))?;
@@ -41,14 +42,16 @@ fn digits(alloc: Global, number: u64) -> Result<Vec<u8>, KvError>
 
 /// The key of a number: its last 16 digits.
 pub fn key(alloc: Global, number: u64) -> Result<Key, KvError>
-    ensures { IfOk result (λ key. key ≡ key_text number) }
+    ensures key { IfOk result (λ key. key ≡ key_text number) }
+    ensures refused { IfErr result (λ e. e ≡ KvError.Memory) }
 {
     Key::new(digits(alloc, number)?)
 }
 
 /// A key that no number has, behind the key of this one: its last 16 digits and a dot.
 pub fn missing_key(alloc: Global, number: u64) -> Result<Key, KvError>
-    ensures { IfOk result (λ key. key ≡ key_text number ++ 46 ∷ []) }
+    ensures key { IfOk result (λ key. key ≡ key_text number ++ 46 ∷ []) }
+    ensures refused { IfErr result (λ e. e ≡ KvError.Memory) }
 {
     let mut text = digits(alloc, number)?;
     text.push(b'.')?;

@@ -1,6 +1,6 @@
 // What a benchmark did, and its line of the table.
-ghost use Rattle.std.specs.Prelude.{◌≡◌, ◌*◌, ◌/◌, Some};
-ghost use Rattle.benchmarks.specs.Measures.{measure_text};
+ghost use Rattle.std.specs.Prelude.{◌≡◌, ◌*◌, ◌/◌, Some, if◌then◌else◌};
+ghost use Rattle.benchmarks.specs.Measures.{measure_text, progress_text, without_time};
 
 use crate::Benchmark;
 use std::fmt;
@@ -40,6 +40,8 @@ pub struct ProgressLine {
 }
 
 impl fmt::Display for ProgressLine {
+    ghost output = { λ it. Some (progress_text it) };
+
     fn fmt<W: fmt::Write>(&self, f: &mut fmt::Formatter<W>) -> fmt::Result {
         let (name, done, all) = (self.benchmark.name(), self.done, self.all);
         write!(f, "{name}: {done} of {all}")
@@ -48,7 +50,9 @@ impl fmt::Display for ProgressLine {
 
 impl Measure {
     /// The same, or without its time.
-    pub fn shown(self, times: bool) -> Measure {
+    pub fn shown(self, times: bool) -> Measure
+        ensures { result ≡ (if times then self else without_time self) }
+    {
         let mut shown = self;
         if !times {
             shown.nanos = 0;

@@ -1,5 +1,6 @@
 // The values of benchmarks: stretches of a text that could be compressed to half.
-ghost use Rattle.std.specs.Prelude.{◌≡◌, ◌≤◌, IfOk, length, vec_len};
+ghost use Rattle.std.specs.Prelude.{◌≡◌, ◌≤◌, ◌<◌, ◌⊎◌, IfErr, IfOk, length, vec_len};
+ghost use Rattle.kv_types.specs.declared.bounds.TheConstants.{MAX_VALUE};
 
 use crate::Random;
 use kv_types::{KvError, Value};
@@ -58,6 +59,9 @@ impl Values {
     /// The next value, at the text's beginning again where it ends too early.
     pub fn next(&mut self, alloc: Global) -> Result<Value, KvError>
         ensures value { IfOk result (λ value. length value ≡ self.old) }
+        ensures refused { IfErr result
+            (λ e. (e ≡ KvError.Memory)
+            ⊎ ((e ≡ KvError.ValueTooLong) × (MAX_VALUE < self.old))) }
         ensures same { self.new ≡ self.old }
     {
         if self.text.len() - self.length < self.place {

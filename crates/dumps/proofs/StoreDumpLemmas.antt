@@ -8,13 +8,17 @@ use Rattle.std.specs.Io.KnownBytes.{Appends}
 use Rattle.kv_types.specs.declared.row.Row.{Row}
 use Rattle.kv_types.specs.Pages.{PagesAgree}
 use Rattle.kv_types.specs.{BatchContent, map_of}
-use Rattle.engine.specs.{AreOrdered, Facts, IsReadable, LookUps, with_committed}
+use Rattle.disk.specs.{Contents}
+use Rattle.engine.specs.EngineError.{EngineError}
+use Rattle.engine.specs.EngineError.TheVariants as engine
+use Rattle.engine.specs.{AreOrdered, ExplainsRefusal, Facts, IsReadable, LookUps, with_committed}
+use Rattle.node.specs.Stops.{engine_stop}
 use Rattle.client.specs.PrintedRuns.{AppendsPart}
 use Rattle.dumps.specs.declared.dump_error.DumpError.{DumpError}
-use Rattle.dumps.specs.declared.dump_error.DumpError.TheVariants.{Write}
+use Rattle.dumps.specs.declared.dump_error.DumpError.TheVariants.{Store, Write}
 use Rattle.dumps.specs.Dumped.{AreAllWritten, AreBegun, IsCutDump, IsDumpOf, IsDumpRefusal}
-use Rattle.dumps.specs.Dumped.{IsDumpText, IsOfOutput, WritesText, count_line, row_line}
-use Rattle.dumps.specs.Dumped.{store_line}
+use Rattle.dumps.specs.Dumped.{IsDumpText, IsOfOutput, UnopenedRefusal, WritesText, count_line}
+use Rattle.dumps.specs.Dumped.{row_line, store_line}
 use Rattle.dumps.specs.Walks.{AreRowsOf}
 use Rattle.dumps.proofs.RowWalkLemmas.{begun_none}
 use Rattle.dumps.proofs.TextsLemmas.{appends_more, part_behind, part_none, part_of_longer}
@@ -35,6 +39,20 @@ pub all_readable : (old new : LookUps) (at : ℕ) → new ≡ with_committed old
     at ≡ old.count → IsReadable new.facts.floor new.committed at
 all_readable old new at told ordered is =
     rw told (omega (arith, ordered.floor, ordered.committed, is), omega arith)
+
+-- why an engine was not opened, a dump tells too
+pub unopened : (left : Contents) (e : EngineError) → ExplainsRefusal e left →
+    UnopenedRefusal left (Store (engine_stop e))
+unopened left engine.Disk why = tt
+unopened left engine.Damaged why = why
+unopened left engine.Memory why = tt
+unopened left engine.NotCreated why = why
+unopened left engine.Failed why = absurd why
+unopened left engine.TooOld why = absurd why
+unopened left engine.NotCommitted why = absurd why
+unopened left engine.NoSuchSnapshot why = absurd why
+unopened left engine.TooManySnapshots why = absurd why
+unopened left engine.Exhausted why = absurd why
 
 -- a store that was not opened: nothing is written
 pub not_opened : PagesAgree → (facts : Facts) (list : List BatchContent) (out : Option (List ℕ))

@@ -1,15 +1,15 @@
 -- What is written of a store: its numbers, all rows of the map at its count, and how many they are.
 use Rattle.std.specs.Prelude.{◌≡◌, ◌⊎◌, ℕ, List, [], ◌∷◌, ◌++◌, Option, length, codes}
-use Rattle.std.specs.Prelude.{Result, Ok, Err, IsErrOf}
+use Rattle.std.specs.Prelude.{Result, Ok, Err, IsErrAnd, IsErrOf}
 use Rattle.std.specs.List.{flat_map}
 use Rattle.std.specs.Fmt.{decimal}
 use Rattle.std.specs.Io.KnownBytes.{Appends}
 use Rattle.kv_types.specs.declared.row.Row.{Row}
 use Rattle.kv_types.specs.Pages.{Map}
 use Rattle.kv_types.specs.{BatchContent, map_of}
-use Rattle.disk.specs.{KeepsDisk}
+use Rattle.disk.specs.{Contents, KeepsDisk}
 use Rattle.disk.specs.declared.Disk.{Ghosts}
-use Rattle.engine.specs.{Facts, IsOwned}
+use Rattle.engine.specs.{Facts, IsDamaged, IsNotCreated, IsOwned, OpensAs}
 use Rattle.node.specs.declared.stop.Stop.TheVariants as stop
 use Rattle.client.specs.PrintedRuns.{AppendsPart}
 use Rattle.client.specs.Text.{printed_row, store_text}
@@ -93,6 +93,24 @@ pub record IsCutDump (facts : Facts) (list : List BatchContent) (old new : Optio
   pub text : List ℕ
   pub is : IsDumpText facts list text
   pub part : AppendsPart old new text
+
+-- files of this content open as no store
+abbrev pub OpenAsNone : Contents → Type 0
+OpenAsNone left = (facts : Facts) (count : ℕ) → OpensAs left facts count → ⊥
+
+-- why no store was opened, by the content of the disk
+abbrev pub UnopenedRefusal : Contents → DumpError → Type 0
+UnopenedRefusal left (Store stop.Disk) = Unit {0}
+UnopenedRefusal left (Store stop.Damaged) = IsDamaged left
+UnopenedRefusal left (Store stop.Memory) = Unit {0}
+UnopenedRefusal left (Store stop.NotCreated) = IsNotCreated left
+UnopenedRefusal left Write = ⊥
+
+-- no store was opened, the content of the disk explains it, and nothing was written
+pub record IsNotOpened {T : Type 0} (left : Contents) (old new : Option (List ℕ))
+    (result : Result T DumpError) : Type 0 where
+  pub refused : IsErrAnd result (UnopenedRefusal left)
+  pub none : new ≡ old
 
 -- A disk was left so that it is the device that it was: a failure is counted exactly where the
 -- answer names the device.

@@ -5,8 +5,8 @@ ghost use Rattle.kv_types.specs.{BatchContent};
 ghost use Rattle.engine.specs.{EngineReads, Facts, FilesRepresent, engine_disk, facts_of, look_ups};
 ghost use Rattle.node.specs.declared.stop.Stop.TheVariants as stop;
 ghost use Rattle.dumps.specs.declared.dump_error.DumpError.TheVariants.{Store};
-ghost use Rattle.dumps.specs.Dumped.{IsCutDump, IsDumpOf, LeavesDevice, WritesText, count_line};
-ghost use Rattle.dumps.specs.Dumped.{store_line};
+ghost use Rattle.dumps.specs.Dumped.{IsCutDump, IsDumpOf, IsNotOpened, LeavesDevice, OpenAsNone};
+ghost use Rattle.dumps.specs.Dumped.{WritesText, count_line, store_line};
 
 use crate::dump_error::DumpError;
 use crate::row_walk::write_rows;
@@ -110,6 +110,9 @@ pub fn dump_store<D: Disk + Drop, W: Write>(
     ensures refused { (facts : Facts) (list : List BatchContent) → D.is_honest disk →
         FilesRepresent facts list (contents (D.state disk)) → IfErr result
         (IsCutDump facts list (W.contents out.old) (W.contents out.new)) }
+
+    ensures unopened { D.is_honest disk → OpenAsNone (contents (D.state disk)) → IsNotOpened
+        (contents (D.state disk)) (W.contents out.old) (W.contents out.new) result }
 
     // Of any disk: it is refused for the device exactly where a failure was counted.
     ensures device { LeavesDevice D.Disk disk result }

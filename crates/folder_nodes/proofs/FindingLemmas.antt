@@ -1,18 +1,20 @@
 -- The node of a disk whose slots were looked at first.
-use Rattle.std.proofs.Common.{◌≡◌, ◌⊎◌, ◌↔◌, ◌<◌, inl, inr, ℕ, length, sym, ap}
+use Rattle.std.proofs.Common.{◌≡◌, ◌⊎◌, ◌↔◌, ◌<◌, ◌≤◌, inl, inr, ℕ, length, sym, ap, arith, refl}
 use Rattle.std.proofs.Common.{subst}
 use Rattle.std.proofs.Common.{◌∙◌, IsTrue, Bool}
-use Rattle.std.specs.Prelude.{Result, Ok, Err, IfErr}
+use Rattle.std.specs.Prelude.{Result, Ok, Err, IfErr, IfSome, IsErrOf, IsSome}
 use Rattle.std.proofs.Math.Path.{fun_ext}
 use Rattle.std.proofs.lemmas.Bool.{cases_eq}
 use Rattle.disk.specs.declared.Disk.{Ghosts}
-use Rattle.disk.specs.{Contents, IsCrashOutcome, IsEnvironmental, IsStill, State, contents, seen}
+use Rattle.disk.specs.{Contents, IsCrashOutcome, IsEnvironmental, IsStill, KeepsDisk, State}
+use Rattle.disk.specs.{contents, seen}
 use Rattle.disk.specs.declared.error.DiskError.{DiskError}
 use Rattle.disk.specs.declared.error.DiskError.TheVariants as device
 use Rattle.disk.specs.MomentsLemmas.{join, weaker}
 use Rattle.disk.specs.StepsLemmas.{read_is_outcome}
 use Rattle.disk.specs.StillLemmas.{still_more}
 use Rattle.configurations.specs.{at_epoch, Configurations}
+use Rattle.engine.specs.KeepingLemmas.{kept_behind}
 use Rattle.chain_core.specs.{Machine}
 use Rattle.manifest.specs.{HasOnlyCreationFiles, IsNotCreated, NodeVersion, SlotsRead}
 use Rattle.manifest.specs.{VersionIsOne}
@@ -27,10 +29,12 @@ use Rattle.node.specs.declared.node.Node.{Node}
 use Rattle.node.specs.declared.stop.Stop.{Stop}
 use Rattle.node.specs.declared.stop.Stop.TheVariants as stop
 use Rattle.folder_nodes.specs.Faults.{disk_stop, manifest_stop}
-use Rattle.folder_nodes.specs.Finding.{CreatesAgain, CreatesIn, FindsOwn, IsForEnvironment, IsOwn}
-use Rattle.folder_nodes.specs.Finding.{IsOwnVersion, NamesOwn, StartsAs}
+use Rattle.folder_nodes.specs.Finding.{CreatesAgain, CreatesIn, ExplainsFinding, FindingRefusal}
+use Rattle.folder_nodes.specs.Finding.{FindsOwn, HasOwnVersion, IsForEnvironment, IsOwn}
+use Rattle.folder_nodes.specs.Finding.{IsOwnVersion, KeepsFoundDisk, NamesOwn, StartFailure}
+use Rattle.folder_nodes.specs.Finding.{StartsAs, StartsFrom}
 use Rattle.folder_nodes.specs.declared.fault.FolderError.{FolderError}
-use Rattle.folder_nodes.specs.declared.fault.FolderError.TheVariants.{Stopped}
+use Rattle.folder_nodes.specs.declared.fault.FolderError.TheVariants.{OtherNode, Stopped}
 
 -- ---- the version
 
@@ -140,9 +144,148 @@ env_opened created manifest.NotCreated e left x n is why read =
 env_opened created manifest.Damaged e left x n is why read =
     absurd (why.1 (record { id = x; version = read.version }) read.manifest)
 
+-- a refusal of a creation or a start is of the device if its cause was
+pub device_stopped : (cause : Stop) (e : FolderError) → e ≡ Stopped cause →
+    (cause ≡ stop.Disk) ↔ (e ≡ Stopped stop.Disk)
+device_stopped cause e is = (λ same. is ∙ ap Stopped same, λ same. cc)
+
+-- .. and one of a look at the files
+pub device_listed : {T : Type 0} (cause : DiskError) (e : FolderError) →
+    e ≡ Stopped (disk_stop cause) →
+    IsErrOf {T = T} (Err cause) device.Failed ↔ (e ≡ Stopped stop.Disk)
+device_listed device.Failed e is = (λ fails. is, λ same. refl)
+device_listed device.Memory e is = (λ fails. cc, λ same. cc)
+device_listed device.NoFile e is = (λ fails. cc, λ same. cc)
+device_listed device.Short e is = (λ fails. cc, λ same. cc)
+
+-- .. and one of the slots
+pub device_opened : {T : Type 0} (cause : ManifestError) (e : FolderError) →
+    e ≡ Stopped (manifest_stop cause) →
+    IsErrOf {T = T} (Err cause) manifest.Disk ↔ (e ≡ Stopped stop.Disk)
+device_opened manifest.Disk e is = (λ fails. is, λ same. refl)
+device_opened manifest.Memory e is = (λ fails. cc, λ same. cc)
+device_opened manifest.NotCreated e is = (λ fails. cc, λ same. cc)
+device_opened manifest.Damaged e is = (λ fails. cc, λ same. cc)
+device_opened manifest.Failed e is = (λ fails. cc, λ same. cc)
+
+-- an answer is no failure of the device
+pub answers : {T E : Type 0} {x : T} {e : E} → IsErrOf (Ok x) e → ⊥
+answers fails = cc
+
+-- nor is the refusal of slots that are not open
+pub none_failed : {T : Type 0} (cause : ManifestError) → cause ≡ manifest.NotCreated →
+    IsErrOf {T = T} (Err cause) manifest.Disk → ⊥
+none_failed cause is fails = cc
+
+-- a refusal for another cause is none for the device
+pub not_device : Stopped stop.NotCreated ≡ Stopped stop.Disk → ⊥
+not_device same = cc
+
+pub other_not_device : OtherNode ≡ Stopped stop.Disk → ⊥
+other_not_device same = cc
+
+-- ---- what explains an answer
+
+-- no more than a creation may have left: so it is behind a look at the slots
+pub only_before : (old mid : State) → SparesOthers old mid → HasOnlyCreationFiles (contents mid) →
+    HasOnlyCreationFiles (contents old)
+only_before old mid spares only = record {
+  files = λ file some. elim (cases_eq file 1) [
+    | inl one ↦ (omega (arith, one), omega (arith, one))
+    | inr not_one ↦ elim (cases_eq file 2) [
+      | inl two ↦ (omega (arith, two), omega (arith, two))
+      | inr not_two ↦ only.files file
+          (subst IsSome (sym (same file not_one not_two)) some)
+    ]
+  ];
+  log = subst (λ it. IfSome it (λ bytes. length bytes ≤ 1))
+      (same 3 (λ is. omega (arith, is)) (λ is. omega (arith, is))) only.log;
+}
+  where
+    same : (file : ℕ) → (file ≡ 1 → ⊥) → (file ≡ 2 → ⊥) → contents mid file ≡ contents old file
+    same file not_one not_two = ap seen (spares file (λ is. elim is [
+      | inl one ↦ absurd (not_one one)
+      | inr two ↦ absurd (not_two two)
+    ]))
+
+-- .. and so it was before it
+pub only_behind : (old mid : State) → SparesOthers old mid → HasOnlyCreationFiles (contents old) →
+    HasOnlyCreationFiles (contents mid)
+only_behind old mid spares only =
+    only_before mid old (λ other not_slot. sym (spares other not_slot)) only
+
+-- a refusal of a manifest is of this cause
+pub refused_as : (cause same : ManifestError) (left : Contents) → cause ≡ same →
+    ManifestRefusal cause left → ManifestRefusal same left
+refused_as cause same left is why = subst (λ it. ManifestRefusal it left) is why
+
+-- a manifest that was refused, but for a store that was not created
+pub slots_explain : (configs : Configurations) (id : ℕ) (cause : ManifestError) (e : FolderError)
+    (left : Contents) → e ≡ Stopped (manifest_stop cause) → (cause ≡ manifest.NotCreated → ⊥) →
+    ManifestRefusal cause left → FindingRefusal configs id left e
+slots_explain configs id manifest.Disk e left is other why =
+    subst (FindingRefusal configs id left) (sym is) tt
+slots_explain configs id manifest.Memory e left is other why =
+    subst (FindingRefusal configs id left) (sym is) tt
+slots_explain configs id manifest.NotCreated e left is other why = absurd (other refl)
+slots_explain configs id manifest.Failed e left is other why = absurd why
+slots_explain configs id manifest.Damaged e left is other why =
+    subst (FindingRefusal configs id left) (sym is) (record {
+      created = why.0;
+      no_store = λ facts list files.
+          why.1 (record { id = facts.id; version = files.version }) files.manifest;
+      shut = λ facts count opens.
+          why.1 (record { id = facts.id; version = opens.version }) opens.manifest;
+    })
+
+-- a node of a store that was created, which was not started
+start_explains : (configs : Configurations) (id : ℕ) (left : Contents) (e : FolderError) →
+    (IsNotCreated left → ⊥) → StartFailure left e → FindingRefusal configs id left e
+start_explains configs id left OtherNode created why = absurd why
+start_explains configs id left (Stopped stop.Disk) created why = tt
+start_explains configs id left (Stopped stop.Memory) created why = tt
+start_explains configs id left (Stopped stop.Damaged) created why = why
+start_explains configs id left (Stopped stop.NotCreated) created why = absurd (created why)
+
+-- a refusal for the environment needs nothing more
+pub environment_explains : (configs : Configurations) (id : ℕ) (left : Contents) (e : FolderError)
+    → IsForEnvironment e → FindingRefusal configs id left e
+environment_explains configs id left e (inl is) =
+    subst (FindingRefusal configs id left) (sym is) tt
+environment_explains configs id left e (inr is) =
+    subst (FindingRefusal configs id left) (sym is) tt
+
 -- ---- answers
 
+module _ {D : Type 0} (g : Ghosts D) where
+  -- calls that did not fail, and one behind them
+  pub kept_on : {old mid : D} {first : Type 0} {R : State → State → Type 0}
+      (result : Result (Node D g) (FolderError × D)) → KeepsDisk g old mid first ⊥ R →
+      (first → ⊥) → KeepsFoundDisk g mid result → KeepsFoundDisk g old result
+  kept_on result before works kept = kept_behind g (λ a b c same owned. tt) before works kept
+
 module _ {D : Type 0} {g : Ghosts D} where
+  -- the node of a store that was created
+  pub started_explains : VersionsAreCreated → (configs : Configurations) (id : ℕ) (left : Contents)
+      (result : Result (Node D g) (FolderError × D)) → HasOwnVersion configs id left →
+      StartsFrom left result → ExplainsFinding configs id left result
+  started_explains created configs id left (Ok node) own starts = inl (own, starts)
+  started_explains created configs id left (Err refused) own starts =
+      start_explains configs id left refused.0 (created own.0 left own.1) starts
+
+  -- the node of a store that was not created
+  pub created_explains : (configs : Configurations) (id : ℕ) (old mid : State)
+      (result : Result (Node D g) (FolderError × D)) → IsNotCreated (contents old) →
+      SparesOthers old mid → CreatesAgain configs id (contents mid) result →
+      ExplainsFinding configs id (contents old) result
+  created_explains configs id old mid (Ok node) none spares creates =
+      inr ((none, only_before old mid spares creates.0), creates.1)
+  created_explains configs id old mid (Err refused) none spares (inl external) =
+      environment_explains configs id (contents old) refused.0 external
+  created_explains configs id old mid (Err refused) none spares (inr more) =
+      subst (FindingRefusal configs id (contents old)) (sym more.0)
+      (none, λ only. more.1 (only_behind old mid spares only))
+
   -- an own node that is started is found
   pub finds : (configs : Configurations) (id x : ℕ) (n : Machine)
       (result : Result (Node D g) (FolderError × D)) → StartsAs x n result →

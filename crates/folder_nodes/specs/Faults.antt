@@ -12,8 +12,8 @@ use Rattle.node.specs.declared.stop.Stop.TheVariants.{Damaged, Disk, Memory, Not
 abbrev pub disk_stop : DiskError → Stop
 disk_stop device.Memory = Memory
 disk_stop device.Failed = Disk
-disk_stop device.NoFile = Disk
-disk_stop device.Short = Disk
+disk_stop device.NoFile = Damaged
+disk_stop device.Short = Damaged
 
 -- why a folder, which was not locked for this, has no node
 abbrev pub lock_stop : LockError → Stop

@@ -1,15 +1,18 @@
 -- The node of a disk: the one that it represents, or one that is created there.
-use Rattle.std.specs.Prelude.{◌≡◌, ◌⊎◌, ◌↔◌, ◌<◌, ℕ, Bool, IsTrue, length}
-use Rattle.std.specs.Prelude.{Result, Ok, Err, MatchResult}
-use Rattle.disk.specs.{Contents, IsEnvironmental, State}
+use Rattle.std.specs.Prelude.{◌≡◌, ◌⊎◌, ◌↔◌, ◌<◌, ℕ, Bool, List, IsTrue, length, map}
+use Rattle.std.specs.Prelude.{Result, Ok, Err, IsErrAnd, MatchResult}
+use Rattle.disk.specs.{Contents, IsEnvironmental, KeepsDisk, State}
 use Rattle.disk.specs.declared.Disk.{Ghosts}
 use Rattle.configurations.specs.{at_epoch, Configurations}
 use Rattle.chain_model.specs.{created, started}
 use Rattle.chain_core.specs.{Machine}
-use Rattle.manifest.specs.{HasOnlyCreationFiles, ManifestRepresents, NodeVersion, SlotsRead}
+use Rattle.manifest.specs.{HasOnlyCreationFiles, IsNotCreated, ManifestRepresents, NodeVersion}
+use Rattle.manifest.specs.{SlotsRead, WasCutShort}
 use Rattle.node.specs.declared.node.Node.{Node}
 use Rattle.node.specs.declared.stop.Stop.TheVariants as stop
-use Rattle.node.specs.{NodeRefines, disk_of}
+use Rattle.node.specs.Starts.{IsStarted, StartRefusal}
+use Rattle.node.specs.{IsOwned, NodeRefines, disk_of}
+use Rattle.lab.specs.declared.SimNode.{SimNode}
 use Rattle.folder_nodes.specs.declared.fault.FolderError.{FolderError}
 use Rattle.folder_nodes.specs.declared.fault.FolderError.TheVariants.{OtherNode, Stopped}
 
@@ -36,11 +39,39 @@ pub record NamesOwn (configs : Configurations) (id : ℕ) (own : Bool) (left : C
   pub read : SlotsRead new left
   pub decides : IsTrue own ↔ IsOwnVersion configs id named
 
+-- a disk with this content has the version of the own node
+abbrev pub HasOwnVersion : Configurations → ℕ → Contents → Type 0
+HasOwnVersion configs id left =
+    (named : NodeVersion) × ManifestRepresents named left × IsOwnVersion configs id named
+
+-- a disk with this content has the version of another node, or of another configuration
+abbrev pub HasOtherVersion : Configurations → ℕ → Contents → Type 0
+HasOtherVersion configs id left =
+    (named : NodeVersion) × ManifestRepresents named left × (IsOwnVersion configs id named → ⊥)
+
+-- why the node of a disk with this content was not started
+abbrev pub StartFailure : Contents → FolderError → Type 0
+StartFailure left (Stopped cause) = StartRefusal cause left
+StartFailure left OtherNode = ⊥
+
+-- why a disk with this content has no node for a run
+abbrev pub FindingRefusal : Configurations → ℕ → Contents → FolderError → Type 0
+FindingRefusal configs id left OtherNode = HasOtherVersion configs id left
+FindingRefusal configs id left (Stopped stop.Disk) = Unit {0}
+FindingRefusal configs id left (Stopped stop.Memory) = Unit {0}
+FindingRefusal configs id left (Stopped stop.Damaged) = StartRefusal stop.Damaged left
+FindingRefusal configs id left (Stopped stop.NotCreated) =
+    IsNotCreated left × (HasOnlyCreationFiles left → ⊥)
+
 -- refused for the device or for want of memory
 abbrev pub IsForEnvironment : FolderError → Type 0
 IsForEnvironment = IsEnvironmental (Stopped stop.Disk) (Stopped stop.Memory)
 
 module _ {D : Type 0} {g : Ghosts D} where
+  -- the ids of simulated nodes, in order
+  abbrev pub sim_ids : List (SimNode D g) → List ℕ
+  sim_ids nodes = map (λ sim. sim.id) nodes
+
   -- the disk that a call received: the node has it, or the refusal returns it
   abbrev pub disk_left : Result (Node D g) (FolderError × D) → D
   disk_left (Ok node) = disk_of node
@@ -64,6 +95,25 @@ module _ {D : Type 0} {g : Ghosts D} where
       (λ refused. IsForEnvironment refused.0
       ⊎ ((refused.0 ≡ Stopped stop.NotCreated) × (HasOnlyCreationFiles left → ⊥)))
 
+  -- the node is started with what the files of its disk open as, or the content explains why not
+  abbrev pub StartsFrom : Contents → Result (Node D g) (FolderError × D) → Type 0
+  StartsFrom left result =
+      MatchResult result (IsStarted left) (λ refused. StartFailure left refused.0)
+
+  -- a node that was found on a disk with this content: the own one, with what the files open as; or
+  -- a new one, where there was no more than a creation may have left that was cut short
+  abbrev pub IsFoundOn : Configurations → ℕ → Contents → Node D g → Type 0
+  IsFoundOn configs id left node =
+      (HasOwnVersion configs id left × IsStarted left node)
+      ⊎ (WasCutShort left × IsCreatedIn configs id node)
+
+  -- a node was found on a disk with this content, or the content explains the refusal
+  abbrev pub ExplainsFinding : Configurations → ℕ → Contents →
+      Result (Node D g) (FolderError × D) → Type 0
+  ExplainsFinding configs id left result =
+      MatchResult result (IsFoundOn configs id left)
+      (λ refused. FindingRefusal configs id left refused.0)
+
   -- node x with this machine is started, or refused for a cause of the environment
   abbrev pub StartsAs : ℕ → Machine → Result (Node D g) (FolderError × D) → Type 0
   StartsAs x n result =
@@ -78,3 +128,9 @@ module _ {D : Type 0} {g : Ghosts D} where
       (λ node. IsOwn configs id x n × NodeRefines g.is_honest g.state node x (started x n))
       (λ refused. IsForEnvironment refused.0
       ⊎ ((refused.0 ≡ OtherNode) × (IsOwn configs id x n → ⊥)))
+
+module _ {D : Type 0} (g : Ghosts D) where
+  -- the device is kept, which failed exactly where the refusal is for it
+  abbrev pub KeepsFoundDisk : D → Result (Node D g) (FolderError × D) → Type 0
+  KeepsFoundDisk disk result = KeepsDisk g disk (disk_left result)
+      (IsErrAnd result (λ refused. refused.0 ≡ Stopped stop.Disk)) ⊥ IsOwned

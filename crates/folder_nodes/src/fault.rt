@@ -43,8 +43,9 @@ impl From<DiskError> for FolderError {
     // The files of a disk are listed, or refused for the device or for memory alone.
     fn from(cause: DiskError) -> FolderError {
         FolderError::Stopped(match cause {
+            DiskError::Failed => Stop::Disk,
             DiskError::Memory => Stop::Memory,
-            DiskError::Failed | DiskError::NoFile | DiskError::Short => Stop::Disk,
+            DiskError::NoFile | DiskError::Short => Stop::Damaged,
         })
     }
 }

@@ -7,8 +7,9 @@ ghost use Rattle.manifest.specs.Manifests.{ManifestRefusal};
 ghost use Rattle.manifest.specs.Reads.{SlotsAreRead};
 ghost use Rattle.node.specs.{DiskRefines, DiskRefinesOneOf, IsReady, node_limits};
 ghost use Rattle.node.specs.Outputs.{AlwaysRefines};
-ghost use Rattle.folder_nodes.specs.Finding.{CreatesAgain, CreatesIn, FindsOwn, IsForEnvironment};
-ghost use Rattle.folder_nodes.specs.Finding.{IsOwnVersion, NamesOwn, StartsAs, disk_left};
+ghost use Rattle.folder_nodes.specs.Finding.{CreatesAgain, CreatesIn, ExplainsFinding, FindsOwn};
+ghost use Rattle.folder_nodes.specs.Finding.{IsForEnvironment, IsOwnVersion, KeepsFoundDisk};
+ghost use Rattle.folder_nodes.specs.Finding.{NamesOwn, StartsAs, StartsFrom, disk_left};
 
 use crate::fault::FolderError;
 use configurations::{Config, Configs, Epoch, NodeId};
@@ -27,6 +28,7 @@ fn created<D: Disk + Drop>(
     configs: &Configs,
     limits: &Limits,
 ) -> Result<Node<D>, (FolderError, D)>
+    ensures kept { KeepsFoundDisk D.Disk disk result }
     ensures created { D.is_honest disk → CreatesIn configs.now id result }
     ensures works { IfOk result IsReady }
     ensures limits { IfOk result (λ node. node_limits node ≡ limits.now) }
@@ -46,6 +48,7 @@ fn created_again<D: Disk + Drop>(
     configs: &Configs,
     limits: &Limits,
 ) -> Result<Node<D>, (FolderError, D)>
+    ensures kept { KeepsFoundDisk D.Disk disk result }
     ensures created { D.is_honest disk →
         CreatesAgain configs.now id (contents (D.state disk)) result }
     ensures refused { IfErr result (λ refused. (IsForEnvironment refused.0 → ⊥) →
@@ -105,8 +108,10 @@ fn started<D: Disk + Drop>(
     disk: D,
     limits: &Limits,
 ) -> Result<Node<D>, (FolderError, D)>
+    ensures kept { KeepsFoundDisk D.Disk disk result }
     ensures started { (x : ℕ) (n : Machine) → D.is_honest disk →
         DiskRefines (contents (D.state disk)) x n → StartsAs x n result }
+    ensures told { D.is_honest disk → StartsFrom (contents (D.state disk)) result }
     ensures any_moment { (x : ℕ) (n m : Machine) → D.is_honest disk →
         DiskRefinesOneOf (D.state disk) x n m →
         AlwaysRefines D.Disk disk (disk_left result) x n m }
@@ -132,8 +137,11 @@ pub fn node_over<D: Disk + Drop>(
     configs: &Configs,
     limits: &Limits,
 ) -> Result<Node<D>, (FolderError, D)>
+    ensures kept { KeepsFoundDisk D.Disk disk result }
     ensures started { (x : ℕ) (n : Machine) → D.is_honest disk →
         DiskRefines (contents (D.state disk)) x n → FindsOwn configs.now id x n result }
+    ensures told { D.is_honest disk →
+        ExplainsFinding configs.now id (contents (D.state disk)) result }
     ensures works { IfOk result IsReady }
     ensures limits { IfOk result (λ node. node_limits node ≡ limits.now) }
 
@@ -151,7 +159,9 @@ pub fn node_over<D: Disk + Drop>(
     match names_own(alloc, &mut disk, id, configs) {
         Ok(true) => started(alloc, disk, limits),
         Ok(false) => Err((FolderError::OtherNode, disk)),
-        Err(ManifestError::NotCreated) => created_again(alloc, disk, id, configs, limits),
-        Err(e) => Err((FolderError::from(e), disk)),
+        Err(e) => match e {
+            ManifestError::NotCreated => created_again(alloc, disk, id, configs, limits),
+            _ => Err((FolderError::from(e), disk)),
+        },
     }
 }

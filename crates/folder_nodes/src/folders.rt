@@ -1,6 +1,8 @@
 // The nodes of a list of configurations, each in a folder of its own.
-ghost use Rattle.std.specs.Prelude.{IfOk};
+ghost use Rattle.std.specs.Prelude.{◌≡◌, ◌++◌, ◌∷◌, [], Contains, IfErr, IfOk, OnOk};
+ghost use Rattle.configurations.specs.{at_epoch};
 ghost use Rattle.node.specs.{IsReady};
+ghost use Rattle.folder_nodes.specs.Finding.{sim_ids};
 
 use crate::fault::{FolderError, FolderFault};
 use crate::finding::node_over;
@@ -68,9 +70,25 @@ fn add_node<D: Disk + Drop>(
     node: Node<D>,
 ) -> Result<(), FolderError>
     requires { IsReady node }
+    ensures { OnOk result (sim_ids nodes.new.items ≡ sim_ids nodes.old.items ++ id ∷ []) }
 {
     nodes.push(SimNode::up(id, Box::new(alloc, node)?))?;
     Ok(())
+}
+
+// The node of one folder more.
+fn add_node_in<R: Files<File = File> + Alloc<A = Global> + Clone + Drop>(
+    rt: &R,
+    folder: &str,
+    id: NodeId,
+    configs: &Configs,
+    limits: &Limits,
+    nodes: &mut Vec<SimNode<DirDisk<R>>>,
+) -> Result<(), FolderError>
+    ensures { OnOk result (sim_ids nodes.new.items ≡ sim_ids nodes.old.items ++ id ∷ []) }
+{
+    let node = node_in(rt, folder, id, configs, limits)?;
+    add_node(rt.alloc(), nodes, id, node)
 }
 
 /// The nodes of the first configuration in its order, each in the folder that has its id for its
@@ -81,17 +99,14 @@ pub fn nodes_in<R: Files<File = File> + Alloc<A = Global> + Clone + Drop>(
     folder: &str,
     configs: &Configs,
     limits: &Limits,
-) -> Result<Vec<SimNode<DirDisk<R>>>, FolderFault> {
-    let alloc = rt.alloc();
-    let mut nodes = Vec::new(alloc);
+) -> Result<Vec<SimNode<DirDisk<R>>>, FolderFault>
+    ensures nodes { IfOk result (λ nodes. sim_ids nodes.items ≡ at_epoch configs.now 0) }
+    ensures fault { IfErr result (λ fault. Contains (at_epoch configs.now 0) fault.id) }
+{
+    let mut nodes = Vec::new(rt.alloc());
     for id in configs.first().ids() {
-        let id = *id;
-        let added = match node_in(rt, folder, id, configs, limits) {
-            Ok(node) => add_node(alloc, &mut nodes, id, node),
-            Err(error) => Err(error),
-        };
-        if let Err(error) = added {
-            return Err(FolderFault { id, error });
+        if let Err(error) = add_node_in(rt, folder, *id, configs, limits, &mut nodes) {
+            return Err(FolderFault { id: *id, error });
         }
     }
     Ok(nodes)

@@ -1,13 +1,35 @@
 -- The slots are looked at; then the node is started, or created.
 use Rattle.std.proofs.Common.{inl, inr, refl, subst, sym, true≢false, ◌∙◌}
 use Rattle.disk.specs.{contents}
+use Rattle.engine.specs.KeepingLemmas.{kept_as, neither}
 use Rattle.node.specs.{DiskRefines}
-use Rattle.folder_nodes.proofs.FindingLemmas.{env_opened, finds, is_created, later_still}
-use Rattle.folder_nodes.proofs.FindingLemmas.{one_is_created, own_machine, rests_on, rests_still}
-use Rattle.folder_nodes.proofs.FindingLemmas.{rests_then, same_contents}
+use Rattle.folder_nodes.specs.Finding.{StartsFrom}
+use Rattle.manifest.specs.declared.error.ManifestError.TheVariants as manifest
+use Rattle.folder_nodes.proofs.FindingLemmas.{answers, created_explains, device_opened, env_opened}
+use Rattle.folder_nodes.proofs.FindingLemmas.{finds, is_created, kept_on, later_still, none_failed}
+use Rattle.folder_nodes.proofs.FindingLemmas.{one_is_created, other_not_device, own_machine}
+use Rattle.folder_nodes.proofs.FindingLemmas.{refused_as, rests_on, rests_still, rests_then}
+use Rattle.folder_nodes.proofs.FindingLemmas.{same_contents, slots_explain, started_explains}
 use Rattle.folder_nodes.proofs.finding.node_over.Goals as goal
 
 -- the own node
+pub returns-in-Ok-true-clause-kept : goal.returns-in-Ok-true-clause-kept
+returns-in-Ok-true-clause-kept g c =
+    kept_on g.D.Disk c.started.result c.in-Ok-true.ensures.reads.kept answers
+    c.started.ensures.kept
+
+pub returns-in-Ok-true-clause-told : goal.returns-in-Ok-true-clause-told
+returns-in-Ok-true-clause-told g c = λ honest.
+    let told = c.in-Ok-true.ensures.told honest in
+    let kept = c.names_own.ensures.reads.kept in
+    let same = same_contents (g.D.Disk.state c.args.disk) (g.D.Disk.state c.names_own.new.disk)
+    told.read (kept.files honest) in
+    started_explains c.version_is_one.ensures.created c.args.configs.now c.args.id
+    (contents (g.D.Disk.state c.args.disk)) c.started.result
+    (told.named, told.represents, told.decides.0 c.in-Ok-true.field-0-test)
+    (subst (λ left. StartsFrom left c.started.result) same
+    (c.started.ensures.told (kept.honest.1 honest)))
+
 pub returns-in-Ok-true-clause-started : goal.returns-in-Ok-true-clause-started
 returns-in-Ok-true-clause-started g c = λ x n honest read.
     let told = c.in-Ok-true.ensures.told honest in
@@ -35,6 +57,19 @@ returns-in-Ok-true-clause-refused g c =
     reads.kept.honest.1 c.started.ensures.refused
 
 -- another node
+pub returns-in-Ok-false-clause-kept : goal.returns-in-Ok-false-clause-kept
+returns-in-Ok-false-clause-kept g c =
+    kept_as g.D.Disk (neither answers other_not_device) (λ a b spares. tt)
+    c.in-Ok-false.ensures.reads.kept
+
+pub returns-in-Ok-false-clause-told : goal.returns-in-Ok-false-clause-told
+returns-in-Ok-false-clause-told g c = λ honest.
+    let told = c.in-Ok-false.ensures.told honest in (
+      told.named,
+      told.represents,
+      λ own. true≢false (sym (told.decides.1 own) ∙ c.in-Ok-false.field-0-test),
+    )
+
 pub returns-in-Ok-false-clause-started : goal.returns-in-Ok-false-clause-started
 returns-in-Ok-false-clause-started g c = λ x n honest read.
     let told = c.in-Ok-false.ensures.told honest in
@@ -52,29 +87,50 @@ returns-in-Ok-false-clause-any_moment g c = λ x n m honest rests.
     honest rests
 
 -- no slot is open
-pub returns-in-Err-NotCreated-clause-started : goal.returns-in-Err-NotCreated-clause-started
-returns-in-Err-NotCreated-clause-started g c = λ x n honest read.
+pub returns-in-NotCreated-clause-kept : goal.returns-in-NotCreated-clause-kept
+returns-in-NotCreated-clause-kept g c =
+    kept_on g.D.Disk c.created_again.result c.in-Err.ensures.reads.kept
+    (none_failed c.in-Err.e c.in-NotCreated.is) c.created_again.ensures.kept
+
+pub returns-in-NotCreated-clause-started : goal.returns-in-NotCreated-clause-started
+returns-in-NotCreated-clause-started g c = λ x n honest read.
     absurd (is_created c.version_is_one.ensures.created
     (contents (g.D.Disk.state c.args.disk)) x n read
-    (rw c.in-Err-NotCreated.field-0-is at (c.in-Err-NotCreated.ensures.told honest)))
+    (refused_as c.in-Err.e manifest.NotCreated _ c.in-NotCreated.is
+    (c.in-Err.ensures.told honest)))
 
-pub returns-in-Err-NotCreated-clause-any_moment : goal.returns-in-Err-NotCreated-clause-any_moment
-returns-in-Err-NotCreated-clause-any_moment g c = λ x n m honest rests.
+pub returns-in-NotCreated-clause-told : goal.returns-in-NotCreated-clause-told
+returns-in-NotCreated-clause-told g c = λ honest.
+    let kept = c.names_own.ensures.reads.kept in
+    created_explains c.args.configs.now c.args.id (g.D.Disk.state c.args.disk)
+    (g.D.Disk.state c.names_own.new.disk) c.created_again.result
+    (refused_as c.in-Err.e manifest.NotCreated _ c.in-NotCreated.is
+    (c.in-Err.ensures.told honest))
+    (kept.files honest) (c.created_again.ensures.created (kept.honest.1 honest))
+
+pub returns-in-NotCreated-clause-any_moment : goal.returns-in-NotCreated-clause-any_moment
+returns-in-NotCreated-clause-any_moment g c = λ x n m honest rests.
     absurd (one_is_created c.version_is_one.ensures.created (g.D.Disk.state c.args.disk) x n m rests
-    (rw c.in-Err-NotCreated.field-0-is at (c.in-Err-NotCreated.ensures.told honest)))
+    (refused_as c.in-Err.e manifest.NotCreated _ c.in-NotCreated.is
+    (c.in-Err.ensures.told honest)))
 
-pub returns-in-Err-NotCreated-clause-refused : goal.returns-in-Err-NotCreated-clause-refused
-returns-in-Err-NotCreated-clause-refused g c =
+pub returns-in-NotCreated-clause-refused : goal.returns-in-NotCreated-clause-refused
+returns-in-NotCreated-clause-refused g c =
     let reads = c.names_own.ensures.reads in
     later_still c.args.disk c.names_own.new.disk c.created_again.result reads.still
     reads.kept.honest.1 c.created_again.ensures.refused
 
 -- the manifest was refused
-pub returns-in-Err : goal.returns-in-Err
-returns-in-Err g c = record {
+pub returns-in_default : goal.returns-in_default
+returns-in_default g c = record {
+  kept = kept_as g.D.Disk (device_opened c.in-Err.e c.from.result c.from.ensures)
+      (λ a b spares. tt) c.in-Err.ensures.reads.kept;
   started = λ x n honest read. inl (env_opened c.version_is_one.ensures.created c.in-Err.e
       c.from.result (contents (g.D.Disk.state c.args.disk)) x n c.from.ensures
       (c.in-Err.ensures.told honest) read);
+  told = λ honest. slots_explain c.args.configs.now c.args.id c.in-Err.e c.from.result
+      (contents (g.D.Disk.state c.args.disk)) c.from.ensures
+      (λ same. c.in_default.not-NotCreated same) (c.in-Err.ensures.told honest);
   works = tt;
   limits = tt;
   any_moment = λ x n m honest rests. rests_still g.D.Disk c.args.disk c.names_own.new.disk x n m
