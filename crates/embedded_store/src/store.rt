@@ -33,6 +33,7 @@ impl<D: Disk + Drop> EmbeddedStore<D> {
     ghost use Rattle.engine.specs.Calls.{TendsAsDue};
     ghost use Rattle.compaction.specs.Outputs.{IsSameBeyond};
     ghost use Rattle.engine.specs.EngineError.TheVariants.{Disk, Exhausted, Memory};
+    ghost use Rattle.engine.specs.Tended.TheVariants.{Idle};
     ghost use Rattle.embedded_store.specs.Cursors.{CursorIsOf, cursor_number, cursor_row};
     ghost use Rattle.embedded_store.specs.Stores.{HoldsBatches, IsReadRefusal, IsSnapshotRefusal};
     ghost use Rattle.embedded_store.specs.Stores.{WritesBatch, first_batches, read_number, whether};
@@ -146,6 +147,8 @@ impl<D: Disk + Drop> EmbeddedStore<D> {
             (raised_facts (store_engine self.old)) (λ list. list) }
         ensures told { RaisesFactsAtMost (store_engine self.old) (store_engine self.new) }
         ensures work { TendsAsDue D.Disk (store_engine self.old) (store_engine self.new) result }
+        ensures rests { IfOk result (λ done. done ≡ Idle →
+            store_disk self.new ≡ store_disk self.old) }
     {
         self.engine.tend(alloc)
     }

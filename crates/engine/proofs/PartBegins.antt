@@ -18,7 +18,8 @@ use Rattle.store_files.specs.declared.tended.Tended.TheVariants as tended
 use Rattle.store_files.specs.OpenFiles.{known_version}
 use Rattle.table_files.specs.declared.cached_disk.CachedDisk.{CachedDisk}
 use Rattle.engine.specs.MergeParts.{IsBegunBy}
-use Rattle.engine.specs.Tends.{ContinuesAsPlanned, HasMerged as merged, MergesByPlan, due_plan}
+use Rattle.engine.specs.Tends.{ContinuesAsPlanned, ContinuesMerge, HasMerged as merged}
+use Rattle.engine.specs.Tends.{ContinuesMerge as going, MergesByPlan, due_plan}
 use Rattle.engine.specs.Tends.{key_of_plan, tended_store, turn_after}
 use Rattle.engine.specs.UnderWay.{WasMeantWithMerge}
 
@@ -89,3 +90,16 @@ rests g limits floor a store was left turn none after due = record {
   did = merged.HasRested none due (ap (λ m. tended_store store m turn) (after ∙ sym none)) refl;
   planned = λ list honest w. tt;
 }
+
+-- a merge that went on is never at rest
+pub never_idle : {D : Type 0} (g : Ghosts D) (a b : CachedDisk D g) (old new : StoreFiles)
+    (it : Merge D) (left : Option (Merge D)) (P : Type 0) (result : Result Tended EngineError) →
+    IfOk result (ContinuesAsPlanned g a b old new it left) →
+    IfOk result (λ answer. answer ≡ tended.Idle → P)
+never_idle g a b old new it left P (Ok answer) on = λ idle. no on.did idle
+  where
+    no : ContinuesMerge old new it left answer → answer ≡ tended.Idle → P
+    no (going.HasStepped now went is worked) idle = absurd cc
+    no (going.EndsByEdit edit used merged is worked) idle = absurd cc
+    no (going.IsGivenUp used freed is full) idle = absurd cc
+never_idle g a b old new it left P (Err e) on = tt

@@ -78,6 +78,7 @@ impl<D: Disk + Drop> Engine<D> {
     ghost use Rattle.store_files.specs.Files.{Facts};
     ghost use Rattle.store_files.specs.Settling.{AreReadAlike};
     ghost use Rattle.store_files.specs.StoreFiles.{StillLeavesOneOf};
+    ghost use Rattle.store_files.specs.declared.tended.Tended.TheVariants.{Idle};
     ghost use Rattle.compaction.specs.Outputs.{IsSameBeyond};
 
     /// Creates a store without batches on a disk, whose files are all removed first. A refusal
@@ -228,6 +229,8 @@ impl<D: Disk + Drop> Engine<D> {
             FactsRise (facts_of self.old) (raised_facts self.old)) }
         ensures work { TendsAsDue D.Disk self.old self.new result }
         ensures did { IfOk result (IsTendOf self.old self.new) }
+        ensures rests { IfOk result (λ done. done ≡ Idle →
+            engine_disk self.new ≡ engine_disk self.old) }
     {
         held_files_are_left(); // law: what the disk of open files reads as, and leaves
         raised_facts_rise(); // law: floor and trimmed batches rise

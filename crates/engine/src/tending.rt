@@ -3,6 +3,7 @@ ghost use Rattle.std.specs.Prelude.{◌≡◌, ◌≤◌, ◌==◌, ℕ, IfOk, i
 ghost use Rattle.std.specs.Option.{option_or};
 ghost use Rattle.compaction.specs.{turn_key};
 ghost use Rattle.store_files.specs.Raising.{MayRise};
+ghost use Rattle.store_files.specs.declared.tended.Tended.TheVariants.{Idle};
 ghost use Rattle.engine.specs.Tends.{KeepsTended, MergesByPlan, TendsByPlan, key_of_plan};
 ghost use Rattle.engine.specs.Tends.{tended_store};
 
@@ -47,7 +48,7 @@ fn end_turn(turn: &mut Turn, level: u8, key: Option<Key>)
 }
 
 // Does the next part of the merge that is under way, or begins the one that is due: then the floor
-// rises to this number.
+// rises to this number. Where none is due, it makes no call of the disk.
 fn tend_merge<D: Disk + Drop>(
     alloc: Global,
     files: &mut CachedDisk<D>,
@@ -63,6 +64,7 @@ fn tend_merge<D: Disk + Drop>(
         result }
     ensures did { IfOk result (MergesByPlan D.Disk limits.now floor files.old files.new
         (tended_store store.old merge.old turn.old) (tended_store store.new merge.new turn.new)) }
+    ensures rests { IfOk result (λ done. done ≡ Idle → files.new ≡ files.old) }
 {
     held_files_are_left(); // law: what the disk of open files reads as, and leaves
     if let Some(it) = merge.take() {
@@ -95,6 +97,7 @@ pub(crate) fn tend_store<D: Disk + Drop>(
         result }
     ensures did { IfOk result (TendsByPlan D.Disk limits.now floor files.old files.new
         (tended_store store.old merge.old turn.old) (tended_store store.new merge.new turn.new)) }
+    ensures rests { IfOk result (λ done. done ≡ Idle → files.new ≡ files.old) }
 {
     held_files_are_left(); // law: what the disk of open files reads as, and leaves
     merges_outlive_calls::<D>(); // law: a merge outlives calls that leave its files

@@ -10,7 +10,7 @@ use Rattle.store_files.specs.OpenFiles.{known_version}
 use Rattle.table_files.specs.{inner_disk}
 use Rattle.engine.specs.MergeParts.{IsTendedFile as file, KeepsMerge}
 use Rattle.engine.specs.UnderWay.{HoldsWithMerge, WasMeantWithMerge}
-use Rattle.engine.proofs.PartBegins.{begins, goes_on, rests, turn_over}
+use Rattle.engine.proofs.PartBegins.{begins, goes_on, never_idle, rests, turn_over}
 use Rattle.engine.proofs.PartFiles.{raised_within}
 use Rattle.engine.proofs.Parts.{part_answers, part_none, part_refused, part_wider}
 use Rattle.engine.proofs.tending.tend_merge.Goals as goal
@@ -33,6 +33,13 @@ returns-in-Some-clause-did g c =
     c.args.store.now c.continue_merge.new.store c.args.merge.now c.continue_merge.new.place
     c.args.turn.now c.in-Some.it (sym c.take.ensures.value ∙ c.in-Some.is)
     c.continue_merge.result c.continue_merge.ensures.did
+
+pub returns-in-Some-clause-rests : goal.returns-in-Some-clause-rests
+returns-in-Some-clause-rests g c =
+    never_idle g.D.Disk c.args.files.now c.continue_merge.new.files c.args.store.now
+    c.continue_merge.new.store c.in-Some.it c.continue_merge.new.place
+    (c.continue_merge.new.files ≡ c.args.files.now) c.continue_merge.result
+    c.continue_merge.ensures.did
 
 -- ---- none is due
 

@@ -72,3 +72,18 @@ returns-clause-did g c =
     (λ f s. IfOk c.tend_merge.result (MergesByPlan g.D.Disk c.args.limits.now c.args.floor f
     c.tend_merge.new.files (tended_store s c.args.merge.now c.args.turn.now) later)) rests
     c.tend_merge.ensures.did)
+
+-- ---- what was at rest
+
+pub returns-then-ne-clause-rests : goal.returns-then-ne-clause-rests
+returns-then-ne-clause-rests g c = λ idle.
+    let some : c.in_ok-done.done ≢ tended.Idle = search rules in absurd (some idle)
+
+pub returns-clause-rests : goal.returns-clause-rests
+returns-clause-rests g c =
+    let idle : c.in_ok-done.done ≡ tended.Idle = search rules in
+    let rests = subst (λ r. IfOk r (λ d. d ≡ tended.Idle →
+    Rests c.args.files.now c.tend.new.disk c.args.store.now c.tend.new.self)) c.in_ok-done.was
+    c.tend.ensures.rests idle in
+    subst (λ f. IfOk c.tend_merge.result (λ d. d ≡ tended.Idle → c.tend_merge.new.files ≡ f))
+    rests.0 c.tend_merge.ensures.rests

@@ -1,6 +1,7 @@
-use Rattle.std.proofs.Common.{ℕ, Err, inl, inr, refl, subst}
+use Rattle.std.proofs.Common.{ℕ, Err, ap, inl, inr, refl, subst}
 use Rattle.std.specs.Prelude.{IfOk}
 use Rattle.store_tables.specs.declared.error.EngineError.TheVariants as error
+use Rattle.table_files.specs.{inner_disk}
 use Rattle.engine.specs.Calls.{tended_of}
 use Rattle.engine.specs.Engines.{FactsRise, facts_of, least_read, raised_facts}
 use Rattle.engine.specs.Tends.{KeepsTended, TendsByPlan, tended_store}
@@ -146,3 +147,9 @@ returns-clause-did g c =
     if_ok answer (λ told by. by.did) (subst (λ (n : ℕ). IfOk answer (TendsByPlan g.D.Disk old.limits
     n old.files c.tend_store-answer.new.files (tended_of old) later)) c.least-floor.ensures
     c.tend_store-answer.ensures.did)
+
+-- at rest no call of the disk is made
+pub returns-clause-rests : goal.returns-clause-rests
+returns-clause-rests g c =
+    if_ok c.tend_store-answer.result (λ told same idle. ap (λ f. inner_disk f) (same idle))
+    c.tend_store-answer.ensures.rests
