@@ -8,10 +8,13 @@ use Rattle.std.specs.Io.KnownBytes.{Appends}
 use Rattle.disk.specs.declared.disk.Disk.{Ghosts}
 use Rattle.lab.specs.declared.Line.{Line}
 use Rattle.lab.specs.declared.world.World.{World}
-use Rattle.lab.specs.{AddsLines, lines_so_far}
+use Rattle.lab.specs.{AddsLines, EventAddsLines, configs_of, lines_so_far}
+use Rattle.lab.specs.NodeLists.{Configurations}
 use Rattle.kv_types.specs.declared.KvError.{KvError}
 use Rattle.lab.specs.declared.Event as lab
 use Rattle.lab.specs.Numbers.{Numbers}
+use Rattle.scripts.specs.Scripts.{Names}
+use Rattle.scripts.specs.declared.statement.Action.{Action}
 use Rattle.scripts.specs.declared.statement.Action.TheVariants.{Event, Invalid, Flow}
 use Rattle.scripts.specs.declared.statement.Action.TheVariants.{Settle, Show}
 use Rattle.scripts.specs.declared.statement.Statement.{Statement}
@@ -19,7 +22,8 @@ use Rattle.client.specs.declared.statement_result.Note.TheVariants as note
 use Rattle.client.specs.ScriptRuns.{busy, most, shown}
 use Rattle.client.specs.declared.statement_result.StatementResult.{StatementResult}
 use Rattle.client.specs.PrintedRuns.{AppendsPart}
-use Rattle.client.specs.ReportedRuns.{AreReported, IsReportedIn, ReportIsBegun, ReportIsPrinted}
+use Rattle.client.specs.ReportedRuns.{ActionAddsLines, AreLinesOf, AreReported, IsReportedIn}
+use Rattle.client.specs.ReportedRuns.{ReportIsBegun, ReportIsPrinted}
 use Rattle.client.specs.ReportedRuns.AreReported.{NoStatement, OneMore}
 use Rattle.client.specs.Text.{result_text}
 use Rattle.client.proofs.Printed.{appends_more, appends_none}
@@ -28,19 +32,41 @@ use Rattle.client.proofs.Printed.{appends_more, appends_none}
 
 module _ {D C : Type 0} {g : Ghosts D} where
   -- no event
-  pub adds_nothing : (world : World D C g) → AddsLines 0 world world
-  adds_nothing world =
-      record { more = []; few = omega arith; added = sym (append-nil (lines_so_far world)) }
+  pub adds_nothing : (action : Action) (world : World D C g) → ActionAddsLines action 0 world world
+  adds_nothing action world = record {
+    more = [];
+    added = sym (append-nil (lines_so_far world));
+    each = λ _. refl;
+    unknown = λ _. refl;
+    configs = refl;
+  }
 
   -- one event more
-  pub adds_more : (old mid new : World D C g) (count : ℕ) → AddsLines count old mid →
-      AddsLines 1 mid new → AddsLines (count + 1) old new
-  adds_more old mid new count before next = record {
-    more = before.more ++ next.more;
-    few = omega (arith, length-append before.more next.more, before.few, next.few);
-    added = next.added ∙ ap (λ (l : List (List Line)). l ++ next.more) before.added
-        ∙ append_assoc (lines_so_far old) before.more next.more;
-  }
+  pub adds_more : (action : Action) (old mid new : World D C g) (count : ℕ) →
+      ActionAddsLines action count old mid → ActionAddsLines action 1 mid new →
+      ActionAddsLines action (count + 1) old new
+  adds_more action old mid new count before after =
+      let next = subst (λ (cs : Configurations). AddsLines (Names cs action) 1 mid new)
+      before.configs after in
+      record {
+        more = before.more ++ next.more;
+        added = next.added ∙ ap (λ (l : List (List Line)). l ++ next.more) before.added
+            ∙ append_assoc (lines_so_far old) before.more next.more;
+        each = λ named. omega (
+          arith,
+          length-append before.more next.more,
+          before.each named,
+          next.each named,
+        );
+        unknown = λ other. next.unknown other ∙ before.unknown other;
+        configs = next.configs ∙ before.configs;
+      }
+
+-- nothing more than there was
+no_more : (first more : List (List Line)) → first ≡ first ++ more → more ≡ []
+no_more first [] is = refl
+no_more first (step ∷ more) is =
+    absurd (omega (arith, length-append first (step ∷ more), ap length is))
 
 -- ---- a statement
 
@@ -52,18 +78,18 @@ module _ {D C : Type 0} {g : Ghosts D} (old new : World D C g) (it : Statement)
     (turn : StatementResult) where
   pub reported_event : (event : lab.Event) → it.action ≡ Event event →
       turn ≡ record { line = it.line; events = 1; silent = 0; note = note.Nothing } →
-      AddsLines 1 old new → IsReportedIn old new it turn
+      EventAddsLines event old new → IsReportedIn old new it turn
   reported_event event is made adds = rw made (record {
     answered = record { line = refl; did = rw is (refl, refl, refl) };
-    adds = adds;
+    adds = rw is adds;
   })
 
   pub reported_flow : (count : ℕ) (left : List ℕ) → it.action ≡ Flow →
       turn ≡ record { line = it.line; events = count; silent = 0; note = busy left } →
-      count ≤ most → AddsLines count old new → IsReportedIn old new it turn
+      count ≤ most → ActionAddsLines Flow count old new → IsReportedIn old new it turn
   reported_flow count left is made few adds = rw made (record {
     answered = record { line = refl; did = rw is (few, refl, busy_or_not left) };
-    adds = adds;
+    adds = rw is adds;
   })
 
   pub reported_settle : (node count : ℕ) (more : Bool) → it.action ≡ Settle node →
@@ -72,10 +98,10 @@ module _ {D C : Type 0} {g : Ghosts D} (old new : World D C g) (it : Statement)
         events = count;
         silent = (if more then count else count - 1);
         note = (if more then note.Busy else note.Nothing);
-      } → count ≤ most → AddsLines count old new → IsReportedIn old new it turn
+      } → count ≤ most → ActionAddsLines (Settle node) count old new → IsReportedIn old new it turn
   reported_settle node count more is made few adds = rw made (record {
     answered = record { line = refl; did = rw is (few, (more, refl, refl)) };
-    adds = adds;
+    adds = rw is adds;
   })
 
 module _ {D C : Type 0} {g : Ghosts D} (world : World D C g) (it : Statement)
@@ -85,7 +111,7 @@ module _ {D C : Type 0} {g : Ghosts D} (world : World D C g) (it : Statement)
       IsReportedIn world world it turn
   reported_invalid e is made = rw made (record {
     answered = record { line = refl; did = rw is (refl, refl, refl) };
-    adds = adds_nothing world;
+    adds = adds_nothing it.action world;
   })
 
   pub reported_show : (node : ℕ) (numbers : Option Numbers) → it.action ≡ Show node →
@@ -93,7 +119,7 @@ module _ {D C : Type 0} {g : Ghosts D} (world : World D C g) (it : Statement)
       IsReportedIn world world it turn
   reported_show node numbers is made = rw made (record {
     answered = record { line = refl; did = rw is (refl, refl, (numbers, refl)) };
-    adds = adds_nothing world;
+    adds = adds_nothing it.action world;
   })
 
 -- ---- texts
@@ -137,7 +163,8 @@ module _ {D C : Type 0} {g : Ghosts D} where
       (before : ℕ) (old new : Option (List ℕ)) : Type 0 where
     pub steps : List (List Line)
     pub text : List ℕ
-    pub are : AreReported done places steps text
+    pub are : AreReported (configs_of first) done places steps text
+    pub configs : configs_of now ≡ configs_of first
     pub added : lines_so_far now ≡ lines_so_far first ++ steps
     pub count : before ≡ length (lines_so_far now)
     pub wrote : Appends old new text
@@ -148,6 +175,7 @@ module _ {D C : Type 0} {g : Ghosts D} where
     steps = [];
     text = [];
     are = NoStatement;
+    configs = refl;
     added = sym (append-nil (lines_so_far world));
     count = count;
     wrote = appends_none out;
@@ -156,7 +184,8 @@ module _ {D C : Type 0} {g : Ghosts D} where
   -- the run ended for memory behind them
   pub begun_so_far : (first now : World D C g) (all : List Statement) (i : ℕ) (places : List ℕ)
       (before : ℕ) (old new : Option (List ℕ)) →
-      ReportsSoFar first now (take i all) places before old new → ReportIsBegun all old new
+      ReportsSoFar first now (take i all) places before old new →
+      ReportIsBegun (configs_of first) all old new
   begun_so_far first now all i places before old new r = record {
     count = i;
     places = places;
@@ -174,7 +203,8 @@ module _ {D C : Type 0} {g : Ghosts D} where
     places = places;
     steps = r.steps;
     text = r.text;
-    are = subst (λ (l : List Statement). AreReported l places r.steps r.text) is r.are;
+    are = subst (λ (l : List Statement). AreReported (configs_of first) l places r.steps r.text) is
+        r.are;
     added = r.added;
     wrote = r.wrote;
   }
@@ -189,7 +219,17 @@ module _ {D C : Type 0} {g : Ghosts D} (first world now : World D C g)
     (behind : found ≡ drop before steps)
     (added : more_places ≡ places ++ replicate turn.events turn.line)
     (made : text ≡ result_text more_places turn found) where
-  one_more : AreReported (take (suc i) all) more_places (r.steps ++ is.adds.more) (r.text ++ text)
+  -- its lines, by the configurations that the world had at first
+  own_lines_are : AreLinesOf (configs_of first) it turn is.adds.more
+  own_lines_are = subst (λ (cs : Configurations). AreLinesOf cs it turn is.adds.more) r.configs
+      (record {
+        each = is.adds.each;
+        unknown = λ other. no_more (lines_so_far world) is.adds.more
+            (sym (ap lines_so_far (is.adds.unknown other)) ∙ is.adds.added);
+      })
+
+  one_more : AreReported (configs_of first) (take (suc i) all) more_places
+      (r.steps ++ is.adds.more) (r.text ++ text)
   one_more =
       let own = own_lines (lines_so_far world) is.adds.more steps found before r.count
       (reports ∙ is.adds.added) behind in
@@ -197,11 +237,11 @@ module _ {D C : Type 0} {g : Ghosts D} (first world now : World D C g)
       rw (made, own, added) refl in
       rw (take-suc all i d within, ← at, same, added)
       (OneMore (take i all) places r.steps r.text r.are it turn is.adds.more is.answered
-      is.adds.few)
+      own_lines_are)
 
   -- .. of which the output took a beginning
   pub begun_with_one : (new : Option (List ℕ)) → AppendsPart mid new text →
-      ReportIsBegun all old new
+      ReportIsBegun (configs_of first) all old new
   begun_with_one new part = record {
     count = suc i;
     places = more_places;
@@ -218,6 +258,7 @@ module _ {D C : Type 0} {g : Ghosts D} (first world now : World D C g)
     steps = r.steps ++ is.adds.more;
     text = r.text ++ text;
     are = one_more;
+    configs = is.adds.configs ∙ r.configs;
     added = is.adds.added ∙ ap (λ (l : List (List Line)). l ++ is.adds.more) r.added
         ∙ append_assoc (lines_so_far first) r.steps is.adds.more;
     count = ap length reports;

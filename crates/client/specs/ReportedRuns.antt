@@ -7,7 +7,9 @@ use Rattle.disk.specs.declared.disk.Disk.{Ghosts}
 use Rattle.lab.specs.declared.Line.{Line}
 use Rattle.lab.specs.declared.world.World.{World}
 use Rattle.lab.specs.Numbers.{Numbers}
-use Rattle.lab.specs.{AddsLines, lines_so_far}
+use Rattle.lab.specs.{AddsLines, configs_of, lines_so_far}
+use Rattle.lab.specs.NodeLists.{Configurations}
+use Rattle.scripts.specs.Scripts.{Names}
 use Rattle.scripts.specs.declared.statement.Action.{Action}
 use Rattle.scripts.specs.declared.statement.Action.TheVariants.{Event, Invalid, Flow}
 use Rattle.scripts.specs.declared.statement.Action.TheVariants.{Settle, Show}
@@ -39,21 +41,35 @@ pub record IsAnswered (it : Statement) (turn : StatementResult) : Type 0 where
   pub line : turn.line ≡ it.line
   pub did : IsAnswerTo it.action turn.events turn.silent turn.note
 
--- .. in a world, which has the lines of its events behind those that it had, at most a list of each
-pub record IsReportedIn {D C : Type 0} {g : Ghosts D} (old new : World D C g) (it : Statement)
-    (turn : StatementResult) : Type 0 where
-  pub answered : IsAnswered it turn
-  pub adds : AddsLines turn.events old new
+module _ {D C : Type 0} {g : Ghosts D} where
+  -- so many events of a statement were run in a world: it has a list of lines of each behind those
+  -- that it had, if the statement names a node of the first configuration, or none
+  abbrev pub ActionAddsLines : Action → ℕ → World D C g → World D C g → Type 0
+  ActionAddsLines action count old new = AddsLines (Names (configs_of old) action) count old new
+
+  -- a statement was run so, and this is what it answered
+  pub record IsReportedIn (old new : World D C g) (it : Statement) (turn : StatementResult) : Type 0
+    where
+      pub answered : IsAnswered it turn
+      pub adds : ActionAddsLines it.action turn.events old new
+
+-- these are the lines of a statement's events: of each one list, if it names a node of the first of
+-- these configurations, or none; and nothing, if it names another
+pub record AreLinesOf (cs : Configurations) (it : Statement) (turn : StatementResult)
+    (own : List (List Line)) : Type 0 where
+  pub each : Names cs it.action → length own ≡ turn.events
+  pub unknown : (Names cs it.action → ⊥) → own ≡ []
 
 -- statements were run so, one after another: where in the script their events stand, the lines of
 -- these, and the text of all
-pub data AreReported : List Statement → List ℕ → List (List Line) → List ℕ → Type 0 where
-  NoStatement : AreReported [] [] [] []
+pub data AreReported (cs : Configurations) : List Statement → List ℕ → List (List Line) → List ℕ
+    → Type 0 where
+  NoStatement : AreReported cs [] [] [] []
   OneMore : (done : List Statement) (places : List ℕ) (steps : List (List Line)) (text : List ℕ) →
-      AreReported done places steps text →
+      AreReported cs done places steps text →
       (it : Statement) (turn : StatementResult) (own : List (List Line)) →
-      IsAnswered it turn → length own ≤ turn.events →
-      AreReported (done ++ it ∷ []) (places ++ replicate turn.events turn.line) (steps ++ own)
+      IsAnswered it turn → AreLinesOf cs it turn own →
+      AreReported cs (done ++ it ∷ []) (places ++ replicate turn.events turn.line) (steps ++ own)
       (text ++ result_text (places ++ replicate turn.events turn.line) turn own)
 
 -- the statements were run in a world, which has their lines behind those that it had, and exactly
@@ -63,16 +79,16 @@ pub record ReportIsPrinted {D C : Type 0} {g : Ghosts D} (old new : World D C g)
   pub places : List ℕ
   pub steps : List (List Line)
   pub text : List ℕ
-  pub are : AreReported statements places steps text
+  pub are : AreReported (configs_of old) statements places steps text
   pub added : lines_so_far new ≡ lines_so_far old ++ steps
   pub wrote : Appends before after text
 
 -- a beginning of the text of so many first of these statements was written
-pub record ReportIsBegun (statements : List Statement) (before after : Option (List ℕ)) : Type 0
-  where
-    pub count : ℕ
-    pub places : List ℕ
-    pub steps : List (List Line)
-    pub text : List ℕ
-    pub are : AreReported (take count statements) places steps text
-    pub part : AppendsPart before after text
+pub record ReportIsBegun (cs : Configurations) (statements : List Statement)
+    (before after : Option (List ℕ)) : Type 0 where
+  pub count : ℕ
+  pub places : List ℕ
+  pub steps : List (List Line)
+  pub text : List ℕ
+  pub are : AreReported cs (take count statements) places steps text
+  pub part : AppendsPart before after text

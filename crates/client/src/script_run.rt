@@ -7,8 +7,8 @@ ghost use Rattle.kv_types.specs.{has};
 ghost use Rattle.lab.specs.NodeLists.{at_epoch};
 ghost use Rattle.kv_types.specs.Snapshots.{without};
 ghost use Rattle.lab.specs.declared.Line.{Line};
-ghost use Rattle.lab.specs.{AddsLines, Choice, NamesNode, frames_in_steps, frames_of_step};
-ghost use Rattle.client.specs.ReportedRuns.{IsReportedIn};
+ghost use Rattle.lab.specs.{Choice, EventAddsLines, NamesNode, frames_in_steps, frames_of_step};
+ghost use Rattle.client.specs.ReportedRuns.{ActionAddsLines, IsReportedIn};
 ghost use Rattle.client.specs.ScriptRuns.{HasRunTo, HasSettled, HasTurned, IsRising, faultless};
 ghost use Rattle.client.specs.ScriptRuns.{Stretch, busy, deliveries, delivery, followed_by};
 ghost use Rattle.client.specs.ScriptRuns.{has_worked};
@@ -124,7 +124,7 @@ fn step<D: Crash + Drop, C: Carrier + Drop>(
         × HasRunTo C.Carrier world.new setup (followed_by past (one_step event.now choice lines))
         × (left.new.items ≡ left.old.items
         ++ places_after (frames_in_steps past.steps) (frames_of_step lines))) }
-    ensures adds { OnOk result (AddsLines 1 world.old world.new) }
+    ensures adds { OnOk result (EventAddsLines event.now world.old world.new) }
 {
     let before = world.sent();
     world.step(alloc, event)?;
@@ -145,7 +145,7 @@ fn happen<D: Crash + Drop, C: Carrier + Drop>(
         (followed_by past (one_step (faultless kind) choice lines))
         × (left.new.items ≡ left.old.items
         ++ places_after (frames_in_steps past.steps) (frames_of_step lines))) }
-    ensures adds { OnOk result (AddsLines 1 world.old world.new) }
+    ensures adds { OnOk result (EventAddsLines (faultless kind) world.old world.new) }
 {
     let fault = Fault::None;
     let event = Event { kind, fault };
@@ -169,7 +169,7 @@ fn flow<D: Crash + Drop, C: Carrier + Drop>(
         × (left.new.items ≡ drop most (left.old.items
         ++ places_after (frames_in_steps past.steps) (frames_in_steps own.steps)))) }
     ensures adds { IfOk result
-        (λ count. (count ≤ most) × AddsLines count world.old world.new) }
+        (λ count. (count ≤ most) × ActionAddsLines Action.Flow count world.old world.new) }
 {
     let mut count = 0;
     while count < MOST {
@@ -209,8 +209,8 @@ fn settle<D: Crash + Drop, C: Carrier + Drop>(
         × HasSettled own.steps
         × (left.new.items ≡ left.old.items
         ++ places_after (frames_in_steps past.steps) (frames_in_steps own.steps))) }
-    ensures adds { IfOk result
-        (λ count. (count ≤ most) × AddsLines count world.old world.new) }
+    ensures adds { IfOk result (λ count. (count ≤ most)
+        × ActionAddsLines (Action.Settle node) count world.old world.new) }
 {
     let mut count = 0;
     while count < MOST {

@@ -26,7 +26,7 @@ pub use Rattle.node.specs.declared.stop.Stop
 pub use Rattle.engine.specs.Tended
 -- What crates above name.
 pub use Rattle.lab.specs.Events.{NamesNode, node_in}
-pub use Rattle.lab.specs.LinesSoFar.{AddsLines, lines_so_far}
+pub use Rattle.lab.specs.LinesSoFar.{AddsLines, EventAddsLines, configs_of, lines_so_far}
 pub use Rattle.lab.specs.History.{ClientHistory, DisksHold, OneHistory}
 pub use Rattle.lab.specs.Runs.{AreNumbersOf, IsRun, IsRunOver}
 pub use Rattle.lab.specs.SimNodes.{Arrives, Choice}

@@ -11,7 +11,7 @@ use std::marker::Model;
 /// One line of the trace of an event.
 #[derive(Drop)]
 pub enum Line {
-    /// No frame has the place, or no configuration the epoch.
+    /// No frame has the place, no configuration the epoch, or no node the id.
     Nothing,
     /// The request or the frame did not arrive.
     Lost,

@@ -12,7 +12,7 @@ ghost use Rattle.lab.specs.Worlds.{HasNoNode, HasRun, HasStepped, HaveLimits, Is
 ghost use Rattle.lab.specs.Worlds.{IsReportOf, IsRunSoFar, ShowsTables, WorldHasEnded};
 ghost use Rattle.lab.specs.Worlds.{WorldHasLimits, WorldKeepsLimits, WorldRun, direct_carrier};
 ghost use Rattle.lab.specs.Worlds.{empty_run, event_record, event_records, frames_in_steps};
-ghost use Rattle.lab.specs.LinesSoFar.{AddsLines, lines_so_far};
+ghost use Rattle.lab.specs.LinesSoFar.{EventAddsLines, configs_of, lines_so_far};
 ghost use Rattle.lab.specs.Transmissions.{carrier_of};
 
 use crate::delivery::{Posted, delivery_of};
@@ -232,6 +232,7 @@ impl<D: Disk + Drop, C: Carrier + Drop> World<D, C> {
         ensures goes_on { WorldHasEnded result → ⊥ }
         ensures limits { HaveLimits nodes.items limits.now → WorldHasLimits result limits.now }
         ensures none { lines_so_far result ≡ [] }
+        ensures configs { configs_of result ≡ configs }
     {
         World {
             configs,
@@ -337,7 +338,7 @@ impl<D: Crash + Drop, C: Carrier + Drop> World<D, C> {
             → ⊥) (λ _. WorldHasEnded self.new) }
         ensures again { WorldHasEnded self.old → IsErr result }
         ensures limits { OnOk result (WorldKeepsLimits self.old self.new) }
-        ensures adds { OnOk result (AddsLines 1 self.old self.new) }
+        ensures adds { OnOk result (EventAddsLines event.now self.old self.new) }
     {
         if self.ended {
             return Err(LabError::Memory);
@@ -366,8 +367,7 @@ impl<D: Crash + Drop, C: Carrier + Drop> World<D, C> {
         };
         let Some(at) = index_of(&self.nodes, id) else {
             drop(input);
-            self.ended = false;
-            return Ok(());
+            return self.keep(false, one_line(alloc, Line::Nothing)?);
         };
         let (nodes, frames) = (&mut self.nodes, &mut self.frames);
         let lines = deliver(alloc, nodes, frames, event, at, (id, input), &self.limits)?;

@@ -2,13 +2,14 @@ use Rattle.std.proofs.Common.{ℕ, List, subst, add-one, arith}
 use Rattle.client.specs.ScriptRuns.{followed_by}
 use Rattle.client.proofs.Flowing.{Flows, flows_none, flows_on, flowed_all, flowed_most, emptied}
 use Rattle.client.proofs.ReportedLemmas.{adds_more, adds_nothing}
+use Rattle.scripts.specs.declared.statement.Action.TheVariants.{Flow}
 use Rattle.client.proofs.script_run.flow.Goals as goal
 
 -- no_stretch is delivered yet
 pub loop-count-init : goal.loop-count-init
 loop-count-init g c = (
   λ setup past run. flows_none c.args.world.now setup past c.args.left.now.items run,
-  (omega arith, adds_nothing c.args.world.now),
+  (omega arith, adds_nothing Flow c.args.world.now),
 )
 
 pub returns-in_default-clause-ran : goal.returns-in_default-clause-ran
@@ -34,8 +35,8 @@ loop-count-preserved g c = (
       (omega (arith, c.loop-count-test.true)) gave.0 gave.1 gave.2 gave.3),
   (
     omega (arith, c.loop-count-test.true),
-    adds_more c.args.world.now c.loop-count.world c.happen.new.world c.loop-count.count
-        c.loop-count.invariant.1.1 c.in_ok-happen.ensures.adds,
+    adds_more Flow c.args.world.now c.loop-count.world c.happen.new.world
+        c.loop-count.count c.loop-count.invariant.1.1 c.in_ok-happen.ensures.adds,
   ),
 )
 

@@ -2,6 +2,7 @@ use Rattle.std.proofs.Common.{◌++◌, ◌∙◌, add-one, arith, refl, sym}
 use Rattle.client.specs.ScriptRuns.{followed_by, one_step, tending}
 use Rattle.client.proofs.Settling.{settles_none, settles_on, settled, settled_most}
 use Rattle.client.proofs.ReportedLemmas.{adds_more, adds_nothing}
+use Rattle.scripts.specs.declared.statement.Action.TheVariants.{Settle}
 use Rattle.client.proofs.script_run.settle.Goals as goal
 
 -- no tend yet
@@ -9,7 +10,7 @@ pub loop-count-init : goal.loop-count-init
 loop-count-init g c = (
   λ setup past run named.
       settles_none c.args.world.now setup past c.args.node c.args.left.now.items run,
-  (omega arith, adds_nothing c.args.world.now),
+  (omega arith, adds_nothing (Settle c.args.node) c.args.world.now),
 )
 
 -- a tend did not work
@@ -37,8 +38,8 @@ loop-count-preserved g c = (
       refl) ∙ c.if-not-tend_has_worked.false)),
   (
     omega (arith, c.loop-count-test.true),
-    adds_more c.args.world.now c.loop-count.world c.happen.new.world c.loop-count.count
-        c.loop-count.invariant.1.1 c.in_ok-happen.ensures.adds,
+    adds_more (Settle c.args.node) c.args.world.now c.loop-count.world c.happen.new.world
+        c.loop-count.count c.loop-count.invariant.1.1 c.in_ok-happen.ensures.adds,
   ),
 )
 
@@ -52,8 +53,8 @@ returns-clause-ran g c = λ setup past run named.
 pub returns-then-not-tend_has_worked-clause-adds : goal.returns-then-not-tend_has_worked-clause-adds
 returns-then-not-tend_has_worked-clause-adds g c = (
   omega (arith, c.loop-count-test.true),
-  adds_more c.args.world.now c.loop-count.world c.happen.new.world c.loop-count.count
-      c.loop-count.invariant.1.1 c.in_ok-happen.ensures.adds,
+  adds_more (Settle c.args.node) c.args.world.now c.loop-count.world c.happen.new.world
+      c.loop-count.count c.loop-count.invariant.1.1 c.in_ok-happen.ensures.adds,
 )
 
 pub returns-clause-adds : goal.returns-clause-adds

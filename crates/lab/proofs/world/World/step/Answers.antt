@@ -67,7 +67,7 @@ returns-in-Lost-clause-ran g c = λ past run.
     l))
     c.in_ok-one_line-in-Lost.ensures c.keep-in-Lost.ensures.kept)
 
--- the world does not have the node
+-- the world has the node
 pub returns-in_default-index_of-clause-ran : goal.returns-in_default-index_of-clause-ran
 returns-in_default-index_of-clause-ran g c = λ past run.
     let begun = c.begin.new.self in
@@ -80,7 +80,8 @@ returns-in_default-index_of-clause-ran g c = λ past run.
     let asked = subst (λ (l : List Posted). HasCarriedMore g.C.Carrier.has_carried begun.carrier
     c.delivery_of.new.carrier (frame_sent l c.in-Some.request event.kind (delivery_lost found)))
     c.deref.ensures.value c.in_ok-delivery_of.ensures.asked in
-    ignored_after g.C.Carrier c.in_order.ensures c.args.self.now begun event
+    on_ok_weaker c.keep-in_default-index_of.result (λ keeps. ignored_after g.C.Carrier
+    c.in_order.ensures c.args.self.now begun event
     c.in_ok-begin.ensures.begun c.len.result c.in-Some.request c.len.ensures
     c.in-Some.ensures.0 c.in-Some.ensures.1 found here c.in_ok-delivery_of.ensures.lost
     c.delivery_of.new.carrier asked c.in_ok-delivery_of.ensures.faithful.1
@@ -89,15 +90,7 @@ returns-in_default-index_of-clause-ran g c = λ past run.
     c.deref-2.ensures.value
     (MatchOption-at_none (HasNoNode c.deref-2.result.now c.in-To.id)
     (λ index. IsIndexOf c.deref-2.result.now index c.in-To.id) c.in_default-index_of.is
-    c.index_of.ensures)) _
-
-pub returns-in_default-index_of-clause-limits : goal.returns-in_default-index_of-clause-limits
-returns-in_default-index_of-clause-limits g c = λ limits has. record {
-  given = ap (λ (w : World g.row.D.Denot g.row.C.Denot g.D.Disk). w.limits)
-      c.in_ok-begin.ensures.begun.others ∙ has.given;
-  nodes = subst (λ (w : World g.row.D.Denot g.row.C.Denot g.D.Disk). HaveLimits w.nodes.items
-      limits) (sym c.in_ok-begin.ensures.begun.others) has.nodes;
-}
+    c.index_of.ensures)) _) c.keep-in_default-index_of.ensures.kept
 
 -- memory was wanted for the replies
 pub returns-in_err-lines-2-clause-ends : goal.returns-in_err-lines-2-clause-ends
@@ -160,24 +153,34 @@ returns-clause-limits g c =
 
 -- ---- the lines of any world
 
-pub returns-in_default-index_of-clause-adds : goal.returns-in_default-index_of-clause-adds
-returns-in_default-index_of-clause-adds g c = adds_none c.args.self.now _
-    (ap (λ (w : World g.row.D.Denot g.row.C.Denot g.D.Disk). w.steps.items)
-    c.in_ok-begin.ensures.begun.others)
+pub returns-then-not-names_node-clause-adds : goal.returns-then-not-names_node-clause-adds
+returns-then-not-names_node-clause-adds g c = adds_none c.args.self.now c.args.event.now
+    (λ named. false≢true (sym c.if-not-names_node.true ∙ c.names_node.ensures.1 named))
 
 pub returns-in-Nothing-clause-adds : goal.returns-in-Nothing-clause-adds
 returns-in-Nothing-clause-adds g c =
     on_ok_weaker c.keep.result (adds_one c.args.self.now c.begin.new.self
     (record c.begin.new.self { carrier = c.delivery_of.new.carrier }) c.keep.new.self
-    c.args.event.now _ _ c.in_ok-begin.ensures.begun refl) c.keep.ensures.kept
+    c.args.event.now _ _ c.in_ok-begin.ensures.begun refl refl
+    (c.names_node.ensures.0 c.if-not-names_node.false)) c.keep.ensures.kept
 
 pub returns-in-Lost-clause-adds : goal.returns-in-Lost-clause-adds
 returns-in-Lost-clause-adds g c =
     on_ok_weaker c.keep-in-Lost.result (adds_one c.args.self.now c.begin.new.self
     (record c.begin.new.self { carrier = c.delivery_of.new.carrier }) c.keep-in-Lost.new.self
-    c.args.event.now _ _ c.in_ok-begin.ensures.begun refl) c.keep-in-Lost.ensures.kept
+    c.args.event.now _ _ c.in_ok-begin.ensures.begun refl refl
+    (c.names_node.ensures.0 c.if-not-names_node.false)) c.keep-in-Lost.ensures.kept
+
+pub returns-in_default-index_of-clause-adds : goal.returns-in_default-index_of-clause-adds
+returns-in_default-index_of-clause-adds g c =
+    on_ok_weaker c.keep-in_default-index_of.result (adds_one c.args.self.now c.begin.new.self
+    (record c.begin.new.self { carrier = c.delivery_of.new.carrier })
+    c.keep-in_default-index_of.new.self
+    c.args.event.now _ _ c.in_ok-begin.ensures.begun refl refl
+    (c.names_node.ensures.0 c.if-not-names_node.false)) c.keep-in_default-index_of.ensures.kept
 
 pub returns-clause-adds : goal.returns-clause-adds
 returns-clause-adds g c =
     on_ok_weaker c.keep-2.result (adds_one c.args.self.now c.begin.new.self (mid g c)
-    c.keep-2.new.self c.args.event.now _ _ c.in_ok-begin.ensures.begun refl) c.keep-2.ensures.kept
+    c.keep-2.new.self c.args.event.now _ _ c.in_ok-begin.ensures.begun refl refl
+    (c.names_node.ensures.0 c.if-not-names_node.false)) c.keep-2.ensures.kept
