@@ -118,6 +118,10 @@ MergeHasFailed it = IsTrue it.has_failed
 abbrev pub begun_number : {D : Type 0} → Merge D → ℕ
 begun_number it = it.first
 
+-- so many bytes of data complete an output of a merge
+abbrev pub target_of : {D : Type 0} → Merge D → ℕ
+target_of it = it.writer.target
+
 -- the file is that of an output of the merge, complete or open
 abbrev pub IsMergeOutput : {D : Type 0} → Merge D → ℕ → Type 0
 IsMergeOutput it file = IsOutputFile it.writer file
@@ -184,6 +188,7 @@ module _ {D F : Type 0} (u : CursorGhosts (Merged (TableCursor D)) F) (d : Ghost
     pub numbers : UsesNumbers was.writer next_old now.writer next_new
     pub first : begun_number now ≡ begun_number was
     pub gone : now.gone ≡ was.gone
+    pub target : target_of now ≡ target_of was
     pub beside : (version : StoreVersion) → IsVersion version → version.next_file ≤ next_old →
         MergeIsBeside was version → MergeIsBeside now version
     pub status : StepStatus result was now

@@ -61,7 +61,7 @@ impl<D: Disk + Drop> Merge<D> {
     ghost use Rattle.compaction.specs.Leftovers.{RemovesLeftovers};
     ghost use Rattle.compaction.specs.Merges.{AreCursorsOf, AreIntactCursors, EndsMerge};
     ghost use Rattle.compaction.specs.Merges.{IsIntactMerge, IsJustBegun, IsMergeOutput};
-    ghost use Rattle.compaction.specs.Merges.{StepsMerge, begun_number};
+    ghost use Rattle.compaction.specs.Merges.{StepsMerge, begun_number, target_of};
     ghost use Rattle.compaction.specs.Outputs.{AreUnused, WritesOnly};
     ghost use Rattle.compaction.specs.Plans.{IsLineOf, model_plan, range_of};
 
@@ -83,6 +83,7 @@ impl<D: Disk + Drop> Merge<D> {
             (IsErrOf result Disk) ⊥ }
         ensures first { IfOk result (λ merge. (begun_number merge ≡ next_file)
             × ((file : ℕ) → IsMergeOutput merge file → ⊥)) }
+        ensures aims { IfOk result (λ merge. target_of merge ≡ target) }
         ensures begun { (meant : _) (tables : List LevelTable) (range : _) →
             ⟦<CachedDisk<D> as Disk>⟧.is_honest files.old →
             AllZip IsLineOf version.now.version.tables tables →

@@ -8,6 +8,7 @@ use Rattle.kv_types.specs.{StoredKey}
 use Rattle.kv_types.specs.declared.Limits.{Limits}
 use Rattle.version_edits.specs.declared.TableLine.{TableLine}
 use Rattle.compaction.specs.{turn_key}
+use Rattle.compaction.specs.Merges.{target_of}
 use Rattle.compaction.specs.declared.Merge.{Merge}
 use Rattle.compaction.specs.declared.Plan.{Plan}
 use Rattle.compaction.specs.declared.Turn.{Turn}
@@ -41,13 +42,14 @@ module _ {D : Type 0} (g : Ghosts D) (limits : Limits) (floor : ℕ) (a b : Cach
     (old new : StoreFiles) (was left : Option (Merge D)) (turn later : Turn) where
   -- the merge that was due began
   pub begins : (plan : Plan) (called : Result (Merge D) EngineError) (merge : Merge D) →
-      called ≡ Ok merge → IfOk called (IsBegunBy g plan floor a b old new) → was ≡ None →
-      left ≡ Some merge → due_plan limits (tended_store old was turn) ≡ Some plan →
+      called ≡ Ok merge → IfOk called (IsBegunBy g plan floor a b old new) →
+      IfOk called (λ it. target_of it ≡ limits.table) → was ≡ None → left ≡ Some merge →
+      due_plan limits (tended_store old was turn) ≡ Some plan →
       ((level : ℕ) → turn_key later level
       ≡ turn_after plan (known_version old).version.tables (turn_key turn) level) →
       MergesByPlan g limits floor a b (tended_store old was turn) (tended_store new left later)
       tended.Worked
-  begins plan called merge is did none some due over =
+  begins plan called merge is did aims none some due over =
       let began = subst (λ r. IfOk r (IsBegunBy g plan floor a b old new)) is did in
       record {
         did = merged.HasBegun plan merge (record {
@@ -57,6 +59,7 @@ module _ {D : Type 0} (g : Ghosts D) (limits : Limits) (floor : ℕ) (a b : Cach
           turn = over;
           is = some;
           first = began.first;
+          target = subst (λ r. IfOk r (λ it. target_of it ≡ limits.table)) is aims;
         }) refl;
         planned = λ list honest w. began.begun list honest w.was;
       }

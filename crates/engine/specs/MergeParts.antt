@@ -17,7 +17,7 @@ use Rattle.compaction.specs.declared.Plan.{Plan}
 use Rattle.compaction.specs.{IsLineOf, model_plan, picked, range_of}
 use Rattle.compaction.specs.Leftovers.{IsLeftover}
 use Rattle.compaction.specs.Merges.{HasEntriesLeft, HasTooManyTables, begun_number, merge_change}
-use Rattle.compaction.specs.Merges.{table_name}
+use Rattle.compaction.specs.Merges.{table_name, target_of}
 use Rattle.compaction.specs.Outputs.{IsOpenFile, IsSameBeyond, UsesNumbers}
 use Rattle.compaction.specs.Walks.{FindsNoRoom}
 use Rattle.store_tables.specs.declared.error.EngineError.{EngineError}
@@ -193,12 +193,13 @@ merge_after now progress.Done = Some now
 merge_after now progress.Full = None
 
 -- what a merge that went on made of any files: numbers of files were used, and it gives up what it
--- did
+-- did, and completes its outputs as it did
 pub record IsAdvanced {D : Type 0} (old new : StoreFiles) (was now : Merge D) : Type 0 where
   pub store : new ≡ with_free old new.free_file
   pub numbers : UsesNumbers was.writer old.free_file now.writer new.free_file
   pub first : begun_number now ≡ begun_number was
   pub gone : now.gone ≡ was.gone
+  pub target : target_of now ≡ target_of was
 
 -- So many entries more of the inputs are merged, and others are left.
 pub record StepsOn {D : Type 0} (g : Ghosts D) (a b : CachedDisk D g) (old new : StoreFiles)

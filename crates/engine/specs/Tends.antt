@@ -14,7 +14,7 @@ use Rattle.compaction.specs.declared.Merge.{Merge}
 use Rattle.compaction.specs.declared.Plan.{Plan}
 use Rattle.compaction.specs.declared.Turn.{Turn}
 use Rattle.compaction.specs.{picked, turn_key}
-use Rattle.compaction.specs.Merges.{begun_number}
+use Rattle.compaction.specs.Merges.{begun_number, target_of}
 use Rattle.compaction.specs.Walks.{FindsNoRoom}
 use Rattle.store_tables.specs.declared.error.EngineError.{EngineError}
 use Rattle.store_files.specs.declared.store_files.StoreFiles.{StoreFiles}
@@ -68,8 +68,8 @@ module _ {D : Type 0} where
 
   -- ---- the parts of a merge
 
-  -- no merge was under way, and one begins that was due: the floor is this number, and the turn of
-  -- its table is over
+  -- no merge was under way, and one begins that was due: the floor is this number, the turn of its
+  -- table is over, and an output is complete from so many bytes of data on as the limits say
   pub record MergeBegins (limits : Limits) (floor : ℕ) (plan : Plan) (old new : TendedStore D)
       (merge : Merge D) : Type 0 where
     pub none : old.merge ≡ None
@@ -79,6 +79,7 @@ module _ {D : Type 0} where
         ≡ turn_after plan (tended_version old).tables (turn_key old.turn) level
     pub is : new.merge ≡ Some merge
     pub first : begun_number merge ≡ new.store.free_file
+    pub target : target_of merge ≡ limits.table
 
   -- What the next part of a merge under way did of any files, and what is left of the merge. Only
   -- numbers of files were used; or its edit is recorded; or it is given up, and the files are as

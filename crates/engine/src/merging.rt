@@ -3,7 +3,7 @@ ghost use Rattle.std.specs.Prelude.{◌≡◌, ◌<◌, ◌≤◌, IfErr, IfOk, 
 ghost use Rattle.std.specs.Prelude.{Option, Some};
 ghost use Rattle.store_model.specs.{LevelTable, MergePlan};
 ghost use Rattle.table_files.specs.{inner_disk};
-ghost use Rattle.compaction.specs.Merges.{HasEntriesLeft, begun_number};
+ghost use Rattle.compaction.specs.Merges.{HasEntriesLeft, begun_number, target_of};
 ghost use Rattle.store_files.specs.BesideFiles.{with_free};
 ghost use Rattle.store_files.specs.Merging.{MayMerge};
 ghost use Rattle.store_files.specs.OpenFiles.{AreUsableFiles};
@@ -118,6 +118,7 @@ fn begin_raised<D: Disk + Drop>(
         (IsErrOf result EngineError.Disk) ⊥ }
     ensures refused { IfErr result IsEnd }
     ensures first { IfOk result (λ merge. begun_number merge ≡ store.now.free_file) }
+    ensures aims { IfOk result (λ merge. target_of merge ≡ target) }
     ensures begins { BeginsMerge D.Disk plan files.old files.new store.now result }
 {
     // laws: that a picked plan is one of the model, that its merge can end in the store, and that
@@ -148,6 +149,7 @@ pub(crate) fn begin<D: Disk + Drop>(
     ensures kept { KeepsBegun D.Disk floor files.old files.new store.old store.new result }
     ensures did { IfOk result (IsBegunBy D.Disk plan floor files.old files.new store.old
         store.new) }
+    ensures aims { IfOk result (λ merge. target_of merge ≡ target) }
 {
     open_files_are_apart(); // law: no file exists from the first free one on
     store.raise_floor(alloc, files, floor)?;

@@ -1,19 +1,20 @@
 -- How a run in folders ends.
 use Rattle.std.proofs.Common.{◌≡◌, ◌⊎◌, inl, inr, ℕ, Bool, Option, None, Some, refl, sym, subst}
 use Rattle.std.proofs.Common.{false, List, [], ◌++◌, ap, ◌∙◌}
-use Rattle.std.specs.Prelude.{Result, Ok, Err, IfErr, IfOk, IfSome, MatchResult}
+use Rattle.std.specs.Prelude.{Result, Ok, Err, IfErr, IfOk, IfSome, MatchResult, All}
 use Rattle.disk.specs.declared.disk.Disk.{Ghosts}
 use Rattle.carriers.specs.declared.Carrier.{Ghosts as Carriers}
 use Rattle.lab.specs.declared.Line.{Line}
 use Rattle.lab.specs.declared.world.World.{World}
-use Rattle.lab.specs.{lines_so_far}
+use Rattle.lab.specs.{configs_of, lines_so_far}
+use Rattle.lab.specs.NodeLists.{Configurations}
 use Rattle.client.specs.declared.run_error.RunError.{RunError}
 use Rattle.client.specs.declared.run_error.RunError.TheVariants as run
 use Rattle.client.specs.PrintedRuns.{AppendsPart, HasEndedEarly}
 use Rattle.client.specs.ReportedRuns.{ReportIsBegun, ReportIsPrinted}
 use Rattle.script_words.specs.Lines.{script_lines}
 use Rattle.scripts.specs.Faults.{script_fault, start}
-use Rattle.scripts.specs.Scripts.{IsScript}
+use Rattle.scripts.specs.Scripts.{IsScript, Names}
 use Rattle.scripts.specs.declared.setup.Setup.{Setup}
 use Rattle.scripts.specs.declared.statement.Statement.{Statement}
 use Rattle.program.specs.declared.failure.Failure.{Failure}
@@ -46,7 +47,7 @@ pub printed_report : {D C : Type 0} {g : Ghosts D} (world now : World D C g)
     (statements : List Statement) (old new : Option (List ℕ)) (steps : List (List Line))
     (stopped : Bool) → lines_so_far world ≡ [] → ReportIsPrinted world now statements old new →
     steps ≡ lines_so_far now → stopped ≡ has_stop steps →
-    IsPrintedReport statements old new stopped
+    IsPrintedReport (configs_of world) statements old new stopped
 printed_report world now statements old new steps stopped none report is stops = record {
   places = report.places;
   steps = report.steps;
@@ -86,8 +87,9 @@ not_begun text out f is = record {
 pub cut_short : (text old new : Option (List ℕ)) (f : Failure) (setup : Setup)
     (statements : List Statement) → (f ≡ Output) ⊎ (f ≡ Memory) →
     IfSome text (λ t. IsScript 1 (script_lines t) setup statements) →
-    ReportIsBegun statements old new → LoopHasFailed text old new (Run f)
-cut_short text old new f setup statements (inl is) spelled begun =
+    All (λ it. Names setup.configs it.action) statements →
+    ReportIsBegun setup.configs statements old new → LoopHasFailed text old new (Run f)
+cut_short text old new f setup statements (inl is) spelled named begun =
     subst (λ (x : Failure). LoopHasFailed text old new (Run x)) (sym is) (record {
       cause = any_text text (Run Output) (λ t. tt);
       untouched = λ before. absurd before;
@@ -95,10 +97,11 @@ cut_short text old new f setup statements (inl is) spelled begun =
         setup = setup;
         statements = statements;
         spelled = spelled;
+        named = named;
         so = begun;
       });
     })
-cut_short text old new f setup statements (inr is) spelled begun =
+cut_short text old new f setup statements (inr is) spelled named begun =
     subst (λ (x : Failure). LoopHasFailed text old new (Run x)) (sym is) (record {
       cause = any_text text (Run Memory) (λ t. tt);
       untouched = λ before. absurd before;
@@ -106,6 +109,7 @@ cut_short text old new f setup statements (inr is) spelled begun =
         setup = setup;
         statements = statements;
         spelled = spelled;
+        named = named;
         so = begun;
       });
     })
@@ -119,7 +123,7 @@ pub loop_ended : (ran : Result Bool LoopFailure) (answer : ℕ)
     (λ failure. (answer ≡ 1) × AppendsPart old_err new_err (loop_failure_line failure)) →
     IfOk ran (λ _. IfSome text (λ t. script_fault (start false) 1 (script_lines t) ≡ None)) →
     IfOk ran (λ stopped. SpellsStatements text
-    (λ statements. IsPrintedReport statements old_out new_out stopped)) →
+    (λ cs statements. IsPrintedReport cs statements old_out new_out stopped)) →
     IfErr ran (LoopHasFailed text old_out new_out) →
     LoopEnds text old_out new_out old_err new_err answer
 loop_ended (Ok stopped) answer text old_out new_out old_err new_err is lawful printed failed =
@@ -133,16 +137,18 @@ loop_ended (Ok stopped) answer text old_out new_out old_err new_err is lawful pr
 loop_ended (Err failure) answer text old_out new_out old_err new_err is lawful printed failed =
     inr (record { status = is.0; failure = failure; failed = failed; told = is.1 })
 
-unread : (text : Option (List ℕ)) (is_so : List Statement → Type 0) →
+unread : (text : Option (List ℕ)) (is_so : Configurations → List Statement → Type 0) →
     SpellsStatements text is_so → SpellsStatements None is_so
 unread text is_so spells = record {
   setup = spells.setup;
   statements = spells.statements;
   spelled = tt;
+  named = spells.named;
   so = spells.so;
 }
 
-unread_or_not : {P : Type 0} (text : Option (List ℕ)) (is_so : List Statement → Type 0) →
+unread_or_not : {P : Type 0} (text : Option (List ℕ))
+    (is_so : Configurations → List Statement → Type 0) →
     P ⊎ SpellsStatements text is_so → P ⊎ SpellsStatements None is_so
 unread_or_not text is_so (inl p) = inl p
 unread_or_not text is_so (inr spells) = inr (unread text is_so spells)

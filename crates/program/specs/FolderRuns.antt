@@ -1,10 +1,11 @@
 -- Runs in folders and what is written of one: how they end.
 use Rattle.std.specs.Prelude.{◌≡◌, ◌≢◌, ◌⊎◌, ℕ, Bool, true, false, List, Option, codes}
-use Rattle.std.specs.Prelude.{Some, None, IfSome, if◌then◌else◌}
+use Rattle.std.specs.Prelude.{Some, None, IfSome, All, if◌then◌else◌}
 use Rattle.std.specs.List.{list_any}
 use Rattle.std.specs.Io.KnownBytes.{Appends}
 use Rattle.disk.specs.declared.disk.Disk.{Ghosts}
 use Rattle.carriers.specs.declared.Carrier.{Ghosts as Carriers}
+use Rattle.lab.specs.NodeLists.{Configurations}
 use Rattle.lab.specs.declared.Line.{Line}
 use Rattle.lab.specs.declared.Line.TheVariants as line
 use Rattle.lab.specs.declared.world.World.{World}
@@ -17,7 +18,7 @@ use Rattle.client.specs.ScriptRuns.{Stretch}
 use Rattle.client.specs.Text.{run_text}
 use Rattle.script_words.specs.Lines.{script_lines}
 use Rattle.scripts.specs.Faults.{script_fault, start}
-use Rattle.scripts.specs.Scripts.{IsScript}
+use Rattle.scripts.specs.Scripts.{IsScript, Names}
 use Rattle.scripts.specs.declared.setup.Setup.{Setup}
 use Rattle.scripts.specs.declared.statement.Statement.{Statement}
 use Rattle.program.specs.declared.failure.Failure.{Failure}
@@ -83,24 +84,26 @@ EndsEarly g h setup statements old new (Script fault) = ⊥
 
 -- ---- a run in any world
 
--- The statements were run in some world, exactly the text of the lines that it had of them was
--- written, and this is whether a node stopped by itself in these.
-pub record IsPrintedReport (statements : List Statement) (old new : Option (List ℕ))
-    (stopped : Bool) : Type 0 where
+-- The statements were run in some world of these configurations, exactly the text of the lines that
+-- it had of them was written, and this is whether a node stopped by itself in these.
+pub record IsPrintedReport (cs : Configurations) (statements : List Statement)
+    (old new : Option (List ℕ)) (stopped : Bool) : Type 0 where
   pub places : List ℕ
   pub steps : List (List Line)
   pub written : List ℕ
-  pub are : AreReported statements places steps written
+  pub are : AreReported cs statements places steps written
   pub wrote : Appends old new written
   pub stops : stopped ≡ has_stop steps
 
--- what was read, where that is known, spells statements of which this is so
-pub record SpellsStatements (text : Option (List ℕ)) (is_so : List Statement → Type 0) : Type 0
-  where
-    pub setup : Setup
-    pub statements : List Statement
-    pub spelled : IfSome text (λ t. IsScript 1 (script_lines t) setup statements)
-    pub so : is_so statements
+-- what was read, where that is known, spells configurations, and statements that name only nodes of
+-- the first one, of which this is so
+pub record SpellsStatements (text : Option (List ℕ))
+    (is_so : Configurations → List Statement → Type 0) : Type 0 where
+  pub setup : Setup
+  pub statements : List Statement
+  pub spelled : IfSome text (λ t. IsScript 1 (script_lines t) setup statements)
+  pub named : All (λ it. Names setup.configs it.action) statements
+  pub so : is_so setup.configs statements
 
 -- ---- a run in folders
 
@@ -119,17 +122,17 @@ pub record LoopHasFailed (text old new : Option (List ℕ)) (failure : LoopFailu
   pub cause : IfSome text (λ t. IsLoopFailureOf t failure)
   pub untouched : IsBeforeRun failure → new ≡ old
   pub begun : (new ≡ old)
-      ⊎ SpellsStatements text (λ statements. ReportIsBegun statements old new)
+      ⊎ SpellsStatements text (λ cs statements. ReportIsBegun cs statements old new)
 
 -- What was read, where that is known, is a script without a fault. Exactly the text of the lines
--- that some world had of its statements was written, and the status says whether a node stopped by
--- itself in these.
+-- that some world had of its statements was written, one list for each event, and the status says
+-- whether a node stopped by itself in these.
 pub record LoopIsRun (text old_out new_out old_err new_err : Option (List ℕ)) (answer : ℕ) : Type 0
   where
     pub lawful : IfSome text (λ t. script_fault (start false) 1 (script_lines t) ≡ None)
     pub stopped : Bool
     pub printed : SpellsStatements text
-        (λ statements. IsPrintedReport statements old_out new_out stopped)
+        (λ cs statements. IsPrintedReport cs statements old_out new_out stopped)
     pub status : answer ≡ stopped_status stopped
     pub quiet : new_err ≡ old_err
 

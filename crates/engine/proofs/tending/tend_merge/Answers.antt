@@ -128,6 +128,6 @@ returns-clause-did g c =
     begins g.D.Disk c.args.limits.now c.args.floor c.args.files.now c.begin.new.files
     c.args.store.now c.begin.new.store c.args.merge.now c.replace.new.self c.args.turn.now
     c.end_turn.new.turn c.in-Some-pick.plan c.begin.result c.in_ok-begun.begun
-    c.in_ok-begun.was c.begin.ensures.did none c.replace.ensures.after due
+    c.in_ok-begun.was c.begin.ensures.did c.begin.ensures.aims none c.replace.ensures.after due
     (turn_over c.in-Some-pick.plan c.deref.result.now _ lines c.args.turn.now c.end_turn.new.turn
     c.in_ok-key.key c.in_ok-key.ensures c.end_turn.ensures)

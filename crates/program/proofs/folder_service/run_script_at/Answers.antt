@@ -21,3 +21,23 @@ returns-then-eq-clause-ends g c =
     (loop_ended c.run_in_folders.result c.end_loop.result text old_out new_out old_err new_err
     c.end_loop.ensures c.run_in_folders.ensures.lawful c.run_in_folders.ensures.printed
     c.run_in_folders.ensures.failed)
+
+pub returns-then-eq-clause-input : goal.returns-then-eq-clause-input
+returns-then-eq-clause-input g c = λ _.
+    loop_ended c.run_in_folders.result c.end_loop.result (g.R.Read.remaining c.args.input.now)
+    (g.O.Write.contents c.args.out.now) (g.O.Write.contents c.run_in_folders.new.out)
+    (g.E.Write.contents c.args.err.now) (g.E.Write.contents c.end_loop.new.err)
+    c.end_loop.ensures c.run_in_folders.ensures.lawful c.run_in_folders.ensures.printed
+    c.run_in_folders.ensures.failed
+
+-- the script is the file at its path
+pub returns-in-Ok-clause-ends : goal.returns-in-Ok-clause-ends
+returns-in-Ok-clause-ends g c =
+    of_any_loop _ (g.O.Write.contents c.args.out.now)
+    (g.O.Write.contents c.run_in_folders-in-Ok.new.out) (g.E.Write.contents c.args.err.now)
+    (g.E.Write.contents c.end_loop-in-Ok.new.err) c.end_loop-in-Ok.result
+    (loop_ended c.run_in_folders-in-Ok.result c.end_loop-in-Ok.result _
+    (g.O.Write.contents c.args.out.now) (g.O.Write.contents c.run_in_folders-in-Ok.new.out)
+    (g.E.Write.contents c.args.err.now) (g.E.Write.contents c.end_loop-in-Ok.new.err)
+    c.end_loop-in-Ok.ensures c.run_in_folders-in-Ok.ensures.lawful
+    c.run_in_folders-in-Ok.ensures.printed c.run_in_folders-in-Ok.ensures.failed)

@@ -126,3 +126,6 @@ returns-clause-first g c = (
   refl,
   no_outputs c.new-writer.result c.new-writer.ensures.none.0 c.new-writer.ensures.none.1,
 )
+
+pub returns-clause-aims : goal.returns-clause-aims
+returns-clause-aims g c = c.new-writer.ensures.rules.1

@@ -17,6 +17,7 @@ returns-then-self g c = record {
       (λ file is. is) (λ file output. output);
   first = refl;
   gone = refl;
+  target = refl;
   beside = λ version is le beside. beside;
   status = (c.if-self.true, λ failed. refl);
   steps = λ meant plan floor m. absurd (m.works c.if-self.true);
@@ -32,6 +33,7 @@ returns-in_err-write_some g c = record {
   numbers = c.write_some.ensures.1.numbers;
   first = refl;
   gone = refl;
+  target = c.write_some.ensures.1.rules.target;
   beside = λ version is le. steps_beside version _ _ _ _ is le
       c.write_some.ensures.1.numbers;
   status = refuses c.from_residual.result _ _ c.from_residual.ensures.1
@@ -54,6 +56,7 @@ returns g c =
       numbers = c.write_some.ensures.1.numbers;
       first = refl;
       gone = refl;
+      target = c.write_some.ensures.1.rules.target;
       beside = λ version is le. steps_beside version _ _ _ _ is le
           c.write_some.ensures.1.numbers;
       status = (both_ways _ c.if-self.false, λ f. cc, c.valid.ensures);
