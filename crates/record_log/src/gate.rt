@@ -4,6 +4,7 @@ ghost use Rattle.disk.specs.{IsEnvironmental};
 ghost use Rattle.disk.specs.declared.DiskError.TheVariants.{Failed, Memory};
 ghost use Rattle.disk.specs.{AlwaysLeaves, EndsOutOfRange, IsLeftAt, IsSameBut, KeepsDisk};
 ghost use Rattle.record_log.specs.Gate.{IsDurableAs, IsGatedWrite, IsPartlyOpened, with_open_gate};
+ghost use Rattle.record_log.specs.Calls.{MakesCalls};
 
 use disk::{Disk, DiskError};
 
@@ -23,6 +24,7 @@ pub fn write_gated<D: Disk>(
         IsGatedWrite (D.state disk.old file) gate at bytes.now all → MatchResult result
         (λ _. IsDurableAs (D.state disk.new) file (with_open_gate all gate)
         × (at + length bytes.now < 2 ^ 63)) (IsEnvironmental Failed Memory) }
+    ensures calls { MakesCalls D.Disk 4 disk.old disk.new result }
 
     // The outcomes of a crash at any moment since the call began, whatever it answers.
     ensures any_moment { (all : List ℕ) → D.is_honest disk.old →

@@ -14,6 +14,7 @@ ghost use Rattle.record_log.specs.Logs.{IsOldOrNewFrom, EndsInRange, begun, file
 ghost use Rattle.record_log.specs.Logs.{IsDurableLog};
 ghost use Rattle.record_log.specs.Logs.{gate_of, count_of, first_length, HasFailed, HasNoRoom};
 ghost use Rattle.record_log.specs.Logs.{HasRead};
+ghost use Rattle.record_log.specs.Calls.{MakesCalls};
 
 use crate::LogError;
 use crate::gate::write_gated;
@@ -35,18 +36,22 @@ pub struct Log {
     // The place where the last record ends.
     end: usize,
     has_failed: bool,
+    // The bytes that the last append wrote behind its gate, whose memory the next one takes.
+    behind: Vec<u8>,
 }
 
-// The bytes behind the closed gate of an append: the length, the record, and a closed gate.
-fn bytes_behind(alloc: Global, bytes: &[u8]) -> Result<Vec<u8>, AllocError>
+// Makes these the bytes behind the closed gate of an append: the length, the record, and a closed
+// gate.
+fn spell_behind(out: &mut Vec<u8>, bytes: &[u8]) -> Result<(), AllocError>
     requires { length bytes.now < 2 ^ 32 }
-    ensures { IfOk result (λ v. v.items ≡ behind_of bytes.now) }
+    ensures { OnOk result (out.new.items ≡ behind_of bytes.now) }
 {
-    let mut out = Vec::with_capacity(alloc, bytes.len() + 5)?;
+    out.clear();
+    out.reserve(bytes.len() + 5)?;
     out.extend_from_slice(&(bytes.len() as u32).to_be_bytes())?;
     out.extend_from_slice(bytes)?;
     out.push(0)?;
-    Ok(out)
+    Ok(())
 }
 
 // The bytes of a file from a place on, of the buffer's length.
@@ -62,6 +67,7 @@ fn bytes_at<D: Disk>(
         MatchResult result (λ bytes. IsPart (D.state disk.old) file at len bytes.items)
         (λ e. IsRefusalOf e (D.state disk.old) file (at + len)) }
     ensures still { IsStill D.Disk disk.old disk.new }
+    ensures calls { MakesCalls D.Disk 1 disk.old disk.new result }
 {
     let mut bytes = vec![in alloc; 0u8; len]?;
     disk.read(file, at, &mut bytes)?;
@@ -81,6 +87,7 @@ fn synced_from<D: Disk>(
         (λ bytes. IsRest (D.state disk.old) file start (D.state disk.new) bytes.items)
         (λ e. IsRefusalOf e (D.state disk.old) file start) }
     ensures still { IsStill D.Disk disk.old disk.new }
+    ensures calls { MakesCalls D.Disk 3 disk.old disk.new result }
 {
     disk.sync(file)?;
     let length = disk.length(file)?;
@@ -128,6 +135,8 @@ impl Log {
         ensures at { IfOk result (IsAt file 0) }
         ensures empty { IfOk result (λ log. (gate_of log ≡ 0) × (count_of log ≡ 0)) }
 
+        ensures calls { MakesCalls D.Disk 2 disk.old disk.new result }
+
         // A crash at any moment since the call began leaves each other file as it was.
         ensures any_moment { D.is_honest disk.old → AlwaysLeaves D.Disk disk.old disk.new
             (IsLeftAt (D.state disk.old) file (λ left. Unit {0})) }
@@ -140,6 +149,7 @@ impl Log {
             ends: Vec::new(alloc),
             end: 0,
             has_failed: false,
+            behind: Vec::new(alloc),
         })
     }
 
@@ -161,6 +171,7 @@ impl Log {
             (λ opened. LogHolds (D.state disk.new) opened.log records × HasRead opened records)
             (IsEnvironmental (Disk Failed) Memory) }
         ensures still { IsStill D.Disk disk.old disk.new }
+        ensures calls { MakesCalls D.Disk 3 disk.old disk.new result }
     {
         let bytes = synced_from(alloc, disk, file, start)?;
         let Some((ends, end)) = scan(alloc, &bytes)? else {
@@ -172,6 +183,7 @@ impl Log {
             ends,
             end,
             has_failed: false,
+            behind: Vec::new(alloc),
         };
         Ok(OpenedLog { log, bytes })
     }
@@ -193,6 +205,7 @@ impl Log {
             ends,
             end,
             has_failed: false,
+            behind: Vec::new(alloc),
         })
     }
 
@@ -236,12 +249,7 @@ impl Log {
 
     /// Appends a record. It needs four device calls: it writes the record behind the closed gate,
     /// syncs, opens the gate, and syncs.
-    pub fn append<D: Disk>(
-        &mut self,
-        alloc: Global,
-        disk: &mut D,
-        bytes: &[u8],
-    ) -> Result<(), LogError>
+    pub fn append<D: Disk>(&mut self, disk: &mut D, bytes: &[u8]) -> Result<(), LogError>
         ensures kept { KeepsDisk D.Disk disk.old disk.new (IsErrOf result (Disk Failed))
             (HasNoRoom self.old bytes.now) (IsSameBut (file_of self.old)) }
         ensures told { Appended MAX_RECORD result self.old self.new bytes.now
@@ -254,6 +262,8 @@ impl Log {
             (held : LogHolds (D.state disk.old) self.old records) →
             OnOk result (IsDurableAs (D.state disk.new) (file_of self.old)
             (pushed held.bytes (gate_of self.old) (behind_of bytes.now))) }
+
+        ensures calls { MakesCalls D.Disk 4 disk.old disk.new result }
 
         // A crash at any moment since the call began, whatever it answers, leaves the old records,
         // with or without the new one.
@@ -269,10 +279,10 @@ impl Log {
             return Err(LogError::TooLong);
         }
         self.has_failed = true;
-        let behind = bytes_behind(alloc, bytes)?;
+        spell_behind(&mut self.behind, bytes)?;
         self.ends.reserve(1)?;
         let gate = self.gate();
-        write_gated(disk, self.file, gate, gate + 1, &behind)?;
+        write_gated(disk, self.file, gate, gate + 1, &self.behind)?;
         self.end = self.end.saturating_add(5).saturating_add(bytes.len());
         self.ends.push_reserved(self.end);
         self.has_failed = false;
@@ -294,6 +304,7 @@ impl Log {
             MatchResult result (λ bytes. slice_get records index ≡ Some bytes.items)
             (λ e. IsEnvironmental (Disk Failed) Memory e ⊎ (e ≡ LogError.Failed)) }
         ensures still { IsStill D.Disk disk.old disk.new }
+        ensures calls { MakesCalls D.Disk 1 disk.old disk.new result }
     {
         if self.has_failed {
             return Err(LogError::Failed);

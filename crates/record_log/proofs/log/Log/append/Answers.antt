@@ -16,8 +16,8 @@ pub returns-then-bytes-gt-MAX_RECORD-clause-any_moment :
 returns-then-bytes-gt-MAX_RECORD-clause-any_moment g c = λ records honest h.
     unchanged _ _ c.args.self.now records c.args.bytes.now h
 
-pub returns-in_err-behind-clause-any_moment : goal.returns-in_err-behind-clause-any_moment
-returns-in_err-behind-clause-any_moment g c = λ records honest h.
+pub returns-in_err-spell_behind-clause-any_moment : goal.returns-in_err-spell_behind-clause-any_moment
+returns-in_err-spell_behind-clause-any_moment g c = λ records honest h.
     unchanged _ _ c.args.self.now records c.args.bytes.now h
 
 pub returns-in_err-reserve-clause-any_moment : goal.returns-in_err-reserve-clause-any_moment
@@ -29,7 +29,7 @@ pub returns-in_err-write_gated-clause-any_moment : goal.returns-in_err-write_gat
 returns-in_err-write_gated-clause-any_moment g c = λ records honest h.
     let old = g.D.Disk.state c.args.disk.now in
     let new = g.D.Disk.state c.write_gated.new.disk in
-    let behind = c.deref.ensures.value ∙ c.in_ok-behind.ensures in
+    let behind = c.deref.ensures.value ∙ c.in_ok-spell_behind.ensures in
     crashed old c.args.self.now records c.args.bytes.now c.gate-gate.result h (omega arith)
     c.gate-gate.ensures.gate new (g.D.Disk.past c.args.disk.now)
     (g.D.Disk.past c.write_gated.new.disk)
@@ -40,7 +40,7 @@ pub returns-clause-any_moment : goal.returns-clause-any_moment
 returns-clause-any_moment g c = λ records honest h.
     let old = g.D.Disk.state c.args.disk.now in
     let new = g.D.Disk.state c.write_gated.new.disk in
-    let behind = c.deref.ensures.value ∙ c.in_ok-behind.ensures in
+    let behind = c.deref.ensures.value ∙ c.in_ok-spell_behind.ensures in
     crashed old c.args.self.now records c.args.bytes.now c.gate-gate.result h (omega arith)
     c.gate-gate.ensures.gate new (g.D.Disk.past c.args.disk.now)
     (g.D.Disk.past c.write_gated.new.disk)
@@ -52,7 +52,7 @@ returns-clause-any_moment g c = λ records honest h.
 pub returns-in_err-write_gated-clause-appended : goal.returns-in_err-write_gated-clause-appended
 returns-in_err-write_gated-clause-appended g c = λ records honest h.
     let old = g.D.Disk.state c.args.disk.now in
-    let behind = c.deref.ensures.value ∙ c.in_ok-behind.ensures in
+    let behind = c.deref.ensures.value ∙ c.in_ok-spell_behind.ensures in
     let why = c.in_err-write_gated.ensures.done _ honest
     (gated old c.args.self.now records c.args.bytes.now c.gate-gate.result h (omega arith)
     c.gate-gate.ensures.gate c.deref.result.now behind) in
@@ -65,7 +65,7 @@ pub returns-clause-spelled : goal.returns-clause-spelled
 returns-clause-spelled g c = λ records honest h.
     let old = g.D.Disk.state c.args.disk.now in
     let new = g.D.Disk.state c.write_gated.new.disk in
-    let behind = c.deref.ensures.value ∙ c.in_ok-behind.ensures in
+    let behind = c.deref.ensures.value ∙ c.in_ok-spell_behind.ensures in
     spelled old c.args.self.now records c.args.bytes.now c.gate-gate.result h (omega arith)
     c.gate-gate.ensures.gate new c.deref.result.now behind
     (c.in_ok-write_gated.ensures.done _ honest
@@ -78,7 +78,7 @@ returns-clause-appended g c = λ records honest h.
     let log = c.args.self.now in
     let one = c.args.bytes.now in
     let old = g.D.Disk.state c.args.disk.now in
-    let behind = c.deref.ensures.value ∙ c.in_ok-behind.ensures in
+    let behind = c.deref.ensures.value ∙ c.in_ok-spell_behind.ensures in
     let end = c.saturating_add-self.result in
     let after : Log = record {
       file = log.file;
@@ -86,6 +86,7 @@ returns-clause-appended g c = λ records honest h.
       ends = c.push_reserved.new.self;
       end = end;
       has_failed = false;
+      behind = c.spell_behind.new.out;
     } in
     let ends : c.push_reserved.new.self.items ≡ log.ends.items ++ end ∷ [] =
     rw (c.push_reserved.ensures.items, c.reserve.ensures.items) refl in

@@ -38,6 +38,7 @@ returns-clause-told g c = λ honest.
       ends = c.in-Some.ends;
       end = c.in-Some.end;
       has_failed = false;
+      behind = c.new.result;
     } in
     let opened : OpenedLog = record { log = log; bytes = c.in_ok-bytes.bytes } in
     let rest = c.in_ok-bytes.ensures.read honest in
@@ -70,6 +71,7 @@ returns-clause-opened g c = λ records honest stood.
       ends = c.in-Some.ends;
       end = c.in-Some.end;
       has_failed = false;
+      behind = c.new.result;
     } in
     let opened : OpenedLog = record { log = log; bytes = c.in_ok-bytes.bytes } in
     let stands : Represents c.in_ok-bytes.bytes.items found.0 =
