@@ -3,6 +3,5 @@ pub mod ViewLaws
 pub mod EntryCases
 pub mod Walks
 pub mod PageLaws
-pub mod Loop
 pub mod Fronts
 pub mod Words

@@ -6,20 +6,14 @@ use Rattle.byte_fields.specs.{Reader, many, number_at, ◌>>=◌, text_at}
 use Rattle.kv_types.specs.declared.bounds.TheConstants.{MAX_KEY, MAX_VALUE, MAX_EDITS, MAX_BATCH}
 use Rattle.kv_types.specs.declared.edit.Edit.{Edit}
 use Rattle.kv_types.specs.declared.edit.Edit.TheVariants.{Put, Delete}
-use Rattle.kv_types.specs.declared.error.KvError.{KvError}
-use Rattle.kv_types.specs.declared.error.KvError.TheVariants.{BadBytes, Memory}
+use Rattle.std.specs.declared.alloc.AllocError.{AllocError}
 use Rattle.kv_types.specs.Content.{BatchContent}
 
--- the cause of a refusal: `BadBytes` only where nothing can be read
-abbrev pub RefusesBytes : {Y : Type 0} → KvError → Option Y → Type 0
-RefusesBytes BadBytes read = read ≡ None
-RefusesBytes Memory read = Unit {0}
-RefusesBytes _ read = ⊥
-
 -- a function's result, seen by `view`, is what was read, unless memory ran out
-abbrev pub ReadsBytes : {X Y : Type 0} → (X → Y) → Result X KvError → Option Y → Type 0
-ReadsBytes view (Ok x) read = read ≡ Some (view x)
-ReadsBytes view (Err e) read = RefusesBytes e read
+abbrev pub ReadsBytes : {X Y : Type 0} → (X → Y) → Result (Option X) AllocError → Option Y → Type 0
+ReadsBytes view (Ok (Some x)) read = read ≡ Some (view x)
+ReadsBytes view (Ok None) read = read ≡ None
+ReadsBytes view (Err e) read = Unit {0}
 
 -- an edit, by its first byte
 unfoldable pub edit_at : Reader Edit

@@ -1,6 +1,6 @@
 // Batches: lists of edits that apply at once, with one spelling in bytes.
-ghost use Rattle.std.specs.Prelude.{◌≡◌, ◌<◌, ◌≤◌, ◌⊎◌, ◌↔◌, List, ℕ, ◌++◌, length};
-ghost use Rattle.std.specs.Prelude.{IfOk, IfErr, Err, IsErrOf, OnOk};
+ghost use Rattle.std.specs.Prelude.{◌≡◌, ◌≤◌, List, ℕ, ◌++◌, length};
+ghost use Rattle.std.specs.Prelude.{IfOk, IfErr, IfSome, Ok, Some, None, OnOk};
 
 use crate::bounds::{MAX_BATCH, MAX_EDITS};
 use crate::reading::{all_edits_of, front_edits_of};
@@ -32,19 +32,15 @@ impl Model for Batch {
 impl Batch {
     ghost use Rattle.kv_types.specs.Content.{BatchContent, edits_of};
     ghost use Rattle.kv_types.specs.Spelling.{IsBatch, batch_bytes};
+    ghost use Rattle.kv_types.specs.Refusals.{batch_error};
     ghost use Rattle.kv_types.specs.Reading.{ReadsBytes, batch_at};
 
     /// The batch of these edits. `NoEdits` refuses none, else `TooManyEdits` more than 256, else
     /// `BatchTooLong` a spelling of more than 65,536 bytes.
     pub fn new(edits: Vec<Edit>) -> Result<Batch, KvError>
-        ensures made { IfOk result (λ batch. edits_of batch ≡ edits.items) }
-        ensures none { (result ≡ Err KvError.NoEdits) ↔ (length edits.items ≡ 0) }
-        ensures many { (result ≡ Err KvError.TooManyEdits) ↔ (MAX_EDITS < length edits.items) }
-        ensures long { (result ≡ Err KvError.BatchTooLong) ↔
-            ((1 ≤ length edits.items) × (length edits.items ≤ MAX_EDITS)
-            × (MAX_BATCH < length (batch_bytes edits.items))) }
-        ensures only { IfErr result (λ e. (e ≡ KvError.NoEdits)
-            ⊎ (e ≡ KvError.TooManyEdits) ⊎ (e ≡ KvError.BatchTooLong)) }
+        ensures made { IfOk result (λ batch. (edits_of batch ≡ edits.items)
+            × (batch_error edits.items ≡ None)) }
+        ensures refused { IfErr result (λ e. batch_error edits.items ≡ Some e) }
     {
         if edits.is_empty() {
             return Err(KvError::NoEdits);
@@ -83,17 +79,19 @@ impl Batch {
         put_edits(out, self.edits.as_slice())
     }
 
-    /// Reads the batch at the front of the bytes, and returns it with the bytes behind it.
-    pub fn read_from(alloc: Global, bytes: &[u8]) -> Result<(Batch, &[u8]), KvError>
-        ensures found { IfOk result (λ x. (bytes.now ≡ batch_bytes x.0 ++ x.1.now) × IsBatch x.0) }
-        ensures bad { IsErrOf result KvError.BadBytes → (batch : BatchContent) (rest : List ℕ)
+    /// The batch at the front of the bytes, and the bytes behind it, if there is one.
+    pub fn read_from(alloc: Global, bytes: &[u8]) -> Result<Option<(Batch, &[u8])>, AllocError>
+        ensures found { IfOk result (λ read. IfSome read (λ x.
+            (bytes.now ≡ batch_bytes x.0 ++ x.1.now) × IsBatch x.0)) }
+        ensures bad { result ≡ Ok None → (batch : BatchContent) (rest : List ℕ)
             → IsBatch batch → bytes.now ≡ batch_bytes batch ++ rest → ⊥ }
-        ensures only { IfErr result (λ e. (e ≡ KvError.BadBytes) ⊎ (e ≡ KvError.Memory)) }
         ensures exact { ReadsBytes (λ x. (x.0, x.1.now)) result (batch_at bytes.now) }
     {
-        let (edits, rest) = front_edits_of(alloc, bytes)?;
+        let Some((edits, rest)) = front_edits_of(alloc, bytes)? else {
+            return Ok(None);
+        };
         let edits = SharedEdits::new(edits);
-        Ok((Batch { edits }, rest))
+        Ok(Some((Batch { edits }, rest)))
     }
 
     /// The one spelling of the batch in bytes.
@@ -105,15 +103,18 @@ impl Batch {
         Ok(out)
     }
 
-    /// Reads the batch that exactly these bytes spell.
-    pub fn from_bytes(alloc: Global, bytes: &[u8]) -> Result<Batch, KvError>
-        ensures spelled { IfOk result (λ batch. bytes.now ≡ batch_bytes batch) }
-        ensures bad { IsErrOf result KvError.BadBytes →
+    /// The batch that exactly these bytes spell, if they spell one.
+    pub fn from_bytes(alloc: Global, bytes: &[u8]) -> Result<Option<Batch>, AllocError>
+        ensures spelled { IfOk result (λ read. IfSome read (λ batch.
+            bytes.now ≡ batch_bytes batch)) }
+        ensures bad { result ≡ Ok None →
             (batch : BatchContent) → IsBatch batch → bytes.now ≡ batch_bytes batch → ⊥ }
-        ensures only { IfErr result (λ e. (e ≡ KvError.BadBytes) ⊎ (e ≡ KvError.Memory)) }
     {
-        let edits = SharedEdits::new(all_edits_of(alloc, bytes)?);
-        Ok(Batch { edits })
+        let Some(edits) = all_edits_of(alloc, bytes)? else {
+            return Ok(None);
+        };
+        let edits = SharedEdits::new(edits);
+        Ok(Some(Batch { edits }))
     }
 
     /// The same batch once more. The edits of a batch that was made of them are not copied.

@@ -1,6 +1,6 @@
 // Keys: byte strings of at most 1,024 bytes, in byte order.
-ghost use Rattle.std.specs.Prelude.{◌≡◌, ◌<◌, ◌≤◌, ◌↔◌, length, nat_eq, IfOk, IsOkUnless};
-ghost use Rattle.std.specs.Prelude.{IsTrue, Err, Some, List, ℕ, ◌++◌, ◌⊎◌, OnOk, IfErr, IsErrOf};
+ghost use Rattle.std.specs.Prelude.{◌≡◌, ◌<◌, ◌≤◌, ◌↔◌, length, nat_eq, IfOk, IfErr};
+ghost use Rattle.std.specs.Prelude.{IsTrue, Ok, Some, None, List, ℕ, ◌++◌, OnOk, IfSome};
 ghost use Rattle.std.specs.Cmp.{partial_equiv_from_equiv};
 ghost use Rattle.std.specs.Cmp.Lexicographic.{pointwise, slice_cmp, nat_list_eq_equiv};
 ghost use Rattle.std.specs.Cmp.Lexicographic.{nat_list_cmp_total, texts_po, texts_ties};
@@ -12,9 +12,8 @@ ghost use Rattle.byte_fields.specs.{text_bytes, text_at};
 ghost use Rattle.kv_types.specs.Reading.{ReadsBytes};
 
 use crate::bounds::MAX_KEY;
-use crate::reading::key_of;
 use crate::{KvError, LentKey};
-use byte_fields::put_text;
+use byte_fields::{put_text, read_text};
 use std::alloc::{AllocError, Global};
 use std::cmp::Ordering;
 use std::marker::Model;
@@ -39,9 +38,9 @@ impl Model for Key {
 impl Key {
     /// The key of these bytes. `KeyTooLong` refuses more than 1,024, and nothing else is refused.
     pub fn new(bytes: Vec<u8>) -> Result<Key, KvError>
-        ensures made { IfOk result (λ key. key ≡ bytes.items) }
-        ensures too_long { (result ≡ Err KvError.KeyTooLong) ↔ (MAX_KEY < length bytes.items) }
-        ensures otherwise { IsOkUnless result KvError.KeyTooLong }
+        ensures made { IfOk result (λ key. (key ≡ bytes.items) × (length key ≤ MAX_KEY)) }
+        ensures too_long { IfErr result (λ e. (e ≡ KvError.KeyTooLong)
+            × (MAX_KEY < length bytes.items)) }
     {
         if bytes.len() > MAX_KEY {
             return Err(KvError::KeyTooLong);
@@ -72,16 +71,19 @@ impl Key {
         put_text(out, &self.bytes)
     }
 
-    /// Reads the key at the front of the bytes, and returns it with the bytes behind it.
-    pub fn read_from(alloc: Global, bytes: &[u8]) -> Result<(Key, &[u8]), KvError>
-        ensures found { IfOk result (λ x. (bytes.now ≡ text_bytes x.0 ++ x.1.now)
-            × (length x.0 ≤ MAX_KEY)) }
-        ensures bad { IsErrOf result KvError.BadBytes → (key rest : List ℕ)
+    /// The key at the front of the bytes, and the bytes behind it, if there is one.
+    pub fn read_from(alloc: Global, bytes: &[u8]) -> Result<Option<(Key, &[u8])>, AllocError>
+        ensures found { IfOk result (λ read. IfSome read (λ x.
+            (bytes.now ≡ text_bytes x.0 ++ x.1.now) × (length x.0 ≤ MAX_KEY))) }
+        ensures bad { result ≡ Ok None → (key rest : List ℕ)
             → length key ≤ MAX_KEY → bytes.now ≡ text_bytes key ++ rest → ⊥ }
-        ensures only { IfErr result (λ e. (e ≡ KvError.BadBytes) ⊎ (e ≡ KvError.Memory)) }
         ensures exact { ReadsBytes (λ x. (x.0, x.1.now)) result (text_at MAX_KEY bytes.now) }
     {
-        key_of(alloc, bytes)
+        let Some((text, rest)) = read_text(MAX_KEY, bytes) else {
+            return Ok(None);
+        };
+        let bytes = text.to_vec(alloc)?;
+        Ok(Some((Key { bytes }, rest)))
     }
 
     pub fn is_below(&self, other: &Key) -> bool

@@ -8,9 +8,10 @@ ghost use Rattle.kv_types.specs.Maps.{MapsAgree};
 ghost use Rattle.kv_types.specs.Entries.{ViewsAreMaps};
 ghost use Rattle.kv_types.specs.Pages.{OnePage, PagesAgree};
 ghost use Rattle.kv_types.specs.Bounds.{BoundsAre};
+ghost use Rattle.kv_types.specs.Refusals.{error_number};
 ghost use Rattle.kv_types.specs.Examples.{BatchExamples, EntryExamples};
 
-use crate::Number;
+use crate::{KvError, Number};
 
 /// Byte order is a strict order of all keys, and it is the order in which keys compare.
 pub fn byte_order_is_strict()
@@ -50,6 +51,14 @@ pub fn is_part_decides()
 pub fn bounds_are()
     ensures { BoundsAre }
 {}
+
+/// The number of each refusal.
+// law: of the values of `KvError`'s variants, which no clause can name
+pub fn error_number_is(error: KvError) -> u8
+    ensures { result ≡ error_number error }
+{
+    error as u8
+}
 
 /// The least number, which is 0.
 // law: of `Number::ZERO`, which no clause can name

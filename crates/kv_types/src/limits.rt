@@ -1,5 +1,5 @@
 // The limits of a store that its user can set, with their defaults.
-ghost use Rattle.std.specs.Prelude.{◌≡◌, ◌↔◌, IfOk, IsOkUnless, IsOk};
+ghost use Rattle.std.specs.Prelude.{◌≡◌, IfOk, IfErr};
 ghost use Rattle.kv_types.specs.Limits.{IsInRange};
 
 use crate::KvError;
@@ -27,8 +27,8 @@ impl Limits {
     pub fn new(log: u64, l0: u64, table: u64, level: u64, cache: u64) -> Result<Limits, KvError>
         ensures made { IfOk result (λ limits. (limits.log ≡ log) × (limits.l0 ≡ l0)
             × (limits.table ≡ table) × (limits.level ≡ level) × (limits.cache ≡ cache)) }
-        ensures accepted { IsOk result ↔ IsInRange log l0 table level cache }
-        ensures otherwise { IsOkUnless result KvError.BadLimit }
+        ensures refused { IfErr result (λ e. (e ≡ KvError.BadLimit)
+            × (IsInRange log l0 table level cache → ⊥)) }
     {
         if !(16..=1 << 30).contains(&log) || l0 > 64 || !(64..=1 << 30).contains(&table) {
             return Err(KvError::BadLimit);

@@ -1,5 +1,5 @@
 // Ranges of keys, read forward or backward.
-ghost use Rattle.std.specs.Prelude.{◌≡◌, ◌⊎◌, ◌<◌, ◌≤◌, ◌↔◌, IfOk, IsTrue, IsOkUnless, Err};
+ghost use Rattle.std.specs.Prelude.{◌≡◌, ◌⊎◌, ◌<◌, ◌≤◌, ◌↔◌, IfOk, IfErr, IsTrue};
 ghost use Rattle.std.specs.Prelude.{option_copied};
 
 use crate::bounds::MAX_ROWS;
@@ -39,10 +39,10 @@ impl Range {
     /// The keys from `from` on, below `to` where there is one. An answer has at most `limit` rows.
     /// `BadLimit` refuses a limit of 0 or above 1,024, and nothing else is refused.
     pub fn new(from: Key, to: Option<Key>, backward: bool, limit: u32) -> Result<Range, KvError>
-        ensures made { IfOk result (λ range. range ≡
-            record { from = from; to = to; backward = backward; limit = limit }) }
-        ensures refused { (result ≡ Err KvError.BadLimit) ↔ ((limit ≡ 0) ⊎ (MAX_ROWS < limit)) }
-        ensures otherwise { IsOkUnless result KvError.BadLimit }
+        ensures made { IfOk result (λ range. (1 ≤ limit) × (limit ≤ MAX_ROWS) × (range ≡
+            record { from = from; to = to; backward = backward; limit = limit })) }
+        ensures refused { IfErr result (λ e. (e ≡ KvError.BadLimit)
+            × ((limit ≡ 0) ⊎ (MAX_ROWS < limit))) }
     {
         if limit == 0 || limit > MAX_ROWS {
             return Err(KvError::BadLimit);

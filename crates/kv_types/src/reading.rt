@@ -1,94 +1,92 @@
-// Keys, values, edits and batches, read from their bytes.
+// Edits and batches, read from their bytes.
 ghost use Rattle.std.specs.Prelude.{◌≡◌};
 ghost use Rattle.kv_types.specs.Reading.{ReadsBytes, edit_at, batch_at, batch_of};
-ghost use Rattle.byte_fields.specs.{many, text_at};
+ghost use Rattle.byte_fields.specs.{many};
 
-use crate::bounds::{MAX_BATCH, MAX_EDITS, MAX_KEY, MAX_VALUE};
-use crate::{Edit, Key, KvError, Value};
-use byte_fields::{read_text, read_u16};
-use std::alloc::Global;
-
-pub fn key_of(alloc: Global, bytes: &[u8]) -> Result<(Key, &[u8]), KvError>
-    ensures { ReadsBytes (λ x. (x.0, x.1.now)) result (text_at MAX_KEY bytes.now) }
-{
-    let Some((text, rest)) = read_text(MAX_KEY, bytes) else {
-        return Err(KvError::BadBytes);
-    };
-    Ok((Key::new(text.to_vec(alloc)?)?, rest))
-}
-
-pub fn value_of(alloc: Global, bytes: &[u8]) -> Result<(Value, &[u8]), KvError>
-    ensures { ReadsBytes (λ x. (x.0, x.1.now)) result (text_at MAX_VALUE bytes.now) }
-{
-    let Some((text, rest)) = read_text(MAX_VALUE, bytes) else {
-        return Err(KvError::BadBytes);
-    };
-    Ok((Value::new(text.to_vec(alloc)?)?, rest))
-}
+use crate::bounds::{MAX_BATCH, MAX_EDITS};
+use crate::{Edit, Key, Value};
+use byte_fields::read_u16;
+use std::alloc::{AllocError, Global};
 
 #[tactic(auto, unfolding(crate::specs::Reading::edit_at))]
-fn edit_of(alloc: Global, bytes: &[u8]) -> Result<(Edit, &[u8]), KvError>
+fn edit_of(alloc: Global, bytes: &[u8]) -> Result<Option<(Edit, &[u8])>, AllocError>
     ensures { ReadsBytes (λ x. (x.0, x.1.now)) result (edit_at bytes.now) }
 {
     match bytes {
         [1, rest @ ..] => {
-            let (key, rest) = key_of(alloc, rest)?;
-            let (value, rest) = value_of(alloc, rest)?;
-            Ok((Edit::Put(key, value), rest))
+            let Some((key, rest)) = Key::read_from(alloc, rest)? else {
+                return Ok(None);
+            };
+            let Some((value, rest)) = Value::read_from(alloc, rest)? else {
+                return Ok(None);
+            };
+            Ok(Some((Edit::Put(key, value), rest)))
         }
         [2, rest @ ..] => {
-            let (key, rest) = key_of(alloc, rest)?;
-            Ok((Edit::Delete(key), rest))
+            let Some((key, rest)) = Key::read_from(alloc, rest)? else {
+                return Ok(None);
+            };
+            Ok(Some((Edit::Delete(key), rest)))
         }
-        _ => Err(KvError::BadBytes),
+        _ => Ok(None),
     }
 }
 
-fn edits_in(alloc: Global, count: usize, bytes: &[u8]) -> Result<(Vec<Edit>, &[u8]), KvError>
+fn edits_in(
+    alloc: Global,
+    count: usize,
+    bytes: &[u8],
+) -> Result<Option<(Vec<Edit>, &[u8])>, AllocError>
     ensures { ReadsBytes (λ x. (x.0.items, x.1.now)) result (many edit_at count bytes.now) }
 {
     // An edit has at least three bytes, so the bytes bound the memory that is taken.
     let mut edits = Vec::with_capacity(alloc, count.min(bytes.len() / 3))?;
     let mut rest = bytes;
     for _ in 0..count {
-        let (edit, after) = edit_of(alloc, rest)?;
+        let Some((edit, after)) = edit_of(alloc, rest)? else {
+            return Ok(None);
+        };
         edits.push(edit)?;
         rest = after;
     }
-    Ok((edits, rest))
+    Ok(Some((edits, rest)))
 }
 
 #[tactic(auto, unfolding(crate::specs::Reading::batch_at))]
-pub fn front_edits_of(alloc: Global, bytes: &[u8]) -> Result<(Vec<Edit>, &[u8]), KvError>
+pub fn front_edits_of(alloc: Global, bytes: &[u8]) -> Result<Option<(Vec<Edit>, &[u8])>, AllocError>
     ensures { ReadsBytes (λ x. (x.0.items, x.1.now)) result (batch_at bytes.now) }
 {
     let Some((count, rest)) = read_u16(bytes) else {
-        return Err(KvError::BadBytes);
+        return Ok(None);
     };
     let count = count as usize;
     if count > MAX_EDITS {
-        return Err(KvError::BadBytes);
+        return Ok(None);
     }
     if count < 1 {
-        return Err(KvError::BadBytes);
+        return Ok(None);
     }
-    let (edits, rest) = edits_in(alloc, count, rest)?;
+    let Some((edits, rest)) = edits_in(alloc, count, rest)? else {
+        return Ok(None);
+    };
     if bytes.len().saturating_sub(rest.len()) > MAX_BATCH {
-        return Err(KvError::BadBytes);
+        return Ok(None);
     }
-    Ok((edits, rest))
+    Ok(Some((edits, rest)))
 }
 
 #[tactic(auto, unfolding(crate::specs::Reading::batch_of))]
-pub fn all_edits_of(alloc: Global, bytes: &[u8]) -> Result<Vec<Edit>, KvError>
+pub fn all_edits_of(alloc: Global, bytes: &[u8]) -> Result<Option<Vec<Edit>>, AllocError>
     ensures { ReadsBytes (λ v. v.items) result (batch_of bytes.now) }
 {
     if bytes.len() > MAX_BATCH {
-        return Err(KvError::BadBytes);
+        return Ok(None);
     }
-    let (edits, rest) = front_edits_of(alloc, bytes)?;
+    let Some((edits, rest)) = front_edits_of(alloc, bytes)? else {
+        return Ok(None);
+    };
     if !rest.is_empty() {
-        return Err(KvError::BadBytes);
+        return Ok(None);
     }
-    Ok(edits)
+    Ok(Some(edits))
 }

@@ -1,13 +1,12 @@
 // Values: byte strings of at most 16,384 bytes.
-ghost use Rattle.std.specs.Prelude.{◌≡◌, ◌<◌, ◌≤◌, ◌↔◌, length, IfOk, IsOkUnless, Err};
-ghost use Rattle.std.specs.Prelude.{List, ℕ, ◌++◌, ◌⊎◌, OnOk, IfErr, IsErrOf};
+ghost use Rattle.std.specs.Prelude.{◌≡◌, ◌<◌, ◌≤◌, length, IfOk, IfErr};
+ghost use Rattle.std.specs.Prelude.{Ok, None, List, ℕ, ◌++◌, OnOk, IfSome};
 ghost use Rattle.byte_fields.specs.{text_bytes, text_at};
 ghost use Rattle.kv_types.specs.Reading.{ReadsBytes};
 
 use crate::KvError;
 use crate::bounds::MAX_VALUE;
-use crate::reading::value_of;
-use byte_fields::put_text;
+use byte_fields::{put_text, read_text};
 use std::alloc::{AllocError, Global};
 use std::marker::Model;
 
@@ -32,9 +31,9 @@ impl Value {
     /// The value of these bytes. `ValueTooLong` refuses more than 16,384, and nothing else is
     /// refused.
     pub fn new(bytes: Vec<u8>) -> Result<Value, KvError>
-        ensures made { IfOk result (λ value. value ≡ bytes.items) }
-        ensures too_long { (result ≡ Err KvError.ValueTooLong) ↔ (MAX_VALUE < length bytes.items) }
-        ensures otherwise { IsOkUnless result KvError.ValueTooLong }
+        ensures made { IfOk result (λ value. (value ≡ bytes.items) × (length value ≤ MAX_VALUE)) }
+        ensures too_long { IfErr result (λ e. (e ≡ KvError.ValueTooLong)
+            × (MAX_VALUE < length bytes.items)) }
     {
         if bytes.len() > MAX_VALUE {
             return Err(KvError::ValueTooLong);
@@ -57,16 +56,19 @@ impl Value {
         put_text(out, &self.bytes)
     }
 
-    /// Reads the value at the front of the bytes, and returns it with the bytes behind it.
-    pub fn read_from(alloc: Global, bytes: &[u8]) -> Result<(Value, &[u8]), KvError>
-        ensures found { IfOk result (λ x. (bytes.now ≡ text_bytes x.0 ++ x.1.now)
-            × (length x.0 ≤ MAX_VALUE)) }
-        ensures bad { IsErrOf result KvError.BadBytes → (value rest : List ℕ)
+    /// The value at the front of the bytes, and the bytes behind it, if there is one.
+    pub fn read_from(alloc: Global, bytes: &[u8]) -> Result<Option<(Value, &[u8])>, AllocError>
+        ensures found { IfOk result (λ read. IfSome read (λ x.
+            (bytes.now ≡ text_bytes x.0 ++ x.1.now) × (length x.0 ≤ MAX_VALUE))) }
+        ensures bad { result ≡ Ok None → (value rest : List ℕ)
             → length value ≤ MAX_VALUE → bytes.now ≡ text_bytes value ++ rest → ⊥ }
-        ensures only { IfErr result (λ e. (e ≡ KvError.BadBytes) ⊎ (e ≡ KvError.Memory)) }
         ensures exact { ReadsBytes (λ x. (x.0, x.1.now)) result (text_at MAX_VALUE bytes.now) }
     {
-        value_of(alloc, bytes)
+        let Some((text, rest)) = read_text(MAX_VALUE, bytes) else {
+            return Ok(None);
+        };
+        let bytes = text.to_vec(alloc)?;
+        Ok(Some((Value { bytes }, rest)))
     }
 
     pub fn clone(&self) -> Result<Value, AllocError>

@@ -15,7 +15,7 @@ use crate::FrameError;
 use crate::numbers::{put_truth, put_u16, put_u32, put_u64, truth_of, u16_of, u32_of, u64_of};
 use configurations::laws::test_decides_config;
 use configurations::{Config, Epoch, NodeId};
-use kv_types::{Batch, Key, KvError, Number, Range, Value};
+use kv_types::{Batch, Key, Number, Range, Value};
 use std::alloc::{AllocError, Global};
 
 // ---- writing
@@ -148,39 +148,36 @@ pub fn at_of(bytes: &mut &[u8]) -> Result<Option<Number>, FrameError>
 pub fn key_of(alloc: Global, bytes: &mut &[u8]) -> Result<Key, FrameError>
     ensures { ReadsField result bytes.new.now (text_at MAX_KEY bytes.old.now) }
 {
-    match Key::read_from(alloc, bytes) {
-        Ok((read, rest)) => {
+    match Key::read_from(alloc, bytes)? {
+        Some((read, rest)) => {
             *bytes = rest;
             Ok(read)
         }
-        Err(KvError::BadBytes) => Err(FrameError::BadField),
-        Err(_) => Err(FrameError::Memory),
+        None => Err(FrameError::BadField),
     }
 }
 
 pub fn value_of(alloc: Global, bytes: &mut &[u8]) -> Result<Value, FrameError>
     ensures { ReadsField result bytes.new.now (text_at MAX_VALUE bytes.old.now) }
 {
-    match Value::read_from(alloc, bytes) {
-        Ok((read, rest)) => {
+    match Value::read_from(alloc, bytes)? {
+        Some((read, rest)) => {
             *bytes = rest;
             Ok(read)
         }
-        Err(KvError::BadBytes) => Err(FrameError::BadField),
-        Err(_) => Err(FrameError::Memory),
+        None => Err(FrameError::BadField),
     }
 }
 
 pub fn batch_of(alloc: Global, bytes: &mut &[u8]) -> Result<Batch, FrameError>
     ensures { ReadsField result bytes.new.now (batch_at bytes.old.now) }
 {
-    match Batch::read_from(alloc, bytes) {
-        Ok((read, rest)) => {
+    match Batch::read_from(alloc, bytes)? {
+        Some((read, rest)) => {
             *bytes = rest;
             Ok(read)
         }
-        Err(KvError::BadBytes) => Err(FrameError::BadField),
-        Err(_) => Err(FrameError::Memory),
+        None => Err(FrameError::BadField),
     }
 }
 

@@ -2,14 +2,12 @@
 use Rattle.std.specs.Prelude.{ℕ, ◌==◌, ◌||◌, nat_lt, if◌then◌else◌, List, [], ◌∷◌, length, Option}
 use Rattle.std.specs.Prelude.{Some, None}
 use Rattle.std.specs.Option.{option_map_or, option_or}
-use Rattle.kv_types.specs.declared.bounds.TheConstants.{MAX_KEY, MAX_VALUE, MAX_EDITS, MAX_BATCH}
-use Rattle.kv_types.specs.declared.bounds.TheConstants.{MAX_ROWS}
+use Rattle.kv_types.specs.declared.bounds.TheConstants.{MAX_KEY, MAX_VALUE, MAX_ROWS}
 use Rattle.kv_types.specs.declared.Edit.{Edit}
 use Rattle.kv_types.specs.declared.Edit.TheVariants.{Put, Delete}
 use Rattle.kv_types.specs.declared.KvError.{KvError}
-use Rattle.kv_types.specs.declared.KvError.TheVariants.{KeyTooLong, ValueTooLong, NoEdits}
-use Rattle.kv_types.specs.declared.KvError.TheVariants.{TooManyEdits, BatchTooLong, BadLimit}
-use Rattle.kv_types.specs.{batch_bytes, Span}
+use Rattle.kv_types.specs.declared.KvError.TheVariants.{KeyTooLong, ValueTooLong, BadLimit}
+use Rattle.kv_types.specs.{batch_error, Span}
 use Rattle.lab.specs.declared.EventKind.{EventKind}
 use Rattle.lab.specs.declared.EventKind.TheVariants.{Submit, Get, Deliver, Tick, Tend, Start, Stop}
 use Rattle.lab.specs.declared.EventKind.TheVariants.{Rows, Open, Close, Notice}
@@ -35,13 +33,6 @@ abbrev pub edits_error : List Edit → Option KvError
 edits_error [] = None
 edits_error (edit ∷ edits) = option_or (edit_error edit) (edits_error edits)
 
--- what is wrong with the edits as one batch
-abbrev pub size_error : List Edit → Option KvError
-size_error edits =
-    if length edits == 0 then Some NoEdits else
-    if nat_lt MAX_EDITS (length edits) then Some TooManyEdits else
-    if nat_lt MAX_BATCH (length (batch_bytes edits)) then Some BatchTooLong else None
-
 -- what is wrong with an upper bound of keys, if anything is
 abbrev pub bound_error : Option (List ℕ) → Option KvError
 bound_error None = None
@@ -59,7 +50,7 @@ range_error range =
 
 -- the first error of a statement, that of the batch or range last
 abbrev pub error_of : EventKind → Option KvError
-error_of (Submit node edits) = option_or (edits_error edits) (size_error edits)
+error_of (Submit node edits) = option_or (edits_error edits) (batch_error edits)
 error_of (Get node key at) = key_error key
 error_of (Rows node range at) = range_error range
 error_of (Open node at) = None

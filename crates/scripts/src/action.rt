@@ -4,7 +4,7 @@ ghost use Rattle.std.specs.Option.{option_or};
 ghost use Rattle.lab.specs.{node_in};
 ghost use Rattle.script_words.specs.Edits.{edit_of};
 ghost use Rattle.scripts.specs.Actions.{key_error, value_error, edit_error, edits_error};
-ghost use Rattle.scripts.specs.Actions.{size_error, bound_error, range_error, action_of};
+ghost use Rattle.scripts.specs.Actions.{bound_error, range_error, action_of};
 ghost use Rattle.scripts.specs.Reading.{what_of};
 
 use crate::command::Command;
@@ -60,15 +60,6 @@ fn edits(alloc: Global, changes: RawEdits) -> Result<Result<Vec<Edit>, KvError>,
     Ok(Ok(edits))
 }
 
-/// The batch that edits make, if they may be one.
-fn batch(edits: Vec<Edit>) -> Result<Batch, KvError>
-    ensures { MatchResult result
-        (λ batch. (size_error edits.items ≡ None) × (batch ≡ edits.items))
-        (λ e. size_error edits.items ≡ Some e) }
-{
-    Batch::new(edits)
-}
-
 fn submit(
     alloc: Global,
     node: NodeId,
@@ -82,7 +73,7 @@ fn submit(
         Ok(edits) => edits,
         Err(e) => return Ok(Action::Invalid(e)),
     };
-    match batch(edits) {
+    match Batch::new(edits) {
         Ok(batch) => {
             let kind = EventKind::Submit { node, batch };
             Ok(Action::Event(Event { kind, fault }))

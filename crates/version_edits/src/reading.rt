@@ -19,7 +19,7 @@ use byte_fields::{read_u16, read_u32, read_u64};
 use configurations::Config;
 use configurations::laws::test_decides_config;
 use kv_types::bounds::MAX_NUMBER;
-use kv_types::{KvError, StoredKey};
+use kv_types::StoredKey;
 use std::alloc::{AllocError, Global};
 
 #[tactic(auto, unfolding(crate::specs::Reading::byte_field))]
@@ -121,13 +121,12 @@ fn level_of(bytes: &mut &[u8]) -> Result<u8, EditError>
 fn key_of(alloc: Global, bytes: &mut &[u8]) -> Result<StoredKey, EditError>
     ensures { ReadsChangeField result bytes.new.now (text_at MAX_KEY bytes.old.now) }
 {
-    match StoredKey::read_from(alloc, bytes) {
-        Ok((read, rest)) => {
+    match StoredKey::read_from(alloc, bytes)? {
+        Some((read, rest)) => {
             *bytes = rest;
             Ok(read)
         }
-        Err(KvError::BadBytes) => Err(EditError::Damaged),
-        Err(_) => Err(EditError::Memory),
+        None => Err(EditError::Damaged),
     }
 }
 

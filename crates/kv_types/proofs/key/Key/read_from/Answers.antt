@@ -1,14 +1,18 @@
-use Rattle.std.proofs.Common.{arith}
+use Rattle.std.proofs.Common.{◌≡◌, Some, arith, rules}
+use Rattle.byte_fields.specs.{text_at}
+use Rattle.byte_fields.specs.TextsLemmas.{text_begins}
 use Rattle.kv_types.specs.declared.bounds.TheConstants.{MAX_KEY}
-use Rattle.kv_types.proofs.Fronts.{text_found, text_bad}
+use Rattle.kv_types.proofs.Fronts.{no_text}
 use Rattle.kv_types.proofs.key.Key.read_from.Goals as goal
+
+pub returns-in_default-clause-bad : goal.returns-in_default-clause-bad
+returns-in_default-clause-bad c = λ _.
+    no_text MAX_KEY c.args.bytes.now (omega arith) (rw c.in_default.is at c.read_text.ensures.text)
 
 pub returns-clause-found : goal.returns-clause-found
 returns-clause-found c =
-    text_found (λ x. (x.0, x.1.now)) MAX_KEY c.args.bytes.now c.key_of.result
-    (λ i. omega (arith, c.type_inv.bytes i)) c.key_of.ensures
-
-pub returns-clause-bad : goal.returns-clause-bad
-returns-clause-bad c =
-    text_bad (λ x. (x.0, x.1.now)) MAX_KEY c.args.bytes.now c.key_of.result (omega arith)
-    c.key_of.ensures
+    let read : text_at MAX_KEY c.args.bytes.now
+    ≡ Some (c.in_ok-bytes.bytes.items, c.in-Some.rest.now) = search rules in
+    let t = text_begins MAX_KEY c.args.bytes.now (c.in_ok-bytes.bytes.items, c.in-Some.rest.now)
+    (λ i. omega (arith, c.type_inv.bytes i)) read in
+    (t.0.parts, t.1)
