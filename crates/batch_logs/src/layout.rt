@@ -3,7 +3,7 @@ ghost use Rattle.std.specs.Prelude.{◌≡◌, ◌⊎◌, IfOk, IfErr, IsErrOf, 
 ghost use Rattle.kv_types.specs.{BatchContent, IsBatch};
 ghost use Rattle.batch_logs.specs.Layout.{batch_record};
 
-use kv_types::Batch;
+use kv_types::{Batch, KvError};
 use std::alloc::{AllocError, Global};
 use store_tables::EngineError;
 
@@ -31,11 +31,12 @@ pub(crate) fn batch_of(alloc: Global, number: u64, bytes: &[u8]) -> Result<Batch
     if head != number.to_be_bytes().as_slice() {
         return Err(EngineError::Damaged);
     }
-    match Batch::from_bytes(alloc, body)? {
-        Some(batch) => {
+    match Batch::from_bytes(alloc, body) {
+        Ok(batch) => {
             let _edits = batch.edits();
             Ok(batch)
         }
-        None => Err(EngineError::Damaged),
+        Err(KvError::Memory) => Err(EngineError::Memory),
+        Err(_) => Err(EngineError::Damaged),
     }
 }

@@ -78,8 +78,8 @@ pub fn one_list(
     let mut list = Vec::new(alloc);
     for record in &common_records(rt, alloc, last, nodes) {
         let spelled = record.get(8..).unwrap_or(&[]);
-        let batch = Batch::from_bytes(alloc, spelled).expect(rt, "memory");
-        list.push(batch.expect(rt, "a batch")).expect(rt, "memory");
+        let batch = Batch::from_bytes(alloc, spelled).expect(rt, "a batch");
+        list.push(batch).expect(rt, "memory");
     }
     list
 }

@@ -47,6 +47,7 @@ error_text kv.ValueTooLong = codes "2 ValueTooLong"
 error_text kv.NoEdits = codes "3 NoEdits"
 error_text kv.TooManyEdits = codes "4 TooManyEdits"
 error_text kv.BatchTooLong = codes "5 BatchTooLong"
+error_text kv.BadBytes = codes "6 BadBytes"
 error_text kv.Memory = codes "7 Memory"
 error_text kv.BadLimit = codes "8 BadLimit"
 

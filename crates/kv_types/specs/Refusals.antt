@@ -5,7 +5,7 @@ use Rattle.kv_types.specs.declared.edit.Edit.{Edit}
 use Rattle.kv_types.specs.declared.error.KvError.{KvError}
 use Rattle.kv_types.specs.declared.error.KvError.TheVariants.{NoEdits, TooManyEdits, BatchTooLong}
 use Rattle.kv_types.specs.declared.error.KvError.TheVariants.{KeyTooLong, ValueTooLong, BadLimit}
-use Rattle.kv_types.specs.declared.error.KvError.TheVariants.{Memory}
+use Rattle.kv_types.specs.declared.error.KvError.TheVariants.{BadBytes, Memory}
 use Rattle.kv_types.specs.Spelling.{batch_bytes}
 
 -- what is wrong with the edits as one batch, if anything is
@@ -22,5 +22,6 @@ error_number ValueTooLong = 2
 error_number NoEdits = 3
 error_number TooManyEdits = 4
 error_number BatchTooLong = 5
+error_number BadBytes = 6
 error_number Memory = 7
 error_number BadLimit = 8

@@ -1,5 +1,5 @@
 // Batches: lists of edits that apply at once, with one spelling in bytes.
-ghost use Rattle.std.specs.Prelude.{◌≡◌, ◌≤◌, List, ℕ, ◌++◌, length};
+ghost use Rattle.std.specs.Prelude.{◌≡◌, ◌≤◌, ◌⊎◌, List, ℕ, ◌++◌, length};
 ghost use Rattle.std.specs.Prelude.{IfOk, IfErr, IfSome, Ok, Some, None, OnOk};
 
 use crate::bounds::{MAX_BATCH, MAX_EDITS};
@@ -103,18 +103,18 @@ impl Batch {
         Ok(out)
     }
 
-    /// The batch that exactly these bytes spell, if they spell one.
-    pub fn from_bytes(alloc: Global, bytes: &[u8]) -> Result<Option<Batch>, AllocError>
-        ensures spelled { IfOk result (λ read. IfSome read (λ batch.
-            bytes.now ≡ batch_bytes batch)) }
-        ensures bad { result ≡ Ok None →
-            (batch : BatchContent) → IsBatch batch → bytes.now ≡ batch_bytes batch → ⊥ }
+    /// The batch that exactly these bytes spell. `BadBytes` refuses bytes that spell none, and
+    /// nothing else but want of memory is refused.
+    pub fn from_bytes(alloc: Global, bytes: &[u8]) -> Result<Batch, KvError>
+        ensures spelled { IfOk result (λ batch. bytes.now ≡ batch_bytes batch) }
+        ensures refused { IfErr result (λ e. (e ≡ KvError.Memory) ⊎ ((e ≡ KvError.BadBytes) ×
+            ((batch : BatchContent) → IsBatch batch → bytes.now ≡ batch_bytes batch → ⊥))) }
     {
         let Some(edits) = all_edits_of(alloc, bytes)? else {
-            return Ok(None);
+            return Err(KvError::BadBytes);
         };
         let edits = SharedEdits::new(edits);
-        Ok(Some(Batch { edits }))
+        Ok(Batch { edits })
     }
 
     /// The same batch once more. The edits of a batch that was made of them are not copied.

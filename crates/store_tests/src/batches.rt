@@ -36,14 +36,9 @@ fn is_spelled(rt: &impl Abort, alloc: Global, batch: Batch, want: &[u8]) -> bool
     is_same(&spelled(rt, alloc, batch), want)
 }
 
-/// The batch that these bytes spell, if they spell one.
-fn try_read(rt: &impl Abort, alloc: Global, bytes: &[u8]) -> Option<Batch> {
-    Batch::from_bytes(alloc, bytes).expect(rt, "memory")
-}
-
 /// The batch that these bytes spell.
 fn read(rt: &impl Abort, alloc: Global, bytes: &[u8]) -> Batch {
-    try_read(rt, alloc, bytes).expect(rt, "a batch")
+    Batch::from_bytes(alloc, bytes).expect(rt, "a batch")
 }
 
 /// A value of the key `a`, and how a batch of this edit is spelled.
@@ -79,6 +74,8 @@ enum Made {
     Deletions(usize),
     /// Three puts of the longest value, and one of this length: 49,178 bytes and the value.
     LongBatch(usize),
+    /// A batch of this spelling.
+    Spelled(&'static [u8]),
     /// A range of this many rows.
     Range(u32),
 }
@@ -120,6 +117,7 @@ fn refusal_of(rt: &impl Abort, alloc: Global, made: &Made) -> Option<KvError> {
         Made::Value(len) => try_value(rt, alloc, *len).err(),
         Made::Deletions(count) => deletions(rt, alloc, b"a", *count).err(),
         Made::LongBatch(last) => four_puts(rt, alloc, *last).err(),
+        Made::Spelled(bytes) => Batch::from_bytes(alloc, *bytes).err(),
         Made::Range(limit) => try_range(rt, alloc, None, false, *limit).err(),
     }
 }
@@ -135,9 +133,11 @@ impl Case for Edge {
     }
 }
 
+const BAD_BYTES: Option<KvError> = Some(KvError::BadBytes);
+
 const BAD_LIMIT: Option<KvError> = Some(KvError::BadLimit);
 
-static EDGES: [Edge; 17] = [
+static EDGES: [Edge; 27] = [
     Edge(Made::Key(0), None),
     Edge(Made::Key(1024), None),
     Edge(Made::Key(1025), Some(KvError::KeyTooLong)),
@@ -155,38 +155,22 @@ static EDGES: [Edge; 17] = [
     Edge(Made::Range(1024), None),
     Edge(Made::Range(1025), BAD_LIMIT),
     Edge(Made::Range(u32::MAX), BAD_LIMIT),
+    // What spells no batch.
+    Edge(Made::Spelled(&[]), BAD_BYTES),
+    Edge(Made::Spelled(&[0]), BAD_BYTES),
+    Edge(Made::Spelled(&[0, 0]), BAD_BYTES),
+    Edge(Made::Spelled(&[0, 1]), BAD_BYTES),
+    Edge(Made::Spelled(&[0, 1, 0, 0, 0]), BAD_BYTES),
+    Edge(Made::Spelled(&[0, 1, 3, 0, 0]), BAD_BYTES),
+    Edge(Made::Spelled(&[0, 1, 2, 0, 1]), BAD_BYTES),
+    Edge(Made::Spelled(&[0, 1, 1, 0, 0]), BAD_BYTES),
+    Edge(Made::Spelled(&[0, 2, 2, 0, 0]), BAD_BYTES),
+    Edge(Made::Spelled(&[0, 1, 2, 0, 0, 0]), BAD_BYTES),
 ];
 
 #[test]
 fn what_is_made_at_the_edges(rt: HostRuntime) {
     all_hold(&rt, rt.alloc(), &EDGES);
-}
-
-/// Bytes that spell no batch.
-struct NoBatch(&'static [u8]);
-
-impl Case for NoBatch {
-    fn holds(&self, rt: &impl Abort, alloc: Global) -> bool {
-        try_read(rt, alloc, self.0).is_none()
-    }
-}
-
-static NO_BATCHES: [NoBatch; 10] = [
-    NoBatch(&[]),
-    NoBatch(&[0]),
-    NoBatch(&[0, 0]),
-    NoBatch(&[0, 1]),
-    NoBatch(&[0, 1, 0, 0, 0]),
-    NoBatch(&[0, 1, 3, 0, 0]),
-    NoBatch(&[0, 1, 2, 0, 1]),
-    NoBatch(&[0, 1, 1, 0, 0]),
-    NoBatch(&[0, 2, 2, 0, 0]),
-    NoBatch(&[0, 1, 2, 0, 0, 0]),
-];
-
-#[test]
-fn what_spells_no_batch_is_not_read(rt: HostRuntime) {
-    all_hold(&rt, rt.alloc(), &NO_BATCHES);
 }
 
 /// The spelling of the longest batch.

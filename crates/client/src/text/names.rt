@@ -33,6 +33,7 @@ pub fn error_name(error: KvError) -> &'static str
         KvError::NoEdits => "3 NoEdits",
         KvError::TooManyEdits => "4 TooManyEdits",
         KvError::BatchTooLong => "5 BatchTooLong",
+        KvError::BadBytes => "6 BadBytes",
         KvError::Memory => "7 Memory",
         KvError::BadLimit => "8 BadLimit",
     }

@@ -1,15 +1,18 @@
-use Rattle.std.proofs.Common.{◌≡◌, Some, None, ap, ◌∙◌, arith}
+use Rattle.std.proofs.Common.{◌≡◌, refl, inr, Some, None, ap, ◌∙◌, arith}
 use Rattle.kv_types.specs.Reading.{batch_of}
 use Rattle.kv_types.specs.BatchesLemmas.{batch_is, batch_again}
 use Rattle.kv_types.proofs.batch.Batch.from_bytes.Goals as goal
 
-pub returns-in_default-clause-bad : goal.returns-in_default-clause-bad
-returns-in_default-clause-bad c = λ _ batch fits spelled.
-    let none : batch_of c.args.bytes.now ≡ None =
-    rw c.in_default.is at c.in_ok-edits.ensures in
-    let some : batch_of c.args.bytes.now ≡ Some batch =
-    ap batch_of spelled ∙ batch_again batch fits in
-    absurd cc
+pub returns-in_default-clause-refused : goal.returns-in_default-clause-refused
+returns-in_default-clause-refused c = inr (
+  refl,
+  λ batch fits spelled.
+      let none : batch_of c.args.bytes.now ≡ None =
+      rw c.in_default.is at c.in_ok-edits.ensures in
+      let some : batch_of c.args.bytes.now ≡ Some batch =
+      ap batch_of spelled ∙ batch_again batch fits in
+      absurd cc,
+)
 
 pub invariant_of-result : goal.invariant_of-result
 invariant_of-result c =
