@@ -14,6 +14,7 @@ use Rattle.version_edits.specs.{first_version}
 use Rattle.manifest.specs.Slots.{IsNotCreated, IsSlotFile, ManifestRepresents, SlotsRead}
 use Rattle.manifest.specs.Slots.{other_slot}
 use Rattle.manifest.specs.Holds.{IsLongLog, SlotsHold, first_slot}
+use Rattle.manifest.specs.Replace.{closing_calls}
 
 -- an earlier call failed, so the manifest has to be opened again
 abbrev pub ManifestHasFailed : Manifest → Type 0
@@ -34,6 +35,10 @@ counting_file manifest = file_of manifest.slots.log
 -- the file of the other slot
 abbrev pub spare_file : Manifest → ℕ
 spare_file manifest = other_slot manifest.slots.slot
+
+-- the calls of the disk that a rewrite needs: six, and one more where the spare slot's gate is open
+abbrev pub rewrite_calls : Manifest → ℕ
+rewrite_calls manifest = closing_calls manifest.slots.other_is_open + 5
 
 -- the slot that counts has this generation
 abbrev pub generation_of : Manifest → ℕ

@@ -6,7 +6,7 @@ use Rattle.disk.specs.declared.Disk.{Ghosts}
 use Rattle.disk.specs.declared.DiskError.{DiskError}
 use Rattle.disk.specs.declared.DiskError.TheVariants as device
 use Rattle.disk.specs.{AlwaysLeaves, EndsOutOfRange, IsLeftAt, IsSameBut, KeepsDisk, State}
-use Rattle.record_log.specs.{IsClosed, IsDurableAs}
+use Rattle.record_log.specs.{IsClosed, IsDurableAs, MakesCalls}
 
 -- a file whose gate is as is said: open, with bytes behind it, or closed
 abbrev pub HasGate : Bool → List ℕ → Type 0
@@ -18,6 +18,11 @@ HasGate false bytes = IsClosed bytes
 abbrev pub IsReplaced : List ℕ → List ℕ → List ℕ → Type 0
 IsReplaced was behind left = IsClosed left ⊎ (((rest : List ℕ) × (left ≡ was ++ rest))
     ⊎ ((rest : List ℕ) × (left ≡ 1 ∷ (behind ++ rest))))
+
+-- the calls of the disk that close a gate: a sync, and before it a write where the gate is open
+abbrev pub closing_calls : Bool → ℕ
+closing_calls true = 2
+closing_calls false = 1
 
 -- the file's gate is closed, and a crash leaves it as it is
 pub record IsClosedFile (disk : State) (file : ℕ) : Type 0 where
@@ -39,7 +44,8 @@ LeavesReplaced g disk later file was behind = AlwaysLeaves g disk later
 
 -- what a call promises that makes a file these bytes behind an open gate, where it was so
 pub record ReplacesFile {D : Type 0} (g : Ghosts D) (disk later : D) (file : ℕ) (behind : List ℕ)
-    (WasSo : List ℕ → State → Type 0) (result : Result (Unit {0}) DiskError) : Type 0 where
+    (WasSo : List ℕ → State → Type 0) (count : ℕ) (result : Result (Unit {0}) DiskError)
+    : Type 0 where
   -- a device that works fails only where the bytes would end past the greatest place, and no other
   -- file changes
   pub kept : KeepsDisk g disk later (IsErrOf result device.Failed)
@@ -51,3 +57,5 @@ pub record ReplacesFile {D : Type 0} (g : Ghosts D) (disk later : D) (file : ℕ
   -- a crash at any moment leaves the file on the way to them
   pub any_moment : (was : List ℕ) → g.is_honest disk → WasSo was (g.state disk) →
       LeavesReplaced g disk later file was behind
+  -- so often it calls the disk
+  pub calls : MakesCalls g count disk later result

@@ -15,7 +15,8 @@ ghost use Rattle.manifest.specs.Manifests.{HasLongSlot, HasSameSlots, IsNewManif
 ghost use Rattle.manifest.specs.Manifests.{IsOpenedManifest, IsRewritten};
 ghost use Rattle.manifest.specs.Manifests.{ManifestRefusal};
 ghost use Rattle.manifest.specs.Manifests.{counting_file, generation_of, slot_length, spare_file};
-ghost use Rattle.manifest.specs.Manifests.{version_of};
+ghost use Rattle.manifest.specs.Manifests.{rewrite_calls, version_of};
+ghost use Rattle.record_log.specs.{MakesCalls};
 
 use crate::laws::version_is_one;
 use crate::opening::open_slots;
@@ -78,6 +79,7 @@ impl Manifest {
         ensures works { IfOk result (λ manifest. (version_of manifest ≡ first_version id config.now)
             × (ManifestHasFailed manifest → ⊥)) }
         ensures first { IfOk result (λ manifest. generation_of manifest ≡ 1) }
+        ensures calls { MakesCalls D.Disk 6 disk.old disk.new result }
     {
         let version = first_version(alloc, id, config)?;
         let bytes = full_edit_bytes(alloc, &version)?;
@@ -127,6 +129,7 @@ impl Manifest {
             (ManifestHasNoRoom self.old edit.now) (counting_file self.old)
             (λ named state. ManifestHolds state self.new (node_version_after named edit.now))
             (IsBeforeOrAfter edit.now) result }
+        ensures calls { MakesCalls D.Disk 4 disk.old disk.new result }
     {
         if self.has_failed {
             return Err(ManifestError::Failed);
@@ -135,7 +138,7 @@ impl Manifest {
         self.has_failed = true;
         let bytes = bytes_of(alloc, edit)?;
         let version = version_after(alloc, &self.version, edit)?;
-        self.slots.record(alloc, disk, &bytes)?;
+        self.slots.record(disk, &bytes)?;
         self.version = version;
         self.has_failed = false;
         Ok(())
@@ -152,6 +155,7 @@ impl Manifest {
         ensures slots { OnOk result (counting_file self.new ≡ spare_file self.old) }
         ensures changes { ChangesManifest D.Disk disk.old disk.new self.old ⊥ (spare_file self.old)
             (λ named state. IsRewritten state self.new named) ManifestRepresents result }
+        ensures calls { MakesCalls D.Disk (rewrite_calls self.old) disk.old disk.new result }
     {
         if self.has_failed {
             return Err(ManifestError::Failed);

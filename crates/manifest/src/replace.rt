@@ -1,10 +1,10 @@
 // A file written anew, so that at each moment it is closed, or as it was, or whole.
-ghost use Rattle.std.specs.Prelude.{ℕ, ◌<◌, List, length, IfErr, IsErrOf, OnOk};
+ghost use Rattle.std.specs.Prelude.{ℕ, ◌+◌, ◌<◌, List, length, IfErr, IsErrOf, OnOk};
 ghost use Rattle.disk.specs.declared.DiskError.TheVariants.{Failed, Memory};
 ghost use Rattle.disk.specs.{IsEnvironmental, IsSameBut, KeepsDisk};
-ghost use Rattle.record_log.specs.{IsDurableAs};
+ghost use Rattle.record_log.specs.{IsDurableAs, MakesCalls};
 ghost use Rattle.manifest.specs.Replace.{HasGate, IfGated, IsClosedFile, LeavesReplaced};
-ghost use Rattle.manifest.specs.Replace.{ReplacesFile};
+ghost use Rattle.manifest.specs.Replace.{ReplacesFile, closing_calls};
 
 use disk::{Disk, DiskError};
 use record_log::write_gated;
@@ -20,6 +20,7 @@ fn shut<D: Disk>(disk: &mut D, file: u64, is_open: bool) -> Result<(), DiskError
         IsDurableAs (D.state disk.old) file was → IfErr result (IsEnvironmental Failed Memory) }
     ensures any_moment { IfGated D.Disk disk.old file is_open (λ was.
         (behind : List ℕ) → LeavesReplaced D.Disk disk.old disk.new file was behind) }
+    ensures calls { MakesCalls D.Disk (closing_calls is_open) disk.old disk.new result }
 {
     if !is_open {
         return disk.sync(file);
@@ -32,7 +33,7 @@ fn shut<D: Disk>(disk: &mut D, file: u64, is_open: bool) -> Result<(), DiskError
 fn fill<D: Disk>(disk: &mut D, file: u64, behind: &[u8]) -> Result<(), DiskError>
     requires some { 0 < length behind.now }
     ensures { ReplacesFile D.Disk disk.old disk.new file behind.now
-        (λ was state. IsClosedFile state file) result }
+        (λ was state. IsClosedFile state file) 5 result }
 {
     disk.cut(file, 1)?;
     write_gated(disk, file, 0, 1, behind)
@@ -47,7 +48,8 @@ pub fn replace<D: Disk>(
 ) -> Result<(), DiskError>
     requires some { 0 < length behind.now }
     ensures { ReplacesFile D.Disk disk.old disk.new file behind.now
-        (λ was state. IsDurableAs state file was × HasGate is_open was) result }
+        (λ was state. IsDurableAs state file was × HasGate is_open was)
+        (closing_calls is_open + 5) result }
 {
     shut(disk, file, is_open)?;
     fill(disk, file, behind)

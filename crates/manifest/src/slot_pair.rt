@@ -8,13 +8,14 @@ ghost use Rattle.disk.specs.declared.DiskError.TheVariants.{Failed};
 ghost use Rattle.disk.specs.{IsEnvironmental, IsSameBut, KeepsDisk, State};
 ghost use Rattle.record_log.specs.declared.LogError.TheVariants.{Disk, Memory};
 ghost use Rattle.record_log.specs.declared.log.TheConstants.{MAX_RECORD};
-ghost use Rattle.record_log.specs.{HasNoRoom};
+ghost use Rattle.record_log.specs.{HasNoRoom, MakesCalls};
 ghost use Rattle.record_log.specs.{IsExpected, file_of, gate_of};
 ghost use Rattle.manifest.specs.Changes.{ChangesSlots, IfNoSlots, IfSlotsHold};
 ghost use Rattle.manifest.specs.Slots.{other_slot};
 ghost use Rattle.manifest.specs.Holds.{AreNewSlots, IsLongLog, SlotsHold, SparesOthers};
 ghost use Rattle.manifest.specs.Holds.{closed_slot};
 ghost use Rattle.manifest.specs.Opening.{slots_of};
+ghost use Rattle.manifest.specs.Replace.{closing_calls};
 
 use crate::head::CountingSlot;
 use crate::replace::replace;
@@ -88,6 +89,7 @@ impl SlotPair {
         ensures created { IfNoSlots D.Disk disk.old (MatchResult result
             (AreNewSlots (D.state disk.new) id one.now) (IsEnvironmental (Disk Failed) Memory)) }
         ensures first { IfOk result (λ slots. slots.generation ≡ 1) }
+        ensures calls { MakesCalls D.Disk 6 disk.old disk.new result }
     {
         let closed = bytes_of_slot(alloc, 1, id, one)?;
         let log = Log::of_one(alloc, 1, HEAD_LENGTH, one.len())?;
@@ -135,12 +137,7 @@ impl SlotPair {
     }
 
     /// Adds a record to the slot that counts. Four device calls.
-    pub fn record<D: Disk>(
-        &mut self,
-        alloc: Global,
-        disk: &mut D,
-        one: &[u8],
-    ) -> Result<(), LogError>
+    pub fn record<D: Disk>(&mut self, disk: &mut D, one: &[u8]) -> Result<(), LogError>
         ensures kept { KeepsDisk D.Disk disk.old disk.new (IsErrOf result (Disk Failed))
             (HasNoRoom self.old.log one.now) (IsSameBut (file_of self.old.log)) }
         ensures changes { ChangesSlots D.Disk disk.old disk.new self.old self.new
@@ -150,8 +147,9 @@ impl SlotPair {
         ensures stays { (self.new.slot ≡ self.old.slot)
             × (self.new.generation ≡ self.old.generation)
             × (file_of self.new.log ≡ file_of self.old.log) }
+        ensures calls { MakesCalls D.Disk 4 disk.old disk.new result }
     {
-        self.log.append(alloc, disk, one)
+        self.log.append(disk, one)
     }
 
     /// Writes the other slot with one record, of the next generation, so that it counts.
@@ -170,6 +168,8 @@ impl SlotPair {
         ensures next { OnOk result ((file_of self.new.log ≡ other_slot self.old.slot)
             × (self.new.generation ≡ self.old.generation + 1)
             × (IsLongLog self.new.log → ⊥)) }
+        ensures calls { MakesCalls D.Disk (closing_calls self.old.other_is_open + 5) disk.old
+            disk.new result }
     {
         // laws: how long the new slot's log is
         first_lengths_are();

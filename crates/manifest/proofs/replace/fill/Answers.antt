@@ -12,6 +12,7 @@ returns-in_err-cut g c = record {
       after_cut g.D.Disk.state g.D.Disk.past was c.args.behind.now c.args.file c.args.disk.now shut
       c.cut.new.self c.cut.result (c.cut.ensures.cuts honest)
       (c.cut.ensures.kept.disk.files honest) (c.cut.ensures.passes honest).moment;
+  calls = search rules;
 }
 
 -- the write behind the gate
@@ -35,4 +36,5 @@ returns g c = record {
       (c.cut.ensures.kept.disk.honest.1 honest)
       (fill_gated c.args.behind.now c.args.behind.now (g.D.Disk.state c.args.disk.now) c.args.file
       shut (g.D.Disk.state c.cut.new.self) is1 c.requires.some));
+  calls = search rules;
 }

@@ -1,3 +1,4 @@
+use Rattle.std.proofs.Common.{rules}
 use Rattle.std.proofs.lemmas.Result.{err_from_is_err_and}
 use Rattle.disk.specs.BesideLemmas.{at_join}
 use Rattle.manifest.proofs.Kept.{kept_before, kept_last}
@@ -16,6 +17,7 @@ returns-in_err-shut g c = record {
       rw (p.1, p.2) (c.in_err-shut.ensures.refused was honest at.0);
   any_moment = λ was honest at.
       c.shut.ensures.any_moment was honest at.0 at.1 c.args.behind.now;
+  calls = search rules;
 }
 
 -- and then the file is filled
@@ -35,4 +37,5 @@ returns g c = record {
       (c.shut.ensures.kept.files honest)
       (c.fill.ensures.any_moment was (c.shut.ensures.kept.honest.1 honest)
       (c.in_ok-shut.ensures.done was honest at.0 at.1));
+  calls = search rules;
 }

@@ -16,7 +16,8 @@ pub returns-then-bytes-gt-MAX_RECORD-clause-any_moment :
 returns-then-bytes-gt-MAX_RECORD-clause-any_moment g c = λ records honest h.
     unchanged _ _ c.args.self.now records c.args.bytes.now h
 
-pub returns-in_err-spell_behind-clause-any_moment : goal.returns-in_err-spell_behind-clause-any_moment
+pub returns-in_err-spell_behind-clause-any_moment :
+    goal.returns-in_err-spell_behind-clause-any_moment
 returns-in_err-spell_behind-clause-any_moment g c = λ records honest h.
     unchanged _ _ c.args.self.now records c.args.bytes.now h
 
