@@ -1,7 +1,7 @@
 //! Memtables.
 
 ghost use Rattle.std.specs.Prelude.{◌≡◌, ◌↔◌, ◌⊎◌, IsErr, IsErrOf, IfOk, OnOk, OnErr};
-ghost use Rattle.std.specs.Prelude.{IsOkUnless, Err, false};
+ghost use Rattle.std.specs.Prelude.{MatchResult, false};
 ghost use Rattle.kv_types.specs.{Entry, entries_of};
 ghost use Rattle.std.proofs.Props.{props};
 ghost use Rattle.merge_iter.specs.{IsAlike, IsTableEntry, Off};
@@ -79,8 +79,8 @@ impl Memtable {
     /// What the key has at a number. It takes no memory.
     pub fn get<'a>(&'a self, key: &StoredKey, at: Number) -> Result<Found<'a>, MemtableError>
         ensures found { IfOk result (IsFoundAt self.now key.now at) }
-        ensures failed { (result ≡ Err MemtableError.Failed) ↔ HasFailedAdd self.now }
-        ensures only { IsOkUnless result MemtableError.Failed }
+        ensures failed { MatchResult result (λ _. HasFailedAdd self.now → ⊥)
+            (λ e. (e ≡ MemtableError.Failed) × HasFailedAdd self.now) }
     {
         if self.has_failed {
             return Err(MemtableError::Failed);
@@ -105,8 +105,8 @@ impl Memtable {
         ensures limits { IfOk result (λ cursor. (entry : Entry) → TableHolds self.now entry →
             IsTableEntry entry) }
         ensures off { IfOk result (λ cursor. ⟦<MemCursor<'a> as Cursor>⟧.position cursor ≡ Off) }
-        ensures failed { (result ≡ Err MemtableError.Failed) ↔ HasFailedAdd self.now }
-        ensures only { IsOkUnless result MemtableError.Failed }
+        ensures failed { MatchResult result (λ _. HasFailedAdd self.now → ⊥)
+            (λ e. (e ≡ MemtableError.Failed) × HasFailedAdd self.now) }
     {
         if self.has_failed {
             return Err(MemtableError::Failed);

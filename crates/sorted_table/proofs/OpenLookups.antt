@@ -1,7 +1,7 @@
 -- What a lookup answers in any open table.
 use Rattle.std.proofs.Common.{◌≡◌, inr, ℕ, Bool, false, List, map, Option, Some, None}
 use Rattle.std.proofs.Common.{Result, Ok, Err, MatchResult, sym, subst, ◌∙◌}
-use Rattle.std.proofs.Math.Logic.{∥∥₁_elim, ∥∥₁_map}
+use Rattle.std.proofs.Math.Logic.{∥∥₁_map}
 use Rattle.std.specs.Prelude.{IsSomeAnd, IsTrue, MatchOption, ◌≤◌, ◌<◌, length, refl}
 use Rattle.std.specs.Rc.{rc_slice_items}
 use Rattle.bloom.specs.{Covers, CoversHashed, hashes_of}
@@ -78,8 +78,9 @@ pub line_answers : (file : Slot) (lines : List IndexLine) (n : ℕ) (line : Inde
     (key : StoredKey) (at : ℕ) (block : CheckedBlock)
     (result : Result (Option FoundVersion) FileError) → slice_get lines n ≡ Some line
     → LineBlockAnswer lines n file (Ok block)
-    → ((entries : List Entry) → IsBlock (rc_slice_items block.bytes) entries
-    → MatchResult result (LookupFinds entries key at) (λ e. e ≡ Memory))
+    → MatchResult result
+    (λ found. (mine : List Entry) → IsBlock (rc_slice_items block.bytes) mine
+    → LookupFinds mine key at found) (λ e. e ≡ Memory)
     → LineAnswer lines n file key at result
 line_answers file lines n line key at block (Ok found) there is finds =
     subst (λ (o : Option IndexLine). MatchOption o (found ≡ None)
@@ -92,11 +93,10 @@ line_answers file lines n line key at block (Ok found) there is finds =
       is_block = it.1;
       finds = finds it.0 it.1;
     }))
-line_answers file lines n line key at block (Err e) there is finds = (
+line_answers file lines n line key at block (Err e) there is memory = (
   slice_get_within lines n line there,
-  λ damaged part has. ∥∥₁_elim is.checked never_twice (λ it.
-      let memory : e ≡ Memory = finds it.0 it.1 in
-      let twice : Memory ≡ Damaged = sym memory ∙ damaged in cc),
+  λ damaged part has.
+      let twice : Memory ≡ Damaged = sym memory ∙ damaged in cc,
 )
 
 -- ---- tables that serve entries
@@ -127,8 +127,9 @@ pub found_as : (file : Slot) (table : Table) (entries : List Entry)
     → lines ≡ rc_slice_items table.lines → n < length lines
     → (AreRising (map end_spot lines) → IsLinePlace lines (spot key at) n)
     → IsBlockAtLine lines n file (rc_slice_items block.bytes)
-    → ((mine : List Entry) → IsBlock (rc_slice_items block.bytes) mine
-    → MatchResult result (LookupFinds mine key at) (λ e. e ≡ Memory))
+    → MatchResult result
+    (λ found. (mine : List Entry) → IsBlock (rc_slice_items block.bytes) mine
+    → LookupFinds mine key at found) (λ e. e ≡ Memory)
     → MatchResult result (LookupFinds entries key at) (IsEnvironmental Disk Memory)
 found_as file table entries s lines n key at block result are within place read finds =
     let p = some_of lines n within in
@@ -138,5 +139,5 @@ found_as file table entries s lines n key at block result are within place read 
     (λ rising. line_first lines (spot key at) n line p.1 (place rising)) in
     let same = known_block_answered disk 0 line.place line.len (Ok block) s.bytes b.mine
     (line_read disk 0 lines n line block p.1 read) s.present b.within b.is_block in
-    result_up s.bytes entries key at line b result
-    (finds b.mine (subst (λ (p : List ℕ). IsBlock p b.mine) (sym same) b.is_block))
+    result_up s.bytes entries key at line b (rc_slice_items block.bytes) result
+    (subst (λ (p : List ℕ). IsBlock p b.mine) (sym same) b.is_block) finds

@@ -1,8 +1,8 @@
 -- A lookup in a table by the one block where a key and number would stand.
-use Rattle.std.proofs.Common.{◌≡◌, ◌⊎◌, inl, inr, ℕ, ◌+◌, ◌≤◌, List, ◌++◌, length, map, take, drop}
+use Rattle.std.proofs.Common.{◌≡◌, inr, ℕ, ◌+◌, ◌≤◌, List, ◌++◌, length, map, take, drop}
 use Rattle.disk.specs.{IsEnvironmental}
 use Rattle.std.proofs.Common.{All, Option, Contains, sym, subst, ◌∙◌, Result, Ok, Err, MatchResult}
-use Rattle.std.specs.Prelude.{IfErr, IsErrOf}
+use Rattle.std.specs.Prelude.{IsErrOf}
 use Rattle.std.specs.List.{AllByRecursion}
 use Rattle.std.proofs.lemmas.List.Elements.{recursion_from_All}
 use Rattle.kv_types.specs.OrderLemmas.{All-among, Among, Rises, rises_from_AllPairs}
@@ -15,7 +15,7 @@ use Rattle.table_format.specs.{block_entries, block_lines}
 use Rattle.table_format.specs.{end_spot, entries_of_blocks}
 use Rattle.table_format.specs.declared.IndexLine.{IndexLine}
 use Rattle.table_format.specs.declared.FileError.{FileError}
-use Rattle.table_format.specs.declared.FileError.TheVariants.{Damaged, Disk, Memory}
+use Rattle.table_format.specs.declared.FileError.TheVariants.{Disk, Memory}
 use Rattle.sorted_table.specs.declared.found.FoundVersion.{FoundVersion}
 use Rattle.sorted_table.specs.Open.{LookupFinds}
 use Rattle.sorted_table.specs.Searches.{EndsEarlier, IsEarlier, IsFirstWithout}
@@ -84,15 +84,17 @@ block_for bytes entries s lines key at line is first =
 
 pub result_up : (bytes : List ℕ) (entries : List Entry) (key : StoredKey) (at : ℕ)
     (line : IndexLine)
-    (b : BlockForSpot bytes entries key at line) (result : Result (Option FoundVersion) FileError)
-    → MatchResult result (LookupFinds b.mine key at) (λ e. e ≡ Memory)
+    (b : BlockForSpot bytes entries key at line) (part : List ℕ)
+    (result : Result (Option FoundVersion) FileError) → IsBlock part b.mine
+    → MatchResult result
+    (λ found. (mine : List Entry) → IsBlock part mine → LookupFinds mine key at found)
+    (λ e. e ≡ Memory)
     → MatchResult result (LookupFinds entries key at) (IsEnvironmental Disk Memory)
-result_up bytes entries key at line b (Ok found) here = b.up found here
-result_up bytes entries key at line b (Err e) memory = inr memory
+result_up bytes entries key at line b part (Ok found) is here = b.up found (here b.mine is)
+result_up bytes entries key at line b part (Err e) is memory = inr memory
 
 -- a block that was read tells of no failure of the device
-pub not_device : {T : Type 0} (result : Result T FileError)
-    → IfErr result (λ e. (e ≡ Memory) ⊎ (e ≡ Damaged)) → IsErrOf result Disk → ⊥
-not_device (Ok x) only e = cc
-not_device (Err why) (inl memory) e = cc
-not_device (Err why) (inr damaged) e = cc
+pub not_device : {T : Type 0} (P : T → Type 0) (result : Result T FileError)
+    → MatchResult result P (λ e. e ≡ Memory) → IsErrOf result Disk → ⊥
+not_device P (Ok x) found e = cc
+not_device P (Err why) memory e = cc

@@ -301,3 +301,25 @@ pub only_memory : (e : FileError) (part : List ℕ) (place : ℕ) (lines : List 
     → IsIndex part place lines → e ≡ Memory
 only_memory e part place lines (inl m) is = m
 only_memory e part place lines (inr d) is = absurd (d.1 lines is)
+
+-- .. and so are a filter and an index
+pub only_parts_memory : (e : FileError) (front back : List ℕ) (place : ℕ) (filter : List ℕ)
+    (lines : List IndexLine) → (e ≡ Memory) ⊎ ((e ≡ Damaged) × ((f : List ℕ) (l : List IndexLine)
+    → IsFilterPart front f → IsIndex back place l → ⊥))
+    → IsFilterPart front filter → IsIndex back place lines → e ≡ Memory
+only_parts_memory e front back place filter lines (inl m) is_filter is = m
+only_parts_memory e front back place filter lines (inr d) is_filter is =
+    absurd (d.1 filter lines is_filter is)
+
+-- a damaged index is no index behind any filter
+pub damaged_parts : (e : FileError) (front back part : List ℕ) (place : ℕ) → part ≡ back
+    → (e ≡ Memory) ⊎ ((e ≡ Damaged) × ((a : List IndexLine) → IsIndex part place a → ⊥))
+    → (e ≡ Memory) ⊎ ((e ≡ Damaged) × ((f : List ℕ) (l : List IndexLine)
+    → IsFilterPart front f → IsIndex back place l → ⊥))
+damaged_parts e front back part place same (inl m) = inl m
+damaged_parts e front back part place same (inr d) =
+    inr (
+      d.0,
+      λ f l is_filter is.
+          d.1 l (subst (λ (p : List ℕ). IsIndex p place l) (sym same) is),
+    )

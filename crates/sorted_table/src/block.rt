@@ -1,5 +1,5 @@
 //! The search for a key and number in a block.
-ghost use Rattle.std.specs.Prelude.{◌≡◌, ◌⊎◌, List, MatchResult, IfErr};
+ghost use Rattle.std.specs.Prelude.{◌≡◌, List, MatchResult};
 ghost use Rattle.std.specs.Rc.{rc_slice_items};
 ghost use Rattle.kv_types.specs.{Entry, lent_key};
 ghost use Rattle.table_format.specs.{IsBlock};
@@ -12,24 +12,24 @@ use std::alloc::Global;
 use table_files::CheckedBlock;
 use table_format::FileError;
 
-/// What a block has of the key at the number.
+/// What a block has of the key at the number. Only memory can be wanting.
 pub fn find_in(
     alloc: Global,
     block: &CheckedBlock,
     key: LentKey,
     at: u64,
 ) -> Result<Option<FoundVersion>, FileError>
-    ensures found { (entries : List Entry) → IsBlock (rc_slice_items block.now.bytes) entries →
-        MatchResult result (LookupFinds entries (lent_key key.entry) at)
+    ensures { MatchResult result
+        (λ found. (entries : List Entry) → IsBlock (rc_slice_items block.now.bytes) entries →
+        LookupFinds entries (lent_key key.entry) at found)
         (λ e. e ≡ FileError.Memory) }
-    ensures only { IfErr result (λ e. (e ≡ FileError.Memory) ⊎ (e ≡ FileError.Damaged)) }
 {
     let earlier = count_before(&block.bytes, &block.starts, key, at);
     let Some(start) = block.starts.get(earlier) else {
         return Ok(None);
     };
     let Some(entry) = entry_from(&block.bytes, *start) else {
-        return Err(FileError::Damaged);
+        unreachable!();
     };
     if !entry.key.is_same(key) {
         return Ok(None);

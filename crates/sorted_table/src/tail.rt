@@ -1,7 +1,7 @@
 //! The tail of a table: its filter and its index, read from a file.
 ghost use Rattle.std.specs.Prelude.{◌≡◌, ◌≤◌, ◌+◌, ◌↔◌, ◌⊎◌, ℕ, List, length, take, drop, Some};
 ghost use Rattle.std.specs.Prelude.{IsTrue};
-ghost use Rattle.std.specs.Prelude.{IfOk, IfErr, IfSome, IsSome, IsSomeAnd, MatchOption};
+ghost use Rattle.std.specs.Prelude.{IfOk, IfSome, IsSome, IsSomeAnd, MatchOption};
 ghost use Rattle.std.specs.Prelude.{MatchResult};
 ghost use Rattle.std.specs.Rc.{rc_slice_items};
 ghost use Rattle.disk.specs.{IsEnvironmental, seen};
@@ -142,10 +142,10 @@ pub fn parts_of(
         × IsIndex (drop tail.filter_len bytes.now) tail.place (rc_slice_items x.0)
         × ((lines : List IndexLine) → IsIndex (drop tail.filter_len bytes.now) tail.place lines →
         lines ≡ rc_slice_items x.0))
-        (λ e. (filter : List ℕ) (lines : List IndexLine) →
+        (λ e. (e ≡ FileError.Memory) ⊎ ((e ≡ FileError.Damaged)
+        × ((filter : List ℕ) (lines : List IndexLine) →
         IsFilterPart (take tail.filter_len bytes.now) filter →
-        IsIndex (drop tail.filter_len bytes.now) tail.place lines → e ≡ FileError.Memory) }
-    ensures only { IfErr result (λ e. (e ≡ FileError.Memory) ⊎ (e ≡ FileError.Damaged)) }
+        IsIndex (drop tail.filter_len bytes.now) tail.place lines → ⊥))) }
 {
     let (filter, index) = bytes.split_at(tail.filter_len);
     let Some(filter) = filter_of(filter) else {

@@ -1,5 +1,5 @@
 //! A cursor over the entries of a memtable or of a table.
-ghost use Rattle.std.specs.Prelude.{◌≡◌, ◌↔◌, List, Contains, Err, IfOk, IsOkUnless};
+ghost use Rattle.std.specs.Prelude.{◌≡◌, List, Contains, IfOk, MatchResult};
 ghost use Rattle.disk.specs.{State};
 ghost use Rattle.kv_types.specs.{Entry};
 ghost use Rattle.memtable.specs.{HasFailedAdd, TableHolds};
@@ -33,8 +33,8 @@ impl<'a, D: Disk + Drop> StoreCursor<'a, D> {
             ⟦<StoreCursor<'a, D> as Cursor>⟧ meant files cursor (TableHolds memtable.now)) }
         ensures suits { IfOk result (λ cursor. (a b : _) →
             ⟦<StoreCursor<'a, D> as Cursor>⟧.suits cursor a b) }
-        ensures failed { (result ≡ Err MemtableError.Failed) ↔ HasFailedAdd memtable.now }
-        ensures only { IsOkUnless result MemtableError.Failed }
+        ensures failed { MatchResult result (λ _. HasFailedAdd memtable.now → ⊥)
+            (λ e. (e ≡ MemtableError.Failed) × HasFailedAdd memtable.now) }
     {
         Ok(StoreCursor::Memory(memtable.cursor()?))
     }

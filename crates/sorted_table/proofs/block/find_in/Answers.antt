@@ -9,8 +9,8 @@ use Rattle.sorted_table.proofs.LookupsLemmas.{found_by, newest_there, unseen_all
 use Rattle.sorted_table.proofs.block.find_in.Goals as goal
 
 -- all entries of the block come before the key and number
-pub returns-in_default-clause-found : goal.returns-in_default-clause-found
-returns-in_default-clause-found c = λ entries b.
+pub returns-in_default : goal.returns-in_default
+returns-in_default c = λ entries b.
     let block = c.args.block.now in
     let bytes = rc_slice_items block.bytes in
     let starts = rc_slice_items block.starts in
@@ -25,8 +25,8 @@ returns-in_default-clause-found c = λ entries b.
     (lent_end starts c.deref-3.result.now n c.deref-3.ensures.value c.in_default.ensures.lookup.3))
 
 -- the first late entry has another key
-pub returns-then-not-is_same-clause-found : goal.returns-then-not-is_same-clause-found
-returns-then-not-is_same-clause-found c = λ entries b.
+pub returns-then-not-is_same : goal.returns-then-not-is_same
+returns-then-not-is_same c = λ entries b.
     let block = c.args.block.now in
     let bytes = rc_slice_items block.bytes in
     let starts = rc_slice_items block.starts in
@@ -47,8 +47,8 @@ returns-then-not-is_same-clause-found c = λ entries b.
     (λ same. let apart : false ≡ true = sym c.if-not-is_same.true ∙ c.is_same.ensures.1 same in cc)
 
 -- the first late entry has the key
-pub returns-clause-found : goal.returns-clause-found
-returns-clause-found c = λ entries b.
+pub returns : goal.returns
+returns c = λ entries b.
     let block = c.args.block.now in
     let bytes = rc_slice_items block.bytes in
     let starts = rc_slice_items block.starts in

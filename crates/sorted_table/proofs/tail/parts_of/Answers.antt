@@ -1,10 +1,10 @@
-use Rattle.std.proofs.Common.{◌≡◌, ℕ, List, take, drop, sym, ap, subst, ◌∙◌, rules}
+use Rattle.std.proofs.Common.{◌≡◌, ℕ, List, take, drop, refl, sym, ap, subst, ◌∙◌, inr, rules}
 use Rattle.std.proofs.lemmas.List.{take_at, drop_at}
 use Rattle.std.proofs.lemmas.Result.{err_from_is_err_and}
 use Rattle.table_format.specs.{IsFilterPart, IsIndex, block_lines, filter_part, index_part}
 use Rattle.table_format.specs.declared.IndexLine.{IndexLine}
 use Rattle.sorted_table.proofs.OpenTails.{refused_so}
-use Rattle.sorted_table.proofs.TailsLemmas.{filter_here, index_here, only_memory}
+use Rattle.sorted_table.proofs.TailsLemmas.{damaged_parts, filter_here, index_here, only_memory}
 use Rattle.sorted_table.proofs.tail.parts_of.Goals as goal
 
 pub returns-in_err-lines-clause-parts : goal.returns-in_err-lines-clause-parts
@@ -55,16 +55,17 @@ returns-clause-checked c =
           (sym c.split_at.ensures.back) is) ∙ sym c.in_ok-lines-2.ensures,
     )
 
--- parts that are right are refused only for want of memory
+-- a filter that is damaged is no filter
 pub returns-in_default-clause-checked : goal.returns-in_default-clause-checked
-returns-in_default-clause-checked c = λ filter lines is_filter is_index.
-    absurd (c.in_default.ensures filter
-    (subst (λ (p : List ℕ). IsFilterPart p filter) (sym c.split_at.ensures.front) is_filter))
+returns-in_default-clause-checked c = inr (
+  refl,
+  λ filter lines is_filter is_index.
+      c.in_default.ensures filter
+      (subst (λ (p : List ℕ). IsFilterPart p filter) (sym c.split_at.ensures.front) is_filter),
+)
 
 pub returns-in_err-lines-clause-checked : goal.returns-in_err-lines-clause-checked
 returns-in_err-lines-clause-checked c =
     refused_so c.from_residual.result _ _ c.from_residual.ensures.1
-    (λ filter lines is_filter is_index.
-    only_memory c.in_err-lines.field-0.0 c.split_at.result.1.now c.args.tail.place lines
-    c.in_err-lines.ensures (subst (λ (p : List ℕ). IsIndex p c.args.tail.place lines)
-    (sym c.split_at.ensures.back) is_index))
+    (damaged_parts c.in_err-lines.field-0.0 _ _ c.split_at.result.1.now c.args.tail.place
+    c.split_at.ensures.back c.in_err-lines.ensures)

@@ -117,7 +117,7 @@ returns-in_err-block g c = record {
 pub returns : goal.returns
 returns g c = record {
   kept =
-      kept_alike _ _ (λ e. cc) (λ e. absurd (not_device c.find_in.result c.find_in.ensures.only e))
+      kept_alike _ _ (λ e. cc) (λ e. absurd (not_device _ c.find_in.result c.find_in.ensures e))
       c.in_ok-block.ensures.device.kept;
   found = λ entries honest s.
       found_as (g.D.Disk.state c.args.files.now.disk c.args.self.now.file) c.args.self.now entries s
@@ -126,7 +126,7 @@ returns g c = record {
       c.find_in.result c.deref-lines.ensures.value
       (omega (arith, c.if-number-lines.false)) c.line_place-number.ensures.place
       (c.in_ok-block.ensures.answers honest)
-      c.find_in.ensures.found;
+      c.find_in.ensures;
   checked = λ honest opened.
       let covers = not_denied c.args.self.now.filter.items (lent_key c.args.key) c.args.hashes
       c.denies.result c.requires c.denies.ensures.covered c.if-denies.false in
@@ -139,7 +139,7 @@ returns g c = record {
       c.deref-lines.ensures.value c.line_place-number.ensures.place
       (line_answers file lines n at.0 (lent_key c.args.key) c.args.at c.in_ok-block.block
       c.find_in.result
-      at.1 (c.in_ok-block.ensures.answers honest) c.find_in.ensures.found);
+      at.1 (c.in_ok-block.ensures.answers honest) c.find_in.ensures);
   meant = λ honest meant entries s agree.
       let file = g.D.Disk.state c.args.files.now.disk c.args.self.now.file in
       let lines = c.deref-lines.result.now in
@@ -158,7 +158,7 @@ returns g c = record {
       c.find_in.result c.deref-lines.ensures.value
       (omega (arith, c.if-number-lines.false)) c.line_place-number.ensures.place
       here
-      c.find_in.ensures.found);
+      c.find_in.ensures);
   unread = search rules;
   still = search rules;
 }

@@ -8,6 +8,7 @@ use Rattle.table_format.specs.{IsFilterPart, IsIndex, TableRepresents}
 use Rattle.sorted_table.specs.Tails.{HasReadTail, HasTail, ReadsTail}
 use Rattle.sorted_table.proofs.OpenTails.{parts_there, read_there, refused_so, some_both, some_more}
 use Rattle.sorted_table.proofs.OpenTails.{tail_there}
+use Rattle.sorted_table.proofs.TailsLemmas.{only_parts_memory}
 use Rattle.sorted_table.proofs.table.Table.open.Goals as goal
 
 some_and : {A : Type 0} (P : A → Type 0) (o : Option A) → IsSomeAnd o P
@@ -93,6 +94,7 @@ returns-in_err-lines-clause-checked g c = λ honest.
     let it = some_both (ReadsTail part tail) _ (seen slot) (c.in_ok-bytes.ensures.there honest)
     can in
     let both = parts_there it.0 it.2.0 it.2.1 it.2.2 part tail it.1 in
-    inr (c.in_err-lines.ensures.checked it.2.1 it.2.0
+    inr (only_parts_memory c.in_err-lines.field-0.0 _ _ tail.place it.2.1 it.2.0
+    c.in_err-lines.ensures.checked
     (subst (λ (b : List ℕ). IsFilterPart (take tail.filter_len b) it.2.1) (sym is) both.0)
     (subst (λ (b : List ℕ). IsIndex (drop tail.filter_len b) tail.place it.2.0) (sym is) both.1)))
