@@ -55,7 +55,7 @@ impl Batch {
         if spelled_len(&edits) > MAX_BATCH {
             return Err(KvError::BatchTooLong);
         }
-        let edits = SharedEdits::new(edits);
+        let edits = SharedEdits::counted(edits);
         Ok(Batch { edits })
     }
 
@@ -116,7 +116,7 @@ impl Batch {
         Ok(Batch { edits })
     }
 
-    /// The same batch once more. Its edits are not copied.
+    /// The same batch once more. The edits of a batch that was made of them are not copied.
     pub fn clone(&self) -> Result<Batch, AllocError>
         ensures { IfOk result (λ batch. batch ≡ self.now) }
     {

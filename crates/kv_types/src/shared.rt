@@ -6,7 +6,8 @@ use crate::Edit;
 use std::alloc::AllocError;
 use std::rc::Rc;
 
-// Edits that never change. Where memory for the count of owners was wanting, they have one owner.
+// Edits that never change. Those that were read from bytes have one owner, and so have those for
+// whose count of owners memory was wanting.
 #[derive(Debug, Drop)]
 pub enum SharedEdits {
     Counted(Rc<Vec<Edit>>),
@@ -24,7 +25,15 @@ fn clone_all(edits: &Vec<Edit>) -> Result<Vec<Edit>, AllocError>
 }
 
 impl SharedEdits {
+    /// Edits that a clone copies. They take no memory beside their own.
     pub fn new(edits: Vec<Edit>) -> SharedEdits
+        ensures { shared_edits result ≡ edits.items }
+    {
+        SharedEdits::Sole(edits)
+    }
+
+    /// Edits that a clone shares, if there is memory for the count of owners.
+    pub fn counted(edits: Vec<Edit>) -> SharedEdits
         ensures { shared_edits result ≡ edits.items }
     {
         let alloc = *edits.allocator();
