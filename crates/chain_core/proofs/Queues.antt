@@ -93,18 +93,23 @@ front_few a m k (p ∷ ps) o le = go (nat_le p.number k) refl (front_few p.numbe
     go true e rest = rw e (omega (arith, o.0, rest))
     go false e rest = rw e (omega (arith, le))
 
+-- with one more behind them no more are due but that one, if it is
 pub front_push : (k : ℕ) (ps : List PendingSubmit) (w : PendingSubmit) →
-    length (front k (ps ++ w ∷ [])) ≤ length (front k ps) + 1
+    length (front k (ps ++ w ∷ []))
+    ≤ length (front k ps) + (if nat_le w.number k then 1 else 0)
 front_push k [] w = go (nat_le w.number k) refl
   where
-    go : (b : Bool) → nat_le w.number k ≡ b → length (front k (w ∷ [])) ≤ 1
+    go : (b : Bool) → nat_le w.number k ≡ b →
+        length (front k (w ∷ [])) ≤ 0 + (if nat_le w.number k then 1 else 0)
     go true e = rw e (omega arith)
     go false e = rw e (omega arith)
 front_push k (p ∷ ps) w = go (nat_le p.number k) refl (front_push k ps w)
   where
     go : (b : Bool) → nat_le p.number k ≡ b →
-        length (front k (ps ++ w ∷ [])) ≤ length (front k ps) + 1 →
-        length (front k (p ∷ ps ++ w ∷ [])) ≤ length (front k (p ∷ ps)) + 1
+        length (front k (ps ++ w ∷ []))
+        ≤ length (front k ps) + (if nat_le w.number k then 1 else 0) →
+        length (front k (p ∷ ps ++ w ∷ []))
+        ≤ length (front k (p ∷ ps)) + (if nat_le w.number k then 1 else 0)
     go true e rest = rw e (omega (arith, rest))
     go false e rest = rw e (omega arith)
 

@@ -1,5 +1,6 @@
 // The queue of requests whose batches are not yet committed, in order of number.
 ghost use Rattle.std.specs.Prelude.{◌≡◌, ◌≤◌, ◌+◌, ◌++◌, [], length, if◌then◌else◌};
+ghost use Rattle.std.specs.Prelude.{nat_le};
 ghost use Rattle.std.specs.Vec.{vec_len, vec_capacity};
 ghost use Rattle.chain_core.specs.Queues.{front, behind};
 
@@ -19,6 +20,14 @@ pub(crate) fn count_due(pending: &VecDeque<PendingSubmit>, upto: Number) -> usiz
         count += 1;
     }
     count
+}
+
+// How many more are due with a request of this number behind all others: one, or none.
+pub(crate) fn count_if_due(number: Number, upto: Number) -> usize
+    ensures count { result ≡ (if nat_le number upto then 1 else 0) }
+    ensures limit { result ≤ 1 }
+{
+    if number <= upto { 1 } else { 0 }
 }
 
 // Forgets all requests, if `gone`.

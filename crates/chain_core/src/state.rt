@@ -14,7 +14,7 @@ ghost use Rattle.chain_core.specs.States.{HasOrderedNumbers};
 ghost use Rattle.chain_core.specs.Decisions.{CoreApplies, DoneFits, HasRoomAt, IsReport};
 ghost use Rattle.chain_core.specs.Decisions.{IsRiseOf};
 
-use crate::queue::{count_due, forget_where, move_due};
+use crate::queue::{count_due, count_if_due, forget_where, move_due};
 use crate::{CoreError, Done, PendingSubmit, PersistentState};
 use configurations::{Config, Epoch, NodeId};
 use kv_types::Number;
@@ -254,7 +254,8 @@ impl CoreState {
         let number = self.count.next().unwrap();
         let committed = self.committed_with(number);
         let mut due = Vec::new(alloc);
-        due.reserve(count_due(&self.pending, committed) + 1)?;
+        let own = count_if_due(number, committed);
+        due.reserve(count_due(&self.pending, committed) + own)?;
         self.pending.push_back(PendingSubmit { number, request })?;
         self.count = number;
         self.committed = committed;

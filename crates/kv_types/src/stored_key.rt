@@ -84,7 +84,27 @@ fn order(a: &[u8], b: &[u8]) -> Ordering
         }
         (bytes, others) = (rest, other_rest);
     }
-    bytes.cmp(&others)
+    order_few(bytes, others)
+}
+
+// The order of bytes, one by one: of less than eight on one side at least.
+fn order_few(a: &[u8], b: &[u8]) -> Ordering
+    ensures { result ≡ stored_cmp a.now b.now }
+{
+    let [x, rest @ ..] = a else {
+        return if b.is_empty() {
+            Ordering::Equal
+        } else {
+            Ordering::Less
+        };
+    };
+    let [y, other_rest @ ..] = b else {
+        return Ordering::Greater;
+    };
+    if x != y {
+        return x.cmp(y);
+    }
+    order_few(rest, other_rest)
 }
 
 /// Memory for a stored key, which is used again for others.

@@ -8,7 +8,7 @@ use configurations::Epoch;
 use engine::Tended;
 use kv_types::Number;
 use link_messages::Refusal;
-use node::{DropReason, Input, Output, Reply, Stop};
+use node::{DropReason, Frames, Input, Output, Reply, Stop};
 use std::alloc::{AllocError, Global};
 
 /// How a step of a node ended.
@@ -31,7 +31,7 @@ pub fn dropped(alloc: Global, why: DropReason) -> Output
 {
     Output {
         dropped: Some(why),
-        frames: Vec::new(alloc),
+        frames: Frames::new(),
         replies: Vec::new(alloc),
     }
 }
@@ -45,7 +45,7 @@ fn refused(alloc: Global, request: Number) -> Result<Output, AllocError>
     replies.push(Reply::Refused { request, refusal })?;
     Ok(Output {
         dropped: None,
-        frames: Vec::new(alloc),
+        frames: Frames::new(),
         replies,
     })
 }

@@ -148,7 +148,7 @@ fn trace_output(
         ++ map (λ reply. Line.Replied reply) output.replies.items))) }
 {
     // Most steps have one line.
-    let count = output.frames.len().saturating_add(output.replies.len());
+    let count = (*output.frames).len().saturating_add(output.replies.len());
     let mut lines = Vec::with_capacity(alloc, count.max(1))?;
     trace_drop(&mut lines, output.dropped)?;
     trace_adoption(&mut lines, id, told, output.dropped)?;

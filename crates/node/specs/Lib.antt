@@ -1,3 +1,4 @@
+pub mod Frames
 pub mod Stops
 pub mod Steps
 pub mod Outputs

@@ -1,6 +1,7 @@
 //! One node of a chain: a store on a disk, and the rules of a step over it.
 #![tactic(auto)]
 
+mod frames;
 pub mod laws;
 mod node;
 mod numbers;
@@ -12,6 +13,7 @@ mod stop;
 
 pub use chain_core::{DropReason, Input, Sent};
 pub use engine::Tended;
+pub use frames::Frames;
 pub use node::Node;
 pub use numbers::Numbers;
 pub use output::{Output, Reply};

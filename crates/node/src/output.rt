@@ -1,5 +1,6 @@
 // The outputs of a step: frames for other nodes, replies for clients.
-use chain_core::{DropReason, Sent};
+use crate::Frames;
+use chain_core::DropReason;
 use kv_types::{Number, Page, Value};
 use link_messages::Refusal;
 
@@ -45,7 +46,7 @@ pub struct Output {
     /// Why the input was dropped, if it was.
     pub dropped: Option<DropReason>,
     /// The frames for other nodes, in order.
-    pub frames: Vec<Sent>,
+    pub frames: Frames,
     /// The replies for clients, in order.
     pub replies: Vec<Reply>,
 }

@@ -15,9 +15,9 @@ use crate::replying::{
     ack_duplicate, acks_after, output_of, output_of_append, output_of_drop, page_output, push_some,
     refuse, replying, value_output,
 };
-use crate::{Node, Output, Reply, Stop};
+use crate::{Frames, Node, Output, Reply, Stop};
 use chain_core::laws::{one_by_one, stands_last, steps_leave};
-use chain_core::{CoreState, Decision, Done, Sent};
+use chain_core::{CoreState, Decision, Done};
 use configurations::{Config, Epoch};
 use disk::Disk;
 use engine::Engine;
@@ -29,7 +29,7 @@ fn resent<D: Disk + Drop>(
     alloc: Global,
     core: &CoreState,
     engine: &mut Engine<D>,
-) -> Result<Vec<Sent>, Stop>
+) -> Result<Frames, Stop>
     requires { AreInStep core.now engine.old }
     ensures read { IsOnlyRead D.Disk engine.old engine.new result }
     ensures sent { (n : Machine) → CoreRefines core.now n →
@@ -40,11 +40,11 @@ fn resent<D: Disk + Drop>(
 {
     one_by_one(); // law: frames are sent one by one
     let numbers = core.resends();
-    let mut sent = Vec::new(alloc);
+    let mut sent = Frames::new();
     for number in numbers.start..numbers.end {
         let number = Number::new(number).unwrap();
         let batch = engine.batch(alloc, number)?;
-        push_some(&mut sent, core.forward(number, batch))?;
+        push_some(alloc, &mut sent, core.forward(number, batch))?;
     }
     Ok(sent)
 }
@@ -81,7 +81,7 @@ impl<D: Disk + Drop> Node<D> {
         let grows = committed > self.core.committed();
         let due = self.core.after(alloc, Done::Acked { committed, have })?;
         self.engine.set_committed(self.core.committed());
-        output_of(alloc, &self.core, Vec::new(alloc), grows, &due).map_err(Stop::from)
+        output_of(alloc, &self.core, Frames::new(), grows, &due).map_err(Stop::from)
     }
 
     // Adopts a configuration, and acknowledges to the predecessor in it. The store has recorded it
@@ -95,7 +95,7 @@ impl<D: Disk + Drop> Node<D> {
         self.engine.adopt(alloc, epoch, &config)?;
         let due = self.core.after(alloc, Done::Adopted { epoch, config })?;
         self.engine.set_committed(self.core.committed());
-        output_of(alloc, &self.core, Vec::new(alloc), true, &due).map_err(Stop::from)
+        output_of(alloc, &self.core, Frames::new(), true, &due).map_err(Stop::from)
     }
 
     // Sends again the batches that the successor may lack, and acknowledges again.

@@ -9,17 +9,21 @@ ghost use Rattle.chain_model.specs.{reply_read, ack_duplicate};
 ghost use Rattle.chain_core.specs.{Machine, CoreRefines, AreFrames};
 ghost use Rattle.node.specs.Outputs.{OutputHas, OutputRefines, acks_after, committed_reply};
 
-use crate::{Output, Reply};
+use crate::{Frames, Output, Reply};
 use chain_core::{CoreState, Done, DropReason, Input, PendingSubmit, Sent};
 use kv_types::{Batch, Number, Page, Value};
 use link_messages::Refusal;
 use std::alloc::{AllocError, Global};
 
-pub(crate) fn push_some(frames: &mut Vec<Sent>, sent: Option<Sent>) -> Result<(), AllocError>
+pub(crate) fn push_some(
+    alloc: Global,
+    frames: &mut Frames,
+    sent: Option<Sent>,
+) -> Result<(), AllocError>
     ensures { OnOk result (frames.new.items ≡ frames.old.items ++ option_to_list sent) }
 {
     if let Some(sent) = sent {
-        frames.push(sent)?;
+        frames.push(alloc, sent)?;
     }
     Ok(())
 }
@@ -53,7 +57,7 @@ pub(crate) fn replying(alloc: Global, reply: Reply) -> Result<Output, AllocError
     replies.push(reply)?;
     Ok(Output {
         dropped: None,
-        frames: Vec::new(alloc),
+        frames: Frames::new(),
         replies,
     })
 }
@@ -63,7 +67,7 @@ pub(crate) fn replying(alloc: Global, reply: Reply) -> Result<Output, AllocError
 pub(crate) fn output_of(
     alloc: Global,
     core: &CoreState,
-    sent: Vec<Sent>,
+    sent: Frames,
     acks: bool,
     due: &[PendingSubmit],
 ) -> Result<Output, AllocError>
@@ -73,7 +77,7 @@ pub(crate) fn output_of(
         (map committed_reply due.now)) }
 {
     let mut frames = sent;
-    push_some(&mut frames, ack_where(core, acks))?;
+    push_some(alloc, &mut frames, ack_where(core, acks))?;
     Ok(Output {
         dropped: None,
         frames,
@@ -101,8 +105,8 @@ pub(crate) fn output_of_append(
         IfOk result (OutputHas None (forward core.now.id n core.now.count
         ++ (if acks then ack core.now.id n else [])) (map committed_reply due.now)) }
 {
-    let mut sent = Vec::new(alloc);
-    push_some(&mut sent, core.forward(core.count(), batch))?;
+    let mut sent = Frames::new();
+    push_some(alloc, &mut sent, core.forward(core.count(), batch))?;
     output_of(alloc, core, sent, acks, due)
 }
 
@@ -112,8 +116,8 @@ pub(crate) fn ack_duplicate(alloc: Global, core: &CoreState) -> Result<Output, A
     ensures { (n : Machine) (input : Input) → CoreRefines core.now n →
         IfOk result (OutputRefines input (ack_duplicate core.now.id n)) }
 {
-    let mut frames = Vec::new(alloc);
-    push_some(&mut frames, core.ack())?;
+    let mut frames = Frames::new();
+    push_some(alloc, &mut frames, core.ack())?;
     Ok(Output {
         dropped: Some(DropReason::OtherNumber),
         frames,
@@ -177,7 +181,7 @@ pub(crate) fn output_of_drop(alloc: Global, reason: DropReason) -> Output
 {
     Output {
         dropped: Some(reason),
-        frames: Vec::new(alloc),
+        frames: Frames::new(),
         replies: Vec::new(alloc),
     }
 }

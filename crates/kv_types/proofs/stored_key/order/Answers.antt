@@ -40,4 +40,4 @@ loop-x-preserved c =
     }
 
 pub returns : goal.returns
-returns c = c.cmp-2.ensures ∙ c.loop-x.invariant.order
+returns c = c.order_few.ensures ∙ c.loop-x.invariant.order

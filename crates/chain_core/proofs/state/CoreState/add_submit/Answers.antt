@@ -19,7 +19,14 @@ overflow_add-count_due c =
     let inside = c.self.inside in
     let few = front_few 0 inside.count c.committed_with-committed.result inside.pending.items
     c.self.invariant.pending (omega arith) in
-    omega (arith, few, ap (λ (v : Core). v.count) c.self.view_is, c.requires, c.count_due.ensures)
+    omega (
+      arith,
+      few,
+      ap (λ (v : Core). v.count) c.self.view_is,
+      c.requires,
+      c.count_due.ensures,
+      c.count_if_due-own.ensures.limit,
+    )
 
 -- there is room for those that were due and for the new one
 pub move_due-requires : goal.move_due-requires
@@ -29,7 +36,13 @@ move_due-requires c =
     let committed = c.committed_with-committed.result in
     let due = front_push committed c.self.inside.pending.items asked in
     rw c.in_ok-push_back.ensures.items
-    (omega (arith, due, c.in_ok-reserve.ensures.ok, c.count_due.ensures))
+    (omega (
+      arith,
+      due,
+      c.in_ok-reserve.ensures.ok,
+      c.count_due.ensures,
+      c.count_if_due-own.ensures.count,
+    ))
 
 pub invariant_of-self-2 : goal.invariant_of-self-2
 invariant_of-self-2 c =
