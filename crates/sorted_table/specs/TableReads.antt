@@ -6,7 +6,7 @@ use Rattle.disk.specs.{IsEnvironmental, IsSame, IsStill, KeepsDisk}
 use Rattle.kv_types.specs.{Entry, StoredKey}
 use Rattle.merge_iter.specs.{ErrorCauses, reports}
 use Rattle.merge_iter.specs.declared.CursorError.{CursorError}
-use Rattle.table_files.specs.{KeepsFiles}
+use Rattle.table_files.specs.{CallsAtMost, KeepsFiles}
 use Rattle.table_format.specs.declared.FileError.TheVariants as reading
 use Rattle.table_format.specs.declared.IndexLine.{IndexLine}
 use Rattle.table_format.specs.declared.FileError.{FileError}
@@ -41,6 +41,8 @@ module _ {D : Type 0} (g : Ghosts D) where
         AnswersAsMeant (g.state before (table_file table)) table key at result
     -- no call is made where the filter denies the key
     pub unread : (may_have → ⊥) → now ≡ before
+    -- and one else at most
+    pub calls : CallsAtMost g 1 before now
     pub still : IsStill g before now
 
   -- a cursor over a file with these lines was moved to a block, or stands on none after a refusal

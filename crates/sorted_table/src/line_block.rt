@@ -4,6 +4,7 @@ ghost use Rattle.std.specs.Prelude.{Some, IfOk, IsTrue, IsSomeAnd};
 ghost use Rattle.std.specs.Prelude.{length, slice_get};
 ghost use Rattle.std.specs.Rc.{rc_slice_items};
 ghost use Rattle.kv_types.specs.{Entry};
+ghost use Rattle.table_files.specs.{CallsAtMost};
 ghost use Rattle.table_format.specs.{IsBlock, last_entry, lent_entry};
 ghost use Rattle.sorted_table.specs.Meant.{AreAtLine, HasEndOf, IsBehindLine, LineBlockAnswer};
 ghost use Rattle.sorted_table.specs.TableReads.{ReadsDisk};
@@ -68,6 +69,7 @@ pub fn block_of_line<D: Disk + Drop>(
 ) -> Result<CheckedBlock, FileError>
     requires { number < length lines.now }
     ensures device { ReadsDisk ⟦<CachedDisk<D> as Disk>⟧ files.old files.new result }
+    ensures calls { CallsAtMost ⟦<CachedDisk<D> as Disk>⟧ 1 files.old files.new }
     ensures answers { ⟦<CachedDisk<D> as Disk>⟧.is_honest files.old →
         LineBlockAnswer lines.now number (⟦<CachedDisk<D> as Disk>⟧.state files.old file) result }
     ensures len { IfOk result (λ block. (line : _) → slice_get lines.now number ≡ Some line →

@@ -5,6 +5,7 @@ ghost use Rattle.bloom.specs.{Covers, CoversHashed, hashes_of};
 ghost use Rattle.disk.specs.{IsEnvironmental, IsSame, IsStill, KeepsDisk, Slot, State};
 ghost use Rattle.kv_types.specs.{Entry, lent_key};
 ghost use Rattle.merge_iter.specs.{IsAlike, Off};
+ghost use Rattle.table_files.specs.{CallsAtMost};
 ghost use Rattle.table_format.specs.declared.FileError.TheVariants.{Disk, Memory};
 
 use crate::block::find_in;
@@ -53,6 +54,7 @@ impl Table {
             × HasItsLines (D.state disk.old file) table)
             (λ e. CanBeOpen (D.state disk.old file) → IsEnvironmental Disk Memory e) }
         ensures still { IsStill D.Disk disk.old disk.new }
+        ensures calls { CallsAtMost D.Disk 3 disk.old disk.new }
     {
         let (bytes, tail) = read_tail(alloc, disk, file)?;
         let (lines, filter) = parts_of(alloc, &bytes, tail)?;

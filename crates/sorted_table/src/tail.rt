@@ -5,6 +5,7 @@ ghost use Rattle.std.specs.Prelude.{IfOk, IfSome, IsSome, IsSomeAnd, MatchOption
 ghost use Rattle.std.specs.Prelude.{MatchResult};
 ghost use Rattle.std.specs.Rc.{rc_slice_items};
 ghost use Rattle.disk.specs.{IsEnvironmental, seen};
+ghost use Rattle.table_files.specs.{CallsAtMost};
 ghost use Rattle.kv_types.specs.{Entry};
 ghost use Rattle.table_format.specs.declared.FileError.TheVariants.{Disk, Memory};
 ghost use Rattle.table_format.specs.{IsFilterPart, IsIndex, TableRepresents, block_lines};
@@ -62,6 +63,7 @@ fn tail_of(footer: &[u8], end: u64) -> Option<Tail>
 // Reads the footer of a file, and where it begins.
 fn read_footer<D: Disk>(disk: &mut D, file: u64) -> Result<([u8; FOOTER_SIZE], u64), FileError>
     ensures device { ReadsDisk D.Disk disk.old disk.new result }
+    ensures calls { CallsAtMost D.Disk 2 disk.old disk.new }
     ensures footer { (bytes : List ℕ) → D.is_honest disk.old →
         seen (D.state disk.old file) ≡ Some bytes →
         MatchResult result (λ x. (x.1 + FOOTER_SIZE ≡ length bytes)
@@ -89,6 +91,7 @@ fn read_part<D: Disk>(
     len: usize,
 ) -> Result<Vec<u8>, FileError>
     ensures device { ReadsDisk D.Disk disk.old disk.new result }
+    ensures calls { CallsAtMost D.Disk 1 disk.old disk.new }
     ensures read { (bytes : List ℕ) → D.is_honest disk.old →
         seen (D.state disk.old file) ≡ Some bytes →
         MatchResult result (λ part. part.items ≡ take len (drop at bytes))
@@ -108,6 +111,7 @@ pub fn read_tail<D: Disk>(
     file: u64,
 ) -> Result<(Vec<u8>, Tail), FileError>
     ensures device { ReadsDisk D.Disk disk.old disk.new result }
+    ensures calls { CallsAtMost D.Disk 3 disk.old disk.new }
     ensures tail { (bytes : List ℕ) (entries : List Entry) (table : TableRepresents bytes entries) →
         D.is_honest disk.old → seen (D.state disk.old file) ≡ Some bytes →
         MatchResult result (λ x. (x.0.items ≡ tail_bytes table.blocks table.filter)

@@ -1,6 +1,6 @@
 -- What calls that only read make of a disk: a relation that adds up over any number of them.
 use Rattle.disk.specs.declared.Disk.{Ghosts}
-use Rattle.std.specs.Prelude.{◌≡◌, ◌↔◌, ◌⊎◌, IsErrOf, ℕ, ◌-◌, ◌^◌, ◌<◌, ◌≤◌, List, length}
+use Rattle.std.specs.Prelude.{◌≡◌, ◌↔◌, ◌⊎◌, IsErrOf, ℕ, ◌+◌, ◌-◌, ◌^◌, ◌<◌, ◌≤◌, List, length}
 use Rattle.std.specs.Prelude.{Option, Some, None}
 use Rattle.std.specs.Prelude.{Result, Ok, Err, IsSomeAnd}
 use Rattle.std.proofs.Common.{ap, inl, inr, refl, sym, subst, ◌∙◌, arith, ⊎_elim}
@@ -8,6 +8,9 @@ use Rattle.std.proofs.lemmas.Bool.{cases_lt}
 use Rattle.disk.specs.{State, Contents, IsSame, IsStill, KeepsDisk}
 use Rattle.disk.specs.{HasStruck, HasStruckBy, RisesByOne, fault_of}
 use Rattle.disk.specs.{AllLeave}
+use Rattle.disk.specs.Faults.{Counts}
+use Rattle.disk.specs.declared.DiskError.{DiskError}
+use Rattle.disk.specs.declared.DiskError.TheVariants as device
 use Rattle.disk.specs.Moments.{AllLeave as later}
 use Rattle.disk.specs.StillLemmas.{still, still_more}
 use Rattle.table_format.specs.declared.FileError.{FileError}
@@ -38,6 +41,20 @@ pub record KeepsFiles {D : Type 0} (g : Ghosts D) (old new : D) : Type 0 where
   -- and a fault has not struck that had not
   pub spared : (HasStruck g.marks g.past old → ⊥) →
       ShowsNoFailure (g.failures old) (g.failures new) → HasStruck g.marks g.past new → ⊥
+
+-- An honest disk was called so often at most. A call that wants memory never reaches the device,
+-- and is not counted.
+abbrev pub CallsAtMost : {D : Type 0} → Ghosts D → ℕ → (old new : D) → Type 0
+CallsAtMost g n old new = g.is_honest old → length (g.past new) ≤ length (g.past old) + n
+
+-- one call is counted at most
+pub one_call : {T : Type 0} (result : Result T DiskError) (before now : ℕ) →
+    Counts result before now → now ≤ before + 1
+one_call (Ok x) before now counts = omega (arith, counts)
+one_call (Err device.Failed) before now counts = omega (arith, counts)
+one_call (Err device.NoFile) before now counts = omega (arith, counts)
+one_call (Err device.Short) before now counts = omega (arith, counts)
+one_call (Err device.Memory) before now counts = omega (arith, counts)
 
 -- moments are never taken back
 past_grows : (P : Contents → Type 0) (past since : List State) → AllLeave P past since →

@@ -4,6 +4,7 @@ ghost use Rattle.std.specs.Rc.{rc_slice_items};
 ghost use Rattle.disk.specs.{IsSame, IsStill, KeepsDisk};
 ghost use Rattle.table_format.specs.declared.FileError.TheVariants.{Disk};
 ghost use Rattle.table_files.specs.BlockReads.{AreBlocksAt, BlockAnswer};
+ghost use Rattle.table_files.specs.LentFiles.{CallsAtMost};
 
 use crate::block::CheckedBlock;
 use crate::cache::BlockCache;
@@ -77,6 +78,7 @@ impl<D: Disk + Drop> CachedDisk<D> {
             BlockAnswer (⟦<CachedDisk<D> as Disk>⟧.state self.old) file place len result }
         ensures len { IfOk result (λ block. length (rc_slice_items block.bytes) ≡ len) }
         ensures still { IsStill ⟦<CachedDisk<D> as Disk>⟧ self.old self.new }
+        ensures calls { CallsAtMost ⟦<CachedDisk<D> as Disk>⟧ 1 self.old self.new }
     {
         if let Some(block) = self.cache.get(file, place)? {
             if block.bytes.len() == len {

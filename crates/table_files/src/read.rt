@@ -4,6 +4,7 @@ ghost use Rattle.std.specs.Rc.{rc_slice_items};
 ghost use Rattle.disk.specs.{IsSame, IsStill, KeepsDisk};
 ghost use Rattle.table_format.specs.declared.FileError.TheVariants.{Disk};
 ghost use Rattle.table_files.specs.BlockReads.{BlockAnswer};
+ghost use Rattle.table_files.specs.LentFiles.{CallsAtMost};
 
 use crate::block::CheckedBlock;
 use disk::Disk;
@@ -22,6 +23,7 @@ pub fn read_block<D: Disk>(
     ensures answers { D.is_honest disk.old → BlockAnswer (D.state disk.old) file place len result }
     ensures len { IfOk result (λ block. length (rc_slice_items block.bytes) ≡ len) }
     ensures still { IsStill D.Disk disk.old disk.new }
+    ensures calls { CallsAtMost D.Disk 1 disk.old disk.new }
 {
     let mut bytes = vec![in alloc; 0u8; len]?;
     disk.read(file, place, &mut bytes)?;

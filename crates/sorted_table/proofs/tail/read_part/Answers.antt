@@ -1,6 +1,7 @@
 -- A read leaves nothing new.
-use Rattle.std.proofs.Common.{rules}
+use Rattle.std.proofs.Common.{length, rules}
 use Rattle.disk.specs.StillLemmas.{still, still_same}
+use Rattle.table_files.specs.LentFiles.{one_call}
 use Rattle.sorted_table.proofs.tail.read_part.Goals as goal
 
 pub returns-in_err-part-clause-device : goal.returns-in_err-part-clause-device
@@ -24,3 +25,14 @@ returns-clause-device g c = record {
       still_same (still (g.D.Disk.state c.args.disk.now) (g.D.Disk.past c.args.disk.now))
       (c.read.ensures.passes honest).moment (c.read.ensures.kept.disk.files honest);
 }
+
+-- and is one call
+pub returns-in_err-read-clause-calls : goal.returns-in_err-read-clause-calls
+returns-in_err-read-clause-calls g c = λ honest.
+    one_call c.read.result (length (g.D.Disk.past c.args.disk.now))
+    (length (g.D.Disk.past c.read.new.self)) (c.read.ensures.passes honest).counts
+
+pub returns-clause-calls : goal.returns-clause-calls
+returns-clause-calls g c = λ honest.
+    one_call c.read.result (length (g.D.Disk.past c.args.disk.now))
+    (length (g.D.Disk.past c.read.new.self)) (c.read.ensures.passes honest).counts

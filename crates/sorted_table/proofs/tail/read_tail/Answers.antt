@@ -105,3 +105,15 @@ returns-in_err-bytes-clause-there g c = λ honest.
     let there' = ap seen (c.read_footer.ensures.device.kept.files honest c.args.file) ∙ it.1 in
     c.in_err-bytes.ensures.read it.0 (c.read_footer.ensures.device.kept.honest.1 honest) there'
     (omega (arith, ends, long)))
+
+pub returns-in_err-bytes-clause-calls : goal.returns-in_err-bytes-clause-calls
+returns-in_err-bytes-clause-calls g c = λ honest.
+    let first = c.read_footer.ensures.calls honest in
+    let then = c.read_part.ensures.calls (c.read_footer.ensures.device.kept.honest.1 honest) in
+    omega (arith, first, then)
+
+pub returns-clause-calls : goal.returns-clause-calls
+returns-clause-calls g c = λ honest.
+    let first = c.read_footer.ensures.calls honest in
+    let then = c.read_part.ensures.calls (c.read_footer.ensures.device.kept.honest.1 honest) in
+    omega (arith, first, then)

@@ -4,6 +4,7 @@ use Rattle.disk.specs.{seen}
 use Rattle.disk.specs.Calls.{IsRefusalOf}
 use Rattle.disk.specs.StillLemmas.{still, still_same}
 use Rattle.table_format.specs.{IsCheckedBlock, entries_bytes}
+use Rattle.table_files.specs.LentFiles.{one_call}
 use Rattle.table_files.proofs.BlockReadsLemmas.{read_is, none_is_block, refused}
 use Rattle.table_files.proofs.read.read_block.Goals as goal
 
@@ -30,6 +31,27 @@ pub returns-clause-still : goal.returns-clause-still
 returns-clause-still g c = λ honest.
     still_same (still (g.D.Disk.state c.args.disk.now) (g.D.Disk.past c.args.disk.now))
     (c.read.ensures.passes honest).moment (c.read.ensures.kept.disk.files honest)
+
+-- and is one call
+pub returns-in_err-read-clause-calls : goal.returns-in_err-read-clause-calls
+returns-in_err-read-clause-calls g c = λ honest.
+    one_call c.read.result (length (g.D.Disk.past c.args.disk.now))
+    (length (g.D.Disk.past c.read.new.self)) (c.read.ensures.passes honest).counts
+
+pub returns-then-is_none-clause-calls : goal.returns-then-is_none-clause-calls
+returns-then-is_none-clause-calls g c = λ honest.
+    one_call c.read.result (length (g.D.Disk.past c.args.disk.now))
+    (length (g.D.Disk.past c.read.new.self)) (c.read.ensures.passes honest).counts
+
+pub returns-in_err-new-clause-calls : goal.returns-in_err-new-clause-calls
+returns-in_err-new-clause-calls g c = λ honest.
+    one_call c.read.result (length (g.D.Disk.past c.args.disk.now))
+    (length (g.D.Disk.past c.read.new.self)) (c.read.ensures.passes honest).counts
+
+pub returns-clause-calls : goal.returns-clause-calls
+returns-clause-calls g c = λ honest.
+    one_call c.read.result (length (g.D.Disk.past c.args.disk.now))
+    (length (g.D.Disk.past c.read.new.self)) (c.read.ensures.passes honest).counts
 
 -- a read that is refused
 pub returns-in_err-read-clause-answers : goal.returns-in_err-read-clause-answers

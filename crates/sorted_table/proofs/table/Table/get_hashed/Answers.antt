@@ -45,6 +45,7 @@ returns-then-denies g c = record {
       (subst (λ (h : ℕ × ℕ). CoversHashed c.args.self.now.filter.items h → ⊥) c.requires
       (c.denies.ensures.denied.0 c.if-denies.true)));
   unread = search rules;
+  calls = λ honest. omega arith;
   still = λ honest. still _ _;
 }
 
@@ -75,6 +76,7 @@ returns-then-number-lines g c = record {
       (λ rising. lines_early lines (spot (lent_key c.args.key) c.args.at) c.line_place-number.result
       (omega (arith, c.if-number-lines.true)) (c.line_place-number.ensures.place rising));
   unread = search rules;
+  calls = λ honest. omega arith;
   still = λ honest. still _ _;
 }
 
@@ -110,6 +112,7 @@ returns-in_err-block g c = record {
       rw (p.1, p.2) why;
   meant = search rules;
   unread = search rules;
+  calls = search rules;
   still = search rules;
 }
 
@@ -160,5 +163,6 @@ returns g c = record {
       here
       c.find_in.ensures);
   unread = search rules;
+  calls = search rules;
   still = search rules;
 }
