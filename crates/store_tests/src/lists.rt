@@ -89,22 +89,6 @@ fn lists(rt: HostRuntime) {
     all_hold(&rt, rt.alloc(), &LISTS);
 }
 
-/// The numbers of the faults.
-static NUMBERS: [u8; 7] = [
-    ConfigError::Empty as u8,
-    ConfigError::Repeated as u8,
-    ConfigError::NotSmaller as u8,
-    ConfigError::NotInOrder as u8,
-    ConfigError::TooMany as u8,
-    ConfigError::BadId as u8,
-    ConfigError::Memory as u8,
-];
-
-#[test]
-fn numbers_of_faults(rt: HostRuntime) {
-    is_so(&rt, NUMBERS == [1, 2, 3, 4, 5, 6, 7], "other numbers");
-}
-
 fn plain(id: Option<NodeId>) -> Option<u16> {
     match id {
         Some(id) => Some(id.get()),
