@@ -1,7 +1,7 @@
 // A folder as a disk. No contract says what the system does with its files, so this disk claims
 // neither that it is honest nor that it is reliable.
 ghost use Rattle.std.specs.Prelude.{◌≡◌, ◌≤◌, ◌<◌, ◌^◌, ◌-◌, [], None, IfOk, IsErrOf, OnOk};
-ghost use Rattle.std.specs.Prelude.{false, true, vec_len};
+ghost use Rattle.std.specs.Prelude.{IsSome, false, string_bytes, true, vec_len};
 ghost use Rattle.disk.specs.{Absent};
 
 use crate::failure_count::FailureCount;
@@ -30,6 +30,7 @@ impl<R: Files<File = File> + Alloc<A = Global> + Clone + Drop> DirDisk<R> {
     /// The folder at this path. It need not be there, and is not made.
     pub fn new(rt: R, folder: &str) -> Result<DirDisk<R>, AllocError>
         ensures count { IfOk result (λ disk. ⟦<DirDisk<R> as Disk>⟧.failures disk ≡ 0) }
+        ensures folder { IfOk result (λ disk. string_bytes disk.folder ≡ folder.now) }
         ensures writes { IfOk result (λ disk. disk.writes ≡ true) }
     {
         DirDisk::over(rt, folder, true)
@@ -39,13 +40,15 @@ impl<R: Files<File = File> + Alloc<A = Global> + Clone + Drop> DirDisk<R> {
     /// fails, before the system is called.
     pub fn to_read(rt: R, folder: &str) -> Result<DirDisk<R>, AllocError>
         ensures count { IfOk result (λ disk. ⟦<DirDisk<R> as Disk>⟧.failures disk ≡ 0) }
+        ensures folder { IfOk result (λ disk. string_bytes disk.folder ≡ folder.now) }
         ensures reads { IfOk result (λ disk. disk.writes ≡ false) }
     {
         DirDisk::over(rt, folder, false)
     }
 
     fn over(rt: R, folder: &str, writes: bool) -> Result<DirDisk<R>, AllocError>
-        ensures { IfOk result (λ disk. (disk.failures.count ≡ 0) × (disk.writes ≡ writes)) }
+        ensures { IfOk result (λ disk. (disk.failures.count ≡ 0) × (disk.writes ≡ writes)
+            × (string_bytes disk.folder ≡ folder.now)) }
     {
         let alloc = rt.alloc();
         Ok(DirDisk {
@@ -63,8 +66,11 @@ impl<R: Files<File = File> + Alloc<A = Global> + Clone + Drop> DirDisk<R> {
     /// when the process has ended. It is a lock of the system on the folder itself, so no file is
     /// made for it. It is no call of the device.
     pub fn lock(&mut self) -> Result<(), LockError>
-        ensures { ⟦<DirDisk<R> as Disk>⟧.failures self.new ≡
+        ensures count { ⟦<DirDisk<R> as Disk>⟧.failures self.new ≡
             ⟦<DirDisk<R> as Disk>⟧.failures self.old }
+        ensures locked { OnOk result (IsSome self.new.lock) }
+        ensures folder { self.new.folder ≡ self.old.folder }
+        ensures writes { self.new.writes ≡ self.old.writes }
     {
         if self.lock.is_none() {
             let path = path_of_folder(self.rt.alloc(), self.folder.as_str())?;
@@ -88,6 +94,8 @@ impl<R: Files<File = File> + Alloc<A = Global> + Clone + Drop> DirDisk<R> {
     // absent, it is created if that is asked for.
     fn reach(&mut self, number: u64, creates: bool) -> Result<(), DiskError>
         ensures count { self.new.failures.count ≡ self.old.failures.count }
+        ensures same { (self.new.writes ≡ self.old.writes)
+            × (self.new.folder ≡ self.old.folder) }
         ensures last { 2 ^ 64 - 1 ≤ self.old.failures.count → IsErrOf result DiskError.Failed }
         ensures latest { OnOk result (0 < vec_len self.new.files.files) }
     {
@@ -116,6 +124,8 @@ impl<R: Files<File = File> + Alloc<A = Global> + Clone + Drop> DirDisk<R> {
 
     fn write_in(&mut self, file: u64, at: u64, bytes: &[u8]) -> Result<(), DiskError>
         ensures count { self.new.failures.count ≡ self.old.failures.count }
+        ensures same { (self.new.writes ≡ self.old.writes)
+            × (self.new.folder ≡ self.old.folder) }
         ensures last { 2 ^ 64 - 1 ≤ self.old.failures.count → IsErrOf result DiskError.Failed }
         ensures reads { self.old.writes ≡ false → IsErrOf result DiskError.Failed }
     {
@@ -129,6 +139,8 @@ impl<R: Files<File = File> + Alloc<A = Global> + Clone + Drop> DirDisk<R> {
 
     fn cut_in(&mut self, file: u64, length: u64) -> Result<(), DiskError>
         ensures count { self.new.failures.count ≡ self.old.failures.count }
+        ensures same { (self.new.writes ≡ self.old.writes)
+            × (self.new.folder ≡ self.old.folder) }
         ensures last { 2 ^ 64 - 1 ≤ self.old.failures.count → IsErrOf result DiskError.Failed }
         ensures reads { self.old.writes ≡ false → IsErrOf result DiskError.Failed }
     {
@@ -139,6 +151,8 @@ impl<R: Files<File = File> + Alloc<A = Global> + Clone + Drop> DirDisk<R> {
 
     fn remove_in(&mut self, file: u64) -> Result<(), DiskError>
         ensures count { self.new.failures.count ≡ self.old.failures.count }
+        ensures same { (self.new.writes ≡ self.old.writes)
+            × (self.new.folder ≡ self.old.folder) }
         ensures last { 2 ^ 64 - 1 ≤ self.old.failures.count → IsErrOf result DiskError.Failed }
         ensures reads { self.old.writes ≡ false → IsErrOf result DiskError.Failed }
     {

@@ -1,5 +1,6 @@
 // The names of files: their numbers in decimal.
-ghost use Rattle.std.specs.Prelude.{ℕ, ◌≡◌, ◌<◌, ◌^◌, IfOk, IfSome, IsNone, string_bytes};
+ghost use Rattle.std.specs.Prelude.{ℕ, ◌≡◌, ◌<◌, ◌^◌, ◌++◌, IfOk, IfSome, IsNone, codes};
+ghost use Rattle.std.specs.Prelude.{string_bytes};
 ghost use Rattle.dir_disk.specs.Names.{IsFileName, file_path};
 
 use std::alloc::{AllocError, Global};
@@ -31,6 +32,8 @@ pub fn path_of(alloc: Global, folder: &str, file: u64) -> Result<String, AllocEr
 }
 
 /// The path of the folder itself, which is that of nothing where it is no folder.
-pub fn path_of_folder(alloc: Global, folder: &str) -> Result<String, AllocError> {
+pub fn path_of_folder(alloc: Global, folder: &str) -> Result<String, AllocError>
+    ensures { IfOk result (λ path. string_bytes path ≡ folder.now ++ codes "/.") }
+{
     format!(in alloc; "{folder}/.")
 }

@@ -21,6 +21,7 @@ impl<D: Disk + Drop> Unchanged<D> {
     /// A disk over this one, none of whose files is left out.
     pub fn new(alloc: Global, disk: D) -> Unchanged<D>
         ensures inner { result.inner.disk ≡ disk }
+        ensures none { result.removed.items ≡ [] }
         ensures count { ⟦<Unchanged<D> as Disk>⟧.failures result ≡ 0 }
     {
         Unchanged {

@@ -1,12 +1,13 @@
 -- The text of a store is that of its numbers, its rows and their count.
-use Rattle.std.proofs.Common.{◌≡◌, ◌++◌, ℕ, List, [], Option, ap, inr, length, refl, subst}
+use Rattle.std.proofs.Common.{◌≡◌, ◌++◌, ℕ, List, [], Option, inr, length, refl, subst, sym}
 use Rattle.std.proofs.Common.{arith, take}
+use Rattle.std.proofs.lemmas.Grind.{flat_map-append}
 use Rattle.std.proofs.lemmas.List.{take_all}
 use Rattle.std.specs.Prelude.{IfErr, IsErrAnd, MatchResult, OnOk, Result, Ok, Err}
 use Rattle.std.specs.List.{flat_map}
 use Rattle.std.specs.Io.KnownBytes.{Appends}
 use Rattle.kv_types.specs.declared.row.Row.{Row}
-use Rattle.kv_types.specs.Pages.{PagesAgree}
+use Rattle.kv_types.specs.Pages.{PagesAgree, page_of}
 use Rattle.kv_types.specs.{BatchContent, map_of}
 use Rattle.disk.specs.{Contents}
 use Rattle.engine.specs.EngineError.{EngineError}
@@ -16,11 +17,11 @@ use Rattle.node.specs.Stops.{engine_stop}
 use Rattle.client.specs.PrintedRuns.{AppendsPart}
 use Rattle.dumps.specs.declared.dump_error.DumpError.{DumpError}
 use Rattle.dumps.specs.declared.dump_error.DumpError.TheVariants.{Store, Write}
-use Rattle.dumps.specs.Dumped.{AreAllWritten, AreBegun, IsCutDump, IsDumpOf, IsDumpRefusal}
-use Rattle.dumps.specs.Dumped.{IsDumpText, IsOfOutput, UnopenedRefusal, WritesText, count_line}
+use Rattle.dumps.specs.Dumped.{AreAllWritten, AreBegun, IsBegunDump, IsBegunFor, IsCutDump}
+use Rattle.dumps.specs.Dumped.{IsDumpFor, IsDumpOf, IsDumpRefusal, IsSomeBegun}
+use Rattle.dumps.specs.Dumped.{IsSomeDump, UnopenedRefusal, WritesText, count_line, dump_text}
 use Rattle.dumps.specs.Dumped.{row_line, store_line}
-use Rattle.dumps.specs.Walks.{AreRowsOf}
-use Rattle.dumps.proofs.RowWalkLemmas.{begun_none}
+use Rattle.dumps.specs.Walks.{AreRowsOf, all_from}
 use Rattle.dumps.proofs.TextsLemmas.{appends_more, part_behind, part_none, part_of_longer}
 
 -- the output took no more than a beginning of a text
@@ -54,50 +55,37 @@ unopened left engine.NoSuchSnapshot why = absurd why
 unopened left engine.TooManySnapshots why = absurd why
 unopened left engine.Exhausted why = absurd why
 
--- a store that was not opened: nothing is written
-pub not_opened : PagesAgree → (facts : Facts) (list : List BatchContent) (out : Option (List ℕ))
-    (error : DumpError) → IsDumpRefusal error → IsCutDump facts list out out error
-not_opened agree facts list out error cause =
-    let begun = begun_none agree list out in
-    let text = store_line facts (length list) []
-    ++ (flat_map row_line begun.rows ++ count_line (length begun.rows) (length list)) in
+-- the map of each list has rows
+all_rows : PagesAgree → (list : List BatchContent) → (rows : List Row)
+    × AreRowsOf (map_of list) rows
+all_rows agree list =
+    let is = agree list (all_from []) in ((page_of list (all_from [])).rows ++ is.left, is.walk)
+
+-- ---- a store that was not opened: nothing is written
+
+pub none_begun : PagesAgree → (facts : Facts) (list : List BatchContent) (out : Option (List ℕ)) →
+    IsBegunDump facts list out out
+none_begun agree facts list out =
+    let all = all_rows agree list in
+    let text = dump_text facts (length list) [] all.0 in
     record {
-      cause = cause;
       text = text;
-      is = record { tables = []; rows = begun.rows; is_all = begun.is_all; is = refl };
+      is = record { tables = []; rows = all.0; is_all = all.1; is = refl };
       part = part_none out text;
     }
 
-module _ {T : Type 0} (facts : Facts) (list : List BatchContent) (old new : Option (List ℕ)) where
-  abbrev Ends : Result T DumpError → Type 0
-  Ends result = MatchResult result (λ _. IsDumpOf facts list old new) (IsCutDump facts list old new)
+pub none_of_some : (facts : Facts) (out : Option (List ℕ)) → IsSomeBegun out out
+none_of_some facts out = record {
+  facts = facts;
+  count = 0;
+  tables = [];
+  rows = [];
+  part = part_none out (dump_text facts 0 [] []);
+}
 
-  on_ok : (result : Result T DumpError) → Ends result → OnOk result (IsDumpOf facts list old new)
-  on_ok (Ok x) ends = ends
-  on_ok (Err e) ends = tt
+-- ---- one that was opened: the lines, one behind another
 
-  if_err : (result : Result T DumpError) → Ends result → IfErr result (IsCutDump facts list old new)
-  if_err (Ok x) ends = tt
-  if_err (Err e) ends = ends
-
-module _ {T : Type 0} (result : Result T DumpError) (facts : Facts) (list : List BatchContent)
-    (old new : Option (List ℕ)) {known : Facts} (is : known ≡ facts)
-    (dump : MatchResult result (λ _. IsDumpOf known list old new) (IsCutDump known list old new))
-  where
-    as_told : MatchResult result (λ _. IsDumpOf facts list old new) (IsCutDump facts list old new)
-    as_told = subst (λ (f : Facts). MatchResult result (λ _. IsDumpOf f list old new)
-        (IsCutDump f list old new)) is dump
-
-    -- the store was written out whole
-    pub dumped_whole : OnOk result (IsDumpOf facts list old new)
-    dumped_whole = on_ok facts list old new result as_told
-
-    -- or in part
-    pub dumped_in_part : IfErr result (IsCutDump facts list old new)
-    dumped_in_part = if_err facts list old new result as_told
-
-module _ (facts : Facts) (list : List BatchContent) (at : ℕ) (tables : List ℕ)
-    (is : at ≡ length list) where
+module _ (IsShown : List BatchContent → Type 0) (facts : Facts) (at : ℕ) (tables : List ℕ) where
   abbrev first_line : List ℕ
   first_line = store_line facts at tables
 
@@ -105,76 +93,156 @@ module _ (facts : Facts) (list : List BatchContent) (at : ℕ) (tables : List �
   abbrev behind_it : List Row → List ℕ
   behind_it rows = flat_map row_line rows ++ count_line (length rows) at
 
-  is_text : (rows : List Row) → AreRowsOf (map_of (take at list)) rows →
-      IsDumpText facts list (first_line ++ behind_it rows)
-  is_text rows all = record {
-    tables = tables;
-    rows = rows;
-    is_all = subst (λ (batches : List BatchContent). AreRowsOf (map_of batches) rows)
-        (all_batches list at is) all;
-    is = ap (λ (n : ℕ). store_line facts n tables
-        ++ (flat_map row_line rows ++ count_line (length rows) n)) is;
-  }
-
-  pub is_dump : (count : ℕ) (old first second new : Option (List ℕ)) →
-      Appends old first first_line → AreAllWritten (map_of (take at list)) count first second →
-      Appends second new (count_line count at) → IsDumpOf facts list old new
-  is_dump count old first second new numbers rows counts = record {
-    text = first_line ++ behind_it rows.rows;
-    is = is_text rows.rows rows.is_all;
-    wrote = appends_more old first new first_line (behind_it rows.rows) numbers
-        (appends_more first second new (flat_map row_line rows.rows)
-        (count_line (length rows.rows) at) rows.wrote
-        (subst (λ (n : ℕ). Appends second new (count_line n at)) rows.counted counts));
-  }
-
   -- refused within the first line
-  pub cut_in_numbers : PagesAgree → (error : DumpError) (old new : Option (List ℕ)) →
-      IsOfOutput error → AppendsPart old new first_line → IsCutDump facts list old new error
-  cut_in_numbers agree error old new cause part =
-      let begun = begun_none agree (take at list) new in
-      record {
-        cause = inr cause;
-        text = first_line ++ behind_it begun.rows;
-        is = is_text begun.rows begun.is_all;
-        part = part_of_longer old new first_line (behind_it begun.rows) part;
-      }
+  pub cut_in_numbers : PagesAgree → (old new : Option (List ℕ)) → AppendsPart old new first_line →
+      IsBegunFor IsShown facts at old new
+  cut_in_numbers agree old new part = record {
+    tables = tables;
+    rows = [];
+    part = part_of_longer old new first_line (behind_it []) part;
+    of = λ list shown.
+        let all = all_rows agree (take at list) in
+        (all.0, all.1, part_of_longer old new first_line (behind_it all.0) part);
+  }
+
+  in_rows : (old first new : Option (List ℕ)) (rows : List Row) → Appends old first first_line →
+      AppendsPart first new (flat_map row_line rows) →
+      AppendsPart old new (dump_text facts at tables rows)
+  in_rows old first new rows numbers part =
+      part_behind old first new first_line (behind_it rows) numbers
+      (part_of_longer first new (flat_map row_line rows) (count_line (length rows) at) part)
 
   -- refused within the rows
-  pub cut_in_rows : (error : DumpError) (old first new : Option (List ℕ)) → IsDumpRefusal error →
-      Appends old first first_line → AreBegun (map_of (take at list)) first new →
-      IsCutDump facts list old new error
-  cut_in_rows error old first new cause numbers begun = record {
-    cause = cause;
-    text = first_line ++ behind_it begun.rows;
-    is = is_text begun.rows begun.is_all;
-    part = part_behind old first new first_line (behind_it begun.rows) numbers
-        (part_of_longer first new (flat_map row_line begun.rows)
-        (count_line (length begun.rows) at) begun.part);
-  }
-
-  -- refused within the last line
-  pub cut_in_count : (error : DumpError) (count : ℕ) (old first second new : Option (List ℕ)) →
-      IsOfOutput error → Appends old first first_line →
-      AreAllWritten (map_of (take at list)) count first second →
-      AppendsPart second new (count_line count at) → IsCutDump facts list old new error
-  cut_in_count error count old first second new cause numbers rows part = record {
-    cause = inr cause;
-    text = first_line ++ behind_it rows.rows;
-    is = is_text rows.rows rows.is_all;
-    part = part_behind old first new first_line (behind_it rows.rows) numbers
-        (part_behind first second new (flat_map row_line rows.rows)
-        (count_line (length rows.rows) at) rows.wrote
-        (subst (λ (n : ℕ). AppendsPart second new (count_line n at)) rows.counted part));
+  pub cut_in_rows : (old first new : Option (List ℕ)) → Appends old first first_line →
+      AreBegun IsShown at first new → IsBegunFor IsShown facts at old new
+  cut_in_rows old first new numbers begun = record {
+    tables = tables;
+    rows = begun.rows;
+    part = in_rows old first new begun.rows numbers begun.part;
+    of = λ list shown.
+        let all = begun.first list shown in
+        let part = subst (AppendsPart first new) (sym (flat_map-append row_line begun.rows all.0))
+        (part_of_longer first new (flat_map row_line begun.rows) (flat_map row_line all.0)
+        begun.part) in
+        (begun.rows ++ all.0, all.1, in_rows old first new (begun.rows ++ all.0) numbers part);
   }
 
   -- the last line was written, or refused
   pub dumped : {T : Type 0} (count : ℕ) (result : Result T DumpError)
       (old first second new : Option (List ℕ)) → Appends old first first_line →
-      AreAllWritten (map_of (take at list)) count first second →
+      AreAllWritten IsShown at count first second →
       WritesText (count_line count at) second new result →
-      MatchResult result (λ _. IsDumpOf facts list old new) (IsCutDump facts list old new)
-  dumped count (Ok x) old first second new numbers rows writes =
-      is_dump count old first second new numbers rows writes
+      MatchResult result (λ _. IsDumpFor IsShown facts at old new)
+      (λ _. IsBegunFor IsShown facts at old new)
+  dumped count (Ok x) old first second new numbers rows writes = record {
+    tables = tables;
+    rows = rows.rows;
+    wrote = appends_more old first new first_line (behind_it rows.rows) numbers
+        (appends_more first second new (flat_map row_line rows.rows)
+        (count_line (length rows.rows) at) rows.wrote
+        (subst (λ (n : ℕ). Appends second new (count_line n at)) rows.counted writes));
+    all = rows.all;
+  }
   dumped count (Err error) old first second new numbers rows writes =
-      cut_in_count error count old first second new writes.0 numbers rows writes.1
+      let part = part_behind old first new first_line (behind_it rows.rows) numbers
+      (part_behind first second new (flat_map row_line rows.rows)
+      (count_line (length rows.rows) at) rows.wrote
+      (subst (λ (n : ℕ). AppendsPart second new (count_line n at)) rows.counted writes.1)) in
+      record {
+        tables = tables;
+        rows = rows.rows;
+        part = part;
+        of = λ list shown. (rows.rows, rows.all list shown, part);
+      }
+
+-- a line is refused for the output or for memory
+pub of_output : {T : Type 0} (text : List ℕ) (old new : Option (List ℕ))
+    (result : Result T DumpError) → WritesText text old new result → IfErr result IsDumpRefusal
+of_output text old new (Ok x) writes = tt
+of_output text old new (Err error) writes = inr writes.0
+
+-- ---- what was written of a store
+
+-- such a text was written, or a beginning of it
+abbrev DumpsFor : {T : Type 0} → (List BatchContent → Type 0) → Facts → ℕ →
+    (old new : Option (List ℕ)) → Result T DumpError → Type 0
+DumpsFor IsShown facts count old new result =
+    MatchResult result (λ _. IsDumpFor IsShown facts count old new)
+    (λ _. IsBegunFor IsShown facts count old new)
+
+-- of any store
+pub dumped_some : {T : Type 0} (IsShown : List BatchContent → Type 0) (facts : Facts) (count : ℕ)
+    (old new : Option (List ℕ)) (result : Result T DumpError) →
+    DumpsFor IsShown facts count old new result →
+    MatchResult result (λ _. IsSomeDump old new) (λ _. IsSomeBegun old new)
+dumped_some IsShown facts count old new (Ok x) dump = record {
+  facts = facts;
+  count = count;
+  tables = dump.tables;
+  rows = dump.rows;
+  wrote = dump.wrote;
+}
+dumped_some IsShown facts count old new (Err e) begun = record {
+  facts = facts;
+  count = count;
+  tables = begun.tables;
+  rows = begun.rows;
+  part = begun.part;
+}
+
+-- of a list that is shown
+module _ (IsShown : List BatchContent → Type 0) (known facts : Facts) (count : ℕ)
+    (list : List BatchContent) (old new : Option (List ℕ)) (same : known ≡ facts)
+    (is : count ≡ length list) (shown : IsShown list) where
+  all_of : (rows : List Row) → AreRowsOf (map_of (take count list)) rows →
+      AreRowsOf (map_of list) rows
+  all_of rows are = subst (λ (batches : List BatchContent). AreRowsOf (map_of batches) rows)
+      (all_batches list count is) are
+
+  as_told : (P : List ℕ → Type 0) (tables : List ℕ) (rows : List Row) →
+      P (dump_text known count tables rows) → P (dump_text facts (length list) tables rows)
+  as_told P tables rows p = subst (λ (f : Facts). P (dump_text f (length list) tables rows)) same
+      (subst (λ (n : ℕ). P (dump_text known n tables rows)) is p)
+
+  pub dumped_list : {T : Type 0} (result : Result T DumpError) →
+      DumpsFor IsShown known count old new result →
+      MatchResult result (λ _. IsDumpOf facts list old new) (λ _. IsBegunDump facts list old new)
+  dumped_list (Ok x) dump = record {
+    text = dump_text facts (length list) dump.tables dump.rows;
+    is = record {
+      tables = dump.tables;
+      rows = dump.rows;
+      is_all = all_of dump.rows (dump.all list shown);
+      is = refl;
+    };
+    wrote = as_told (Appends old new) dump.tables dump.rows dump.wrote;
+  }
+  dumped_list (Err e) begun =
+      let all = begun.of list shown in
+      record {
+        text = dump_text facts (length list) begun.tables all.0;
+        is = record {
+          tables = begun.tables;
+          rows = all.0;
+          is_all = all_of all.0 all.1;
+          is = refl;
+        };
+        part = as_told (AppendsPart old new) begun.tables all.0 all.2;
+      }
+
+module _ {T : Type 0} (facts : Facts) (list : List BatchContent) (old new : Option (List ℕ)) where
+  abbrev Dumps : Result T DumpError → Type 0
+  Dumps result =
+      MatchResult result (λ _. IsDumpOf facts list old new) (λ _. IsBegunDump facts list old new)
+
+  -- the store was written out whole
+  pub dumped_whole : (result : Result T DumpError) → Dumps result →
+      OnOk result (IsDumpOf facts list old new)
+  dumped_whole (Ok x) dump = dump
+  dumped_whole (Err e) begun = tt
+
+  -- or in part
+  pub dumped_in_part : (result : Result T DumpError) → Dumps result →
+      IfErr result IsDumpRefusal → IfErr result (IsCutDump facts list old new)
+  dumped_in_part (Ok x) dump refused = tt
+  dumped_in_part (Err e) begun refused = (refused, begun)

@@ -53,3 +53,9 @@ part_none out a = record { count = 0; wrote = appends_none out }
 pub part_all : (old new : Option (List ℕ)) (a b : List ℕ) → Appends old new a →
     AppendsPart old new (a ++ b)
 part_all old new a b wrote = part_behind old new new a b wrote (part_none new b)
+
+-- so is all of the text itself
+pub part_same : (old new : Option (List ℕ)) (a : List ℕ) → Appends old new a →
+    AppendsPart old new a
+part_same old new a wrote =
+    subst (AppendsPart old new) (append-nil a) (part_all old new a [] wrote)

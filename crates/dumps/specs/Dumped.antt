@@ -1,21 +1,22 @@
 -- What is written of a store: its numbers, all rows of the map at its count, and how many they are.
-use Rattle.std.specs.Prelude.{◌≡◌, ◌⊎◌, ℕ, List, [], ◌∷◌, ◌++◌, Option, length, codes}
+use Rattle.std.specs.Prelude.{◌≡◌, ◌⊎◌, ℕ, List, [], ◌∷◌, ◌++◌, Option, length, codes, take}
 use Rattle.std.specs.Prelude.{Result, Ok, Err, IsErrAnd, IsErrOf}
 use Rattle.std.specs.List.{flat_map}
 use Rattle.std.specs.Fmt.{decimal}
 use Rattle.std.specs.Io.KnownBytes.{Appends}
 use Rattle.kv_types.specs.declared.row.Row.{Row}
-use Rattle.kv_types.specs.Pages.{Map}
 use Rattle.kv_types.specs.{BatchContent, map_of}
 use Rattle.disk.specs.{Contents, KeepsDisk}
 use Rattle.disk.specs.declared.Disk.{Ghosts}
-use Rattle.engine.specs.{Facts, IsDamaged, IsNotCreated, IsOwned, OpensAs}
+use Rattle.engine.specs.declared.Engine.{Engine}
+use Rattle.engine.specs.{EngineReads, EngineWasMeant, Facts, IsDamaged, IsNotCreated, IsOwned}
+use Rattle.engine.specs.{OpensAs}
 use Rattle.node.specs.declared.stop.Stop.TheVariants as stop
 use Rattle.client.specs.PrintedRuns.{AppendsPart}
 use Rattle.client.specs.Text.{printed_row, store_text}
 use Rattle.dumps.specs.declared.dump_error.DumpError.{DumpError}
 use Rattle.dumps.specs.declared.dump_error.DumpError.TheVariants.{Store, Write}
-use Rattle.dumps.specs.Walks.{AreRowsOf, HasReadRows}
+use Rattle.dumps.specs.Walks.{AreFirstRows, AreRowsOf}
 
 -- the line of a row
 abbrev pub row_line : Row → List ℕ
@@ -31,36 +32,59 @@ abbrev pub count_line : ℕ → ℕ → List ℕ
 count_line count at =
     codes "rows " ++ (decimal count ++ (codes " at " ++ (decimal at ++ 10 ∷ [])))
 
--- the first rows of a map were read and written, so many of them
-pub record AreWritten (map : Map) (from : List ℕ) (known count : ℕ) (old new : Option (List ℕ))
+-- the text of a store with these facts, so many batches and tables, and these rows
+abbrev pub dump_text : Facts → ℕ → List ℕ → List Row → List ℕ
+dump_text facts count tables rows = store_line facts count tables
+    ++ (flat_map row_line rows ++ count_line (length rows) count)
+
+-- ---- which lists an engine shows
+
+-- the engine reads this list, or was meant to: each answer of it is one of the list
+abbrev pub ShowsList : {D : Type 0} (g : Ghosts D) → Engine D g → List BatchContent → Type 0
+ShowsList g engine list = EngineReads g engine list ⊎ EngineWasMeant g engine list
+
+-- what it read of a list, or was meant to, it still does
+pub record StillShows {D : Type 0} (g : Ghosts D) (old new : Engine D g) (list : List BatchContent)
     : Type 0 where
-  pub all : List Row
+  pub reads : EngineReads g old list → EngineReads g new list
+  pub meant : EngineWasMeant g old list → EngineWasMeant g new list
+
+-- ---- rows
+
+-- Rows were read and written, so many of them. They are the first ones of the map of each list that
+-- is shown, up to this number.
+pub record AreWritten (IsShown : List BatchContent → Type 0) (at : ℕ) (from : List ℕ)
+    (known count : ℕ) (old new : Option (List ℕ)) : Type 0 where
   pub rows : List Row
-  pub is_all : AreRowsOf map all
-  pub walked : HasReadRows all from known rows
   pub counted : count ≡ length rows
   pub wrote : Appends old new (flat_map row_line rows)
+  pub first : (list : List BatchContent) → IsShown list →
+      AreFirstRows (map_of (take at list)) from known rows
 
--- all rows of a map were written, so many of them
-pub record AreAllWritten (map : Map) (count : ℕ) (old new : Option (List ℕ)) : Type 0 where
+-- rows were written, so many of them: all of the map of each list that is shown
+pub record AreAllWritten (IsShown : List BatchContent → Type 0) (at count : ℕ)
+    (old new : Option (List ℕ)) : Type 0 where
   pub rows : List Row
-  pub is_all : AreRowsOf map rows
   pub counted : count ≡ length rows
   pub wrote : Appends old new (flat_map row_line rows)
+  pub all : (list : List BatchContent) → IsShown list → AreRowsOf (map_of (take at list)) rows
 
--- a beginning of the text of all rows of a map was written
-pub record AreBegun (map : Map) (old new : Option (List ℕ)) : Type 0 where
+-- a beginning of the text of rows was written, the first ones of each list that is shown
+pub record AreBegun (IsShown : List BatchContent → Type 0) (at : ℕ) (old new : Option (List ℕ))
+    : Type 0 where
   pub rows : List Row
-  pub is_all : AreRowsOf map rows
   pub part : AppendsPart old new (flat_map row_line rows)
+  pub first : (list : List BatchContent) → IsShown list →
+      (left : List Row) × AreRowsOf (map_of (take at list)) (rows ++ left)
+
+-- ---- the text of a store
 
 -- the text of a store: of facts, and of the map of a list of batches
 pub record IsDumpText (facts : Facts) (list : List BatchContent) (text : List ℕ) : Type 0 where
   pub tables : List ℕ
   pub rows : List Row
   pub is_all : AreRowsOf (map_of list) rows
-  pub is : text ≡ store_line facts (length list) tables
-      ++ (flat_map row_line rows ++ count_line (length rows) (length list))
+  pub is : text ≡ dump_text facts (length list) tables rows
 
 -- exactly the text of a store was written: of facts, and of the map of a list of batches
 pub record IsDumpOf (facts : Facts) (list : List BatchContent) (old new : Option (List ℕ))
@@ -68,6 +92,48 @@ pub record IsDumpOf (facts : Facts) (list : List BatchContent) (old new : Option
   pub text : List ℕ
   pub is : IsDumpText facts list text
   pub wrote : Appends old new text
+
+-- a beginning of it was written
+pub record IsBegunDump (facts : Facts) (list : List BatchContent) (old new : Option (List ℕ))
+    : Type 0 where
+  pub text : List ℕ
+  pub is : IsDumpText facts list text
+  pub part : AppendsPart old new text
+
+-- Exactly the text of these facts, so many batches and some rows was written: all rows of each list
+-- that is shown.
+pub record IsDumpFor (IsShown : List BatchContent → Type 0) (facts : Facts) (count : ℕ)
+    (old new : Option (List ℕ)) : Type 0 where
+  pub tables : List ℕ
+  pub rows : List Row
+  pub wrote : Appends old new (dump_text facts count tables rows)
+  pub all : (list : List BatchContent) → IsShown list → AreRowsOf (map_of (take count list)) rows
+
+-- A beginning of such a text was written, and one of the text of each list that is shown.
+pub record IsBegunFor (IsShown : List BatchContent → Type 0) (facts : Facts) (count : ℕ)
+    (old new : Option (List ℕ)) : Type 0 where
+  pub tables : List ℕ
+  pub rows : List Row
+  pub part : AppendsPart old new (dump_text facts count tables rows)
+  pub of : (list : List BatchContent) → IsShown list → (all : List Row)
+      × AreRowsOf (map_of (take count list)) all
+      × AppendsPart old new (dump_text facts count tables all)
+
+-- exactly the text of some store was written
+pub record IsSomeDump (old new : Option (List ℕ)) : Type 0 where
+  pub facts : Facts
+  pub count : ℕ
+  pub tables : List ℕ
+  pub rows : List Row
+  pub wrote : Appends old new (dump_text facts count tables rows)
+
+-- a beginning of the text of some store was written
+pub record IsSomeBegun (old new : Option (List ℕ)) : Type 0 where
+  pub facts : Facts
+  pub count : ℕ
+  pub tables : List ℕ
+  pub rows : List Row
+  pub part : AppendsPart old new (dump_text facts count tables rows)
 
 -- ---- refusals
 
@@ -87,12 +153,8 @@ WritesText text old new (Err error) = IsOfOutput error × AppendsPart old new te
 
 -- a store was refused for the device, for want of memory or since the output took no more, and a
 -- beginning of its text was written
-pub record IsCutDump (facts : Facts) (list : List BatchContent) (old new : Option (List ℕ))
-    (error : DumpError) : Type 0 where
-  pub cause : IsDumpRefusal error
-  pub text : List ℕ
-  pub is : IsDumpText facts list text
-  pub part : AppendsPart old new text
+abbrev pub IsCutDump : Facts → List BatchContent → (old new : Option (List ℕ)) → DumpError → Type 0
+IsCutDump facts list old new error = IsDumpRefusal error × IsBegunDump facts list old new
 
 -- files of this content open as no store
 abbrev pub OpenAsNone : Contents → Type 0

@@ -24,3 +24,9 @@ pub record HasReadRows (all : List Row) (from : List ℕ) (known : ℕ) (rows : 
   pub left : List Row
   pub split : all ≡ rows ++ left
   pub at : StartsPage from known rows
+
+-- these are the first rows of the map, behind which the next page begins here
+pub record AreFirstRows (map : Map) (from : List ℕ) (known : ℕ) (rows : List Row) : Type 0 where
+  pub all : List Row
+  pub is_all : AreRowsOf map all
+  pub walked : HasReadRows all from known rows

@@ -3,13 +3,14 @@ ghost use Rattle.std.specs.Prelude.{◌≡◌, ◌⊎◌, ◌∷◌, ◌++◌, [
 ghost use Rattle.std.specs.Prelude.{IfErr, IfOk, IsErrOf, MatchResult, OnOk};
 ghost use Rattle.std.specs.List.{flat_map};
 ghost use Rattle.disk.specs.{IsSame, KeepsDisk};
-ghost use Rattle.kv_types.specs.{BatchContent, map_of};
+ghost use Rattle.kv_types.specs.{BatchContent};
 ghost use Rattle.kv_types.specs.Pages.{page_of};
 ghost use Rattle.engine.specs.{EngineReads, IsReadable, engine_disk, look_ups};
 ghost use Rattle.node.specs.declared.stop.Stop.TheVariants as stop;
 ghost use Rattle.dumps.specs.declared.dump_error.DumpError.TheVariants.{Store};
 ghost use Rattle.dumps.specs.Walks.{all_from};
-ghost use Rattle.dumps.specs.Dumped.{AreAllWritten, AreBegun, IsDumpRefusal, row_line};
+ghost use Rattle.dumps.specs.Dumped.{AreAllWritten, AreBegun, IsDumpRefusal, ShowsList};
+ghost use Rattle.dumps.specs.Dumped.{StillShows, row_line};
 
 use crate::dump_error::DumpError;
 use client::{RowText, print};
@@ -34,17 +35,17 @@ fn least_key(alloc: Global) -> Result<Key, DumpError>
 }
 
 // The page of the keys from this one on. An engine that reads a list refuses it for the device or
-// for memory alone.
+// for memory alone; one that was meant to read a list answers of that list.
 fn page_from<D: Disk + Drop>(
     alloc: Global,
     engine: &mut Engine<D>,
     at: Number,
     from: Key,
 ) -> Result<Page, DumpError>
-    ensures page { (list : List BatchContent) → EngineReads D.Disk engine.old list →
+    ensures page { (list : List BatchContent) → ShowsList D.Disk engine.old list →
         IfOk result (λ page. page ≡ page_of (take at list) (all_from from)) }
-    ensures reads { (list : List BatchContent) → EngineReads D.Disk engine.old list →
-        OnOk result (EngineReads D.Disk engine.new list) }
+    ensures shows { OnOk result ((list : List BatchContent) →
+        StillShows D.Disk engine.old engine.new list) }
     ensures looks { look_ups engine.new ≡ look_ups engine.old }
     ensures device { KeepsDisk D.Disk (engine_disk engine.old) (engine_disk engine.new)
         (IsErrOf result (Store stop.Disk)) ⊥ IsSame }
@@ -108,11 +109,10 @@ pub fn write_rows<D: Disk + Drop, W: Write>(
     at: Number,
     out: &mut W,
 ) -> Result<u64, DumpError>
-    ensures rows { (list : List BatchContent) → EngineReads D.Disk engine.old list →
-        MatchResult result
-        (λ count. AreAllWritten (map_of (take at list)) count
+    ensures rows { MatchResult result
+        (λ count. AreAllWritten (ShowsList D.Disk engine.old) at count
         (W.contents out.old) (W.contents out.new))
-        (λ _. AreBegun (map_of (take at list)) (W.contents out.old) (W.contents out.new)) }
+        (λ _. AreBegun (ShowsList D.Disk engine.old) at (W.contents out.old) (W.contents out.new)) }
     ensures refused { (list : List BatchContent) → EngineReads D.Disk engine.old list →
         IsReadable (look_ups engine.old).facts.floor (look_ups engine.old).committed at →
         IfErr result IsDumpRefusal }

@@ -2,11 +2,14 @@
 ghost use Rattle.std.specs.Prelude.{◌≡◌, ℕ, List, IfErr, IsErrOf, MatchResult, OnOk};
 ghost use Rattle.disk.specs.{IsSame, KeepsDisk, contents};
 ghost use Rattle.kv_types.specs.{BatchContent};
-ghost use Rattle.engine.specs.{EngineReads, Facts, FilesRepresent, engine_disk, facts_of, look_ups};
+ghost use Rattle.engine.specs.{EngineReads, Facts, FilesRepresent, WereMeant, engine_disk};
+ghost use Rattle.engine.specs.{facts_of, look_ups};
 ghost use Rattle.node.specs.declared.stop.Stop.TheVariants as stop;
 ghost use Rattle.dumps.specs.declared.dump_error.DumpError.TheVariants.{Store};
-ghost use Rattle.dumps.specs.Dumped.{IsCutDump, IsDumpOf, IsNotOpened, LeavesDevice, OpenAsNone};
-ghost use Rattle.dumps.specs.Dumped.{WritesText, count_line, store_line};
+ghost use Rattle.dumps.specs.Dumped.{IsBegunDump, IsBegunFor, IsCutDump, IsDumpFor, IsDumpOf};
+ghost use Rattle.dumps.specs.Dumped.{IsDumpRefusal, IsNotOpened, IsSomeBegun, IsSomeDump};
+ghost use Rattle.dumps.specs.Dumped.{LeavesDevice, OpenAsNone, ShowsList, WritesText, count_line};
+ghost use Rattle.dumps.specs.Dumped.{store_line};
 
 use crate::dump_error::DumpError;
 use crate::row_walk::write_rows;
@@ -80,10 +83,13 @@ fn write_store<D: Disk + Drop, W: Write>(
     engine: &mut Engine<D>,
     out: &mut W,
 ) -> Result<(), DumpError>
-    ensures dump { (list : List BatchContent) → EngineReads D.Disk engine.old list →
-        MatchResult result
-        (λ _. IsDumpOf (facts_of engine.old) list (W.contents out.old) (W.contents out.new))
-        (IsCutDump (facts_of engine.old) list (W.contents out.old) (W.contents out.new)) }
+    ensures dump { MatchResult result
+        (λ _. IsDumpFor (ShowsList D.Disk engine.old) (facts_of engine.old)
+        (look_ups engine.old).count (W.contents out.old) (W.contents out.new))
+        (λ _. IsBegunFor (ShowsList D.Disk engine.old) (facts_of engine.old)
+        (look_ups engine.old).count (W.contents out.old) (W.contents out.new)) }
+    ensures refused { (list : List BatchContent) → EngineReads D.Disk engine.old list →
+        IfErr result IsDumpRefusal }
     ensures device { KeepsDisk D.Disk (engine_disk engine.old) (engine_disk engine.new)
         (IsErrOf result (Store stop.Disk)) ⊥ IsSame }
 {
@@ -111,10 +117,20 @@ pub fn dump_store<D: Disk + Drop, W: Write>(
         FilesRepresent facts list (contents (D.state disk)) → IfErr result
         (IsCutDump facts list (W.contents out.old) (W.contents out.new)) }
 
+    // Where blocks of tables are damaged, no wrong row is written, and none is left out.
+    ensures meant { (facts : Facts) (list : List BatchContent) → D.is_honest disk →
+        WereMeant facts list (contents (D.state disk)) → MatchResult result
+        (λ _. IsDumpOf facts list (W.contents out.old) (W.contents out.new))
+        (λ _. IsBegunDump facts list (W.contents out.old) (W.contents out.new)) }
+
     ensures unopened { D.is_honest disk → OpenAsNone (contents (D.state disk)) → IsNotOpened
         (contents (D.state disk)) (W.contents out.old) (W.contents out.new) result }
 
-    // Of any disk: it is refused for the device exactly where a failure was counted.
+    // Of any disk: the text of some store was written, or a beginning of it. It is refused for the
+    // device exactly where a failure was counted.
+    ensures printed { MatchResult result
+        (λ _. IsSomeDump (W.contents out.old) (W.contents out.new))
+        (λ _. IsSomeBegun (W.contents out.old) (W.contents out.new)) }
     ensures device { LeavesDevice D.Disk disk result }
 {
     pages_agree(); // law: a map has a page in each range

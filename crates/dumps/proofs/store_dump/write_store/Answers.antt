@@ -1,41 +1,79 @@
-use Rattle.std.proofs.Common.{rules, ◌∙◌}
+use Rattle.std.proofs.Common.{inr, rules, subst}
+use Rattle.std.specs.Prelude.{MatchResult}
 use Rattle.engine.specs.{facts_of, look_ups}
-use Rattle.dumps.proofs.StoreDumpLemmas.{all_readable, cut_in_numbers, cut_in_rows}
-use Rattle.dumps.proofs.StoreDumpLemmas.{dumped}
+use Rattle.dumps.specs.Dumped.{IsBegunFor, IsDumpFor, IsDumpRefusal, ShowsList}
+use Rattle.dumps.proofs.RowWalkLemmas.{all_for, begun_for, shown_still}
+use Rattle.dumps.proofs.StoreDumpLemmas.{all_readable, cut_in_numbers, cut_in_rows, dumped}
+use Rattle.dumps.proofs.StoreDumpLemmas.{of_output}
 use Rattle.dumps.proofs.store_dump.write_store.Goals as goal
 
 -- a beginning of the first line was written
 pub returns-in_err-write_numbers-clause-dump : goal.returns-in_err-write_numbers-clause-dump
-returns-in_err-write_numbers-clause-dump g c = λ list reads.
+returns-in_err-write_numbers-clause-dump g c =
     let numbers = c.in_err-write_numbers.ensures in
-    let cut = cut_in_numbers (facts_of c.args.engine.now) list (look_ups c.args.engine.now).count
-    numbers.0 reads.count c.pages_agree.ensures.agree c.in_err-write_numbers.field-0.0
+    let cut = cut_in_numbers (ShowsList g.D.Disk c.args.engine.now) (facts_of c.args.engine.now)
+    (look_ups c.args.engine.now).count numbers.0 c.pages_agree.ensures.agree
     (g.W.Write.contents c.args.out.now) (g.W.Write.contents c.write_numbers.new.out)
-    numbers.1.0 numbers.1.1 in
+    numbers.1.1 in
     search (rules, cut)
+
+pub returns-in_err-write_numbers-clause-refused : goal.returns-in_err-write_numbers-clause-refused
+returns-in_err-write_numbers-clause-refused g c = λ list reads.
+    let cause : IsDumpRefusal c.in_err-write_numbers.field-0.0 =
+    inr c.in_err-write_numbers.ensures.1.0 in
+    search (rules, cause)
 
 -- the rows were refused
 pub returns-in_err-count-clause-dump : goal.returns-in_err-count-clause-dump
-returns-in_err-count-clause-dump g c = λ list reads.
+returns-in_err-count-clause-dump g c =
+    let old = c.args.engine.now in
+    let IsShown = ShowsList g.D.Disk old in
     let numbers = c.in_ok-write_numbers.ensures in
     let is = c.count-at.ensures.count in
-    let after = c.set_committed.ensures.stays.reads list reads in
-    let may = all_readable (look_ups c.args.engine.now) (look_ups c.set_committed.new.self)
-    c.count-at.result c.set_committed.ensures.told c.count-at.ensures.ordered is in
-    let cut = cut_in_rows (facts_of c.args.engine.now) list c.count-at.result numbers.0
-    (is ∙ reads.count) c.in_err-count.field-0.0 (g.W.Write.contents c.args.out.now)
-    (g.W.Write.contents c.write_numbers.new.out) (g.W.Write.contents c.write_rows.new.out)
-    (c.in_err-count.ensures.refused list after may) (rw (← is) at numbers.1)
-    (c.in_err-count.ensures.rows list after) in
+    let begun = begun_for IsShown (ShowsList g.D.Disk c.set_committed.new.self) c.count-at.result
+    (λ list. shown_still old c.set_committed.new.self list (record {
+      reads = c.set_committed.ensures.stays.reads list;
+      meant = c.set_committed.ensures.stays.meant list;
+    })) (g.W.Write.contents c.write_numbers.new.out) (g.W.Write.contents c.write_rows.new.out)
+    c.in_err-count.ensures.rows in
+    let out = g.W.Write.contents c.args.out.now in
+    let new = g.W.Write.contents c.write_rows.new.out in
+    let cut = subst (λ n. IsBegunFor IsShown (facts_of old) n out new) is
+    (cut_in_rows IsShown (facts_of old) c.count-at.result numbers.0 out
+    (g.W.Write.contents c.write_numbers.new.out) new (rw (← is) at numbers.1) begun) in
     search (rules, cut)
 
+pub returns-in_err-count-clause-refused : goal.returns-in_err-count-clause-refused
+returns-in_err-count-clause-refused g c = λ list reads.
+    let may = all_readable (look_ups c.args.engine.now) (look_ups c.set_committed.new.self)
+    c.count-at.result c.set_committed.ensures.told c.count-at.ensures.ordered
+    c.count-at.ensures.count in
+    let cause = c.in_err-count.ensures.refused list (c.set_committed.ensures.stays.reads list reads)
+    may in
+    search (rules, cause)
+
+-- the last line was written, or refused
 pub returns-clause-dump : goal.returns-clause-dump
-returns-clause-dump g c = λ list reads.
+returns-clause-dump g c =
+    let old = c.args.engine.now in
+    let IsShown = ShowsList g.D.Disk old in
     let numbers = c.in_ok-write_numbers.ensures in
     let is = c.count-at.ensures.count in
-    let after = c.set_committed.ensures.stays.reads list reads in
-    dumped (facts_of c.args.engine.now) list c.count-at.result numbers.0 (is ∙ reads.count)
-    c.in_ok-count.count c.write_count.result (g.W.Write.contents c.args.out.now)
-    (g.W.Write.contents c.write_numbers.new.out) (g.W.Write.contents c.write_rows.new.out)
-    (g.W.Write.contents c.write_count.new.out) (rw (← is) at numbers.1)
-    (c.in_ok-count.ensures.rows list after) c.write_count.ensures
+    let first = g.W.Write.contents c.write_numbers.new.out in
+    let second = g.W.Write.contents c.write_rows.new.out in
+    let out = g.W.Write.contents c.args.out.now in
+    let new = g.W.Write.contents c.write_count.new.out in
+    let all = all_for IsShown (ShowsList g.D.Disk c.set_committed.new.self) c.count-at.result
+    (λ list. shown_still old c.set_committed.new.self list (record {
+      reads = c.set_committed.ensures.stays.reads list;
+      meant = c.set_committed.ensures.stays.meant list;
+    })) c.in_ok-count.count first second c.in_ok-count.ensures.rows in
+    subst (λ n. MatchResult c.write_count.result (λ _. IsDumpFor IsShown (facts_of old) n out new)
+    (λ _. IsBegunFor IsShown (facts_of old) n out new)) is
+    (dumped IsShown (facts_of old) c.count-at.result numbers.0 c.in_ok-count.count
+    c.write_count.result out first second new (rw (← is) at numbers.1) all c.write_count.ensures)
+
+pub returns-clause-refused : goal.returns-clause-refused
+returns-clause-refused g c = λ list reads.
+    of_output _ (g.W.Write.contents c.write_rows.new.out)
+    (g.W.Write.contents c.write_count.new.out) c.write_count.result c.write_count.ensures
