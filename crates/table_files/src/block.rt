@@ -46,7 +46,7 @@ fn starts_in(alloc: Global, block: &[u8]) -> Result<Option<Vec<usize>>, AllocErr
 
 impl CheckedBlock {
     /// The block of bytes that were checked.
-    pub fn new(alloc: Global, bytes: Vec<u8>) -> Result<CheckedBlock, AllocError>
+    pub(crate) fn new(alloc: Global, bytes: Vec<u8>) -> Result<CheckedBlock, AllocError>
         requires { IsCheckedBlock bytes.items }
         ensures { IfOk result (λ block. rc_slice_items block.bytes ≡ bytes.items) }
     {
@@ -60,7 +60,7 @@ impl CheckedBlock {
     }
 
     /// The same block.
-    pub fn clone(&self) -> Result<CheckedBlock, AllocError>
+    pub(crate) fn clone(&self) -> Result<CheckedBlock, AllocError>
         ensures { IfOk result
             (λ block. rc_slice_items block.bytes ≡ rc_slice_items self.now.bytes) }
     {

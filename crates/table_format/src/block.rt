@@ -1,10 +1,9 @@
 //! Blocks: the check of one, and its entries.
-ghost use Rattle.std.specs.Prelude.{◌≡◌, ◌<◌, ◌-◌, ◌↔◌, ℕ, List, length, take, drop, IsTrue};
-ghost use Rattle.std.specs.Prelude.{MatchOption, option_map, IfSome, IsNone};
+ghost use Rattle.std.specs.Prelude.{◌≡◌, ◌↔◌, List, IsTrue, MatchOption, option_map, IfSome};
 ghost use Rattle.kv_types.specs.{Entry};
 ghost use Rattle.merge_iter.specs.declared.Direction.TheVariants.{Forward};
 ghost use Rattle.merge_iter.specs.{EntryPrecedes};
-ghost use Rattle.table_format.specs.Blocks.{IsBlock, IsBlockText, block_part, entries_bytes};
+ghost use Rattle.table_format.specs.Blocks.{IsBlock, IsBlockText, entries_bytes};
 ghost use Rattle.table_format.specs.Reading.{lent_entry};
 
 use crate::LentEntry;
@@ -54,22 +53,5 @@ pub fn entries_of(part: &[u8]) -> Option<&[u8]>
     if seen != count || count == 0 {
         return None;
     }
-    Some(entries)
-}
-
-/// The bytes of the entries of a block that was checked before: those between the number of the
-/// entries, 4 bytes, and the digest, 8 bytes. Nothing where there are fewer.
-pub fn entries_in(block: &[u8]) -> Option<&[u8]>
-    ensures short { IsNone result ↔ (length block.now < 12) }
-    ensures cut { IfSome result (λ text.
-        text.now ≡ take (length block.now - 12) (drop 4 block.now)) }
-    ensures one { (entries : List Entry) → block.now ≡ block_part entries →
-        MatchOption result ⊥ (λ text. text.now ≡ entries_bytes entries) }
-{
-    if block.len() < 12 {
-        return None;
-    }
-    let (_count, rest) = block.split_at(4);
-    let (entries, _digest) = rest.split_at(block.len() - 12);
     Some(entries)
 }

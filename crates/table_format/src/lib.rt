@@ -14,7 +14,7 @@ mod part;
 pub mod sizes;
 mod writing;
 
-pub use block::{entries_in, entries_of};
+pub use block::entries_of;
 pub use entry::{LentEntry, entry_of};
 pub use error::{FileError, TableError};
 pub use filter::{filter_of, filter_part_of};
