@@ -33,13 +33,13 @@ impl Model for RawEdits {
 }
 
 impl RawEdits {
-    /// No edits.
-    pub fn new(alloc: Global) -> RawEdits
-        ensures { result ≡ [] }
+    /// No edits, with room for so many.
+    pub fn with_capacity(alloc: Global, count: usize) -> Result<RawEdits, AllocError>
+        ensures { IfOk result (λ edits. edits ≡ []) }
     {
-        RawEdits {
-            changes: Vec::new(alloc),
-        }
+        Ok(RawEdits {
+            changes: Vec::with_capacity(alloc, count)?,
+        })
     }
 
     /// Adds an edit behind the others.
@@ -96,7 +96,7 @@ pub fn raw_edits_of(alloc: Global, words: &[&[u8]]) -> Result<Option<RawEdits>, 
         (λ edits. (list_any (λ w. not (is_edit w.now)) words.now ≡ false) × All AreBytesIn edits
         × (map (λ w. w.now) words.now ≡ map edit_word edits))) }
 {
-    let mut changes = RawEdits::new(alloc);
+    let mut changes = RawEdits::with_capacity(alloc, words.len())?;
     for word in words {
         match raw_edit_of(alloc, word)? {
             None => return Ok(None),

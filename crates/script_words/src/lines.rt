@@ -1,18 +1,19 @@
 //! The lines of a text, and the words of a line.
 ghost use Rattle.std.specs.Prelude.{◌≡◌, ◌≢◌, ◌<◌, ◌∷◌, ℕ, length, map, slice_index};
-ghost use Rattle.std.specs.Prelude.{IfOk, IfSome, IfNone};
+ghost use Rattle.std.specs.Prelude.{IfSome, IfNone, OnOk};
 ghost use Rattle.std.specs.Iterator.{YieldsFirstRef, item_count};
 ghost use Rattle.script_words.specs.Lines.{script_lines, words_of};
 
-use std::alloc::{AllocError, Global};
+use memchr::memchr;
+use std::alloc::AllocError;
 
 /// Where the first line feed stands.
-fn end_of_line(text: &[u8]) -> Option<usize>
+pub fn end_of_line(text: &[u8]) -> Option<usize>
     ensures none { IfNone result ((k : ℕ) → k < length text.now → slice_index text.now k ≢ 10) }
     ensures some { IfSome result (λ i. (i < length text.now) × (slice_index text.now i ≡ 10)) }
     ensures first { IfSome result (λ i. (k : ℕ) → k < i → slice_index text.now k ≢ 10) }
 {
-    text.iter().position(|b| *b == b'\n')
+    memchr(b'\n', text)
 }
 
 /// The first line of a text, and what follows it.
@@ -47,9 +48,13 @@ impl<'a> Iterator for ScriptLines<'a> {
     }
 }
 
-/// The words of a line.
-pub fn words<'a>(alloc: Global, line: &'a [u8]) -> Result<Vec<&'a [u8]>, AllocError>
-    ensures { IfOk result (λ words. map (λ w. w.now) words.items ≡ words_of line.now) }
+/// The words of a line, in place of what `words` has.
+pub fn put_words<'a>(line: &'a [u8], words: &mut Vec<&'a [u8]>) -> Result<(), AllocError>
+    ensures { OnOk result (map (λ w. w.now) words.new.items ≡ words_of line.now) }
 {
-    line.split(|b| *b == b' ').collect(alloc)
+    words.clear();
+    for word in line.split(|b| *b == b' ') {
+        words.push(word)?;
+    }
+    Ok(())
 }

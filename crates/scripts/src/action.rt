@@ -50,8 +50,10 @@ fn edits(alloc: Global, changes: RawEdits) -> Result<Result<Vec<Edit>, KvError>,
         (λ edits. (edits_error changes ≡ None) × (edits.items ≡ changes))
         (λ e. edits_error changes ≡ Some e)) }
 {
-    let mut edits = Vec::new(alloc);
-    for change in changes.into_vec() {
+    // A batch keeps this list: it has no more room than it needs.
+    let changes = changes.into_vec();
+    let mut edits = Vec::with_capacity(alloc, changes.len())?;
+    for change in changes {
         match edit(change) {
             Ok(edit) => edits.push(edit)?,
             Err(e) => return Ok(Err(e)),

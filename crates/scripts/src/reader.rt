@@ -18,7 +18,7 @@ use crate::statement::{Action, LineItem, ParserState, Statement};
 use crate::statements::command_of;
 use lab::{Event, EventKind, Fault, NodeId};
 use script_words::{
-    LimitName, ScriptError, ScriptLimits, ScriptLines, fault_behind, number, split_fault, words,
+    LimitName, ScriptError, ScriptLimits, ScriptLines, fault_behind, number, put_words, split_fault,
 };
 use std::alloc::Global;
 
@@ -250,8 +250,14 @@ fn item_of_words(
     Ok(LineItem::Asks(statement(alloc, before, name, args)?))
 }
 
-/// What a line says, behind what stands before it.
-fn item_of(alloc: Global, before: &ParserState, line: &[u8]) -> Result<LineItem, ScriptError>
+/// What a line says, behind what stands before it. Its words are put in place of those that there
+/// are.
+fn item_of<'a>(
+    alloc: Global,
+    before: &ParserState,
+    line: &'a [u8],
+    words: &mut Vec<&'a [u8]>,
+) -> Result<LineItem, ScriptError>
     ensures { ReadsLine before.now line.now result }
 {
     if line.len() > LINE {
@@ -260,8 +266,8 @@ fn item_of(alloc: Global, before: &ParserState, line: &[u8]) -> Result<LineItem,
     if skips(line) {
         return Ok(LineItem::Skipped);
     }
-    let words = words(alloc, line)?;
-    item_of_words(alloc, before, &words)
+    put_words(line, words)?;
+    item_of_words(alloc, before, words)
 }
 
 /// A script: what it sets up, and its statements in order.
@@ -279,16 +285,17 @@ pub struct ScriptFault {
 }
 
 /// Adds what line `number` says, and answers what then stands before the next line.
-fn read_line(
+fn read_line<'a>(
     alloc: Global,
     before: ParserState,
     number: u32,
-    line: &[u8],
+    line: &'a [u8],
+    words: &mut Vec<&'a [u8]>,
     statements: &mut Vec<Statement>,
 ) -> Result<ParserState, ScriptError>
     ensures { ReadsNext before number line.now statements.old.items statements.new.items result }
 {
-    match item_of(alloc, &before, line) {
+    match item_of(alloc, &before, line, words) {
         Ok(item) if number <= LINES => Ok(before.after(statements, number, item)?),
         Ok(item) => {
             drop(item);
@@ -321,9 +328,10 @@ pub fn read_script(alloc: Global, text: &[u8], faults: bool) -> Result<Script, S
         faults,
     };
     let mut statements = Vec::new(alloc);
+    let mut words = Vec::new(alloc);
     let mut number = 1u32;
     for line in ScriptLines(text) {
-        match read_line(alloc, before, number, line, &mut statements) {
+        match read_line(alloc, before, number, line, &mut words, &mut statements) {
             Ok(after) => before = after,
             Err(error) => return Err(ScriptFault {
                 line: number,

@@ -10,5 +10,5 @@ returns c =
     (grind (arith, nat_tests, c.if-line-gt-LINE.false))
     (sym c.skips.ensures ∙ c.if-skips.false)
     (subst (λ ws. ReadsWords c.args.before.now ws c.item_of_words.result)
-    (ap (λ ws. map (λ w. w.now) ws) c.deref.ensures.value ∙ c.in_ok-words.ensures)
+    (ap (λ ws. map (λ w. w.now) ws) c.deref.ensures.value ∙ c.in_ok-put_words.ensures)
     c.item_of_words.ensures)
