@@ -18,8 +18,8 @@ use crate::{EditError, LogLine, MAX_NEXT, TableLine, TableName, VersionEdit};
 use byte_fields::{read_u16, read_u32, read_u64};
 use configurations::Config;
 use configurations::laws::test_decides_config;
-use kv_types::bounds::MAX_NUMBER;
 use kv_types::StoredKey;
+use kv_types::bounds::MAX_NUMBER;
 use std::alloc::{AllocError, Global};
 
 #[tactic(auto, unfolding(crate::specs::Reading::byte_field))]
