@@ -27,11 +27,13 @@ pub struct DirDisk<R> {
 }
 
 impl<R: Files<File = File> + Alloc<A = Global> + Clone + Drop> DirDisk<R> {
+    ghost use Rattle.dir_disk.specs.Disks.{HasLock, disk_folder, may_change};
+
     /// The folder at this path. It need not be there, and is not made.
     pub fn new(rt: R, folder: &str) -> Result<DirDisk<R>, AllocError>
         ensures count { IfOk result (λ disk. ⟦<DirDisk<R> as Disk>⟧.failures disk ≡ 0) }
-        ensures folder { IfOk result (λ disk. string_bytes disk.folder ≡ folder.now) }
-        ensures writes { IfOk result (λ disk. disk.writes ≡ true) }
+        ensures folder { IfOk result (λ disk. string_bytes (disk_folder disk) ≡ folder.now) }
+        ensures writes { IfOk result (λ disk. may_change disk ≡ true) }
     {
         DirDisk::over(rt, folder, true)
     }
@@ -40,8 +42,8 @@ impl<R: Files<File = File> + Alloc<A = Global> + Clone + Drop> DirDisk<R> {
     /// fails, before the system is called.
     pub fn to_read(rt: R, folder: &str) -> Result<DirDisk<R>, AllocError>
         ensures count { IfOk result (λ disk. ⟦<DirDisk<R> as Disk>⟧.failures disk ≡ 0) }
-        ensures folder { IfOk result (λ disk. string_bytes disk.folder ≡ folder.now) }
-        ensures reads { IfOk result (λ disk. disk.writes ≡ false) }
+        ensures folder { IfOk result (λ disk. string_bytes (disk_folder disk) ≡ folder.now) }
+        ensures reads { IfOk result (λ disk. may_change disk ≡ false) }
     {
         DirDisk::over(rt, folder, false)
     }
@@ -68,9 +70,9 @@ impl<R: Files<File = File> + Alloc<A = Global> + Clone + Drop> DirDisk<R> {
     pub fn lock(&mut self) -> Result<(), LockError>
         ensures count { ⟦<DirDisk<R> as Disk>⟧.failures self.new ≡
             ⟦<DirDisk<R> as Disk>⟧.failures self.old }
-        ensures locked { OnOk result (IsSome self.new.lock) }
-        ensures folder { self.new.folder ≡ self.old.folder }
-        ensures writes { self.new.writes ≡ self.old.writes }
+        ensures locked { OnOk result (HasLock self.new) }
+        ensures folder { disk_folder self.new ≡ disk_folder self.old }
+        ensures writes { may_change self.new ≡ may_change self.old }
     {
         if self.lock.is_none() {
             let path = path_of_folder(self.rt.alloc(), self.folder.as_str())?;

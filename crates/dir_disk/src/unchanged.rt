@@ -18,10 +18,12 @@ pub struct Unchanged<D: Disk> {
 }
 
 impl<D: Disk + Drop> Unchanged<D> {
+    ghost use Rattle.dir_disk.specs.Disks.{disk_below, files_left_out};
+
     /// A disk over this one, none of whose files is left out.
     pub fn new(alloc: Global, disk: D) -> Unchanged<D>
-        ensures inner { result.inner.disk ≡ disk }
-        ensures none { result.removed.items ≡ [] }
+        ensures inner { disk_below result ≡ disk }
+        ensures none { files_left_out result ≡ [] }
         ensures count { ⟦<Unchanged<D> as Disk>⟧.failures result ≡ 0 }
     {
         Unchanged {
@@ -33,7 +35,7 @@ impl<D: Disk + Drop> Unchanged<D> {
 
     /// The disk inside.
     pub fn into_disk(self) -> D
-        ensures { result ≡ self.inner.disk }
+        ensures { result ≡ disk_below self }
     {
         self.inner.into_disk()
     }
