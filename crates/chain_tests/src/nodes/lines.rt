@@ -133,7 +133,7 @@ fn put_output(text: &mut String, output: &Output) -> Result<(), AllocError> {
     if let Some(reason) = output.dropped {
         write!(text, "dropped {reason:?}")?;
     }
-    for sent in output.frames.iter() {
+    for sent in &*output.frames {
         part(text)?;
         put_frame(text, sent)?;
     }
