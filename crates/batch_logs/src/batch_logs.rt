@@ -126,7 +126,6 @@ impl BatchLogs {
     /// Appends the batch with the next number to the newest log. It needs four device calls.
     pub fn append<D: Disk>(
         &mut self,
-        alloc: Global,
         disk: &mut D,
         number: Number,
         batch: &Batch,
@@ -139,7 +138,7 @@ impl BatchLogs {
         durable_is_left();
         durable_file_is_left();
         spell_record(&mut self.spelled, number.get(), batch)?;
-        self.newest.log.append(alloc, disk, &self.spelled)?;
+        self.newest.log.append(disk, &self.spelled)?;
         Ok(())
     }
 

@@ -141,7 +141,7 @@ fn a_large_store_has_what_a_plain_map_has(rt: HostRuntime) {
     let mut shots = Vec::new(alloc);
     let mut works = 0u64;
     for batch in 1..BATCHES + 1 {
-        let put = engine.append(alloc, &batch_at(rt, alloc, batch));
+        let put = engine.append(&batch_at(rt, alloc, batch));
         is_so(
             rt,
             put.ok().is_some_and(|n| n == number(batch)),

@@ -86,7 +86,7 @@ fn opened(rt: &impl Abort, alloc: Global, disk: MemDisk) -> Engine<MemDisk> {
 
 fn append(rt: &impl Abort, alloc: Global, engine: &mut Engine<MemDisk>) {
     let batch = engine.count().get().saturating_add(1);
-    let put = engine.append(alloc, &batch_at(rt, alloc, batch));
+    let put = engine.append(&batch_at(rt, alloc, batch));
     is_so(rt, put.ok() == Some(number(batch)), "a batch more");
 }
 

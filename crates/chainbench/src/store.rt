@@ -36,7 +36,7 @@ fn write<D: Disk + Drop>(
 ) -> Result<(), BenchError> {
     let puts = setting.puts.min(count.left_of(setting.operations));
     let batch = work.next_batch(alloc, puts)?;
-    let written = store.write(alloc, &batch);
+    let written = store.write(&batch);
     count.add_batch(batch);
     written?;
     tend(alloc, store, TENDS, &mut Count::new())

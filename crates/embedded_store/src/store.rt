@@ -53,7 +53,7 @@ impl<D: Disk + Drop> EmbeddedStore<D> {
 
     /// Writes a batch: all of its edits or, where it is refused, none or all. Behind `Ok` it is
     /// durable. Answers its number.
-    pub fn write(&mut self, alloc: Global, batch: &Batch) -> Result<Number, EngineError>
+    pub fn write(&mut self, batch: &Batch) -> Result<Number, EngineError>
         ensures changes { WritesBatch D.Disk self.old self.new batch.now result }
         ensures told { MatchResult result
             (λ n. (n ≡ (look_ups (store_engine self.new)).count)
@@ -64,7 +64,7 @@ impl<D: Disk + Drop> EmbeddedStore<D> {
             IfErr result (λ e. IsEnvironmental Disk Memory e
             ⊎ ((e ≡ Exhausted) × (MAX_NUMBER ≤ length list))) }
     {
-        let number = self.engine.append(alloc, batch)?;
+        let number = self.engine.append(batch)?;
         let _ = self.engine.count(); // law: the numbers are in order
         self.engine.set_committed(number);
         Ok(number)

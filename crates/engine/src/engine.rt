@@ -174,7 +174,7 @@ impl<D: Disk + Drop> Engine<D> {
 
     /// Appends a batch, and returns its number. It needs four device calls: after them the batch is
     /// durable.
-    pub fn append(&mut self, alloc: Global, batch: &Batch) -> Result<Number, EngineError>
+    pub fn append(&mut self, batch: &Batch) -> Result<Number, EngineError>
         ensures changes { ChangesList D.Disk self.old self.new result (HasNearlyFullLog self.old)
             (IsSameBut (newest_log_file self.old)) (facts_of self.old)
             (λ list. list ++ batch.now ∷ []) }
@@ -192,7 +192,7 @@ impl<D: Disk + Drop> Engine<D> {
         open_files_are_apart(); // law: which files an append changes
         let number = self.next_number()?;
         self.has_ended = true;
-        self.store.append(alloc, &mut self.files, number, batch)?;
+        self.store.append(&mut self.files, number, batch)?;
         self.has_ended = false;
         Ok(number)
     }

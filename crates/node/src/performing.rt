@@ -63,7 +63,7 @@ impl<D: Disk + Drop> Node<D> {
         steps_leave();
         stands_last();
         let acks = acks_after(&self.core, &done);
-        self.engine.append(alloc, &batch)?;
+        self.engine.append(&batch)?;
         let due = self.core.after(alloc, done)?;
         self.engine.set_committed(self.core.committed());
         output_of_append(alloc, &self.core, batch, acks, &due).map_err(Stop::from)

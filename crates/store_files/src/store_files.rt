@@ -106,7 +106,6 @@ impl StoreFiles {
     /// Appends the batch with the next number. It needs four device calls.
     pub fn append<D: Disk>(
         &mut self,
-        alloc: Global,
         disk: &mut D,
         number: Number,
         batch: &Batch,
@@ -133,7 +132,7 @@ impl StoreFiles {
         appends_keep(); // law: with one batch more a store represents one more
         let _edits = batch.edits(); // law: these are a batch
         self.memtable.add(number, batch)?;
-        self.logs.append(alloc, disk, number, batch)
+        self.logs.append(disk, number, batch)
     }
 
     /// The batch of a number that the logs have, read from its log.

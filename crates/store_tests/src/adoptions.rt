@@ -39,7 +39,7 @@ fn refusal_of_append(
     engine: &mut Engine<MemDisk>,
 ) -> Option<EngineError> {
     let batch = batch_of(rt, alloc, &[(b"a", Some(b"1"))]);
-    let refused = engine.append(alloc, &batch).err();
+    let refused = engine.append(&batch).err();
     drop(batch);
     has_memory(rt, refused == Some(EngineError::Memory));
     refused

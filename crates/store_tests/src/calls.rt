@@ -121,8 +121,8 @@ fn create(rt: &impl Abort, alloc: Global, disk: &mut NotingDisk) -> Log {
     Log::create(alloc, disk, 3).expect(rt, "a log")
 }
 
-fn append(rt: &impl Abort, alloc: Global, disk: &mut NotingDisk, log: &mut Log, bytes: &[u8]) {
-    log.append(alloc, disk, bytes).expect(rt, "an append");
+fn append(rt: &impl Abort, disk: &mut NotingDisk, log: &mut Log, bytes: &[u8]) {
+    log.append(disk, bytes).expect(rt, "an append");
 }
 
 fn open(rt: &impl Abort, alloc: Global, disk: &mut NotingDisk) {
@@ -131,15 +131,9 @@ fn open(rt: &impl Abort, alloc: Global, disk: &mut NotingDisk) {
 
 // Whether the calls of an append at this gate are these: what is behind the gate, and then the
 // gate.
-fn appends_so(
-    rt: &impl Abort,
-    alloc: Global,
-    disk: &mut NotingDisk,
-    log: &mut Log,
-    bytes: &[u8],
-) -> bool {
+fn appends_so(rt: &impl Abort, disk: &mut NotingDisk, log: &mut Log, bytes: &[u8]) -> bool {
     let gate = log.gate();
-    append(rt, alloc, disk, log, bytes);
+    append(rt, disk, log, bytes);
     disk.made(&[
         Called::Write(3, gate.saturating_add(1), 0),
         Called::Sync(3),
@@ -152,8 +146,8 @@ fn appends_so(
 fn writes_so(rt: &impl Abort, alloc: Global, disk: &mut NotingDisk) -> bool {
     let mut log = create(rt, alloc, disk);
     let is_created_so = disk.made(&[Called::Write(3, 0, 0), Called::Sync(3)]);
-    let is_first = appends_so(rt, alloc, disk, &mut log, b"one");
-    appends_so(rt, alloc, disk, &mut log, b"") && is_first && is_created_so
+    let is_first = appends_so(rt, disk, &mut log, b"one");
+    appends_so(rt, disk, &mut log, b"") && is_first && is_created_so
 }
 
 // Whether the call only reads.

@@ -108,7 +108,7 @@ fn store(rt: &impl Abort, alloc: Global, damage: Damage) -> Engine<DamagedDisk> 
     let created = Engine::create(alloc, disk, id, &config, &limits(rt));
     let mut engine = created.ok().expect(rt, "an engine");
     let batch = batch_of(rt, alloc, &[(b"a", Some(b"1"))]);
-    let appended = engine.append(alloc, &batch);
+    let appended = engine.append(&batch);
     is_so(rt, appended.is_ok(), "a batch more");
     engine
 }

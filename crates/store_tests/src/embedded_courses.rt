@@ -150,7 +150,7 @@ pub fn junk_at(rt: &impl Abort, alloc: Global, place: u64) -> Junk {
 }
 
 fn write<D: Disk + Drop>(rt: &impl Abort, alloc: Global, store: &mut EmbeddedStore<D>, batch: u64) {
-    let written = store.write(alloc, &batch_at(rt, alloc, batch));
+    let written = store.write(&batch_at(rt, alloc, batch));
     let is_next = written.ok().is_some_and(|n| n == number(batch));
     is_so(rt, is_next, "the next number");
 }
@@ -285,7 +285,7 @@ fn filled_disk(rt: &impl Abort, alloc: Global) -> MemDisk {
 // Writes and tends until a call is refused, at most five batches. Answers how many were written.
 fn write_some(rt: &impl Abort, alloc: Global, store: &mut Store) -> u64 {
     for batch in 4..=8u64 {
-        if store.write(alloc, &batch_at(rt, alloc, batch)).is_err() {
+        if store.write(&batch_at(rt, alloc, batch)).is_err() {
             return batch.saturating_sub(1);
         }
         if store.tend(alloc).is_err() {

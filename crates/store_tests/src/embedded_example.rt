@@ -36,9 +36,9 @@ fn write_and_read<D: Disk + Drop>(
     batches: (&Batch, &Batch),
     key: &Key,
 ) -> Result<(Option<Value>, Vec<Value>), EngineError> {
-    store.write(alloc, batches.0)?;
+    store.write(batches.0)?;
     let snapshot = store.snapshot()?;
-    store.write(alloc, batches.1)?;
+    store.write(batches.1)?;
     store.tend(alloc)?;
     let before = walk(alloc, store, snapshot)?;
     store.release(snapshot)?;

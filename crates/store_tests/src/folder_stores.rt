@@ -45,7 +45,7 @@ fn filled_store<D: Disk + Drop>(rt: &impl Abort, alloc: Global, disk: D) -> Engi
     for place in 0..BATCHES {
         settle(rt, alloc, &mut engine);
         let batch = batch_at(rt, alloc, &[(place, Some(place))]);
-        append(rt, alloc, &mut engine, &batch);
+        append(rt, &mut engine, &batch);
     }
     engine
 }

@@ -20,7 +20,7 @@ pub fn created(rt: &impl Abort, alloc: Global) -> Engine<MemDisk> {
 }
 
 pub fn put_one(rt: &impl Abort, alloc: Global, engine: &mut Engine<MemDisk>, change: Change) {
-    append(rt, alloc, engine, &batch_at(rt, alloc, &[change]));
+    append(rt, engine, &batch_at(rt, alloc, &[change]));
 }
 
 // Whether each of so many tends works.
@@ -82,7 +82,7 @@ impl Wide {
             place = place.saturating_add(1);
         }
         for part in changes.chunks(256) {
-            append(rt, alloc, engine, &batch_at(rt, alloc, part));
+            append(rt, engine, &batch_at(rt, alloc, part));
         }
         for _ in 1..self.puts {
             put_one(rt, alloc, engine, (place.saturating_sub(1), Some(1)));

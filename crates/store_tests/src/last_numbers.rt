@@ -38,7 +38,7 @@ fn record(rt: &impl Abort, alloc: Global, disk: &mut MemDisk, edit: &[u8], times
     let opened = Log::open(alloc, disk, 1, 11).expect(rt, "the slot");
     let mut log = opened.log;
     for _ in 0..times {
-        log.append(alloc, disk, edit).expect(rt, "a record");
+        log.append(disk, edit).expect(rt, "a record");
     }
 }
 
@@ -55,7 +55,7 @@ impl Case for Numbered {
         let next = (1u64 << 63).saturating_sub(below);
         record(rt, alloc, &mut disk, &edit_of(rt, alloc, (next, 0), &[]), 1);
         let mut engine = opened_with(rt, alloc, disk, &limits(rt, 0));
-        append(rt, alloc, &mut engine, &batch_at(rt, alloc, changes));
+        append(rt, &mut engine, &batch_at(rt, alloc, changes));
         let mut all = true;
         for want in answers {
             all = tend(rt, alloc, &mut engine) == *want && all;
@@ -154,7 +154,7 @@ fn put_batch(rt: &impl Abort, alloc: Global, disk: &mut MemDisk, log: Log, at: u
     let mut bytes = copy_of(rt, alloc, &at.to_be_bytes());
     let batch = batch_at(rt, alloc, &[(20, Some((at % 65_536) as u16))]);
     write(rt, &mut bytes, &batch.to_bytes(alloc).expect(rt, "memory"));
-    log.append(alloc, disk, &bytes).expect(rt, "a batch");
+    log.append(disk, &bytes).expect(rt, "a batch");
 }
 
 // A store of so many logs, each of one batch, the last of which is in no table. It has no tables,

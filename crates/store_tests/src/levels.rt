@@ -121,14 +121,14 @@ fn move_tables(rt: &impl Abort, alloc: Global, disk: &mut MemDisk) {
     }
     let opened = Log::open(alloc, disk, 1, 11).expect(rt, "the slot");
     let mut log = opened.log;
-    log.append(alloc, disk, &edit).expect(rt, "a record");
+    log.append(disk, &edit).expect(rt, "a record");
 }
 
 // Appends these batches, and flushes each two of them.
 fn grow(rt: &impl Abort, alloc: Global, engine: &mut Engine<MemDisk>, batches: &[&[Change]]) {
     for pair in batches.chunks(2) {
         for changes in pair {
-            append(rt, alloc, engine, &batch_at(rt, alloc, *changes));
+            append(rt, engine, &batch_at(rt, alloc, *changes));
         }
         is_so(rt, tends(rt, alloc, engine), "a flush");
     }
@@ -143,7 +143,7 @@ fn store(rt: &impl Abort, alloc: Global) -> Engine<MemDisk> {
     let mut engine = opened(rt, alloc, disk, LOG);
     grow(rt, alloc, &mut engine, &BATCHES[6..10]);
     for changes in &BATCHES[10..] {
-        append(rt, alloc, &mut engine, &batch_at(rt, alloc, *changes));
+        append(rt, &mut engine, &batch_at(rt, alloc, *changes));
     }
     engine
 }

@@ -50,26 +50,20 @@ fn open(rt: &impl Abort, alloc: Global, disk: &mut MemDisk, start: u64) -> Log {
 }
 
 // The refusal of an append, if it is refused.
-fn refusal(
-    rt: &impl Abort,
-    alloc: Global,
-    disk: &mut MemDisk,
-    log: &mut Log,
-    bytes: &[u8],
-) -> Option<LogError> {
-    let refused = log.append(alloc, disk, bytes).err();
+fn refusal(rt: &impl Abort, disk: &mut MemDisk, log: &mut Log, bytes: &[u8]) -> Option<LogError> {
+    let refused = log.append(disk, bytes).err();
     has_memory(rt, refused == Some(LogError::Memory));
     refused
 }
 
-fn append(rt: &impl Abort, alloc: Global, disk: &mut MemDisk, log: &mut Log, bytes: &[u8]) {
-    log.append(alloc, disk, bytes).expect(rt, "an append");
+fn append(rt: &impl Abort, disk: &mut MemDisk, log: &mut Log, bytes: &[u8]) {
+    log.append(disk, bytes).expect(rt, "an append");
 }
 
 fn log_of(rt: &impl Abort, alloc: Global, disk: &mut MemDisk, records: &[&[u8]]) -> Log {
     let mut log = Log::create(alloc, disk, FILE).expect(rt, "a log");
     for one in records {
-        append(rt, alloc, disk, &mut log, one);
+        append(rt, disk, &mut log, one);
     }
     log
 }
@@ -163,7 +157,7 @@ impl Case for AtGate {
         run(rt, &mut disk, &[SYNC, Act::Write(FILE, 22, &[1])]);
         crash(rt, alloc, &mut disk, self.0);
         let mut log = open(rt, alloc, &mut disk, 0);
-        append(rt, alloc, &mut disk, &mut log, b"last");
+        append(rt, &mut disk, &mut log, b"last");
         has(rt, alloc, &mut disk, &log, self.1)
     }
 }
@@ -264,7 +258,7 @@ impl Case for Appended {
     fn holds(&self, rt: &impl Abort, alloc: Global) -> bool {
         let mut disk = disk_with(rt, alloc, self.0);
         let mut log = open(rt, alloc, &mut disk, self.1);
-        append(rt, alloc, &mut disk, &mut log, b"z");
+        append(rt, &mut disk, &mut log, b"z");
         is_content(rt, &mut disk, FILE, Some(self.2))
     }
 }
@@ -296,8 +290,8 @@ impl Sized {
     fn grows(&self, rt: &impl Abort, alloc: Global, disk: &mut MemDisk) -> bool {
         let mut log = log_of(rt, alloc, disk, ONE);
         let bytes = filled(rt, alloc, 7, self.0);
-        let refused = refusal(rt, alloc, disk, &mut log, &bytes);
-        append(rt, alloc, disk, &mut log, b"last");
+        let refused = refusal(rt, disk, &mut log, &bytes);
+        append(rt, disk, &mut log, b"last");
         refused == self.1 && log.len() == self.2
     }
 }
@@ -332,9 +326,9 @@ const ONE: &[&[u8]] = &[b"one"];
 fn refuses(rt: &impl Abort, alloc: Global, disk: &mut MemDisk) -> bool {
     let mut log = log_of(rt, alloc, disk, ONE);
     run(rt, disk, &[REMOVE]);
-    let first = refusal(rt, alloc, disk, &mut log, b"two") == LOST;
-    let second = refusal(rt, alloc, disk, &mut log, b"two") == FAILED;
-    let third = refusal(rt, alloc, disk, &mut log, b"two") == FAILED;
+    let first = refusal(rt, disk, &mut log, b"two") == LOST;
+    let second = refusal(rt, disk, &mut log, b"two") == FAILED;
+    let third = refusal(rt, disk, &mut log, b"two") == FAILED;
     let all = first && second && third;
     all && log.len() == 1 && log.record(alloc, disk, 0).err() == FAILED
 }

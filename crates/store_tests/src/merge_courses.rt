@@ -94,7 +94,7 @@ impl<D: Disk + Drop> Run<D> {
 
     /// Appends a batch of these changes.
     pub fn append(&mut self, rt: &impl Abort, alloc: Global, changes: &[Change]) {
-        append_late(rt, alloc, &mut self.engine, &batch_at(rt, alloc, changes));
+        append_late(rt, &mut self.engine, &batch_at(rt, alloc, changes));
         self.plain.add(rt, self.engine.count().get(), changes);
     }
 

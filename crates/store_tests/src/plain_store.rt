@@ -247,24 +247,14 @@ pub fn commit<D: Disk + Drop>(engine: &mut Engine<D>) {
 }
 
 /// Appends this batch, which is not committed.
-pub fn append_late<D: Disk + Drop>(
-    rt: &impl Abort,
-    alloc: Global,
-    engine: &mut Engine<D>,
-    batch: &Batch,
-) {
-    let appended = engine.append(alloc, batch);
+pub fn append_late<D: Disk + Drop>(rt: &impl Abort, engine: &mut Engine<D>, batch: &Batch) {
+    let appended = engine.append(batch);
     is_so(rt, appended.is_ok(), "a batch more");
 }
 
 /// Appends this batch, which is committed.
-pub fn append<D: Disk + Drop>(
-    rt: &impl Abort,
-    alloc: Global,
-    engine: &mut Engine<D>,
-    batch: &Batch,
-) {
-    append_late(rt, alloc, engine, batch);
+pub fn append<D: Disk + Drop>(rt: &impl Abort, engine: &mut Engine<D>, batch: &Batch) {
+    append_late(rt, engine, batch);
     commit(engine);
 }
 

@@ -62,7 +62,7 @@ impl Run<MemDisk> {
         let number = self.engine.count().get().saturating_add(1);
         self.plain.add(rt, number, changes);
         let batch = batch_at(rt, alloc, changes);
-        let refused = self.engine.append(alloc, &batch).err();
+        let refused = self.engine.append(&batch).err();
         drop(batch);
         has_memory(rt, refused == Some(EngineError::Memory));
         commit(&mut self.engine);

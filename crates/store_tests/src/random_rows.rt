@@ -96,7 +96,7 @@ fn random_pages_beside_a_plain_store(rt: HostRuntime) {
     let (mut flushes, mut pages) = (0u64, 0u64);
     for count in 1..BATCHES + 1 {
         let changes = numbers.changes(rt, alloc);
-        append(rt, alloc, &mut engine, &batch_at(rt, alloc, &changes));
+        append(rt, &mut engine, &batch_at(rt, alloc, &changes));
         plain.add(rt, count, &changes);
         if tends(rt, alloc, &mut engine) {
             flushes = flushes.saturating_add(1);

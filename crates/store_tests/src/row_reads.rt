@@ -35,7 +35,7 @@ fn hundred(rt: &impl Abort, alloc: Global, keys: Keys, behind: u16) -> Vec<Chang
 fn fill(rt: &impl Abort, alloc: Global, engine: &mut Engine<WatchedDisk>, keys: Keys) {
     for behind in 0..keys.2 {
         let changes = hundred(rt, alloc, keys, behind);
-        append(rt, alloc, engine, &batch_at(rt, alloc, &changes));
+        append(rt, engine, &batch_at(rt, alloc, &changes));
     }
     is_so(rt, tends(rt, alloc, engine), "a flush");
 }

@@ -108,7 +108,7 @@ impl Lines {
 fn version_of(rt: &impl Abort, alloc: Global, edit: &[u8]) -> StoreVersion {
     let mut disk = MemDisk::new(alloc);
     let mut log = Log::create(alloc, &mut disk, 1).expect(rt, "a log");
-    log.append(alloc, &mut disk, edit).expect(rt, "a record");
+    log.append(&mut disk, edit).expect(rt, "a record");
     let opened = Log::open(alloc, &mut disk, 1, 0).expect(rt, "the log");
     let id = NodeId::new(1).expect(rt, "an id");
     replay(alloc, id, &opened).expect(rt, "a version")

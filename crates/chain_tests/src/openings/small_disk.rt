@@ -35,7 +35,7 @@ pub fn limits(rt: &impl Abort) -> Limits {
 
 pub fn append(rt: &impl Abort, alloc: Global, engine: &mut Engine<MemDisk>, changes: &[Change]) {
     let batch = batch_of(rt, alloc, changes);
-    is_so(rt, engine.append(alloc, &batch).is_ok(), "a batch more");
+    is_so(rt, engine.append(&batch).is_ok(), "a batch more");
 }
 
 /// The small disk: slots in files 1 and 2, the log of batches 1 to 3 in file 3, their table in file
