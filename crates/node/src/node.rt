@@ -1,10 +1,11 @@
 // A running node: its store, and the rules of a step over it.
 ghost use Rattle.std.specs.Prelude.{◌≡◌, ◌⊎◌, ◌↔◌, IsErrOf, ℕ, length, slice_index, false};
-ghost use Rattle.std.specs.Prelude.{◌<◌, OnOk};
+ghost use Rattle.std.specs.Prelude.{◌<◌, IfOk, OnOk};
 ghost use Rattle.disk.specs.{IsArmed, KeepsDisk};
 ghost use Rattle.chain_core.specs.{Machine, answer_to};
 ghost use Rattle.engine.specs.{IsAdrift, IsNearlyFull, IsOwned, TendsAlike};
 ghost use Rattle.engine.specs.{table_count};
+ghost use Rattle.engine.specs.Tended.TheVariants.{Idle};
 ghost use Rattle.node.specs.declared.stop.Stop.TheVariants.{Disk};
 ghost use Rattle.node.specs.Steps.{DiskAlwaysRefines, IfRefines, IsReady, NodeRefines};
 ghost use Rattle.node.specs.Steps.{NumbersRefine, disk_of, engine_of, node_limits};
@@ -48,6 +49,7 @@ impl<D: Disk + Drop> Node<D> {
             (IsNearlyFull (engine_of self.old) ⊎ IsAdrift D.Disk (engine_of self.old)) IsOwned }
         ensures works { OnOk result (IsReady self.new) }
         ensures limits { node_limits self.new ≡ node_limits self.old }
+        ensures rests { IfOk result (λ done. done ≡ Idle → disk_of self.new ≡ disk_of self.old) }
         ensures ends { IfRefines self.old (λ x n.
             TendRefines D.Disk self.old self.new x n result) }
     {
