@@ -7,7 +7,8 @@ use Rattle.disk.specs.declared.Disk.{Ghosts}
 use Rattle.disk.specs.{AlwaysLeaves, Contents, EndsOutOfRange, IsEnvironmental, IsFileOutcome}
 use Rattle.disk.specs.{IsLeftAt, IsSame, IsSameBut, KeepsDisk, State, seen}
 use Rattle.record_log.specs.declared.log.TheConstants.{MAX_RECORD}
-use Rattle.record_log.specs.{EndsInRange, HasFailed, LogHolds, count_of, file_of, gate_of, start_of}
+use Rattle.record_log.specs.{EndsInRange, HasFailed, LogHolds, MakesCalls, count_of, file_of}
+use Rattle.record_log.specs.{gate_of, start_of}
 use Rattle.version_edits.specs.declared.line.LogLine.{LogLine}
 use Rattle.batch_logs.specs.declared.batch_logs.BatchLog.{BatchLog}
 use Rattle.batch_logs.specs.declared.batch_logs.BatchLogs.{BatchLogs}
@@ -187,6 +188,8 @@ pub record AppendsBatch {D : Type 0} (g : Ghosts D) (was : BatchLogs) (batch : B
   pub counts : MatchResult result
       (λ _. AreUsable now × (next_number now ≡ next_number was + 1))
       (λ e. (next_number now ≡ next_number was) × IsEnd e)
+  -- it calls the disk four times
+  pub calls : MakesCalls g 4 old new result
 
 -- what the beginning of a log in a new file promises
 pub record BeginsLog {D : Type 0} (g : Ghosts D) (file : ℕ) (was : BatchLogs) (old : D)
@@ -207,3 +210,5 @@ pub record BeginsLog {D : Type 0} (g : Ghosts D) (file : ℕ) (was : BatchLogs) 
   -- a crash at any moment since the call began leaves each other file as it was
   pub any_moment : g.is_honest old → AlwaysLeaves g old new
       (IsLeftAt (g.state old) file (λ left. Unit {0}))
+  -- it calls the disk twice
+  pub calls : MakesCalls g 2 old new result

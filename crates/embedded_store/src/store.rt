@@ -29,7 +29,7 @@ impl<D: Disk + Drop> EmbeddedStore<D> {
     ghost use Rattle.engine.specs.{AreOrdered, ChangesList, ChangesSnapshots, IsAdrift};
     ghost use Rattle.engine.specs.{IsCloseAnswer, IsNearlyFull, IsTendFile};
     ghost use Rattle.engine.specs.{RaisesFactsAtMost, ReadsEngine, raised_facts};
-    ghost use Rattle.engine.specs.{look_ups, with_opened, with_closed};
+    ghost use Rattle.engine.specs.{MakesCalls, look_ups, with_opened, with_closed};
     ghost use Rattle.engine.specs.Calls.{TendsAsDue};
     ghost use Rattle.compaction.specs.Outputs.{IsSameBeyond};
     ghost use Rattle.engine.specs.EngineError.TheVariants.{Disk, Exhausted, Memory};
@@ -63,6 +63,7 @@ impl<D: Disk + Drop> EmbeddedStore<D> {
         ensures refused { (list : List BatchContent) → HoldsBatches D.Disk self.old list →
             IfErr result (λ e. IsEnvironmental Disk Memory e
             ⊎ ((e ≡ Exhausted) × (MAX_NUMBER ≤ length list))) }
+        ensures calls { MakesCalls D.Disk 4 (store_disk self.old) (store_disk self.new) result }
     {
         let number = self.engine.append(batch)?;
         let _ = self.engine.count(); // law: the numbers are in order

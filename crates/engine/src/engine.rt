@@ -65,6 +65,7 @@ impl<D: Disk + Drop> Engine<D> {
     ghost use Rattle.kv_types.specs.declared.bounds.TheConstants.{MAX_NUMBER};
     ghost use Rattle.kv_types.specs.{BatchContent, place};
     ghost use Rattle.disk.specs.{contents, IsEnvironmental, IsSameBut, IsStill};
+    ghost use Rattle.record_log.specs.{MakesCalls};
     ghost use Rattle.engine.specs.Calls.{ChangesList, ExplainsRefusal, IsAdrift, IsJustOpened};
     ghost use Rattle.engine.specs.Calls.{IsNewEngine, IsOpened, IsTendOf, TendsAsDue};
     ghost use Rattle.engine.specs.Calls.{KeepsOwnedDisk, OfEachList, OpensEngineFor, ReadsEngine};
@@ -186,6 +187,7 @@ impl<D: Disk + Drop> Engine<D> {
         ensures met { OfEachList D.Disk self.old (λ list. IfErr result
             (λ e. IsEnvironmental Disk Memory e
             ⊎ ((e ≡ EngineError.Exhausted) × (MAX_NUMBER ≤ (look_ups self.old).count)))) }
+        ensures calls { MakesCalls D.Disk 4 (engine_disk self.old) (engine_disk self.new) result }
     {
         held_files_are_left(); // law: what the disk of open files reads as, and leaves
         merges_outlive_calls::<D>(); // law: a merge outlives calls that leave its files

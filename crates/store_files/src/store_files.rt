@@ -5,6 +5,7 @@ ghost use Rattle.std.specs.Option.{option_flatten};
 ghost use Rattle.kv_types.specs.declared.bounds.TheConstants.{MAX_VALUE};
 ghost use Rattle.kv_types.specs.{map_of, place};
 ghost use Rattle.disk.specs.{IsEnvironmental, IsSame, IsSameBut, KeepsDisk};
+ghost use Rattle.record_log.specs.{MakesCalls};
 ghost use Rattle.batch_logs.specs.BatchLogs.{HasFullLog, newest_file};
 ghost use Rattle.store_files.specs.BesideFiles.{with_free};
 ghost use Rattle.store_tables.specs.declared.error.EngineError.TheVariants.{Disk, Memory};
@@ -120,7 +121,8 @@ impl StoreFiles {
         ensures counts { MatchResult result
             (λ _. AreUsableFiles self.new × (batch_count self.new ≡ batch_count self.old + 1))
             (λ e. (batch_count self.new ≡ batch_count self.old) × IsEnd e) }
-        ensures facts { HasSameFacts self.old self.new }
+        ensures facts { HasSameFacts self.old self.new
+            × MakesCalls D.Disk 4 disk.old disk.new result }
         ensures plans { KeepsPlans D.Disk (λ list. list ++ batch.now ∷ []) disk.old disk.new
             self.old self.new result }
     {

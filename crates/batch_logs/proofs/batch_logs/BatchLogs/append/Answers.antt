@@ -23,6 +23,7 @@ returns-in_err-spell_record g c = record {
   lines = refl;
   room = search rules;
   counts = refuses c.from_residual.result _ _ c.from_residual.ensures.1 (refl, tt);
+  calls = search rules;
 }
 
 -- the log works and the record fits, so it reports external errors alone
@@ -59,6 +60,7 @@ returns-in_err-append g c =
           c.append.new.self c.deref.result.now c.in_err-append.ensures.told.1 in
           refuses c.from_residual-in_err-append.result _ _ c.from_residual-in_err-append.ensures.1
           (ap (λ n. self.newest.first + n) same, log_ends c.in_err-append.field-0.0);
+      calls = search rules;
     }
 
 -- the record is in the newest log
@@ -94,4 +96,5 @@ returns g c =
       lines = search rules;
       room = search rules;
       counts = search rules;
+      calls = search rules;
     }

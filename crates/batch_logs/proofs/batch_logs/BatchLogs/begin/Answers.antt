@@ -49,6 +49,7 @@ returns g c =
         begun_lines self after c.args.file b,
       );
       any_moment = search rules;
+      calls = search rules;
     }
 
 -- where it is refused, the logs are as they were, and no call of the disk was made
@@ -66,6 +67,7 @@ returns-in_err-reserve g c =
       any_moment = λ honest.
           at_start (λ left. Unit {0}) c.args.file (g.D.Disk.state c.args.disk.now)
           (g.D.Disk.past c.args.disk.now) (λ left now. tt);
+      calls = search rules;
     }
 
 pub returns-in_err-log : goal.returns-in_err-log
@@ -80,4 +82,5 @@ returns-in_err-log g c =
         log_ends c.in_err-log.field-0.0,
       );
       any_moment = search rules;
+      calls = search rules;
     }

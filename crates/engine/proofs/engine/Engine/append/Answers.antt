@@ -94,7 +94,7 @@ returns-clause-changes g c =
           h.held.known.usable
           (apart.tables (d.state (engine_disk old)) store list h.held.known)
           (c.append.ensures.kept.honest.1 honest) (c.append.ensures.kept.files honest)
-          c.append.ensures.facts.version plans.free held.unused))
+          c.append.ensures.facts.0.version plans.free held.unused))
           (λ honest w.
           let held = (c.in_ok-append.ensures.meant list honest w.was).list in
           let meant = w.was.hold.known in
@@ -102,7 +102,7 @@ returns-clause-changes g c =
           (λ m plan is it. log_leaves d lasts apart a b store later meant.tables m plan it
           meant.usable (apart.tables w.was.meant store list meant)
           (c.append.ensures.kept.honest.1 honest) (c.append.ensures.kept.files honest)
-          c.append.ensures.facts.version plans.free
+          c.append.ensures.facts.0.version plans.free
           (apart.unused (d.state (inner_disk b)) later (more list) held)));
       any_moment = λ list h.
           (c.append.ensures.appended list h.reads.honest
