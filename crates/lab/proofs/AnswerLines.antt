@@ -24,7 +24,7 @@ use Rattle.lab.specs.Events.{arrived, dropped_lines, epoch_in, first_arrives, fr
 use Rattle.lab.specs.Events.{frame_lines}
 use Rattle.lab.specs.Events.{later_arrivals, turn_trace}
 use Rattle.lab.specs.SimNodes.{Choice}
-use Rattle.lab.specs.Outcomes.{adopted_lines, sent_as, sent_lines}
+use Rattle.lab.specs.OutcomeLines.{adopted_lines, sent_as, sent_lines}
 use Rattle.lab.specs.Worlds.{frames_in, frames_of_step}
 
 -- a frame that is sent has the line of the model's

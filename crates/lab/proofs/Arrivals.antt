@@ -1,15 +1,17 @@
 -- Lines of a node that arrive, one after another.
 use Rattle.std.proofs.Common.{◌≡◌, ℕ, ◌+◌, Bool, List, [], ◌∷◌, ◌++◌, length, Option, Some}
 use Rattle.std.proofs.Common.{None, true, false, refl, sym, ap, subst, ◌∙◌, arith}
-use Rattle.std.proofs.Common.{length-append, append-nil}
+use Rattle.std.proofs.Common.{length-append, append-nil, append_assoc, map}
+use Rattle.std.proofs.lemmas.List.{map-append}
 use Rattle.std.specs.Prelude.{All, not}
 use Rattle.std.proofs.lemmas.List.Elements.{All-from_recursion, All-push}
 use Rattle.link_messages.specs.{frame_bytes}
 use Rattle.carriers.specs.declared.Peer.TheVariants.{Client, Node}
 use Rattle.carriers.specs.{Transmission, one_transmission, reply_frame}
+use Rattle.node.specs.declared.Reply.{Reply}
 use Rattle.lab.specs.declared.report.Line.{Line}
 use Rattle.lab.specs.declared.report.Line.TheVariants as line
-use Rattle.lab.specs.Arrivals.{LineArrives, RepliesArrive, as_lines}
+use Rattle.lab.specs.Arrivals.{LineArrives, RepliesArrive, RepliesFollow, as_lines}
 use Rattle.lab.specs.Events.{arrived, reply_count}
 use Rattle.lab.specs.Transmissions.{line_sent, replies_sent}
 
@@ -51,7 +53,7 @@ arrived_other told (other ∷ lines) more same =
     ap (λ (l : List Line). other ∷ l) (arrived_other told lines more same)
 
 -- how many replies two lists have
-count_both : (a b : List Line) → reply_count (a ++ b) ≡ reply_count a + reply_count b
+pub count_both : (a b : List Line) → reply_count (a ++ b) ≡ reply_count a + reply_count b
 count_both [] b = omega arith
 count_both (line.Replied reply ∷ a) b = omega (arith, count_both a b)
 count_both (other ∷ a) b = count_both a b
@@ -143,3 +145,99 @@ module _ (loses : Type 0) (asks more_asks : List Transmission → Type 0) (node 
   line_more other (Some it) is asked =
       subst (λ (l : Line). RepliesArrive loses more_asks node (given ++ other ∷ []) (got ++ l ∷ []))
       (sym is) (other_more other refl refl refl asked)
+
+-- ---- behind lines that are no replies
+
+-- those are kept
+pass_others : (told : List Bool) (before given : List Line) → reply_count before ≡ 0 →
+    arrived told (before ++ given) ≡ before ++ arrived told given
+pass_others told [] given none = refl
+pass_others told (line.Replied reply ∷ before) given none = absurd (omega (arith, none))
+pass_others told (other ∷ before) given none =
+    ap (λ (l : List Line). other ∷ l) (pass_others told before given none)
+
+-- and are not carried
+skip_others : (node : ℕ) (told : List Bool) (before given : List Line) → reply_count before ≡ 0 →
+    replies_sent node told (before ++ given) ≡ replies_sent node told given
+skip_others node told [] given none = refl
+skip_others node told (line.Replied reply ∷ before) given none = absurd (omega (arith, none))
+skip_others node told (other ∷ before) given none = skip_others node told before given none
+
+pub arrive_behind : (loses : Type 0) (asks : List Transmission → Type 0) (node : ℕ)
+    (before given got : List Line) → reply_count before ≡ 0 →
+    RepliesArrive loses asks node given got →
+    RepliesArrive loses asks node (before ++ given) (before ++ got)
+arrive_behind loses asks node before given got none have = record {
+  told = have.told;
+  each = omega (arith, have.each, count_both before given, none);
+  kept = ap (λ (l : List Line). before ++ l) have.kept
+      ∙ sym (pass_others have.told before given none);
+  all = have.all;
+  asked = subst asks (sym (skip_others node have.told before given none)) have.asked;
+}
+
+-- ---- replies that are carried behind other lines
+
+-- the lines of replies
+abbrev pub replied : List Reply → List Line
+replied replies = map (λ reply. line.Replied reply) replies
+
+pub none_follow : (faithful loses : Type 0) (asks : List Transmission → Type 0) (node : ℕ)
+    (before : List Line) → asks [] → RepliesFollow faithful loses asks node [] before before
+none_follow faithful loses asks node before none = record {
+  heard = [];
+  lines = sym (append-nil before);
+  few = omega arith;
+  arrive = λ _. none_arrive loses asks node none;
+}
+
+-- the bytes of a reply go to the client, and are lost or not
+abbrev pub reply_sent : ℕ → Reply → Bool → List Transmission
+reply_sent node reply lost =
+    one_transmission (Node node) Client (frame_bytes (reply_frame reply)) lost
+
+-- one reply more
+module _ (faithful loses : Type 0) (asks more_asks : List Transmission → Type 0) (node : ℕ)
+    (replies : List Reply) (before now : List Line) (reply : Reply)
+    (have : RepliesFollow faithful loses asks node replies before now) where
+  -- .. which arrived
+  pub follow_heard : (got : Reply) (lines : List Line) → lines ≡ now ++ line.Replied got ∷ [] →
+      (faithful → got ≡ reply) →
+      (faithful → (m : List Transmission) → asks m → more_asks (m ++ reply_sent node reply false)) →
+      RepliesFollow faithful loses more_asks node (replies ++ reply ∷ []) before lines
+  follow_heard got lines are is asked = record {
+    heard = have.heard ++ got ∷ [];
+    lines = are ∙ ap (λ (l : List Line). l ++ line.Replied got ∷ []) have.lines
+        ∙ append_assoc before (replied have.heard) (line.Replied got ∷ [])
+        ∙ ap (λ (l : List Line). before ++ l)
+        (sym (map-append (λ (it : Reply). line.Replied it) have.heard (got ∷ [])));
+    few = omega (
+      arith,
+      have.few,
+      length-append have.heard (got ∷ []),
+      length-append replies (reply ∷ []),
+    );
+    arrive = λ faithful.
+        rw (
+          map-append (λ (it : Reply). line.Replied it) have.heard (got ∷ []),
+          map-append (λ (it : Reply). line.Replied it) replies (reply ∷ []),
+        ) (line_more loses asks more_asks node (replied replies) (replied have.heard)
+        (have.arrive faithful) (line.Replied reply) (Some (line.Replied got))
+        (ap (λ (it : Reply). line.Replied it) (is faithful)) (asked faithful));
+  }
+
+  -- .. or did not
+  pub follow_lost : (faithful → loses) →
+      (faithful → (m : List Transmission) → asks m → more_asks (m ++ reply_sent node reply true)) →
+      RepliesFollow faithful loses more_asks node (replies ++ reply ∷ []) before now
+  follow_lost may asked = record {
+    heard = have.heard;
+    lines = have.lines;
+    few = omega (arith, have.few, length-append replies (reply ∷ []));
+    arrive = λ faithful.
+        rw (map-append (λ (it : Reply). line.Replied it) replies (reply ∷ []))
+        (subst (RepliesArrive loses more_asks node (replied replies ++ line.Replied reply ∷ []))
+        (append-nil (replied have.heard))
+        (line_more loses asks more_asks node (replied replies) (replied have.heard)
+        (have.arrive faithful) (line.Replied reply) None (may faithful) (asked faithful)));
+  }

@@ -5,6 +5,8 @@ use Rattle.std.proofs.Common.{inl, refl, subst, sym, ◌∙◌}
 use Rattle.std.specs.Prelude.{IsSome}
 use Rattle.kv_types.specs.declared.Limits.{Limits}
 use Rattle.chain_core.specs.{Machine}
+use Rattle.chain_model.specs.declared.DropReason.{DropReason}
+use Rattle.chain_model.specs.declared.DropReason.TheVariants as reason
 use Rattle.disk.specs.declared.Fault.{Fault}
 use Rattle.disk.specs.declared.Junk.{Junk}
 use Rattle.disk.specs.declared.Mark.TheVariants.{Crashed}
@@ -25,7 +27,8 @@ use Rattle.lab.specs.declared.node_state.NodeState.TheVariants.{Up, Down}
 use Rattle.lab.specs.Disks.{HasGrown, IsMarkedSo, junk_at_end}
 use Rattle.lab.specs.Events.{line_cause}
 use Rattle.lab.specs.Outcomes.{DiskFits, DropsResting, HasCrashed, HasDispatched, IsAnswerAtRest}
-use Rattle.lab.specs.Outcomes.{IsIgnored, MarksFit, OutcomeRefines, Rests, RestsOn, StateFollows}
+use Rattle.lab.specs.Outcomes.{IsDrop, IsIgnored, IsOutcomeOf, IsStopOutcome, MarksFit}
+use Rattle.lab.specs.Outcomes.{OutcomeRefines, Rests, RestsOn, StateFollows}
 use Rattle.lab.specs.Outcomes.{StopsByItself, TendsNot, has_struck_in, input_junk}
 use Rattle.lab.specs.SimNodes.{IsDown, StateHasLimits, StateIsReady, StateIsSound, StateRefines}
 use Rattle.lab.specs.SimNodes.{disk_in}
@@ -77,14 +80,16 @@ into_box g limits it node_input old new own did is took =
 pub answered_only : {D : Type 0} (g : Ghosts D) (limits : Limits) (it : Fault)
     (node_input : NodeInput)
     (old : NodeState D g) (output : Output) → StateIsReady old →
-    IsDown old ⊎ IsSome output.dropped → IsIgnored old node_input →
+    IsOutcomeOf node_input (done.Answered output) → IsDown old ⊎ IsSome output.dropped →
+    IsIgnored old node_input →
     ((x : ℕ) (n : Machine) → StateRefines g.is_honest g.state old x n →
     OutcomeRefines g.is_honest g.state it (has_struck_in g.past it (disk_in old) old) x n
     node_input old old (done.Answered output)) →
     StateFollows g.is_honest g.state g.failures g.past old node_input old →
     HasDispatched g limits it node_input old old (done.Answered output)
-answered_only g limits it node_input old output ready may ignored refines follows = record {
+answered_only g limits it node_input old output ready outcome may ignored refines follows = record {
   ready = ready;
+  outcome = outcome;
   refines = refines;
   disk = λ honest. record {
     spared = idle_in g it old;
@@ -99,6 +104,18 @@ answered_only g limits it node_input old output ready may ignored refines follow
   limits = λ has. has;
 }
 
+-- what is dropped has a reason
+pub some_drop : (why : DropReason) (output : Output) → IsDrop why output → IsSome output.dropped
+some_drop why output is = subst (λ (d : Option DropReason). IsSome d) (sym is.dropped) refl
+
+-- a node that stopped has such an outcome
+pub by_stop : (P : StepOutcome → Type 0) → ((cause : Option Cause) → P (done.Stopped cause)) →
+    (did : StepOutcome) → IsStopOutcome did → P did
+by_stop P of (done.Answered output) is = absurd is
+by_stop P of (done.Started epoch count committed) is = absurd is
+by_stop P of (done.Stopped cause) is = of cause
+by_stop P of (done.Tended answer) is = absurd is
+
 -- a node that is down takes what does not start it
 pub answered_at_rest : {D : Type 0} (g : Ghosts D) (limits : Limits) (it : Fault)
     (node_input : NodeInput) (disk : D)
@@ -106,20 +123,20 @@ pub answered_at_rest : {D : Type 0} (g : Ghosts D) (limits : Limits) (it : Fault
     HasDispatched g limits it node_input (Down disk) (Down disk) (done.Answered output)
 answered_at_rest g limits it (to_node.Step inp) disk output other is =
     answered_only g limits it (to_node.Step inp) (Down disk) output (ready_down g disk)
-    (inl tt) tt
+    tt (inl tt) tt
     (λ x n r. Rests r.2 r (output, refl, is n)) refl
 answered_at_rest g limits it (to_node.BadFrame why) disk output other is =
     answered_only g limits it (to_node.BadFrame why) (Down disk) output (ready_down g disk)
-    (inl tt) tt
+    (some_drop reason.NotRunning output is) (inl tt) tt
     (λ x n r. DropsResting r.2 r (output, refl, is)) refl
 answered_at_rest g limits it to_node.Tend disk output other is =
     answered_only g limits it to_node.Tend (Down disk) output (ready_down g disk)
-    (inl tt) tt
+    is (inl tt) tt
     (λ x n r. TendsNot r.2 r (output, refl, is)) refl
 answered_at_rest g limits it to_node.Start disk output other is = absurd (other refl)
 answered_at_rest g limits it (to_node.Stop junk) disk output other is =
     answered_only g limits it (to_node.Stop junk) (Down disk) output (ready_down g disk)
-    (inl tt) tt
+    is (inl tt) tt
     (λ x n r. RestsOn r.2 r (output, refl, is)) refl
 
 -- the disk of a state that refines a machine, or is sound, is honest
@@ -182,7 +199,7 @@ module _ {D : Type 0} (g : Ghosts D) (it : Fault) (was new : NodeState D g) (did
 
     -- so it took an input that does not stop it
     pub halted : (given : Limits) (node_input : NodeInput) → input_junk node_input ≡ None →
-        StateIsReady new →
+        StateIsReady new → IsOutcomeOf node_input did →
         ((b : Bool) → ((b ≡ true) ↔ HasStruck g.marks g.past left) → g.is_honest left →
         IsMarkedSo g.state g.past g.marks
         ((length (g.past left), Crashed (junk_at_end it b)) ∷ g.marks left) (disk_in new)) →
@@ -195,9 +212,11 @@ module _ {D : Type 0} (g : Ghosts D) (it : Fault) (was new : NodeState D g) (did
         ((x : ℕ) (n : Machine) → StateRefines g.is_honest g.state was x n →
         HasGrown g.past (disk_in was) left) →
         HasDispatched g given it node_input was new did
-    halted given node_input unstopped ready stamped forgets limits refines long follows grows =
+    halted given node_input unstopped ready outcome stamped forgets limits refines long follows
+        grows =
         record {
           ready = ready;
+          outcome = outcome;
           refines = refines;
           disk = λ honest. subst (λ (j : Option Junk).
               DiskFits g.state g.failures g.past j it struck did (disk_in was) new) (sym unstopped)

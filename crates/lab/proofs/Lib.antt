@@ -25,4 +25,5 @@ mod Histories
 mod Freshness
 mod Reports
 mod FaultMarks
+mod OutcomeLines
 mod LinesSoFarLemmas

@@ -4,6 +4,7 @@ use Rattle.std.proofs.Common.{◌≡◌, ℕ, zero, suc, ◌<◌, List, [], ◌�
 use Rattle.std.proofs.Common.{slice_set, Bool, inl, inr, true}
 use Rattle.std.proofs.Common.{refl, sym, ap, subst, ◌∙◌}
 use Rattle.std.proofs.lemmas.Bool.{false≢true}
+use Rattle.std.proofs.Math.Seq.{map-set_same}
 use Rattle.std.proofs.lemmas.List.{get_or_default, length-set}
 use Rattle.std.proofs.lemmas.List.Elements.{All-get_or, All-set}
 use Rattle.std.specs.List.{insert, remove}
@@ -29,6 +30,13 @@ use Rattle.lab.specs.Disks.{IsCrashOf}
 use Rattle.lab.specs.Outcomes.{HasCrashed, HasDispatched, HasTended, Halts, IsTendedAnswer}
 use Rattle.lab.specs.Outcomes.{StateFollows, Tends, TendsNot, has_struck_in, rises_in}
 use Rattle.lab.specs.SimNodes.{Choice, StateHasLimits, StateRefines, disk_in}
+use Rattle.lab.specs.LinesSoFar.{sim_node_ids}
+use Rattle.lab.specs.declared.delivery.Posted.{Posted}
+use Rattle.lab.specs.declared.event.Event.{Event}
+use Rattle.lab.specs.declared.report.Line.{Line}
+use Rattle.lab.specs.Events.{epoch_in}
+use Rattle.lab.specs.OutcomeLines.{outcome_lines, sent_by}
+use Rattle.lab.specs.Posting.{HasPosted}
 use Rattle.lab.specs.Worlds.{HasMoved, HaveLimits, IsIndexOf, TendsAsChosen}
 use Rattle.lab.proofs.Outcomes.{TellsChosen}
 use Rattle.lab.proofs.Rises.{RaisesAsTold}
@@ -105,6 +113,18 @@ tended_so {D = D} {g = g} it struck x n old new did choice before (TendsNot off 
     x n) runs is).core.running))
 
 module _ {D : Type 0} {g : Ghosts D} where
+  -- Node x took this input for this event: the frames that it sent are posted, and these are its
+  -- lines.
+  pub record HasStepped (sims : List (SimNode D g)) (posted : List Posted) (x : ℕ)
+      (node_input : NodeInput)
+      (event : Event) (given : Limits) (lines : List Line) (now : List (SimNode D g))
+      (more : List Posted)
+      : Type 0 where
+    pub did : StepOutcome
+    pub took : HasMoved sims x node_input event.fault given did now
+    pub sent : HasPosted posted x (sent_by did) more
+    pub traced : lines ≡ outcome_lines x (epoch_in event.kind) (length posted) did
+
   -- whether the fault struck between these states of a node
   abbrev pub struck_by : Fault → SimNode D g → SimNode D g → Bool
   struck_by it was now = has_struck_in g.past it (disk_in was.state) now.state
@@ -137,6 +157,16 @@ module _ {D : Type 0} {g : Ghosts D} where
       let Has : SimNode D g → Type 0 = λ sim. StateHasLimits sim.state limits in
       subst (λ (l : List (SimNode D g)). All Has l) (sym t.others) (All-set Has old t.index t.sim
       (t.dispatched.limits (All-get_or Has old t.index t.sim t.at.within all)) all)
+
+  -- .. and its id
+  pub same_ids : (old : List (SimNode D g)) (x : ℕ) (node_input : NodeInput) (it : Fault)
+      (limits : Limits)
+      (did : StepOutcome) (now : List (SimNode D g)) → HasMoved old x node_input it limits did now →
+      sim_node_ids now ≡ sim_node_ids old
+  same_ids old x node_input it limits did now t =
+      ap sim_node_ids t.others
+      ∙ map-set_same (λ (s : SimNode D g). s.id) old t.index t.sim t.sim
+      (t.id ∙ sym (t.at.id t.sim))
 
   -- .. and there are as many nodes as before
   pub as_many : (old : List (SimNode D g)) (x : ℕ) (node_input : NodeInput) (it : Fault)

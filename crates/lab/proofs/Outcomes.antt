@@ -38,7 +38,7 @@ use Rattle.lab.specs.Events.{reply_line, reply_lines, reported_cause, line_cause
 use Rattle.lab.specs.SimNodes.{StateRefines, Choice}
 use Rattle.lab.specs.Outcomes.{down_answer, IsAnswer, IsDrop, HasAnswered}
 use Rattle.lab.specs.Outcomes.{HasHandled, Answers, Ends, Rests, StopsByItself}
-use Rattle.lab.specs.Outcomes.{adopted_lines, outcome_lines, sent_by}
+use Rattle.lab.specs.OutcomeLines.{adopted_lines, outcome_lines, sent_by}
 use Rattle.lab.specs.Worlds.{frames_of_step}
 use Rattle.lab.proofs.AnswerLines.{TurnsSo, answered_lines, counts_answer, lines_same}
 use Rattle.lab.proofs.AnswerLines.{no_adoption}

@@ -12,7 +12,7 @@ use Rattle.chain_core.specs.declared.Sent.{Sent}
 use Rattle.chain_core.specs.{Machine}
 use Rattle.lab.specs.declared.delivery.Posted.{Posted}
 use Rattle.lab.specs.declared.report.Line.{Line}
-use Rattle.lab.specs.Outcomes.{sent_line, sent_lines}
+use Rattle.lab.specs.OutcomeLines.{sent_line, sent_lines}
 use Rattle.lab.specs.Posting.{FramesFollow, HasPosted, IsPosted}
 
 -- two pairs of lists, joined

@@ -31,11 +31,11 @@ use Rattle.lab.specs.Posting.{FramesFollow}
 use Rattle.lab.specs.Traces.{modelled_from}
 use Rattle.lab.specs.Transmissions.{frame_sent, replies_sent}
 use Rattle.lab.specs.Worlds.{FollowRun, HasApplied, HasBegunEvent, HasFollowed, HasKept, HasNoNode}
-use Rattle.lab.specs.Worlds.{HasRun, HasStepped, HaveLimits, NodesRefine, RunRefines}
+use Rattle.lab.specs.Worlds.{HasRun, HaveLimits, NodesRefine, RunRefines}
 use Rattle.lab.specs.Worlds.{SimNodeRefines, WorldHasEnded, WorldKeepsLimits, WorldRun}
 use Rattle.lab.specs.Worlds.{asked_after, event_record, event_records, extended, outcome_after}
 use Rattle.lab.proofs.Growing.{follow_limited, length-steps, nodes-push, run-push}
-use Rattle.lab.proofs.Moves.{limited}
+use Rattle.lab.proofs.Moves.{HasStepped, limited}
 use Rattle.lab.proofs.Transmissions.{carried_both}
 use Rattle.lab.proofs.Worlds.{AlwaysInOrder, FitsDelivery, Grows, IsNext, lost_after, node_after}
 use Rattle.lab.proofs.Worlds.{nothing_after, refined_after}

@@ -1,7 +1,6 @@
 -- A step of a world's node is a step of the model's.
 use Rattle.std.proofs.Common.{◌≡◌, ℕ, suc, ◌+◌, ◌≤◌, List, [], ◌∷◌, ◌++◌, length, get_or, slice_set}
-use Rattle.std.proofs.Common.{Bool, true, false}
-use Rattle.std.proofs.Common.{refl, sym, ap, ap₂, subst, ◌∙◌, arith, append-nil}
+use Rattle.std.proofs.Common.{Bool, true, false, refl, sym, ap, ap₂, subst, ◌∙◌, arith, append-nil}
 use Rattle.std.proofs.Math.Seq.{map-set_same}
 use Rattle.std.specs.Prelude.{All, Option}
 use Rattle.disk.specs.declared.disk.Disk.{Ghosts}
@@ -35,12 +34,13 @@ use Rattle.carriers.specs.{DeliveryWasLost, Transmission}
 use Rattle.lab.specs.Arrivals.{RepliesArrive}
 use Rattle.lab.specs.Deliveries.{IsDeliverable, IsDeliveryOf}
 use Rattle.lab.specs.Outcomes.{DiskFits, IsExplained, MarksFit, OutcomeRefines, StateFollows}
-use Rattle.lab.specs.Outcomes.{has_struck_in, sent_by}
+use Rattle.lab.specs.Outcomes.{has_struck_in}
+use Rattle.lab.specs.OutcomeLines.{sent_by}
 use Rattle.lab.specs.Disks.{DiskFollows, HasGrown, StaysReliable, junk_of}
 use Rattle.lab.specs.Posting.{FramesFollow}
 use Rattle.lab.specs.Traces.{modelled_from}
 use Rattle.lab.specs.Transmissions.{frame_sent, replies_sent, transmissions_of}
-use Rattle.lab.specs.Worlds.{FollowRun, HasNoNode, HasStepped, NodesFollow, PostedRefines}
+use Rattle.lab.specs.Worlds.{FollowRun, HasNoNode, NodesFollow, PostedRefines}
 use Rattle.lab.specs.Worlds.{RunRefines, SimNodeRefines, WorldRun, asked_after, extended}
 use Rattle.lab.specs.Worlds.{frames_in, frames_of_step, outcome_after}
 use Rattle.lab.proofs.AnswerLines.{counts_arrived}
@@ -52,7 +52,7 @@ use Rattle.lab.proofs.Dispatching.{sound}
 use Rattle.lab.proofs.SimNodes.{ids_of, has_one, refined_at}
 use Rattle.lab.proofs.Growing.{grown, run-push}
 use Rattle.lab.proofs.Addressees.{IsNumbered, addressed, all_numbered, back, kept_all}
-use Rattle.lab.proofs.Moves.{crash_of, honest_of, struck_by, tended_so}
+use Rattle.lab.proofs.Moves.{HasStepped, crash_of, honest_of, struck_by, tended_so}
 use Rattle.lab.proofs.Rises.{at_rest, no_rise, not_lost}
 use Rattle.lab.proofs.Transmissions.{sent_alone, sent_by_both}
 

@@ -1,6 +1,8 @@
 -- What arrives of the lines of a node: its replies may be lost on their way to the client.
-use Rattle.std.specs.Prelude.{◌≡◌, ℕ, List, [], ◌∷◌, All, Bool, Option, Some, None, length, true}
+use Rattle.std.specs.Prelude.{◌≡◌, ◌≤◌, ℕ, List, [], ◌∷◌, ◌++◌, All, Bool, Option, Some, None}
+use Rattle.std.specs.Prelude.{length, map, true}
 use Rattle.carriers.specs.{Transmission}
+use Rattle.node.specs.declared.Reply.{Reply}
 use Rattle.lab.specs.declared.report.Line.{Line}
 use Rattle.lab.specs.declared.report.Line.TheVariants as line
 use Rattle.lab.specs.Events.{arrived, reply_count}
@@ -26,3 +28,13 @@ pub record RepliesArrive (loses : Type 0) (asks : List Transmission → Type 0) 
   pub kept : got ≡ arrived told given
   pub all : (loses → ⊥) → All (λ b. b ≡ true) told
   pub asked : asks (replies_sent node told given)
+
+-- The replies of a node were carried, and each that arrived has a line behind those that there
+-- were: by a faithful carrier these arrive of them, and by any at most so many.
+pub record RepliesFollow (faithful loses : Type 0) (asks : List Transmission → Type 0) (node : ℕ)
+    (replies : List Reply) (before now : List Line) : Type 0 where
+  pub heard : List Reply
+  pub lines : now ≡ before ++ map (λ reply. line.Replied reply) heard
+  pub few : length heard ≤ length replies
+  pub arrive : faithful → RepliesArrive loses asks node
+      (map (λ reply. line.Replied reply) replies) (map (λ reply. line.Replied reply) heard)

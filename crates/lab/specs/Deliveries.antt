@@ -41,6 +41,16 @@ pub record IsNotice (cs : Configurations) (node epoch x : ℕ) (node_input : Nod
   pub within : epoch < length cs
   pub is : node_input ≡ to_node.Step (input.Notice epoch (at_epoch cs epoch))
 
+-- the event has a request or a frame, which a carrier carries
+abbrev pub IsCarriedEvent : EventKind → Type 0
+IsCarriedEvent (Submit node batch) = Unit {0}
+IsCarriedEvent (Get node key at) = Unit {0}
+IsCarriedEvent (Rows node range at) = Unit {0}
+IsCarriedEvent (Open node at) = Unit {0}
+IsCarriedEvent (Close node number) = Unit {0}
+IsCarriedEvent (Deliver p) = Unit {0}
+IsCarriedEvent kind = ⊥
+
 -- what events deliver after these frames, where this is the list of configurations
 module _ (cs : Configurations) (frames : List (model_frame.Message BatchContent)) where
   -- the event in place i delivers this input to node x

@@ -7,6 +7,7 @@ pub mod Disks
 pub mod Arrivals
 pub mod Deliveries
 pub mod Outcomes
+pub mod OutcomeLines
 pub mod Freshness
 pub mod Runs
 pub mod History
@@ -26,7 +27,8 @@ pub use Rattle.node.specs.declared.stop.Stop
 pub use Rattle.engine.specs.Tended
 -- What crates above name.
 pub use Rattle.lab.specs.Events.{NamesNode, node_in}
-pub use Rattle.lab.specs.LinesSoFar.{AddsLines, EventAddsLines, configs_of, lines_so_far}
+pub use Rattle.lab.specs.LinesSoFar.{AddsLines, AreEventLines, EventAddsLines, HasItsNodes}
+pub use Rattle.lab.specs.LinesSoFar.{configs_of, lines_so_far, sim_node_ids}
 pub use Rattle.lab.specs.History.{ClientHistory, DisksHold, OneHistory}
 pub use Rattle.lab.specs.Runs.{AreNumbersOf, IsRun, IsRunOver}
 pub use Rattle.lab.specs.SimNodes.{Arrives, Choice}

@@ -1,11 +1,73 @@
 -- The lines of the events of a world so far, whatever the world has run before.
-use Rattle.std.specs.Prelude.{◌≡◌, ℕ, List, ◌++◌, length}
-use Rattle.configurations.specs.{Configurations}
+use Rattle.std.specs.Prelude.{◌≡◌, ℕ, List, [], ◌∷◌, ◌++◌, All, None, length, map}
+use Rattle.configurations.specs.{Configurations, at_epoch}
 use Rattle.disk.specs.declared.disk.Disk.{Ghosts}
+use Rattle.chain_model.specs.declared.DropReason.TheVariants as reason
 use Rattle.lab.specs.declared.event.Event.{Event}
+use Rattle.lab.specs.declared.event.EventKind.{EventKind}
+use Rattle.lab.specs.declared.event.EventKind.TheVariants.{Notice, Start, Stop, Tend}
 use Rattle.lab.specs.declared.report.Line.{Line}
+use Rattle.lab.specs.declared.report.Line.TheVariants as line
+use Rattle.lab.specs.declared.sim_node.SimNode.{SimNode}
 use Rattle.lab.specs.declared.world.World.{World}
 use Rattle.lab.specs.Events.{NamesNode}
+
+-- ---- the lines that an event has, whatever its node is
+
+-- one line, of which this is so
+abbrev pub IsOneLine : (Line → Type 0) → List Line → Type 0
+IsOneLine is_so (it ∷ []) = is_so it
+IsOneLine is_so lines = ⊥
+
+-- a line of which this is so, and perhaps others behind it
+abbrev pub BeginsWithLine : (Line → Type 0) → List Line → Type 0
+BeginsWithLine is_so [] = ⊥
+BeginsWithLine is_so (it ∷ lines) = is_so it
+
+-- node x started, or stopped while it did; or it ran already
+abbrev pub IsStartLine : ℕ → Line → Type 0
+IsStartLine x (line.Started node epoch count committed) = node ≡ x
+IsStartLine x (line.Stopped node cause) = node ≡ x
+IsStartLine x (line.Dropped why) = why ≡ reason.Running
+IsStartLine x it = ⊥
+
+-- node x was stopped, and names no cause; or it was down
+abbrev pub IsStopLine : ℕ → Line → Type 0
+IsStopLine x (line.Stopped node cause) = (node ≡ x) × (cause ≡ None)
+IsStopLine x (line.Dropped why) = why ≡ reason.NotRunning
+IsStopLine x it = ⊥
+
+-- node x tended, or stopped while it did; or it was down
+abbrev pub IsTendLine : ℕ → Line → Type 0
+IsTendLine x (line.Tended did) = Unit {0}
+IsTendLine x (line.Stopped node cause) = node ≡ x
+IsTendLine x (line.Dropped why) = why ≡ reason.NotRunning
+IsTendLine x it = ⊥
+
+-- node x adopted the configuration of this epoch, or stopped while it did, or dropped the notice;
+-- or the list has no such epoch
+abbrev pub IsNoticeLine : ℕ → ℕ → Line → Type 0
+IsNoticeLine x epoch (line.Adopted node now) = (node ≡ x) × (now ≡ epoch)
+IsNoticeLine x epoch (line.Stopped node cause) = node ≡ x
+IsNoticeLine x epoch (line.Dropped why) = Unit {0}
+IsNoticeLine x epoch line.Nothing = Unit {0}
+IsNoticeLine x epoch it = ⊥
+
+-- The lines of an event. A start, a stop and a tend have one, and a notice one or more. Others may
+-- have none: a tick that sends nothing, a frame that a node answers with none, and a request whose
+-- reply was lost.
+abbrev pub AreEventLines : EventKind → List Line → Type 0
+AreEventLines (Start x) lines = IsOneLine (IsStartLine x) lines
+AreEventLines (Stop x junk) lines = IsOneLine (IsStopLine x) lines
+AreEventLines (Tend x) lines = IsOneLine (IsTendLine x) lines
+AreEventLines (Notice x epoch) lines = BeginsWithLine (IsNoticeLine x epoch) lines
+AreEventLines kind lines = Unit {0}
+
+-- ---- the lines of a world
+
+-- the ids of these nodes, in order
+abbrev pub sim_node_ids : {D : Type 0} {g : Ghosts D} → List (SimNode D g) → List ℕ
+sim_node_ids sims = map (λ sim. sim.id) sims
 
 module _ {D C : Type 0} {g : Ghosts D} where
   -- the lines of each event so far
@@ -16,15 +78,24 @@ module _ {D C : Type 0} {g : Ghosts D} where
   abbrev pub configs_of : World D C g → Configurations
   configs_of world = world.configs
 
+  -- the world has the nodes of its first configuration, and no others
+  abbrev pub HasItsNodes : World D C g → Type 0
+  HasItsNodes world = sim_node_ids world.nodes.items ≡ at_epoch world.configs 0
+
   -- So many events were run. If they name nodes of the first configuration (`named`), the world has
-  -- a list of lines of each behind those that it had. If they name others, it is as it was.
-  pub record AddsLines (named : Type 0) (count : ℕ) (old new : World D C g) : Type 0 where
+  -- a list of lines of each behind those that it had. If they name others, it is as it was. Each
+  -- list is such (`are_lines`), if the world has its nodes.
+  pub record AddsLines (named : Type 0) (are_lines : List Line → Type 0) (count : ℕ)
+      (old new : World D C g) : Type 0 where
     pub more : List (List Line)
     pub added : lines_so_far new ≡ lines_so_far old ++ more
     pub each : named → length more ≡ count
+    pub are : HasItsNodes old → All are_lines more
     pub unknown : (named → ⊥) → new ≡ old
     pub configs : configs_of new ≡ configs_of old
+    pub nodes : HasItsNodes old → HasItsNodes new
 
   -- .. one event, which may name no node
   abbrev pub EventAddsLines : Event → World D C g → World D C g → Type 0
-  EventAddsLines event old new = AddsLines (NamesNode (configs_of old) event.kind) 1 old new
+  EventAddsLines event old new =
+      AddsLines (NamesNode (configs_of old) event.kind) (AreEventLines event.kind) 1 old new

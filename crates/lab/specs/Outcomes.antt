@@ -1,6 +1,6 @@
--- The outcomes of a simulated node: the state that each input leaves, its disk and its lines.
-use Rattle.std.specs.Prelude.{◌≡◌, ◌⊎◌, ℕ, List, [], ◌∷◌, ◌++◌, length, map, Option}
-use Rattle.std.specs.Prelude.{Bool, Some, None, IsSome, suc, true, false}
+-- The outcomes of a simulated node: the state that each input leaves, and its disk.
+use Rattle.std.specs.Prelude.{◌≡◌, ◌⊎◌, ℕ, List, [], ◌∷◌, length, Option}
+use Rattle.std.specs.Prelude.{Bool, Some, None, IsSome, true, false}
 use Rattle.kv_types.specs.declared.Limits.{Limits}
 use Rattle.kv_types.specs.{BatchContent}
 use Rattle.disk.specs.{IsEnvironmental}
@@ -11,14 +11,11 @@ use Rattle.disk.specs.{RisesByOne, CrashOutcome, IsLastLeft, Marks, State, fault
 use Rattle.chain_model.specs.{Answer, dropped_for, refused, silent, started, stopped}
 use Rattle.chain_model.specs.Rules.{tend}
 use Rattle.engine.specs.Tended.{Tended}
-use Rattle.link_messages.specs.declared.Frame.{Frame}
-use Rattle.link_messages.specs.declared.Frame.TheVariants as frame
 use Rattle.chain_model.specs.declared.Refusal.TheVariants as refusal
 use Rattle.chain_model.specs.declared.DropReason.{DropReason}
 use Rattle.chain_model.specs.declared.DropReason.TheVariants as reason
 use Rattle.chain_core.specs.declared.Input.{Input}
 use Rattle.chain_core.specs.declared.Input.TheVariants as input
-use Rattle.chain_core.specs.declared.Sent.{Sent}
 use Rattle.chain_core.specs.{AreFrames, answer_to, Machine}
 use Rattle.node.specs.declared.Output.{Output}
 use Rattle.node.specs.declared.Reply.TheVariants as reply
@@ -33,10 +30,8 @@ use Rattle.lab.specs.declared.input.StepOutcome.{StepOutcome}
 use Rattle.lab.specs.declared.input.StepOutcome.TheVariants as done
 use Rattle.lab.specs.declared.node_state.NodeState.{NodeState}
 use Rattle.lab.specs.declared.node_state.NodeState.TheVariants.{Up, Down}
-use Rattle.lab.specs.declared.report.Line.{Line}
-use Rattle.lab.specs.declared.report.Line.TheVariants as line
 use Rattle.lab.specs.Disks.{HasGrown, IsCrashOf, IsMarkedBy, before_crash, has_reached, junk_at_end}
-use Rattle.lab.specs.Events.{dropped_lines, line_cause}
+use Rattle.lab.specs.Events.{line_cause}
 use Rattle.lab.specs.SimNodes.{StateHasLimits, StateIsReady, StateIsSound, StateRefines, IsDown}
 use Rattle.lab.specs.SimNodes.{disk_in}
 
@@ -322,11 +317,33 @@ IsIgnored _ _ = Unit {0}
 
 -- ---- one input of a node
 
+-- the node stopped
+abbrev pub IsStopOutcome : StepOutcome → Type 0
+IsStopOutcome (done.Stopped cause) = Unit {0}
+IsStopOutcome did = ⊥
+
+-- the outcome of an input, whatever the node: a start, a stop and a tend have no other than these,
+-- and what is no frame is dropped
+abbrev pub IsOutcomeOf : NodeInput → StepOutcome → Type 0
+IsOutcomeOf (to_node.Step inp) (done.Answered output) = Unit {0}
+IsOutcomeOf (to_node.Step inp) (done.Stopped cause) = Unit {0}
+IsOutcomeOf (to_node.BadFrame why) (done.Answered output) = IsSome output.dropped
+IsOutcomeOf to_node.Tend (done.Tended answer) = Unit {0}
+IsOutcomeOf to_node.Tend (done.Stopped cause) = Unit {0}
+IsOutcomeOf to_node.Tend (done.Answered output) = IsDrop reason.NotRunning output
+IsOutcomeOf to_node.Start (done.Started epoch count committed) = Unit {0}
+IsOutcomeOf to_node.Start (done.Stopped cause) = Unit {0}
+IsOutcomeOf to_node.Start (done.Answered output) = IsDrop reason.Running output
+IsOutcomeOf (to_node.Stop junk) (done.Stopped cause) = cause ≡ None
+IsOutcomeOf (to_node.Stop junk) (done.Answered output) = IsDrop reason.NotRunning output
+IsOutcomeOf _ _ = ⊥
+
 -- a node in the old state took this input, with this fault armed, and these limits if it was
 -- started: its new state and its outcome
 pub record HasDispatched {D : Type 0} (g : Ghosts D) (given : Limits) (fault : Fault)
     (node_input : NodeInput) (old new : NodeState D g) (did : StepOutcome) : Type 0 where
   pub ready : StateIsReady new
+  pub outcome : IsOutcomeOf node_input did
   pub refines : (x : ℕ) (n : Machine) → StateRefines g.is_honest g.state old x n →
       OutcomeRefines g.is_honest g.state fault
       (has_struck_in g.past fault (disk_in old) new) x n node_input old new did
@@ -348,45 +365,3 @@ pub record HasDispatched {D : Type 0} (g : Ghosts D) (given : Limits) (fault : F
       fault_of (g.marks (disk_in new)) ≡ None
   -- a node that is up has the given limits, if it was down or had those
   pub limits : StateHasLimits old given → StateHasLimits new given
-
--- ---- the lines of an outcome
-
--- the frames that a node sent
-abbrev pub sent_by : StepOutcome → List Sent
-sent_by (done.Answered output) = output.frames.items
-sent_by (done.Started epoch count committed) = []
-sent_by (done.Stopped cause) = []
-sent_by (done.Tended answer) = []
-
--- the line of a frame that was sent, with its place among all, from 1. (Nodes send these two.)
-abbrev pub sent_as : ℕ → ℕ → Frame → Line
-sent_as p to (frame.Forward epoch from number batch) = line.Forwarded p from to epoch number
-sent_as p to (frame.Ack epoch from committed have) =
-    line.Acknowledged p from to epoch committed have
-sent_as p to _ = line.Dropped reason.NotForNodes
-
--- the line of a frame that was sent, at this place
-abbrev pub sent_line : ℕ → Sent → Line
-sent_line p sent = sent_as p sent.to sent.frame
-
--- the frames that are sent after so many others
-abbrev pub sent_lines : ℕ → List Sent → List Line
-sent_lines before [] = []
-sent_lines before (sent ∷ more) = sent_line (suc before) sent ∷ sent_lines (suc before) more
-
--- a node that was told of an epoch, and did not drop that, has a line of it
-abbrev pub adopted_lines : ℕ → Option ℕ → Option DropReason → List Line
-adopted_lines x None why = []
-adopted_lines x (Some epoch) None = line.Adopted x epoch ∷ []
-adopted_lines x (Some epoch) (Some why) = []
-
--- the lines of an outcome of node x, which was told of an epoch or not, after so many frames
-abbrev pub outcome_lines : ℕ → Option ℕ → ℕ → StepOutcome → List Line
-outcome_lines x told before (done.Answered output) =
-    dropped_lines output.dropped ++ (adopted_lines x told output.dropped
-    ++ (sent_lines before output.frames.items
-    ++ map (λ reply. line.Replied reply) output.replies.items))
-outcome_lines x told before (done.Started epoch count committed) =
-    line.Started x epoch count committed ∷ []
-outcome_lines x told before (done.Stopped cause) = line.Stopped x cause ∷ []
-outcome_lines x told before (done.Tended answer) = line.Tended answer ∷ []

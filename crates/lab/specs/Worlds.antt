@@ -1,6 +1,6 @@
 -- A world of simulated nodes, and the run of the model that it refines.
 use Rattle.std.specs.Global.{Box}
-use Rattle.std.specs.Prelude.{◌≡◌, ℕ, suc, ◌+◌, ◌≤◌, List, [], ◌∷◌, ◌++◌, length, map}
+use Rattle.std.specs.Prelude.{◌≡◌, ◌⊎◌, ℕ, suc, ◌+◌, ◌≤◌, List, [], ◌∷◌, ◌++◌, length, map}
 use Rattle.std.specs.Prelude.{Bool, MatchOption, Option, Some, None}
 use Rattle.std.specs.Prelude.{All, true, false, ◌≢◌, ◌<◌, get_or, slice_index, slice_set}
 use Rattle.std.specs.List.{AllZip, HoldsAt}
@@ -37,14 +37,14 @@ use Rattle.lab.specs.declared.sim_node.SimNode.{SimNode}
 use Rattle.lab.specs.declared.world.World.{World}
 use Rattle.lab.specs.SimNodes.{Arrives, Choice, StateRefines, disk_in, in_memory, state}
 use Rattle.lab.specs.SimNodes.{StateHasLimits, IsDown, IsUnarmed}
-use Rattle.lab.specs.Events.{NamesNode, epoch_in, modelled}
-use Rattle.lab.specs.Outcomes.{HasDispatched, outcome_lines, sent_by}
+use Rattle.lab.specs.Events.{NamesNode, modelled}
+use Rattle.lab.specs.Outcomes.{HasDispatched}
 use Rattle.lab.specs.Disks.{AreDisksAfter, DiskFollows, HaveDisks, IsCrashOf, IsDiskOf, IsNewDisk}
 use Rattle.lab.specs.Freshness.{NodesKeepEnough, ReadsAreFresh}
 use Rattle.lab.specs.History.{IsHistory}
 use Rattle.lab.specs.Runs.{RunningRefines}
 use Rattle.lab.specs.Traces.{modelled_from, IsTrace}
-use Rattle.lab.specs.Posting.{FramesFollow, HasPosted}
+use Rattle.lab.specs.Posting.{FramesFollow}
 use Rattle.lab.specs.Transmissions.{transmissions_of}
 
 -- how many frames a line shows
@@ -163,6 +163,11 @@ module _ {D : Type 0} {g : Ghosts D} where
     pub at : IsIndexOf sims index x
     pub tables : HoldsAt (λ sim. HasTablesIn sim.state numbers) sims index
 
+  -- node x is none of these, or is down
+  abbrev pub IsDownAmong : List (SimNode D g) → ℕ → Type 0
+  IsDownAmong sims x = HasNoNode sims x
+      ⊎ ((index : ℕ) × IsIndexOf sims index x × HoldsAt (λ sim. IsDown sim.state) sims index)
+
   -- Node x took this input with this fault, and these limits if it was started: its new state and
   -- its outcome. Every other node is as it was.
   pub record HasMoved (sims : List (SimNode D g)) (x : ℕ) (node_input : NodeInput) (fault : Fault)
@@ -174,17 +179,6 @@ module _ {D : Type 0} {g : Ghosts D} where
     pub id : sim.id ≡ x
     pub dispatched : HasDispatched g given fault node_input (get_or sims index sim).state sim.state
         did
-
-  -- .. for this event: the frames that it sent are posted, and these are its lines
-  pub record HasStepped (sims : List (SimNode D g)) (posted : List Posted) (x : ℕ)
-      (node_input : NodeInput)
-      (event : Event) (given : Limits) (lines : List Line) (now : List (SimNode D g))
-      (more : List Posted)
-      : Type 0 where
-    pub did : StepOutcome
-    pub took : HasMoved sims x node_input event.fault given did now
-    pub sent : HasPosted posted x (sent_by did) more
-    pub traced : lines ≡ outcome_lines x (epoch_in event.kind) (length posted) did
 
   -- a node that tended, and runs on, did and raised what was chosen
   pub record TendsAsChosen (choice : Choice) (was now : Node D g) : Type 0 where

@@ -5,7 +5,7 @@ ghost use Rattle.kv_types.specs.{BatchContent};
 ghost use Rattle.configurations.specs.{Configurations};
 ghost use Rattle.chain_model.specs.{Message as ModelFrame};
 ghost use Rattle.carriers.specs.{DeliveryWasLost, HasCarriedMore, delivery_lost};
-ghost use Rattle.lab.specs.Deliveries.{HasNoFrame, IsDeliverable, IsPostedAt};
+ghost use Rattle.lab.specs.Deliveries.{HasNoFrame, IsCarriedEvent, IsDeliverable, IsPostedAt};
 ghost use Rattle.lab.specs.Transmissions.{frame_sent};
 ghost use Rattle.lab.specs.Worlds.{PostedRefines};
 
@@ -82,8 +82,8 @@ pub fn delivery_of<C: Carrier>(
     kind: &EventKind,
 ) -> Result<Delivery, LabError>
     ensures faithful { C.is_faithful carrier.new ↔ C.is_faithful carrier.old }
-    ensures found { (frames : List (ModelFrame BatchContent)) →
-        AllZip PostedRefines posted.now frames → C.is_faithful carrier.old →
+    ensures found { (frames : List (ModelFrame BatchContent)) → (IsCarriedEvent kind.now →
+        AllZip PostedRefines posted.now frames × C.is_faithful carrier.old) →
         IfOk result (IsDeliverable configs.now frames request kind.now) }
     ensures lost { IfOk result (λ it. DeliveryWasLost it → C.loses) }
     ensures asked { IfOk result (λ it. HasCarriedMore C.has_carried carrier.old carrier.new

@@ -9,7 +9,7 @@ ghost use Rattle.node.specs.{IsReady, StopRefines};
 ghost use Rattle.lab.specs.Disks.{IsMarkedSo, junk_at_end};
 ghost use Rattle.lab.specs.Events.{line_cause};
 ghost use Rattle.lab.specs.SimNodes.{StateHasLimits, StateIsReady, StateRefines, disk_in};
-ghost use Rattle.lab.specs.Outcomes.{HasCrashed, HasDispatched};
+ghost use Rattle.lab.specs.Outcomes.{HasCrashed, HasDispatched, IsStopOutcome};
 
 use crate::input::{StepOutcome, dropped, output_at_rest};
 use carriers::NodeInput;
@@ -51,7 +51,7 @@ fn crash<D: Crash + Drop>(mut disk: D, junk: Junk) -> NodeState<D>
 // The state and the outcome of a node that stopped by itself and left this disk. Where the fault
 // stopped its machine, the disk crashes with the fault's junk, and no cause is told.
 fn stop_by_itself<D: Crash + Drop>(disk: D, stop: Stop, fault: Fault) -> (NodeState<D>, StepOutcome)
-    ensures ready { StateIsReady result.0 }
+    ensures ready { StateIsReady result.0 × IsStopOutcome result.1 }
     ensures told { (struck : Bool) → (IsTrue struck ↔ HasStruck D.marks D.past disk) →
         result.1 ≡ StepOutcome.Stopped (line_cause fault struck stop) }
     ensures crashes { (struck : Bool) → (IsTrue struck ↔ HasStruck D.marks D.past disk) →

@@ -1,17 +1,20 @@
 // The report of a run: the lines of each event, and each node at the end.
-ghost use Rattle.std.specs.Prelude.{◌≡◌};
+ghost use Rattle.std.specs.Prelude.{◌≡◌, ◌∷◌, ◌++◌, [], OnOk};
 
 use configurations::{Epoch, NodeId};
 use disk::MemDisk;
 use engine::Tended;
 use kv_types::Number;
 use node::{DropReason, Numbers, Reply, Stop};
+use smallvec::SmallVec;
+use std::alloc::{AllocError, Global};
 use std::marker::Model;
 
 /// One line of the trace of an event.
-#[derive(Drop)]
+#[derive(Default, Drop)]
 pub enum Line {
     /// No frame has the place, no configuration the epoch, or no node the id.
+    #[default]
     Nothing,
     /// The request or the frame did not arrive.
     Lost,
@@ -54,10 +57,10 @@ pub enum Line {
     Tended(Tended),
 }
 
-/// The lines of one event, in order.
+/// The lines of one event, in order. Most events have one, which needs no allocation.
 #[derive(Drop)]
 pub struct Lines {
-    lines: Vec<Line>,
+    lines: SmallVec<Line, 1>,
 }
 
 impl Model for Lines {
@@ -70,23 +73,32 @@ impl Model for Lines {
 }
 
 impl Lines {
-    pub(crate) fn new(lines: Vec<Line>) -> Lines
-        ensures { result ≡ lines.items }
+    pub(crate) fn new(alloc: Global) -> Lines
+        ensures { result ≡ [] }
     {
+        let lines = SmallVec::new(alloc);
         Lines { lines }
     }
 
-    pub(crate) fn into_vec(self) -> Vec<Line>
-        ensures { result.items ≡ self }
+    pub(crate) fn one(alloc: Global, line: Line) -> Lines
+        ensures { result ≡ line ∷ [] }
     {
-        self.lines
+        let mut lines = SmallVec::new(alloc);
+        lines.push_reserved(line);
+        Lines { lines }
+    }
+
+    pub(crate) fn push(&mut self, line: Line) -> Result<(), AllocError>
+        ensures { OnOk result (self.new ≡ self.old ++ line ∷ []) }
+    {
+        Ok(self.lines.push(line)?)
     }
 
     /// The lines in order.
     pub fn as_slice(&self) -> &[Line]
         ensures { result.now ≡ self.now }
     {
-        &self.lines
+        self.lines.as_slice()
     }
 }
 

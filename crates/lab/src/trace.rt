@@ -1,15 +1,20 @@
-// The trace of a step: its lines, and the frames that it posts.
-ghost use Rattle.std.specs.Prelude.{◌≡◌, ◌+◌, [], ◌∷◌, ◌++◌, length, map, IfOk, OnOk};
-ghost use Rattle.lab.specs.Outcomes.{adopted_lines, sent_line, sent_lines, outcome_lines, sent_by};
+// The trace of a step: its lines, the frames that it posts, and the replies that it sends.
+ghost use Rattle.std.specs.Prelude.{◌≡◌, ◌↔◌, ◌+◌, [], ◌∷◌, ◌++◌, length, IfOk, OnOk};
+ghost use Rattle.carriers.specs.{HasCarriedMore};
+ghost use Rattle.lab.specs.Arrivals.{RepliesFollow};
+ghost use Rattle.lab.specs.OutcomeLines.{adopted_lines, lines_before_replies, own_lines};
+ghost use Rattle.lab.specs.OutcomeLines.{replies_by, sent_by, sent_line, sent_lines};
 ghost use Rattle.lab.specs.Events.{dropped_lines};
 ghost use Rattle.lab.specs.Posting.{HasPosted};
 
 use crate::delivery::Posted;
 use crate::input::StepOutcome;
+use crate::replies::carry_replies;
 use crate::report::{Line, Lines};
+use crate::{Carrier, LabError};
 use configurations::{Epoch, NodeId};
 use link_messages::{Frame, write};
-use node::{DropReason, Output, Reply, Sent};
+use node::{DropReason, Output, Sent};
 use std::alloc::{AllocError, Global};
 
 // The line of a frame that was sent, by its place. Nodes send only these two kinds.
@@ -47,27 +52,18 @@ fn line_of(place: u64, sent: &Sent) -> Line
     }
 }
 
-/// The lines of an event that has one.
-pub fn one_line(alloc: Global, line: Line) -> Result<Lines, AllocError>
-    ensures { IfOk result (λ lines. lines ≡ line ∷ []) }
-{
-    let mut lines = Vec::with_capacity(alloc, 1)?;
-    lines.push(line)?;
-    Ok(Lines::new(lines))
-}
-
 // Posts a frame that is sent, in the next place.
 fn post(
     alloc: Global,
     frames: &mut Vec<Posted>,
-    lines: &mut Vec<Line>,
+    lines: &mut Lines,
     from: NodeId,
     sent: &Sent,
 ) -> Result<(), AllocError>
     ensures posted { OnOk result
         (HasPosted frames.old.items from (sent.now ∷ []) frames.new.items) }
-    ensures lines { OnOk result (lines.new.items
-        ≡ lines.old.items ++ sent_line (length frames.old.items + 1) sent.now ∷ []) }
+    ensures lines { OnOk result (lines.new
+        ≡ lines.old ++ sent_line (length frames.old.items + 1) sent.now ∷ []) }
 {
     let bytes = write(alloc, &sent.frame)?;
     let to = sent.to;
@@ -80,13 +76,13 @@ fn post(
 fn post_all(
     alloc: Global,
     frames: &mut Vec<Posted>,
-    lines: &mut Vec<Line>,
+    lines: &mut Lines,
     from: NodeId,
     sent: &[Sent],
 ) -> Result<(), AllocError>
     ensures posted { OnOk result (HasPosted frames.old.items from sent.now frames.new.items) }
-    ensures lines { OnOk result (lines.new.items
-        ≡ lines.old.items ++ sent_lines (length frames.old.items) sent.now) }
+    ensures lines { OnOk result (lines.new
+        ≡ lines.old ++ sent_lines (length frames.old.items) sent.now) }
 {
     for it in sent {
         post(alloc, frames, lines, from, it)?;
@@ -95,100 +91,89 @@ fn post_all(
 }
 
 // A drop has a line with its reason.
-fn trace_drop(lines: &mut Vec<Line>, dropped: Option<DropReason>) -> Result<(), AllocError>
-    ensures { OnOk result (lines.new.items ≡ lines.old.items ++ dropped_lines dropped) }
+fn trace_drop(lines: &mut Lines, dropped: Option<DropReason>) -> Result<(), AllocError>
+    ensures { OnOk result (lines.new ≡ lines.old ++ dropped_lines dropped) }
 {
     match dropped {
-        Some(why) => Ok(lines.push(Line::Dropped(why))?),
+        Some(why) => lines.push(Line::Dropped(why)),
         None => Ok(()),
     }
 }
 
 // A node that was told of an epoch, and did not drop that, has a line of it.
 fn trace_adoption(
-    lines: &mut Vec<Line>,
+    lines: &mut Lines,
     node: NodeId,
     told: Option<Epoch>,
     dropped: Option<DropReason>,
 ) -> Result<(), AllocError>
-    ensures { OnOk result (lines.new.items
-        ≡ lines.old.items ++ adopted_lines node told dropped) }
+    ensures { OnOk result (lines.new
+        ≡ lines.old ++ adopted_lines node told dropped) }
 {
     match (told, dropped) {
-        (Some(epoch), None) => Ok(lines.push(Line::Adopted { node, epoch })?),
+        (Some(epoch), None) => lines.push(Line::Adopted { node, epoch }),
         _ => Ok(()),
     }
 }
 
-// The lines of the replies to clients.
-fn trace_replies(lines: &mut Vec<Line>, replies: Vec<Reply>) -> Result<(), AllocError>
-    ensures { OnOk result (lines.new.items
-        ≡ lines.old.items ++ map (λ reply. Line.Replied reply) replies.items) }
-{
-    for reply in replies {
-        lines.push(Line::Replied(reply))?;
-    }
-    Ok(())
-}
-
 // The lines of an output of a node that was told of an epoch or not: the reason of a drop, then an
-// adoption, then the frames that were sent, then replies.
-fn trace_output(
+// adoption, then the frames that were sent, then the replies that arrive.
+fn trace_output<C: Carrier>(
     alloc: Global,
+    carrier: &mut C,
     frames: &mut Vec<Posted>,
     id: NodeId,
     told: Option<Epoch>,
     output: Output,
-) -> Result<Vec<Line>, AllocError>
+) -> Result<Lines, LabError>
+    ensures faithful { C.is_faithful carrier.new ↔ C.is_faithful carrier.old }
     ensures posted { OnOk result
         (HasPosted frames.old.items id output.frames.items frames.new.items) }
-    ensures lines { IfOk result (λ lines. lines.items ≡ dropped_lines output.dropped
-        ++ (adopted_lines id told output.dropped
-        ++ (sent_lines (length frames.old.items) output.frames.items
-        ++ map (λ reply. Line.Replied reply) output.replies.items))) }
+    ensures lines { IfOk result (RepliesFollow (C.is_faithful carrier.old) C.loses
+        (HasCarriedMore C.has_carried carrier.old carrier.new) id output.replies.items
+        (lines_before_replies id told (length frames.old.items) output)) }
 {
-    // Most steps have one line.
-    let count = (*output.frames).len().saturating_add(output.replies.len());
-    let mut lines = Vec::with_capacity(alloc, count.max(1))?;
+    let mut lines = Lines::new(alloc);
     trace_drop(&mut lines, output.dropped)?;
     trace_adoption(&mut lines, id, told, output.dropped)?;
     post_all(alloc, frames, &mut lines, id, &output.frames)?;
-    trace_replies(&mut lines, output.replies)?;
+    carry_replies(alloc, carrier, id, &mut lines, output.replies)?;
     Ok(lines)
 }
 
-/// Posts the frames that a node sent, and makes the lines of its outcome, where it was told of an
-/// epoch or not.
-pub fn trace_of(
+/// Posts the frames that a node sent, carries its replies to the client, and makes the lines of its
+/// outcome, where it was told of an epoch or not. A reply that does not arrive has none.
+pub fn trace_of<C: Carrier>(
     alloc: Global,
+    carrier: &mut C,
     frames: &mut Vec<Posted>,
     id: NodeId,
     told: Option<Epoch>,
     outcome: StepOutcome,
-) -> Result<Lines, AllocError>
+) -> Result<Lines, LabError>
+    ensures faithful { C.is_faithful carrier.new ↔ C.is_faithful carrier.old }
     ensures posted { OnOk result
         (HasPosted frames.old.items id (sent_by outcome) frames.new.items) }
-    ensures lines { IfOk result (λ lines.
-        lines ≡ outcome_lines id told (length frames.old.items) outcome) }
+    ensures lines { IfOk result (RepliesFollow (C.is_faithful carrier.old) C.loses
+        (HasCarriedMore C.has_carried carrier.old carrier.new) id (replies_by outcome)
+        (own_lines id told (length frames.old.items) outcome)) }
 {
-    match outcome {
+    let line = match outcome {
         StepOutcome::Answered(output) => {
-            Ok(Lines::new(trace_output(alloc, frames, id, told, output)?))
+            return trace_output(alloc, carrier, frames, id, told, output);
         }
-        StepOutcome::Tended(did) => one_line(alloc, Line::Tended(did)),
+        StepOutcome::Tended(did) => Line::Tended(did),
         StepOutcome::Started {
             epoch,
             count,
             committed,
-        } => one_line(
-            alloc,
-            Line::Started {
-                node: id,
-                epoch,
-                count,
-                committed,
-            },
-        ),
-        StepOutcome::Stopped(cause) => one_line(alloc, Line::Stopped { node: id, cause }),
-    }
+        } => Line::Started {
+            node: id,
+            epoch,
+            count,
+            committed,
+        },
+        StepOutcome::Stopped(cause) => Line::Stopped { node: id, cause },
+    };
+    Ok(Lines::one(alloc, line))
 }

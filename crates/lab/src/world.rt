@@ -8,21 +8,22 @@ ghost use Rattle.lab.specs.SimNodes.{StateHasLimits};
 ghost use Rattle.lab.specs.Runs.{AreNumbersOf, IsRunOver};
 ghost use Rattle.lab.specs.History.{OneHistory};
 ghost use Rattle.lab.specs.Worlds.{AreCreated, HasApplied, HasBegunEvent, HasHistory, HasKept};
-ghost use Rattle.lab.specs.Worlds.{HasNoNode, HasRun, HasStepped, HaveLimits, IsCreated, IsIndexOf};
-ghost use Rattle.lab.specs.Worlds.{IsReportOf, IsRunSoFar, ShowsTables, WorldHasEnded};
+ghost use Rattle.lab.specs.Worlds.{HasMoved, HasNoNode, HasRun, HaveLimits, IsCreated, IsIndexOf};
+ghost use Rattle.lab.specs.Worlds.{IsDownAmong, IsReportOf, IsRunSoFar, ShowsTables, WorldHasEnded};
 ghost use Rattle.lab.specs.Worlds.{WorldHasLimits, WorldKeepsLimits, WorldRun, direct_carrier};
 ghost use Rattle.lab.specs.Worlds.{empty_run, event_record, event_records, frames_in_steps};
-ghost use Rattle.lab.specs.LinesSoFar.{EventAddsLines, configs_of, lines_so_far};
+ghost use Rattle.lab.specs.LinesSoFar.{EventAddsLines, HasItsNodes, configs_of, lines_so_far};
+ghost use Rattle.lab.specs.LinesSoFar.{sim_node_ids};
 ghost use Rattle.lab.specs.Transmissions.{carrier_of};
 
 use crate::delivery::{Posted, delivery_of};
 use crate::event::names_node;
+use crate::input::StepOutcome;
 use crate::leaving::left_of_all;
 use crate::node_state::NodeState;
-use crate::replies::carry_replies;
 use crate::report::{Line, Lines, Report};
 use crate::sim_node::SimNode;
-use crate::trace::{one_line, trace_of};
+use crate::trace::trace_of;
 use crate::{Carrier, Direct, Event, EventRecord, LabError};
 use carriers::{Delivery, NodeInput};
 use chain_model::{in_order, keeps_enough, one_history, reads_fresh, run_is_outcomes};
@@ -101,23 +102,22 @@ fn index_of<D: Disk + Drop>(nodes: &[SimNode<D>], id: NodeId) -> Option<usize>
     None
 }
 
-// Dispatches what an event delivers to the node at this index, with the event's fault, and posts
-// the frames that it sends: the lines of that. Where memory is short the node is lost.
+// Dispatches what an event delivers to the node at this index, with the event's fault: the outcome.
+// Where memory is short the node is lost.
 fn deliver<D: Crash + Drop>(
     alloc: Global,
     nodes: &mut Vec<SimNode<D>>,
-    frames: &mut Vec<Posted>,
-    event: &Event,
+    fault: &Fault,
     index: usize,
     delivery: (NodeId, NodeInput),
     limits: &Limits,
-) -> Result<Lines, AllocError>
+) -> Result<StepOutcome, AllocError>
     requires { IsIndexOf nodes.old.items index delivery.0 }
-    ensures { IfOk result (λ lines. HasStepped nodes.old.items frames.old.items delivery.0
-        delivery.1 event.now limits.now lines nodes.new.items frames.new.items) }
+    ensures { IfOk result (λ did. HasMoved nodes.old.items delivery.0 delivery.1 fault.now
+        limits.now did nodes.new.items) }
 {
     let (id, input) = delivery;
-    let fault = match event.fault.clone() {
+    let fault = match fault.clone() {
         Ok(fault) => fault,
         Err(e) => {
             drop(input);
@@ -127,7 +127,7 @@ fn deliver<D: Crash + Drop>(
     let node = nodes.remove(index);
     let (state, outcome) = node.state.dispatch(alloc, input, fault, limits)?;
     nodes.insert(index, SimNode { id, state })?;
-    trace_of(alloc, frames, id, event.kind.epoch(), outcome)
+    Ok(outcome)
 }
 
 // Marks the last event as lost, or not.
@@ -232,6 +232,7 @@ impl<D: Disk + Drop, C: Carrier + Drop> World<D, C> {
         ensures goes_on { WorldHasEnded result → ⊥ }
         ensures limits { HaveLimits nodes.items limits.now → WorldHasLimits result limits.now }
         ensures none { lines_so_far result ≡ [] }
+        ensures nodes { sim_node_ids nodes.items ≡ at_epoch configs 0 → HasItsNodes result }
         ensures configs { configs_of result ≡ configs }
     {
         World {
@@ -282,6 +283,7 @@ impl<D: Disk + Drop, C: Carrier + Drop> World<D, C> {
             has (at_epoch run.configs 0) id ≡ true →
             AreNumbersOf run.configs run.events run.choices id result }
         ensures tables { IfSome result (ShowsTables self.now.nodes.items id) }
+        ensures none { MatchOption result (IsDownAmong self.now.nodes.items id) (λ _. Unit {0}) }
     {
         let Some(index) = index_of(&self.nodes, id) else {
             return None;
@@ -361,17 +363,18 @@ impl<D: Crash + Drop, C: Carrier + Drop> World<D, C> {
             request,
             &event.kind,
         )? {
-            Delivery::Nothing => return self.keep(false, one_line(alloc, Line::Nothing)?),
-            Delivery::Lost => return self.keep(true, one_line(alloc, Line::Lost)?),
+            Delivery::Nothing => return self.keep(false, Lines::one(alloc, Line::Nothing)),
+            Delivery::Lost => return self.keep(true, Lines::one(alloc, Line::Lost)),
             Delivery::To(id, input) => (id, input),
         };
         let Some(at) = index_of(&self.nodes, id) else {
             drop(input);
-            return self.keep(false, one_line(alloc, Line::Nothing)?);
+            return self.keep(false, Lines::one(alloc, Line::Nothing));
         };
-        let (nodes, frames) = (&mut self.nodes, &mut self.frames);
-        let lines = deliver(alloc, nodes, frames, event, at, (id, input), &self.limits)?;
-        let lines = carry_replies(alloc, &mut self.carrier, id, lines)?;
+        let (nodes, limits) = (&mut self.nodes, &self.limits);
+        let outcome = deliver(alloc, nodes, &event.fault, at, (id, input), limits)?;
+        let (carrier, frames) = (&mut self.carrier, &mut self.frames);
+        let lines = trace_of(alloc, carrier, frames, id, event.kind.epoch(), outcome)?;
         self.keep(false, lines)
     }
 }

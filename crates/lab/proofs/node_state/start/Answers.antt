@@ -6,8 +6,8 @@ use Rattle.node.specs.{DiskAlwaysRefines}
 use Rattle.carriers.specs.declared.NodeInput.TheVariants as to_node
 use Rattle.lab.specs.declared.node_state.NodeState.TheVariants.{Down}
 use Rattle.lab.specs.SimNodes.{StateRefines}
-use Rattle.lab.specs.Outcomes.{Starts, Fails}
-use Rattle.lab.proofs.Dispatching.{halted, halts_so, honest_left, into_box}
+use Rattle.lab.specs.Outcomes.{Starts, Fails, IsOutcomeOf}
+use Rattle.lab.proofs.Dispatching.{by_stop, halted, halts_so, honest_left, into_box}
 use Rattle.lab.proofs.Faults.{grown_since, marked_so, same_state}
 use Rattle.lab.proofs.node_state.start.Goals as goal
 
@@ -17,6 +17,7 @@ returns-in_ok-new-in-Ok g c =
     into_box g.D.Disk c.args.limits.now c.args.fault to_node.Start (Down c.args.disk) boxed.field-0
     c.arm-in-Ok.new.self _ boxed.ensures.ok (record {
       ready = search rules;
+      outcome = tt;
       refines = λ x n r.
           let represents = subst (λ (s : State). DiskAlwaysRefines s x n)
           (same_state (c.arm.ensures.same r.0)) r.1 in
@@ -56,7 +57,8 @@ returns-in-Err g c =
     let kept = c.in-Err.ensures.kept in
     halted g.D.Disk c.args.fault (Down c.args.disk) c.stop_by_itself.result.0
     c.stop_by_itself.result.1 c.arm.new.self c.in-Err.disk c.in-Err.stop _ _ _ armed kept
-    (λ fails. fails) (λ is. is) e.told e.crashes c.args.limits.now to_node.Start refl e.ready
+    (λ fails. fails) (λ is. is) e.told e.crashes c.args.limits.now to_node.Start refl e.ready.0
+    (by_stop (IsOutcomeOf to_node.Start) (λ cause. tt) c.stop_by_itself.result.1 e.ready.1)
     e.marked e.forgets (e.limits c.args.limits.now)
     (λ x n r.
     let represents = subst (λ (s : State). DiskAlwaysRefines s x n)

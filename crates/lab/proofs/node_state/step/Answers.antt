@@ -10,8 +10,8 @@ use Rattle.node.specs.{HasLongFile, IsNearlyFull, IsOwned, StopRefines}
 use Rattle.node.specs.{disk_of, engine_of}
 use Rattle.carriers.specs.declared.NodeInput.TheVariants as to_node
 use Rattle.lab.specs.declared.node_state.NodeState.TheVariants.{Up}
-use Rattle.lab.specs.Outcomes.{Answers, Ends}
-use Rattle.lab.proofs.Dispatching.{halted, halts_so, holding, in_box}
+use Rattle.lab.specs.Outcomes.{Answers, Ends, IsOutcomeOf}
+use Rattle.lab.proofs.Dispatching.{by_stop, halted, halts_so, holding, in_box}
 use Rattle.lab.proofs.Faults.{grown_since, marked_so, same_state}
 use Rattle.lab.proofs.node_state.step.Goals as goal
 
@@ -21,6 +21,7 @@ returns-in-Ok g c = λ limits.
     in_box g.D.Disk limits c.args.fault (to_node.Step c.args.input) c.args.boxed own _ _
     c.as_mut-node.ensures.value (record {
       ready = search rules;
+      outcome = tt;
       refines = λ x n r.
           let a = (c.in-Ok.ensures.ends x n (c.arm.ensures.refines x n r)).done in
           Answers r.core.running (c.arm-in-Ok.ensures.refines x _ a.runs) (
@@ -64,7 +65,10 @@ returns-in-Err g c = λ limits.
     c.stop_by_itself.result.1 (disk_of c.arm.new.self) c.into_disk.result c.in-Err.stop
     (IsErrOf ended stop.Disk) full IsOwned c.arm.ensures.armed kept (λ fails. cc)
     (λ is. ap (λ (e : Cause). Err e) is) e.told e.crashes limits (to_node.Step c.args.input) refl
-    e.ready e.marked e.forgets (e.limits limits)
+    e.ready.0
+    (by_stop (IsOutcomeOf (to_node.Step c.args.input)) (λ cause. tt) c.stop_by_itself.result.1
+    e.ready.1)
+    e.marked e.forgets (e.limits limits)
     (λ x n r.
     let a = answer_to x n c.args.input in
     let ends = c.in-Err.ensures.ends x n (c.arm.ensures.refines x n r) in

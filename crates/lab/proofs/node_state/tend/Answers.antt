@@ -12,8 +12,8 @@ use Rattle.node.specs.{HasLongFile, IsNearlyFull, IsOwned, StopRefines}
 use Rattle.node.specs.{disk_of, engine_of}
 use Rattle.carriers.specs.declared.NodeInput.TheVariants as to_node
 use Rattle.lab.specs.declared.node_state.NodeState.TheVariants.{Up}
-use Rattle.lab.specs.Outcomes.{Halts, Tends}
-use Rattle.lab.proofs.Dispatching.{halted, halts_so, holding, in_box, tends_armed}
+use Rattle.lab.specs.Outcomes.{Halts, Tends, IsOutcomeOf}
+use Rattle.lab.proofs.Dispatching.{by_stop, halted, halts_so, holding, in_box, tends_armed}
 use Rattle.lab.proofs.Faults.{grown_since, marked_so, same_state}
 use Rattle.lab.proofs.node_state.tend.Goals as goal
 
@@ -23,6 +23,7 @@ returns-in-Ok g c = λ limits.
     in_box g.D.Disk limits c.args.fault to_node.Tend c.args.boxed own _ _
     c.as_mut-node.ensures.value (record {
       ready = search rules;
+      outcome = tt;
       refines = λ x n r.
           let a = (c.in-Ok.ensures.ends x n (c.arm.ensures.refines x n r)).done in
           Tends r.core.running (tends_armed g.D.Disk x n _ _ a.0
@@ -66,7 +67,9 @@ returns-in-Err g c = λ limits.
     c.stop_by_itself.result.1 (disk_of c.arm.new.self) c.into_disk.result c.in-Err.stop
     (IsErrOf ended stop.Disk) may IsOwned c.arm.ensures.armed kept (λ fails. cc)
     (λ is. ap (λ (e : Cause). Err e) is) e.told e.crashes limits to_node.Tend refl
-    e.ready e.marked e.forgets (e.limits limits)
+    e.ready.0
+    (by_stop (IsOutcomeOf to_node.Tend) (λ cause. tt) c.stop_by_itself.result.1 e.ready.1)
+    e.marked e.forgets (e.limits limits)
     (λ x n r.
     let ends = c.in-Err.ensures.ends x n (c.arm.ensures.refines x n r) in
     Halts r.core.running

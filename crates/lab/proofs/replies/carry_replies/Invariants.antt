@@ -1,14 +1,13 @@
 use Rattle.std.specs.Prelude.{◌↔◌}
 use Rattle.carriers.specs.{HasCarriedMore}
-use Rattle.lab.specs.Arrivals.{RepliesArrive}
+use Rattle.lab.specs.Arrivals.{RepliesFollow}
 use Rattle.lab.proofs.replies.carry_replies.Given as goal
 
--- so much of the lines so far arrives
-abbrev pub invariant-loop-line : goal.invariant-loop-line
-invariant-loop-line g l = record {
+-- the replies so far were carried
+abbrev pub invariant-loop-reply : goal.invariant-loop-reply
+invariant-loop-reply g l = record {
   faithful : g.C.Carrier.is_faithful l.carrier ↔ g.C.Carrier.is_faithful l.fn.carrier;
-  arrives : g.C.Carrier.is_faithful l.fn.carrier →
-      RepliesArrive g.C.Carrier.loses
-      (HasCarriedMore g.C.Carrier.has_carried l.fn.carrier l.carrier) l.from l.yielded
-      l.kept.items;
+  lines : RepliesFollow (g.C.Carrier.is_faithful l.fn.carrier) g.C.Carrier.loses
+      (HasCarriedMore g.C.Carrier.has_carried l.fn.carrier l.carrier) l.from l.yielded l.fn.lines
+      l.lines;
 }

@@ -1,6 +1,6 @@
 use Rattle.std.proofs.Common.{ap, ◌∙◌, ◌+◌, ◌++◌, List, length, drop}
 use Rattle.lab.specs.declared.report.Line.{Line}
-use Rattle.lab.specs.Outcomes.{sent_lines}
+use Rattle.lab.specs.OutcomeLines.{sent_lines}
 use Rattle.lab.proofs.Posting.{posted_next, trace_next}
 use Rattle.lab.proofs.trace.post_all.Goals as goal
 
@@ -18,6 +18,6 @@ loop-it-preserved c =
           c.post.new.frames.items sent i x within c.it-item.is at.invariant.kept kept;
       traced = ap (λ (l : List Line). l ++ sent_lines (length c.post.new.frames.items)
           (drop (i + 1) sent)) c.in_ok-post.ensures.lines
-          ∙ trace_next c.args.from at.frames.items c.post.new.frames.items sent i x at.lines.items
+          ∙ trace_next c.args.from at.frames.items c.post.new.frames.items sent i x at.lines
           within c.it-item.is kept ∙ at.invariant.traced;
     }

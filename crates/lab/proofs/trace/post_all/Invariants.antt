@@ -1,5 +1,5 @@
 use Rattle.std.proofs.Common.{◌≡◌, ◌++◌, length, take, drop}
-use Rattle.lab.specs.Outcomes.{sent_lines}
+use Rattle.lab.specs.OutcomeLines.{sent_lines}
 use Rattle.lab.specs.Posting.{HasPosted}
 use Rattle.lab.proofs.trace.post_all.Given as goal
 
@@ -7,6 +7,6 @@ use Rattle.lab.proofs.trace.post_all.Given as goal
 abbrev pub invariant-loop-it : goal.invariant-loop-it
 invariant-loop-it l = record {
   kept : HasPosted l.fn.frames.items l.from (take l.it-index l.sent) l.frames.items;
-  traced : l.lines.items ++ sent_lines (length l.frames.items) (drop l.it-index l.sent)
-      ≡ l.fn.lines.items ++ sent_lines (length l.fn.frames.items) l.sent;
+  traced : l.lines ++ sent_lines (length l.frames.items) (drop l.it-index l.sent)
+      ≡ l.fn.lines ++ sent_lines (length l.fn.frames.items) l.sent;
 }

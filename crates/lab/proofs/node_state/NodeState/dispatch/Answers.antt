@@ -1,15 +1,16 @@
 use Rattle.std.proofs.Common.{None, [], ◌∷◌, ◌∙◌, ℕ, ap, length, refl, sym, subst, inl, inr}
-use Rattle.std.specs.Prelude.{IfOk, IsSome}
+use Rattle.std.specs.Prelude.{IfOk}
 use Rattle.disk.specs.declared.Mark.TheVariants.{Crashed}
 use Rattle.lab.specs.Disks.{IsMarkedSo}
 use Rattle.chain_model.specs.{stopped, silent}
+use Rattle.chain_model.specs.declared.DropReason.TheVariants as reason
 use Rattle.carriers.specs.declared.NodeInput.TheVariants as to_node
 use Rattle.lab.specs.declared.input.StepOutcome.TheVariants as done
 use Rattle.lab.specs.declared.node_state.NodeState.{NodeState}
 use Rattle.lab.specs.declared.node_state.NodeState.TheVariants.{Up}
 use Rattle.lab.specs.SimNodes.{StateRefines, disk_in}
 use Rattle.lab.specs.Outcomes.{Drops, HasCrashed, HasDispatched, RunsOn, Stops}
-use Rattle.lab.proofs.Dispatching.{answered_only, dispatched_as, ready_up}
+use Rattle.lab.proofs.Dispatching.{answered_only, dispatched_as, ready_up, some_drop}
 use Rattle.lab.proofs.Faults.{before_is, crash_grows}
 use Rattle.node.specs.declared.Node.{Node}
 use Rattle.node.specs.{NodeRefines, disk_of}
@@ -39,7 +40,8 @@ returns-in-BadFrame g c =
     dispatched_as c.args.limits.now c.args.fault c.in-BadFrame.is c.in-Up.is
     (answered_only g.D.Disk c.args.limits.now c.args.fault (to_node.BadFrame c.in-BadFrame.why)
     (Up node) output.result (ready_up node (c.requires node c.in-Up.is))
-    (inr (subst (λ d. IsSome d) (sym output.ensures.dropped) refl)) tt
+    (some_drop c.in-BadFrame.why output.result output.ensures)
+    (inr (some_drop c.in-BadFrame.why output.result output.ensures)) tt
     (λ x n r. Drops r.core.running r (output.result, refl, output.ensures)) refl)
 
 pub returns-in-Start : goal.returns-in-Start
@@ -48,8 +50,8 @@ returns-in-Start g c =
     let node = c.in-Up.node in
     dispatched_as c.args.limits.now c.args.fault c.in-Start.is c.in-Up.is
     (answered_only g.D.Disk c.args.limits.now c.args.fault to_node.Start (Up node) output.result
-    (ready_up node (c.requires node c.in-Up.is))
-    (inr (subst (λ d. IsSome d) (sym output.ensures.dropped) refl)) tt
+    (ready_up node (c.requires node c.in-Up.is)) output.ensures
+    (inr (some_drop reason.Running output.result output.ensures)) tt
     (λ x n r. RunsOn r.core.running r (output.result, refl, output.ensures)) refl)
 
 -- the disk crashed with the junk
@@ -67,6 +69,7 @@ returns-in-Stop g c =
     dispatched_as {g = g.D.Disk} {old = Up node} {new = new} {did = done.Stopped None}
     c.args.limits.now c.args.fault c.in-Stop.is c.in-Up.is (record {
       ready = e.ready;
+      outcome = refl;
       refines = λ x n r.
           let own = subst (λ (it : Node _ _). NodeRefines g.D.Disk.is_honest g.D.Disk.state it x n)
           (sym c.into_inner.ensures) r in

@@ -1,4 +1,4 @@
-use Rattle.std.proofs.Common.{◌≡◌, ◌∙◌, List, ℕ, subst, sym, true}
+use Rattle.std.proofs.Common.{◌≡◌, ◌∙◌, List, ℕ, inr, subst, sym, true}
 use Rattle.std.proofs.lemmas.List.{get_or_default}
 use Rattle.std.proofs.lemmas.Option.{MatchOption-at_none}
 use Rattle.kv_types.specs.{has}
@@ -8,7 +8,7 @@ use Rattle.node.specs.{NodeRefines}
 use Rattle.lab.specs.declared.node_state.NodeState.{NodeState}
 use Rattle.lab.specs.declared.node_state.NodeState.TheVariants.{Up}
 use Rattle.lab.specs.declared.sim_node.SimNode.{SimNode}
-use Rattle.lab.specs.SimNodes.{StateRefines}
+use Rattle.lab.specs.SimNodes.{IsDown, StateRefines}
 use Rattle.lab.specs.Traces.{modelled_from}
 use Rattle.lab.specs.Worlds.{HasNoNode, HasTablesIn, IsIndexOf}
 use Rattle.lab.proofs.Dispatching.{holding}
@@ -73,3 +73,19 @@ returns-in-Down-clause-run g c = λ past run there.
     c.index.result.now (subst (λ (l : List (SimNode g.row.D.Denot g.D.Disk)).
     IsIndexOf l c.in-Some.index x) c.deref.ensures.value c.in-Some.ensures) c.index.ensures
     run.made.each)).2
+
+-- .. which is down
+pub returns-in-Down-clause-none : goal.returns-in-Down-clause-none
+returns-in-Down-clause-none g c =
+    let sims = c.args.self.now.nodes.items in
+    let i = c.in-Some.index in
+    let sim = c.index.result.now in
+    let at = subst (λ (l : List (SimNode g.row.D.Denot g.D.Disk)). IsIndexOf l i c.args.id)
+    c.deref.ensures.value c.in-Some.ensures in
+    inr (
+      i,
+      at,
+      λ other. subst (λ (s : SimNode g.row.D.Denot g.D.Disk). IsDown s.state)
+          (c.index.ensures ∙ get_or_default sims i sim other at.within)
+          (subst (λ (m : NodeState g.row.D.Denot g.D.Disk). IsDown m) (sym c.in-Down.is) tt),
+    )
