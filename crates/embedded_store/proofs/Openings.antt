@@ -1,6 +1,6 @@
 -- The stores of engines that were opened or created.
 use Rattle.std.proofs.Common.{◌≡◌, ap, inl, inr, refl, subst, sym, ℕ, Bool, false, List, true, ◌∙◌}
-use Rattle.std.proofs.Common.{[], ◌∷◌}
+use Rattle.std.proofs.Common.{[], ◌∷◌, length}
 use Rattle.std.proofs.Math.Path.{fun_ext}
 use Rattle.std.specs.Prelude.{◌↔◌, Result, Ok, Err, IfOk, IsFalse, IsTrue, MatchResult}
 use Rattle.std.specs.Prelude.{Contains}
@@ -18,7 +18,7 @@ use Rattle.engine.specs.{EngineHolds, ExplainsRefusal, Facts, FilesRepresent, Ha
 use Rattle.engine.specs.{HasOnlyFiles, IsEngineOf, IsJustOpened, IsNewEngine, IsNotCreated, IsOneOf}
 use Rattle.engine.specs.{IsOpened, IsOwned, LookUps, OpensAs, engine_disk, engine_files, facts_of}
 use Rattle.engine.specs.{AreAlone, AreReadAlike, TendedStore, first_facts, kept_files, look_ups}
-use Rattle.engine.specs.{tended_version}
+use Rattle.engine.specs.{IsMeantEngineOf, WereMeant, tended_version}
 use Rattle.embedded_store.specs.declared.error.OpenError.{OpenError}
 use Rattle.embedded_store.specs.declared.error.OpenError.TheVariants.{Store}
 use Rattle.embedded_store.specs.declared.store.EmbeddedStore.{EmbeddedStore}
@@ -109,6 +109,8 @@ module _ {D : Type 0} (g : Ghosts D) where
       (result : Result (EmbeddedStore D g) (OpenError × D)) →
       ((facts : Facts) (list : List BatchContent) →
       FilesRepresent facts list (contents (g.state disk)) → IsEngineOf g facts list engine) →
+      ((facts : Facts) (list : List BatchContent) → WereMeant facts list (contents (g.state disk)) →
+      IsMeantEngineOf g facts list engine) →
       IsOpened (contents (g.state disk)) engine →
       AreReadAlike (engine_files engine) (g.state disk) (g.state (engine_disk engine)) →
       HasOnlyFiles g engine (engine_files engine) →
@@ -117,7 +119,7 @@ module _ {D : Type 0} (g : Ghosts D) where
       OnlyLeaves (IsOneOf facts list facts' list') (g.state disk) →
       AlwaysLeaves g disk (engine_disk engine) (IsOneOf facts list facts' list')) →
       IsOwnStore engine result → OpensContents g disk (contents (g.state disk)) result
-  own_opens disk engine (Ok store) found opens alike swept created leaves is = record {
+  own_opens disk engine (Ok store) found meant opens alike swept created leaves is = record {
     opened = λ facts list files.
         let it = found facts list files in (
           subst StandsAlone it.facts is.0,
@@ -126,19 +128,27 @@ module _ {D : Type 0} (g : Ghosts D) where
             holds = is.1.stays.holds list it.holds;
           },
         );
+    meant = λ facts list files same.
+        let it = meant facts list files in
+        record {
+          alone = subst StandsAlone it.facts is.0;
+          facts = same_facts engine store is.1 ∙ it.facts;
+          was = is.1.stays.meant list it.meant;
+        };
     created = λ cut. absurd (created cut.0);
     told = inl (opened_as disk engine store is.1 is.0 opens alike swept);
     any_moment = λ facts list facts' list' only.
         subst (λ (d : D). AlwaysLeaves g disk d (IsOneOf facts list facts' list'))
         (sym is.1.disk) (leaves facts list facts' list' only);
   }
-  own_opens disk engine (Err refused) found opens alike swept created leaves is = record {
+  own_opens disk engine (Err refused) found meant opens alike swept created leaves is = record {
     opened = λ facts list files.
         inr (
           is.0,
           λ alone.
               is.1 (subst StandsAlone (sym (found facts list files).facts) alone),
         );
+    meant = λ facts list files same. tt;
     created = λ cut. absurd (created cut.0);
     told = subst (ExplainsOpening (contents (g.state disk))) (sym is.0) (record {
       facts = facts_of engine;
@@ -192,14 +202,16 @@ module _ {D : Type 0} (g : Ghosts D) where
       ((facts : Facts) (list : List BatchContent) →
       FilesRepresent facts list (contents (g.state disk)) →
       IsEnvironmental engine.Disk engine.Memory e) → IsNotCreated (contents (g.state disk)) →
+      ((facts : Facts) (count : ℕ) → OpensAs (contents (g.state disk)) facts count → ⊥) →
       HasOnlyCreationFiles (contents (g.state disk)) →
       ((at : State) → IsCrashOutcome at (contents at)) → CreatesStore result →
       OpensContents g disk (contents (g.state disk)) result
-  creates_opens disk e result is refuses free only reads made =
+  creates_opens disk e result is refuses free shut only reads made =
       let left = contents (g.state disk) in
       let none = none_there left e is refuses in
       record {
         opened = λ facts list files. absurd (none facts list files);
+        meant = λ facts list files opens. absurd (shut facts (length list) opens);
         created = λ cut. made;
         told = created_from left result (free, only) made;
         any_moment = λ facts list facts' list' leaves.
@@ -218,6 +230,7 @@ module _ {D : Type 0} (g : Ghosts D) where
       OpensContents g disk left (Err (s, after))
   refused_opens disk after left e s is refuses why taken leaves = record {
     opened = λ facts list files. inl (store_external e s is (refuses facts list files));
+    meant = λ facts list files opens. tt;
     created = λ cut. store_external e s is (refused_externally left e why taken cut);
     told = subst (ExplainsOpening left) (sym is) (explained left e why taken);
     any_moment = leaves;
@@ -230,6 +243,7 @@ module _ {D : Type 0} (g : Ghosts D) where
       ((facts : Facts) (list : List BatchContent) →
       FilesRepresent facts list (contents (g.state disk)) →
       IsEnvironmental engine.Disk engine.Memory e) → IsNotCreated (contents (g.state disk)) →
+      ((facts : Facts) (count : ℕ) → OpensAs (contents (g.state disk)) facts count → ⊥) →
       ((at : State) → IsCrashOutcome at (contents at)) →
       ((facts : Facts) (list : List BatchContent) (facts' : Facts) (list' : List BatchContent) →
       OnlyLeaves (IsOneOf facts list facts' list') (g.state disk) →
@@ -237,9 +251,9 @@ module _ {D : Type 0} (g : Ghosts D) where
       (IsTrue is_free → CreatesStore result) →
       (IsFalse is_free → result ≡ Err (Store engine.NotCreated, after)) →
       OpensContents g disk (contents (g.state disk)) result
-  free_opens disk after true e result is found refuses none reads leaves made refused =
-      creates_opens disk e result is refuses none (found.0 refl) reads (made refl)
-  free_opens disk after false e result is found refuses none reads leaves made refused =
+  free_opens disk after true e result is found refuses none shut reads leaves made refused =
+      creates_opens disk e result is refuses none shut (found.0 refl) reads (made refl)
+  free_opens disk after false e result is found refuses none shut reads leaves made refused =
       subst (OpensContents g disk (contents (g.state disk))) (sym (refused refl))
       (refused_opens disk after (contents (g.state disk)) engine.NotCreated
       (Store engine.NotCreated) refl
@@ -311,6 +325,7 @@ module _ {D : Type 0} (g : Ghosts D) where
       subst (λ (s : State). OpensContents g mid (contents s) result) states opens in
       record {
         opened = same.opened;
+        meant = same.meant;
         created = same.created;
         told = same.told;
         any_moment = λ facts list facts' list' only.
@@ -324,6 +339,7 @@ module _ {D : Type 0} (g : Ghosts D) where
       OpensContents g old (contents (g.state old)) (Err (s, after))
   look_refused old after s looks honest external = record {
     opened = λ facts list files. inl external;
+    meant = λ facts list files opens. tt;
     created = λ cut. external;
     told = external_explains (contents (g.state old)) s external;
     any_moment = λ facts list facts' list' only.

@@ -6,13 +6,38 @@ use Rattle.std.specs.List.{All}
 use Rattle.std.proofs.lemmas.Bool.Decides.{nat_tests}
 use Rattle.std.proofs.lemmas.List.{take_all}
 use Rattle.std.proofs.lemmas.List.Elements.{All-tail}
-use Rattle.kv_types.specs.{BatchContent}
+use Rattle.kv_types.specs.{BatchContent, IsBatch}
+use Rattle.disk.specs.declared.Disk.{Ghosts}
 use Rattle.disk.specs.{IsEnvironmental}
 use Rattle.kv_types.specs.Snapshots.{is_open}
 use Rattle.engine.specs.EngineError.{EngineError}
 use Rattle.engine.specs.EngineError.TheVariants as engine
-use Rattle.engine.specs.{AreOrdered, IsReadable, IsReadableAnswer, LookUps}
-use Rattle.embedded_store.specs.Stores.{IsReadRefusal, first_batches, read_number}
+use Rattle.engine.specs.{AreOrdered, IsReadable, IsReadableAnswer, LookUps, OfEachList}
+use Rattle.engine.specs.{look_ups}
+use Rattle.embedded_store.specs.declared.store.EmbeddedStore.{EmbeddedStore}
+use Rattle.embedded_store.specs.Stores.{IsReadRefusal, ShowsBatches, first_batches, read_number}
+use Rattle.embedded_store.specs.Stores.{store_engine}
+
+-- ---- a list that is shown
+
+module _ {D : Type 0} {g : Ghosts D} (store : EmbeddedStore D g) (list : List BatchContent) where
+  -- the store counts its batches
+  pub shown_count : ShowsBatches g store list → (look_ups (store_engine store)).count ≡ length list
+  shown_count (inl holds) = holds.reads.count
+  shown_count (inr was) = was.count
+
+  -- each of them is lawful
+  pub shown_each : ShowsBatches g store list → All IsBatch list
+  shown_each (inl holds) = holds.reads.represents.each
+  shown_each (inr was) = was.represents.represents.each
+
+  -- what is said of each list is said of it
+  pub shown_said : (IsSaid : List BatchContent → Type 0) →
+      OfEachList g (store_engine store) IsSaid → ShowsBatches g store list → IsSaid list
+  shown_said IsSaid each (inl holds) = each.reads list holds.reads
+  shown_said IsSaid each (inr was) = each.meant list was
+
+-- ---- numbers
 
 -- the batches up to the number that is read
 pub taken : (told : LookUps) (at : Option ℕ) (list : List BatchContent) →

@@ -14,8 +14,8 @@ use Rattle.engine.specs.EngineError.TheVariants as engine
 use Rattle.engine.specs.{ReadsEngine, look_ups}
 use Rattle.embedded_store.specs.declared.cursor.RowCursor.{RowCursor}
 use Rattle.embedded_store.specs.declared.store.EmbeddedStore.{EmbeddedStore}
-use Rattle.embedded_store.specs.Stores.{HoldsBatches, IsReadRefusal, first_batches, store_engine}
-use Rattle.embedded_store.specs.Stores.{whether}
+use Rattle.embedded_store.specs.Stores.{HoldsBatches, IsReadRefusal, ShowsBatches}
+use Rattle.embedded_store.specs.Stores.{first_batches, store_engine, whether}
 use Rattle.embedded_store.specs.declared.cursor.TheConstants.{ROWS}
 
 -- ---- rows of a map
@@ -108,7 +108,7 @@ pub record MovesRowCursor {D : Type 0} (g : Ghosts D) (old new : EmbeddedStore D
 abbrev pub FindsIn : {D : Type 0} (g : Ghosts D) → EmbeddedStore D g → (before now : RowCursor) →
     (Map → Option Row → Type 0) → Result (Unit {0}) EngineError → Type 0
 FindsIn g store before now IsThere result =
-    (list : List BatchContent) → HoldsBatches g store list →
+    (list : List BatchContent) → ShowsBatches g store list →
     IfOk result (λ _. CursorIsOf list now × IsThere (cursor_map before list) (cursor_row now))
 
 -- a step that answers leaves the cursor on the row behind the one on which it stood, or on none,
@@ -116,7 +116,7 @@ FindsIn g store before now IsThere result =
 abbrev pub StepsIn : {D : Type 0} (g : Ghosts D) → EmbeddedStore D g → (before now : RowCursor) →
     Bool → Result (Unit {0}) EngineError → Type 0
 StepsIn g store before now backward result =
-    (list : List BatchContent) → HoldsBatches g store list → CursorIsOf list before →
+    (list : List BatchContent) → ShowsBatches g store list → CursorIsOf list before →
     IfOk result (λ _. CursorIsOf list now
     × StepsRow backward (cursor_map before list) (cursor_row before) (cursor_row now))
 

@@ -1,6 +1,6 @@
 -- What an opening finds on a disk: a store that stands alone, nothing, or files that are none.
 use Rattle.std.specs.Prelude.{◌≡◌, ◌⊎◌, ℕ, List, [], ◌∷◌, Contains}
-use Rattle.std.specs.Prelude.{Result, Ok, Err, IfErr, IsErrAnd, MatchResult}
+use Rattle.std.specs.Prelude.{Result, Ok, Err, IfErr, IfOk, IsErrAnd, MatchResult, length}
 use Rattle.kv_types.specs.{BatchContent}
 use Rattle.disk.specs.{AlwaysLeaves, Contents, IsEnvironmental, IsStill, KeepsDisk, OnlyLeaves}
 use Rattle.disk.specs.{contents}
@@ -11,12 +11,12 @@ use Rattle.engine.specs.declared.Engine.{Engine}
 use Rattle.engine.specs.{Facts, FilesRepresent, HasFirstFiles, HasOnlyFiles, IsDamaged}
 use Rattle.engine.specs.{IsNotCreated, IsOneOf, IsOpened, IsOwned, OpensAs, StaysAsItWas}
 use Rattle.engine.specs.{engine_disk, engine_files, facts_of, first_facts, look_ups}
-use Rattle.engine.specs.{with_committed}
+use Rattle.engine.specs.{WereMeant, with_committed}
 use Rattle.embedded_store.specs.declared.error.OpenError.{OpenError}
 use Rattle.embedded_store.specs.declared.error.OpenError.TheVariants.{InUse, OfChain, Store}
 use Rattle.embedded_store.specs.declared.store.EmbeddedStore.{EmbeddedStore}
 use Rattle.embedded_store.specs.Alone.{IsAloneAs}
-use Rattle.embedded_store.specs.Stores.{HoldsBatches, store_disk, store_engine}
+use Rattle.embedded_store.specs.Stores.{HoldsBatches, StoreWasMeant, store_disk, store_engine}
 
 -- these are the facts of a store that stands alone
 abbrev pub StandsAlone : Facts → Type 0
@@ -73,6 +73,13 @@ module _ {D : Type 0} {g : Ghosts D} where
       MatchResult result (λ store. StandsAlone facts × IsStoreOf facts list store)
       (λ refused. IsOfEnvironment refused.0
       ⊎ ((refused.0 ≡ OfChain) × (StandsAlone facts → ⊥)))
+
+  -- a store that stands alone tells these facts, and was meant to hold the list
+  pub record IsMeantStoreOf (known : Facts) (list : List BatchContent) (store : EmbeddedStore D g)
+      : Type 0 where
+    pub alone : StandsAlone known
+    pub facts : facts_of (store_engine store) ≡ known
+    pub was : StoreWasMeant g store list
 
   -- a new store: it stands alone, has no batches, and its disk has the files of a new store and no
   -- other
@@ -139,6 +146,9 @@ module _ {D : Type 0} (g : Ghosts D) where
     -- a store that is there is opened
     pub opened : (facts : Facts) (list : List BatchContent) → FilesRepresent facts list left →
         OpensAsStore facts list result
+    -- so is one of whose tables blocks alone are damaged, and it is none that was created anew
+    pub meant : (facts : Facts) (list : List BatchContent) → WereMeant facts list left →
+        OpensAs left facts (length list) → IfOk result (IsMeantStoreOf facts list)
     -- what a creation left that was cut short is created anew
     pub created : WasCutShort left → CreatesStore result
     -- a store says what it was made of, and a refusal why it is none

@@ -3,15 +3,16 @@ use Rattle.std.specs.Prelude.{◌≡◌, ◌⊎◌, ℕ, ◌+◌, ◌<◌, List,
 use Rattle.std.specs.Prelude.{Option, Some, None, Result, Ok, Err, OnOk}
 use Rattle.kv_types.specs.{BatchContent}
 use Rattle.kv_types.specs.declared.Limits.{Limits}
-use Rattle.disk.specs.{IsEnvironmental, IsSameBut}
+use Rattle.disk.specs.{AlwaysLeaves, IsEnvironmental, IsSameBut}
 use Rattle.disk.specs.declared.Disk.{Ghosts}
 use Rattle.kv_types.specs.Snapshots.{is_open}
 use Rattle.engine.specs.EngineError.{EngineError}
 use Rattle.engine.specs.EngineError.TheVariants as engine
 use Rattle.engine.specs.declared.Engine.{Engine}
 use Rattle.engine.specs.declared.snapshots.TheConstants.{MAX_SNAPSHOTS}
-use Rattle.engine.specs.{EngineHolds, HasNearlyFullLog, IsOldOrNewSince, KeepsEngine, LookUps}
-use Rattle.engine.specs.{HasEnded, engine_disk, facts_of, look_ups, newest_log_file}
+use Rattle.engine.specs.{EngineHolds, EngineWasMeant, HasNearlyFullLog, IsOldOrNewSince}
+use Rattle.engine.specs.{HasEnded, KeepsEngine, LookUps, WereOneOf, engine_disk, facts_of}
+use Rattle.engine.specs.{look_ups, newest_log_file}
 use Rattle.embedded_store.specs.declared.store.EmbeddedStore.{EmbeddedStore}
 
 module _ {D : Type 0} {g : Ghosts D} where
@@ -29,6 +30,17 @@ module _ {D : Type 0} {g : Ghosts D} where
 abbrev pub HoldsBatches : {D : Type 0} (g : Ghosts D) → EmbeddedStore D g → List BatchContent →
     Type 0
 HoldsBatches g store list = EngineHolds g (store_engine store) list
+
+-- the store works, and its files were meant to have this list of batches, also as a crash leaves
+-- them: they would, had no table a damaged block
+abbrev pub StoreWasMeant : {D : Type 0} (g : Ghosts D) → EmbeddedStore D g → List BatchContent →
+    Type 0
+StoreWasMeant g store list = EngineWasMeant g (store_engine store) list
+
+-- the store holds this list, or was meant to: each answer of it is one of the list
+abbrev pub ShowsBatches : {D : Type 0} (g : Ghosts D) → EmbeddedStore D g → List BatchContent →
+    Type 0
+ShowsBatches g store list = HoldsBatches g store list ⊎ StoreWasMeant g store list
 
 -- the first batches, so many of them; or all, where no number is given
 abbrev pub first_batches : Option ℕ → List BatchContent → List BatchContent
@@ -54,6 +66,12 @@ pub record WritesBatch {D : Type 0} (g : Ghosts D) (old new : EmbeddedStore D g)
   pub any_moment : (list : List BatchContent) → HoldsBatches g old list → IsOldOrNewSince g
       (store_disk old) (store_disk new) (facts_of (store_engine old)) list
       (facts_of (store_engine old)) (list ++ batch ∷ [])
+  -- where blocks of tables are damaged, both are so of the list that was meant
+  pub meant : (list : List BatchContent) → StoreWasMeant g old list →
+      OnOk result (StoreWasMeant g new (list ++ batch ∷ []))
+  pub meant_at_any_moment : (list : List BatchContent) → StoreWasMeant g old list → AlwaysLeaves g
+      (store_disk old) (store_disk new) (WereOneOf (facts_of (store_engine old)) list
+      (facts_of (store_engine old)) (list ++ batch ∷ []))
 
 -- ---- reads
 

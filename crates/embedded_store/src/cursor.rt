@@ -7,7 +7,7 @@ ghost use Rattle.embedded_store.specs.Cursors.{CursorIsOf, FindsIn, FindsRow, Is
 ghost use Rattle.embedded_store.specs.Cursors.{IsAtOrBehind, IsOnPage, MovesRowCursor};
 ghost use Rattle.embedded_store.specs.Cursors.{StepsAmongRead, StepsIn, cursor_number, cursor_row};
 ghost use Rattle.embedded_store.specs.Cursors.{place_in_span, span_before, span_beside, span_from};
-ghost use Rattle.embedded_store.specs.Stores.{HoldsBatches};
+ghost use Rattle.embedded_store.specs.Stores.{ShowsBatches};
 
 use crate::EmbeddedStore;
 use disk::Disk;
@@ -120,7 +120,7 @@ impl RowCursor {
         place: usize,
     ) -> Result<(), EngineError>
         ensures moves { MovesRowCursor D.Disk store.old store.new self.old self.new result }
-        ensures finds { (list : List BatchContent) → HoldsBatches D.Disk store.old list →
+        ensures finds { (list : List BatchContent) → ShowsBatches D.Disk store.old list →
             IfOk result (λ _. IsOnPage list range.now place self.old self.new) }
     {
         pages_agree(); // law: a page has the rows of its range

@@ -1,4 +1,7 @@
 // The store of a folder. No contract says what a system keeps in a file.
+ghost use Rattle.std.specs.Prelude.{◌≡◌, IfOk, string_bytes};
+ghost use Rattle.dir_disk.specs.Disks.{HasLock, disk_folder};
+
 use crate::{EmbeddedStore, OpenError};
 use dir_disk::DirDisk;
 use engine::EngineError;
@@ -20,7 +23,10 @@ fn refusal_of(e: io::Error) -> OpenError {
 fn locked_folder<R: Files<File = File> + Alloc<A = Global> + Clone + Drop>(
     rt: &R,
     path: &str,
-) -> Result<DirDisk<R>, OpenError> {
+) -> Result<DirDisk<R>, OpenError>
+    ensures folder { IfOk result (λ disk. string_bytes (disk_folder disk) ≡ path.now) }
+    ensures locked { IfOk result HasLock }
+{
     fs::create_dir_all(rt, path).map_err(refusal_of)?;
     let mut disk = DirDisk::new(rt.clone()?, path)?;
     disk.lock()?;

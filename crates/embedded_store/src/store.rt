@@ -36,8 +36,9 @@ impl<D: Disk + Drop> EmbeddedStore<D> {
     ghost use Rattle.engine.specs.Tended.TheVariants.{Idle};
     ghost use Rattle.embedded_store.specs.Cursors.{CursorIsOf, cursor_number, cursor_row};
     ghost use Rattle.embedded_store.specs.Stores.{HoldsBatches, IsReadRefusal, IsSnapshotRefusal};
-    ghost use Rattle.embedded_store.specs.Stores.{WritesBatch, first_batches, read_number, whether};
-    ghost use Rattle.embedded_store.specs.Stores.{store_disk, store_engine, with_one_written};
+    ghost use Rattle.embedded_store.specs.Stores.{ShowsBatches, WritesBatch, first_batches};
+    ghost use Rattle.embedded_store.specs.Stores.{read_number, store_disk, store_engine, whether};
+    ghost use Rattle.embedded_store.specs.Stores.{with_one_written};
 
     // The number that is read.
     fn number_of(&self, at: Option<Number>) -> Number
@@ -79,7 +80,7 @@ impl<D: Disk + Drop> EmbeddedStore<D> {
         at: Option<Number>,
     ) -> Result<Option<Value>, EngineError>
         ensures reads { ReadsEngine D.Disk (store_engine self.old) (store_engine self.new) result }
-        ensures found { (list : List BatchContent) → HoldsBatches D.Disk self.old list →
+        ensures found { (list : List BatchContent) → ShowsBatches D.Disk self.old list →
             IfOk result (λ value. value ≡ map_of (first_batches at list) key.now) }
         ensures refused { (list : List BatchContent) → HoldsBatches D.Disk self.old list →
             IfErr result (IsReadRefusal (look_ups (store_engine self.old)) at) }
@@ -97,7 +98,7 @@ impl<D: Disk + Drop> EmbeddedStore<D> {
         at: Option<Number>,
     ) -> Result<Page, EngineError>
         ensures reads { ReadsEngine D.Disk (store_engine self.old) (store_engine self.new) result }
-        ensures found { (list : List BatchContent) → HoldsBatches D.Disk self.old list →
+        ensures found { (list : List BatchContent) → ShowsBatches D.Disk self.old list →
             IfOk result (λ page. page ≡ page_of (first_batches at list) range.now) }
         ensures refused { (list : List BatchContent) → HoldsBatches D.Disk self.old list →
             IfErr result (IsReadRefusal (look_ups (store_engine self.old)) at) }

@@ -19,6 +19,7 @@ returns-in-Ok-clause-opens g c = λ honest.
     let opens = c.in-Ok.ensures.told honest in
     own_opens g.D.Disk c.args.disk c.in-Ok.engine c.own.result
     (λ facts list files. (c.in-Ok.ensures.opened facts list honest).whole files)
+    (λ facts list files. (c.in-Ok.ensures.opened facts list honest).meant files)
     opens (c.in-Ok.ensures.alike honest) c.in-Ok.ensures.fresh.swept
     (c.version_is_one.ensures.created _ _ opens.manifest)
     (λ facts list facts' list' only.
@@ -44,11 +45,13 @@ returns-in-NotCreated-clause-still g c =
 pub returns-in-NotCreated-clause-opens : goal.returns-in-NotCreated-clause-opens
 returns-in-NotCreated-clause-opens g c = λ honest.
     let left = contents (g.D.Disk.state c.args.disk) in
+    let none = subst (λ (e : EngineError). ExplainsRefusal e left) c.in-NotCreated.is
+    (c.in-Err.ensures.told honest) in
     free_opens g.D.Disk c.args.disk c.in-Err.disk c.args.is_free c.in-Err.e
     c.created_if_free.result c.in-NotCreated.is (c.requires honest)
     (λ facts list files. (c.in-Err.ensures.opened facts list honest).whole files)
-    (subst (λ (e : EngineError). ExplainsRefusal e left) c.in-NotCreated.is
-    (c.in-Err.ensures.told honest)) c.reads_are_outcomes.ensures
+    none (λ facts count opens. c.version_is_one.ensures.created _ _ opens.manifest none)
+    c.reads_are_outcomes.ensures
     (λ facts list facts' list' only.
     (c.in-Err.ensures.any_moment facts list facts' list' honest).whole only)
     (c.created_if_free.ensures.created (c.in-Err.ensures.kept.honest.1 honest))

@@ -6,6 +6,7 @@ use Rattle.kv_types.specs.Pages.{IsPage}
 use Rattle.embedded_store.specs.Cursors.{cursor_map}
 use Rattle.embedded_store.specs.Stores.{whether}
 use Rattle.embedded_store.proofs.Cursors.{rows_fit}
+use Rattle.embedded_store.proofs.StoreReads.{shown_each}
 use Rattle.embedded_store.proofs.cursor.RowCursor.read.Goals as goal
 
 -- the page was read
@@ -18,15 +19,15 @@ returns-in-Ok-clause-moves g c = record {
 }
 
 pub returns-in-Ok-clause-finds : goal.returns-in-Ok-clause-finds
-returns-in-Ok-clause-finds g c = λ list holds.
+returns-in-Ok-clause-finds g c = λ list shown.
     let at = c.args.self.now.at in
     let map = cursor_map c.args.self.now list in
     record {
       page = subst (IsPage map c.args.range.now)
-          (sym (c.replace.ensures.after ∙ c.in-Ok.ensures.found list holds))
+          (sym (c.replace.ensures.after ∙ c.in-Ok.ensures.found list shown))
           (c.pages_agree.ensures.agree (take at list) c.args.range.now);
       fits = λ row has. rows_fit c.maps_agree.ensures (take at list)
-          (All-take IsBatch at list holds.reads.represents.each) row has;
+          (All-take IsBatch at list (shown_each c.args.store.now list shown)) row has;
       stands = refl;
       backward = c.is_backward-self.ensures;
       number = refl;

@@ -1,18 +1,22 @@
 use Rattle.std.proofs.Common.{◌≡◌, ap, List, subst, take, ℕ, ◌∙◌}
 use Rattle.std.specs.Prelude.{IfOk}
 use Rattle.kv_types.specs.{BatchContent, map_of}
-use Rattle.embedded_store.proofs.StoreReads.{read_refused, taken}
+use Rattle.embedded_store.proofs.StoreReads.{read_refused, shown_count, shown_said, taken}
 use Rattle.embedded_store.specs.Stores.{store_engine}
 use Rattle.engine.specs.{IsReadableAnswer, look_ups}
 use Rattle.embedded_store.proofs.store.EmbeddedStore.get.Goals as goal
 
 -- the map is that of the batches up to the number
 pub returns-clause-found : goal.returns-clause-found
-returns-clause-found g c = λ list holds.
+returns-clause-found g c = λ list shown.
+    let store = c.args.self.now in
     let told = look_ups (store_engine c.args.self.now) in
     subst (λ (l : List BatchContent). IfOk c.get.result (λ it. it ≡ map_of l c.args.key.now))
     (ap (λ (n : ℕ). take n list) c.number_of-at.ensures.number
-    ∙ taken told c.args.at list holds.reads.count) (c.get.ensures.found.reads list holds.reads)
+    ∙ taken told c.args.at list (shown_count store list shown))
+    (shown_said store list (λ l. IfOk c.get.result
+    (λ it. it ≡ map_of (take c.number_of-at.result l) c.args.key.now))
+    c.get.ensures.found shown)
 
 -- a store that holds its batches works, and has no damage
 pub returns-clause-refused : goal.returns-clause-refused

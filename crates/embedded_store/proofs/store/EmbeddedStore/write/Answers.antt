@@ -1,6 +1,7 @@
 use Rattle.std.proofs.Common.{◌++◌, ◌∷◌, [], ap, arith, subst, sym, ℕ, ◌∙◌}
-use Rattle.engine.specs.{IsOldOrNewSince, LookUps, facts_of, look_ups, with_committed}
-use Rattle.engine.specs.{with_one_more}
+use Rattle.disk.specs.{AlwaysLeaves}
+use Rattle.engine.specs.{IsOldOrNewSince, LookUps, WereOneOf, facts_of, look_ups}
+use Rattle.engine.specs.{with_committed, with_one_more}
 use Rattle.embedded_store.specs.Stores.{store_disk, store_engine}
 use Rattle.embedded_store.proofs.StoreWrites.{kept_on}
 use Rattle.embedded_store.proofs.store.EmbeddedStore.write.Goals as goal
@@ -48,4 +49,9 @@ returns-clause-changes g c =
       any_moment = λ list holds.
           subst (λ d. IsOldOrNewSince g.D.Disk (store_disk old) d facts list facts
           (list ++ c.args.batch.now ∷ [])) (sym said.disk) (did.any_moment list holds);
+      meant = λ list was.
+          said.stays.meant (list ++ c.args.batch.now ∷ []) ((did.list list).meant was);
+      meant_at_any_moment = λ list was.
+          subst (λ d. AlwaysLeaves g.D.Disk (store_disk old) d (WereOneOf facts list facts
+          (list ++ c.args.batch.now ∷ []))) (sym said.disk) (did.meant list was);
     }
