@@ -34,7 +34,8 @@ fn locked_disk<R: Files<File = File> + Alloc<A = Global> + Clone + Drop>(
     folder: &str,
     id: NodeId,
 ) -> Result<DirDisk<R>, FolderError>
-    ensures folder { IfOk result (λ disk. string_bytes (disk_folder disk) ≡ file_path folder.now id) }
+    ensures folder { IfOk result (λ disk.
+        string_bytes (disk_folder disk) ≡ file_path folder.now id) }
     ensures locked { IfOk result HasLock }
 {
     // An empty path is that of no folder.
