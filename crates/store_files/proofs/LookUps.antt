@@ -2,7 +2,7 @@
 use Rattle.std.proofs.Common.{◌≡◌, ◌↔◌, ℕ, ◌≤◌, ◌<◌, List, [], ◌∷◌, length, Option, Some, None}
 use Rattle.std.proofs.Common.{Contains, Err, Ok, Result, ap, arith, inl, inr, subst, suc, sym, zero}
 use Rattle.std.proofs.Common.{◌+◌, ◌-◌, ◌∙◌, refl}
-use Rattle.std.specs.Result.{IsOk, IsOkUnless}
+use Rattle.std.specs.Result.{IsOk}
 use Rattle.std.specs.Prelude.{IfErr, drop, slice_get, IfOk, IfSome, IsSomeAnd, MatchResult, take}
 use Rattle.std.specs.Option.{option_flatten, option_map}
 use Rattle.std.proofs.lemmas.List.Elements.{All-contains}
@@ -25,10 +25,10 @@ use Rattle.store_tables.specs.LevelTables.{found_value}
 use Rattle.store_files.proofs.Entries.{newest_in, unseen_in}
 
 -- a call that is refused for one cause alone is not where that is not met
-pub is_answered : {T E : Type 0} (result : Result T E) {e : E} → IsOkUnless result e
-    → (result ≡ Err e → ⊥) → IsOk result
-is_answered (Ok x) only never = refl
-is_answered (Err d) only never = absurd (never (ap (λ d. Err d) only))
+pub is_answered : {T E : Type 0} (result : Result T E) {e : E} {Fails : Type 0}
+    → MatchResult result (λ _. Fails → ⊥) (λ d. (d ≡ e) × Fails) → (Fails → ⊥) → IsOk result
+is_answered (Ok x) failed works = refl
+is_answered (Err d) failed works = absurd (works failed.1)
 
 -- the memtable has the entries that belong in memory
 abbrev pub HasMemory : Memtable → List BatchContent → StoreState → Type 0

@@ -36,8 +36,7 @@ never_refused (Err cursor.Failed) causes sound = absurd (causes.failed.0 refl)
 
 pub unwrap-cursor-requires : goal.unwrap-cursor-requires
 unwrap-cursor-requires c =
-    is_answered c.cursor.result c.cursor.ensures.only
-    (λ is. c.requires (c.cursor.ensures.failed.0 is))
+    is_answered c.cursor.result c.cursor.ensures.failed c.requires
 
 pub unwrap-requires : goal.unwrap-requires
 unwrap-requires c =

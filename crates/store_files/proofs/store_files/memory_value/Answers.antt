@@ -3,4 +3,4 @@ use Rattle.store_files.proofs.store_files.memory_value.Goals as goal
 
 pub unwrap-requires : goal.unwrap-requires
 unwrap-requires c =
-    is_answered c.get.result c.get.ensures.only (λ is. c.requires (c.get.ensures.failed.0 is))
+    is_answered c.get.result c.get.ensures.failed c.requires

@@ -16,8 +16,7 @@ use Rattle.store_files.proofs.store_files.StoreFiles.rows_in.Goals as goal
 -- memory has not failed
 pub unwrap-requires : goal.unwrap-requires
 unwrap-requires g c =
-    is_answered c.of_memtable.result c.of_memtable.ensures.only
-    (λ is. c.requires.memtable.works (c.of_memtable.ensures.failed.0 is))
+    is_answered c.of_memtable.result c.of_memtable.ensures.failed c.requires.memtable.works
 
 -- the cursors have the entries of the store in the range, which show the rows of the map
 pub returns : goal.returns
