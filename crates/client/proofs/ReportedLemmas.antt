@@ -4,11 +4,12 @@ use Rattle.std.proofs.Common.{take, drop, replicate, get_or, append_assoc, appen
 use Rattle.std.proofs.Common.{length-append, refl, subst, sym, ◌∙◌, ◌-◌, ◌⊎◌, inl, inr, Bool}
 use Rattle.std.specs.Prelude.{if◌then◌else◌}
 use Rattle.std.proofs.Math.Seq.{take-suc}
+use Rattle.std.proofs.lemmas.List.Elements.{All-append, All-from_recursion}
 use Rattle.std.specs.Io.KnownBytes.{Appends}
 use Rattle.disk.specs.declared.disk.Disk.{Ghosts}
 use Rattle.lab.specs.declared.Line.{Line}
 use Rattle.lab.specs.declared.world.World.{World}
-use Rattle.lab.specs.{AddsLines, EventAddsLines, configs_of, lines_so_far}
+use Rattle.lab.specs.{AddsLines, EventAddsLines, HasItsNodes, configs_of, lines_so_far}
 use Rattle.lab.specs.NodeLists.{Configurations}
 use Rattle.kv_types.specs.declared.KvError.{KvError}
 use Rattle.lab.specs.declared.Event as lab
@@ -22,8 +23,8 @@ use Rattle.client.specs.declared.statement_result.Note.TheVariants as note
 use Rattle.client.specs.ScriptRuns.{busy, most, shown}
 use Rattle.client.specs.declared.statement_result.StatementResult.{StatementResult}
 use Rattle.client.specs.PrintedRuns.{AppendsPart}
-use Rattle.client.specs.ReportedRuns.{ActionAddsLines, AreLinesOf, AreReported, IsReportedIn}
-use Rattle.client.specs.ReportedRuns.{ReportIsBegun, ReportIsPrinted}
+use Rattle.client.specs.ReportedRuns.{ActionAddsLines, AreActionLines, AreLinesOf, AreReported}
+use Rattle.client.specs.ReportedRuns.{IsReportedIn, ReportIsBegun, ReportIsPrinted}
 use Rattle.client.specs.ReportedRuns.AreReported.{NoStatement, OneMore}
 use Rattle.client.specs.Text.{result_text}
 use Rattle.client.proofs.Printed.{appends_more, appends_none}
@@ -37,8 +38,10 @@ module _ {D C : Type 0} {g : Ghosts D} where
     more = [];
     added = sym (append-nil (lines_so_far world));
     each = λ _. refl;
+    are = λ _. All-from_recursion (AreActionLines action) [] tt;
     unknown = λ _. refl;
     configs = refl;
+    nodes = λ its. its;
   }
 
   -- one event more
@@ -46,8 +49,8 @@ module _ {D C : Type 0} {g : Ghosts D} where
       ActionAddsLines action count old mid → ActionAddsLines action 1 mid new →
       ActionAddsLines action (count + 1) old new
   adds_more action old mid new count before after =
-      let next = subst (λ (cs : Configurations). AddsLines (Names cs action) 1 mid new)
-      before.configs after in
+      let next = subst (λ (cs : Configurations).
+      AddsLines (Names cs action) (AreActionLines action) 1 mid new) before.configs after in
       record {
         more = before.more ++ next.more;
         added = next.added ∙ ap (λ (l : List (List Line)). l ++ next.more) before.added
@@ -58,8 +61,11 @@ module _ {D C : Type 0} {g : Ghosts D} where
           before.each named,
           next.each named,
         );
+        are = λ its. All-append (AreActionLines action) before.more next.more (before.are its)
+            (next.are (before.nodes its));
         unknown = λ other. next.unknown other ∙ before.unknown other;
         configs = next.configs ∙ before.configs;
+        nodes = λ its. next.nodes (before.nodes its);
       }
 
 -- nothing more than there was
@@ -163,8 +169,9 @@ module _ {D C : Type 0} {g : Ghosts D} where
       (before : ℕ) (old new : Option (List ℕ)) : Type 0 where
     pub steps : List (List Line)
     pub text : List ℕ
-    pub are : AreReported (configs_of first) done places steps text
+    pub are : AreReported (configs_of first) (HasItsNodes first) done places steps text
     pub configs : configs_of now ≡ configs_of first
+    pub nodes : HasItsNodes first → HasItsNodes now
     pub added : lines_so_far now ≡ lines_so_far first ++ steps
     pub count : before ≡ length (lines_so_far now)
     pub wrote : Appends old new text
@@ -176,6 +183,7 @@ module _ {D C : Type 0} {g : Ghosts D} where
     text = [];
     are = NoStatement;
     configs = refl;
+    nodes = λ its. its;
     added = sym (append-nil (lines_so_far world));
     count = count;
     wrote = appends_none out;
@@ -185,7 +193,7 @@ module _ {D C : Type 0} {g : Ghosts D} where
   pub begun_so_far : (first now : World D C g) (all : List Statement) (i : ℕ) (places : List ℕ)
       (before : ℕ) (old new : Option (List ℕ)) →
       ReportsSoFar first now (take i all) places before old new →
-      ReportIsBegun (configs_of first) all old new
+      ReportIsBegun (configs_of first) (HasItsNodes first) all old new
   begun_so_far first now all i places before old new r = record {
     count = i;
     places = places;
@@ -203,8 +211,8 @@ module _ {D C : Type 0} {g : Ghosts D} where
     places = places;
     steps = r.steps;
     text = r.text;
-    are = subst (λ (l : List Statement). AreReported (configs_of first) l places r.steps r.text) is
-        r.are;
+    are = subst (λ (l : List Statement).
+        AreReported (configs_of first) (HasItsNodes first) l places r.steps r.text) is r.are;
     added = r.added;
     wrote = r.wrote;
   }
@@ -220,15 +228,16 @@ module _ {D C : Type 0} {g : Ghosts D} (first world now : World D C g)
     (added : more_places ≡ places ++ replicate turn.events turn.line)
     (made : text ≡ result_text more_places turn found) where
   -- its lines, by the configurations that the world had at first
-  own_lines_are : AreLinesOf (configs_of first) it turn is.adds.more
-  own_lines_are = subst (λ (cs : Configurations). AreLinesOf cs it turn is.adds.more) r.configs
-      (record {
+  own_lines_are : AreLinesOf (configs_of first) (HasItsNodes first) it turn is.adds.more
+  own_lines_are = subst (λ (cs : Configurations).
+      AreLinesOf cs (HasItsNodes first) it turn is.adds.more) r.configs (record {
         each = is.adds.each;
+        are = λ its. is.adds.are (r.nodes its);
         unknown = λ other. no_more (lines_so_far world) is.adds.more
             (sym (ap lines_so_far (is.adds.unknown other)) ∙ is.adds.added);
       })
 
-  one_more : AreReported (configs_of first) (take (suc i) all) more_places
+  one_more : AreReported (configs_of first) (HasItsNodes first) (take (suc i) all) more_places
       (r.steps ++ is.adds.more) (r.text ++ text)
   one_more =
       let own = own_lines (lines_so_far world) is.adds.more steps found before r.count
@@ -241,7 +250,7 @@ module _ {D C : Type 0} {g : Ghosts D} (first world now : World D C g)
 
   -- .. of which the output took a beginning
   pub begun_with_one : (new : Option (List ℕ)) → AppendsPart mid new text →
-      ReportIsBegun (configs_of first) all old new
+      ReportIsBegun (configs_of first) (HasItsNodes first) all old new
   begun_with_one new part = record {
     count = suc i;
     places = more_places;
@@ -259,6 +268,7 @@ module _ {D C : Type 0} {g : Ghosts D} (first world now : World D C g)
     text = r.text ++ text;
     are = one_more;
     configs = is.adds.configs ∙ r.configs;
+    nodes = λ its. is.adds.nodes (r.nodes its);
     added = is.adds.added ∙ ap (λ (l : List (List Line)). l ++ is.adds.more) r.added
         ∙ append_assoc (lines_so_far first) r.steps is.adds.more;
     count = ap length reports;

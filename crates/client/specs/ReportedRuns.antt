@@ -1,13 +1,14 @@
 -- What is printed of statements in any world, whatever that is and has run before: the text of the
 -- lines that it reports.
 use Rattle.std.specs.Prelude.{◌≡◌, ◌⊎◌, ◌≤◌, ◌-◌, ℕ, List, [], ◌∷◌, ◌++◌, Option, length, take}
-use Rattle.std.specs.Prelude.{Bool, if◌then◌else◌, replicate}
+use Rattle.std.specs.Prelude.{All, Bool, if◌then◌else◌, replicate}
 use Rattle.std.specs.Io.KnownBytes.{Appends}
 use Rattle.disk.specs.declared.disk.Disk.{Ghosts}
 use Rattle.lab.specs.declared.Line.{Line}
 use Rattle.lab.specs.declared.world.World.{World}
 use Rattle.lab.specs.Numbers.{Numbers}
-use Rattle.lab.specs.{AddsLines, configs_of, lines_so_far}
+use Rattle.lab.specs.declared.EventKind.TheVariants.{Tend}
+use Rattle.lab.specs.{AddsLines, AreEventLines, HasItsNodes, configs_of, lines_so_far}
 use Rattle.lab.specs.NodeLists.{Configurations}
 use Rattle.scripts.specs.Scripts.{Names}
 use Rattle.scripts.specs.declared.statement.Action.{Action}
@@ -41,11 +42,18 @@ pub record IsAnswered (it : Statement) (turn : StatementResult) : Type 0 where
   pub line : turn.line ≡ it.line
   pub did : IsAnswerTo it.action turn.events turn.silent turn.note
 
+-- these are lines of one event of such a statement, whatever its node is
+abbrev pub AreActionLines : Action → List Line → Type 0
+AreActionLines (Event event) lines = AreEventLines event.kind lines
+AreActionLines (Settle node) lines = AreEventLines (Tend node) lines
+AreActionLines action lines = Unit {0}
+
 module _ {D C : Type 0} {g : Ghosts D} where
   -- so many events of a statement were run in a world: it has a list of lines of each behind those
   -- that it had, if the statement names a node of the first configuration, or none
   abbrev pub ActionAddsLines : Action → ℕ → World D C g → World D C g → Type 0
-  ActionAddsLines action count old new = AddsLines (Names (configs_of old) action) count old new
+  ActionAddsLines action count old new =
+      AddsLines (Names (configs_of old) action) (AreActionLines action) count old new
 
   -- a statement was run so, and this is what it answered
   pub record IsReportedIn (old new : World D C g) (it : Statement) (turn : StatementResult) : Type 0
@@ -53,24 +61,26 @@ module _ {D C : Type 0} {g : Ghosts D} where
       pub answered : IsAnswered it turn
       pub adds : ActionAddsLines it.action turn.events old new
 
--- these are the lines of a statement's events: of each one list, if it names a node of the first of
--- these configurations, or none; and nothing, if it names another
-pub record AreLinesOf (cs : Configurations) (it : Statement) (turn : StatementResult)
-    (own : List (List Line)) : Type 0 where
+-- These are the lines of a statement's events: of each one list, if it names a node of the first of
+-- these configurations, or none; and nothing, if it names another. Each list is such as its event
+-- has, if the world has the nodes of these configurations.
+pub record AreLinesOf (cs : Configurations) (has_nodes : Type 0) (it : Statement)
+    (turn : StatementResult) (own : List (List Line)) : Type 0 where
   pub each : Names cs it.action → length own ≡ turn.events
+  pub are : has_nodes → All (AreActionLines it.action) own
   pub unknown : (Names cs it.action → ⊥) → own ≡ []
 
 -- statements were run so, one after another: where in the script their events stand, the lines of
 -- these, and the text of all
-pub data AreReported (cs : Configurations) : List Statement → List ℕ → List (List Line) → List ℕ
-    → Type 0 where
-  NoStatement : AreReported cs [] [] [] []
+pub data AreReported (cs : Configurations) (has_nodes : Type 0) : List Statement → List ℕ
+    → List (List Line) → List ℕ → Type 0 where
+  NoStatement : AreReported cs has_nodes [] [] [] []
   OneMore : (done : List Statement) (places : List ℕ) (steps : List (List Line)) (text : List ℕ) →
-      AreReported cs done places steps text →
+      AreReported cs has_nodes done places steps text →
       (it : Statement) (turn : StatementResult) (own : List (List Line)) →
-      IsAnswered it turn → AreLinesOf cs it turn own →
-      AreReported cs (done ++ it ∷ []) (places ++ replicate turn.events turn.line) (steps ++ own)
-      (text ++ result_text (places ++ replicate turn.events turn.line) turn own)
+      IsAnswered it turn → AreLinesOf cs has_nodes it turn own →
+      AreReported cs has_nodes (done ++ it ∷ []) (places ++ replicate turn.events turn.line)
+      (steps ++ own) (text ++ result_text (places ++ replicate turn.events turn.line) turn own)
 
 -- the statements were run in a world, which has their lines behind those that it had, and exactly
 -- the text of these was written
@@ -79,16 +89,16 @@ pub record ReportIsPrinted {D C : Type 0} {g : Ghosts D} (old new : World D C g)
   pub places : List ℕ
   pub steps : List (List Line)
   pub text : List ℕ
-  pub are : AreReported (configs_of old) statements places steps text
+  pub are : AreReported (configs_of old) (HasItsNodes old) statements places steps text
   pub added : lines_so_far new ≡ lines_so_far old ++ steps
   pub wrote : Appends before after text
 
 -- a beginning of the text of so many first of these statements was written
-pub record ReportIsBegun (cs : Configurations) (statements : List Statement)
+pub record ReportIsBegun (cs : Configurations) (has_nodes : Type 0) (statements : List Statement)
     (before after : Option (List ℕ)) : Type 0 where
   pub count : ℕ
   pub places : List ℕ
   pub steps : List (List Line)
   pub text : List ℕ
-  pub are : AreReported cs (take count statements) places steps text
+  pub are : AreReported cs has_nodes (take count statements) places steps text
   pub part : AppendsPart before after text
