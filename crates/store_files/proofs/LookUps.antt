@@ -10,6 +10,8 @@ use Rattle.kv_types.specs.declared.bounds.TheConstants.{MAX_VALUE}
 use Rattle.kv_types.specs.{BatchContent, Entry, IsUnseen, map_of, place}
 use Rattle.disk.specs.{Contents, IsEnvironmental}
 use Rattle.memtable.specs.declared.Memtable.{Memtable}
+use Rattle.memtable.specs.declared.error.MemtableError.{MemtableError}
+use Rattle.memtable.specs.declared.error.MemtableError.TheVariants as memtable
 use Rattle.memtable.specs.{TableHolds}
 use Rattle.table_format.specs.{IsTableEntry, TableRepresents}
 use Rattle.sorted_table.specs.declared.FoundVersion.{FoundVersion}
@@ -24,9 +26,10 @@ use Rattle.store_tables.specs.LevelTables.{AreTablesOf, IsTableOf, TableLookUpsA
 use Rattle.store_tables.specs.LevelTables.{found_value}
 use Rattle.store_files.proofs.Entries.{newest_in, unseen_in}
 
--- a call that is refused for one cause alone is not where that is not met
-pub is_answered : {T E : Type 0} (result : Result T E) {e : E} {Fails : Type 0}
-    → MatchResult result (λ _. Fails → ⊥) (λ d. (d ≡ e) × Fails) → (Fails → ⊥) → IsOk result
+-- a call of a memtable that is refused where it has failed alone is answered where it has not
+pub is_answered : {T Fails : Type 0} (result : Result T MemtableError) →
+    MatchResult result (λ _. Fails → ⊥) (λ d. (d ≡ memtable.Failed) × Fails) →
+    (Fails → ⊥) → IsOk result
 is_answered (Ok x) failed works = refl
 is_answered (Err d) failed works = absurd (works failed.1)
 
