@@ -6,12 +6,13 @@ use Rattle.disk.specs.declared.disk.Disk.{Ghosts}
 use Rattle.carriers.specs.declared.Carrier.{Ghosts as Carriers}
 use Rattle.lab.specs.declared.Line.{Line}
 use Rattle.lab.specs.declared.world.World.{World}
-use Rattle.lab.specs.{configs_of, lines_so_far}
+use Rattle.lab.specs.{HasItsNodes, configs_of, lines_so_far}
 use Rattle.lab.specs.NodeLists.{Configurations}
 use Rattle.client.specs.declared.run_error.RunError.{RunError}
 use Rattle.client.specs.declared.run_error.RunError.TheVariants as run
 use Rattle.client.specs.PrintedRuns.{AppendsPart, HasEndedEarly}
-use Rattle.client.specs.ReportedRuns.{ReportIsBegun, ReportIsPrinted}
+use Rattle.client.specs.ReportedRuns.{AreReported, ReportIsBegun, ReportIsPrinted}
+use Rattle.client.specs.ReportedRuns.AreReported.{NoStatement, OneMore}
 use Rattle.script_words.specs.Lines.{script_lines}
 use Rattle.scripts.specs.Faults.{script_fault, start}
 use Rattle.scripts.specs.Scripts.{IsScript, Names}
@@ -47,7 +48,7 @@ pub printed_report : {D C : Type 0} {g : Ghosts D} (world now : World D C g)
     (statements : List Statement) (old new : Option (List ℕ)) (steps : List (List Line))
     (stopped : Bool) → lines_so_far world ≡ [] → ReportIsPrinted world now statements old new →
     steps ≡ lines_so_far now → stopped ≡ has_stop steps →
-    IsPrintedReport (configs_of world) statements old new stopped
+    IsPrintedReport (configs_of world) (HasItsNodes world) statements old new stopped
 printed_report world now statements old new steps stopped none report is stops = record {
   places = report.places;
   steps = report.steps;
@@ -56,6 +57,46 @@ printed_report world now statements old new steps stopped none report is stops =
   wrote = report.wrote;
   stops = stops ∙ ap has_stop (is ∙ report.added
       ∙ ap (λ (l : List (List Line)). l ++ report.steps) none);
+}
+
+-- ---- a world that has its nodes
+
+-- each list of lines is such as its event has
+are_lines : {cs : Configurations} {has_nodes : Type 0} {statements : List Statement}
+    {places : List ℕ} {steps : List (List Line)} {text : List ℕ} → has_nodes →
+    AreReported cs has_nodes statements places steps text →
+    AreReported cs (Unit {0}) statements places steps text
+are_lines has NoStatement = NoStatement
+are_lines has (OneMore done places steps text are it turn own answered lines) =
+    OneMore done places steps text (are_lines has are) it turn own answered (record {
+      each = lines.each;
+      are = λ _. lines.are has;
+      unknown = lines.unknown;
+    })
+
+pub printed_in : (cs : Configurations) (has_nodes : Type 0) (statements : List Statement)
+    (old new : Option (List ℕ)) (stopped : Bool) → has_nodes →
+    IsPrintedReport cs has_nodes statements old new stopped →
+    IsPrintedReport cs (Unit {0}) statements old new stopped
+printed_in cs has_nodes statements old new stopped has printed = record {
+  places = printed.places;
+  steps = printed.steps;
+  written = printed.written;
+  are = are_lines has printed.are;
+  wrote = printed.wrote;
+  stops = printed.stops;
+}
+
+pub begun_in : (cs : Configurations) (has_nodes : Type 0) (statements : List Statement)
+    (old new : Option (List ℕ)) → has_nodes → ReportIsBegun cs has_nodes statements old new →
+    ReportIsBegun cs (Unit {0}) statements old new
+begun_in cs has_nodes statements old new has begun = record {
+  count = begun.count;
+  places = begun.places;
+  steps = begun.steps;
+  text = begun.text;
+  are = are_lines has begun.are;
+  part = begun.part;
 }
 
 -- ---- a run in folders
@@ -88,7 +129,7 @@ pub cut_short : (text old new : Option (List ℕ)) (f : Failure) (setup : Setup)
     (statements : List Statement) → (f ≡ Output) ⊎ (f ≡ Memory) →
     IfSome text (λ t. IsScript 1 (script_lines t) setup statements) →
     All (λ it. Names setup.configs it.action) statements →
-    ReportIsBegun setup.configs statements old new → LoopHasFailed text old new (Run f)
+    ReportIsBegun setup.configs (Unit {0}) statements old new → LoopHasFailed text old new (Run f)
 cut_short text old new f setup statements (inl is) spelled named begun =
     subst (λ (x : Failure). LoopHasFailed text old new (Run x)) (sym is) (record {
       cause = any_text text (Run Output) (λ t. tt);
@@ -123,7 +164,7 @@ pub loop_ended : (ran : Result Bool LoopFailure) (answer : ℕ)
     (λ failure. (answer ≡ 1) × AppendsPart old_err new_err (loop_failure_line failure)) →
     IfOk ran (λ _. IfSome text (λ t. script_fault (start false) 1 (script_lines t) ≡ None)) →
     IfOk ran (λ stopped. SpellsStatements text
-    (λ cs statements. IsPrintedReport cs statements old_out new_out stopped)) →
+    (λ cs statements. IsPrintedReport cs (Unit {0}) statements old_out new_out stopped)) →
     IfErr ran (LoopHasFailed text old_out new_out) →
     LoopEnds text old_out new_out old_err new_err answer
 loop_ended (Ok stopped) answer text old_out new_out old_err new_err is lawful printed failed =

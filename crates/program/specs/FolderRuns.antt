@@ -84,14 +84,15 @@ EndsEarly g h setup statements old new (Script fault) = ⊥
 
 -- ---- a run in any world
 
--- The statements were run in some world of these configurations, exactly the text of the lines that
--- it had of them was written, and this is whether a node stopped by itself in these.
-pub record IsPrintedReport (cs : Configurations) (statements : List Statement)
+-- The statements were run in some world of these configurations, which may have their nodes. Just
+-- the text of the lines that it had of them was written, and this is whether a node stopped by
+-- itself in these.
+pub record IsPrintedReport (cs : Configurations) (has_nodes : Type 0) (statements : List Statement)
     (old new : Option (List ℕ)) (stopped : Bool) : Type 0 where
   pub places : List ℕ
   pub steps : List (List Line)
   pub written : List ℕ
-  pub are : AreReported cs statements places steps written
+  pub are : AreReported cs has_nodes statements places steps written
   pub wrote : Appends old new written
   pub stops : stopped ≡ has_stop steps
 
@@ -122,17 +123,18 @@ pub record LoopHasFailed (text old new : Option (List ℕ)) (failure : LoopFailu
   pub cause : IfSome text (λ t. IsLoopFailureOf t failure)
   pub untouched : IsBeforeRun failure → new ≡ old
   pub begun : (new ≡ old)
-      ⊎ SpellsStatements text (λ cs statements. ReportIsBegun cs statements old new)
+      ⊎ SpellsStatements text (λ cs statements. ReportIsBegun cs (Unit {0}) statements old new)
 
 -- What was read, where that is known, is a script without a fault. Exactly the text of the lines
--- that some world had of its statements was written, one list for each event, and the status says
--- whether a node stopped by itself in these.
+-- that some world had of its statements was written, one list for each event, and such as the event
+-- has: the world has the nodes of its configurations. The status says whether a node stopped by
+-- itself in these.
 pub record LoopIsRun (text old_out new_out old_err new_err : Option (List ℕ)) (answer : ℕ) : Type 0
   where
     pub lawful : IfSome text (λ t. script_fault (start false) 1 (script_lines t) ≡ None)
     pub stopped : Bool
     pub printed : SpellsStatements text
-        (λ cs statements. IsPrintedReport cs statements old_out new_out stopped)
+        (λ cs statements. IsPrintedReport cs (Unit {0}) statements old_out new_out stopped)
     pub status : answer ≡ stopped_status stopped
     pub quiet : new_err ≡ old_err
 

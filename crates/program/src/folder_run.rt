@@ -3,7 +3,7 @@ ghost use Rattle.std.specs.Prelude.{◌≡◌, ◌⊎◌, [], false, IfErr, IfOk
 ghost use Rattle.std.specs.List.{list_any};
 ghost use Rattle.script_words.specs.Lines.{script_lines};
 ghost use Rattle.scripts.specs.Faults.{script_fault, start};
-ghost use Rattle.lab.specs.{configs_of, lines_so_far};
+ghost use Rattle.lab.specs.{HasItsNodes, configs_of, lines_so_far};
 ghost use Rattle.client.specs.PrintedRuns.{IsReadyToRun};
 ghost use Rattle.client.specs.ReportedRuns.{ReportIsBegun};
 ghost use Rattle.program.specs.FolderRuns.{EndsEarly, IsPrintedReport, IsRunThatStops};
@@ -96,10 +96,10 @@ fn run_world<D: Crash + Drop, C: Carrier + Drop, W: Write>(
 
     // In any world that has no line yet.
     ensures printed { lines_so_far world ≡ [] → MatchResult result
-        (IsPrintedReport (configs_of world) script.now.statements.items (W.contents out.old)
-        (W.contents out.new))
-        (λ _. ReportIsBegun (configs_of world) script.now.statements.items (W.contents out.old)
-        (W.contents out.new)) }
+        (IsPrintedReport (configs_of world) (HasItsNodes world) script.now.statements.items
+        (W.contents out.old) (W.contents out.new))
+        (λ _. ReportIsBegun (configs_of world) (HasItsNodes world) script.now.statements.items
+        (W.contents out.old) (W.contents out.new)) }
 {
     let ran = run_script(alloc, script, &mut world, out);
     let stopped = has_stop(world.report());
@@ -122,7 +122,7 @@ where
     ensures lawful { IfOk result (λ _. IfSome (R.remaining input.old) (λ text.
         script_fault (start false) 1 (script_lines text) ≡ None)) }
     ensures printed { IfOk result (λ stopped. SpellsStatements (R.remaining input.old)
-        (λ cs statements. IsPrintedReport cs statements (W.contents out.old)
+        (λ cs statements. IsPrintedReport cs (Unit {0}) statements (W.contents out.old)
         (W.contents out.new) stopped)) }
     ensures failed { IfErr result
         (LoopHasFailed (R.remaining input.old) (W.contents out.old) (W.contents out.new)) }
