@@ -1,7 +1,8 @@
 -- How a run in folders ends.
 use Rattle.std.proofs.Common.{◌≡◌, ◌⊎◌, inl, inr, ℕ, Bool, Option, None, Some, refl, sym, subst}
-use Rattle.std.proofs.Common.{false, List, [], ◌++◌, ap, ◌∙◌}
+use Rattle.std.proofs.Common.{false, List, [], ◌++◌, ap, append-nil, ◌∙◌}
 use Rattle.std.specs.Prelude.{Result, Ok, Err, IfErr, IfOk, IfSome, MatchResult, All}
+use Rattle.std.specs.Io.KnownBytes.{Appends}
 use Rattle.disk.specs.declared.disk.Disk.{Ghosts}
 use Rattle.carriers.specs.declared.Carrier.{Ghosts as Carriers}
 use Rattle.lab.specs.declared.Line.{Line}
@@ -13,6 +14,7 @@ use Rattle.client.specs.declared.run_error.RunError.TheVariants as run
 use Rattle.client.specs.PrintedRuns.{AppendsPart, HasEndedEarly}
 use Rattle.client.specs.ReportedRuns.{AreReported, ReportIsBegun, ReportIsPrinted}
 use Rattle.client.specs.ReportedRuns.AreReported.{NoStatement, OneMore}
+use Rattle.dumps.specs.Dumped.{IsSomeBegun}
 use Rattle.script_words.specs.Lines.{script_lines}
 use Rattle.scripts.specs.Faults.{script_fault, start}
 use Rattle.scripts.specs.Scripts.{IsScript, Names}
@@ -20,11 +22,12 @@ use Rattle.scripts.specs.declared.setup.Setup.{Setup}
 use Rattle.scripts.specs.declared.statement.Statement.{Statement}
 use Rattle.program.specs.declared.failure.Failure.{Failure}
 use Rattle.program.specs.declared.failure.Failure.TheVariants.{Memory, Output}
+use Rattle.program.specs.declared.folder_failure.DumpFailure.{DumpFailure}
 use Rattle.program.specs.declared.folder_failure.LoopFailure.{LoopFailure}
 use Rattle.program.specs.declared.folder_failure.LoopFailure.TheVariants.{Run}
 use Rattle.program.specs.Failures.{IsFailureOf, failure_of}
-use Rattle.program.specs.FolderFailures.{IsLoopFailureOf, loop_failure_line}
-use Rattle.program.specs.FolderRuns.{EndsEarly, IsPrintedReport, LoopEnds, LoopHasFailed}
+use Rattle.program.specs.FolderFailures.{IsLoopFailureOf, dump_failure_line, loop_failure_line}
+use Rattle.program.specs.FolderRuns.{DumpEnds, EndsEarly, IsPrintedReport, LoopEnds, LoopHasFailed}
 use Rattle.program.specs.FolderRuns.{SpellsStatements, has_stop, stopped_status}
 
 -- ---- a run in a world
@@ -226,3 +229,27 @@ loop_reported failure out old_err new_err answer one told = inr (record {
   failed = record { cause = tt; untouched = λ _. refl; begun = inl refl };
   told = told;
 })
+
+-- ---- what is written of a folder
+
+appends_none : (out : Option (List ℕ)) → Appends out out []
+appends_none None = tt
+appends_none (Some xs) = sym (append-nil xs)
+
+-- nothing is a beginning of each text
+pub nothing_dumped : (out : Option (List ℕ)) → IsSomeBegun out out
+nothing_dumped out = record {
+  facts = record { id = 0; epoch = 0; ids = []; floor = 0; kept = 0 };
+  count = 0;
+  tables = [];
+  rows = [];
+  part = record { count = 0; wrote = appends_none out };
+}
+
+-- it was not written out whole, and that was reported
+pub dump_reported : (failure : DumpFailure) (old_out new_out old_err new_err : Option (List ℕ))
+    (answer : ℕ) → IsSomeBegun old_out new_out → answer ≡ 1 →
+    AppendsPart old_err new_err (dump_failure_line failure) →
+    DumpEnds old_out new_out old_err new_err answer
+dump_reported failure old_out new_out old_err new_err answer part status told =
+    inr (record { status = status; failure = failure; part = part; told = told })

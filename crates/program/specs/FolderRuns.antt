@@ -16,6 +16,7 @@ use Rattle.client.specs.PrintedRuns.{AppendsPart, HasEndedEarly, HasRunStatement
 use Rattle.client.specs.ReportedRuns.{AreReported, ReportIsBegun}
 use Rattle.client.specs.ScriptRuns.{Stretch}
 use Rattle.client.specs.Text.{run_text}
+use Rattle.dumps.specs.Dumped.{IsSomeBegun, IsSomeDump}
 use Rattle.script_words.specs.Lines.{script_lines}
 use Rattle.scripts.specs.Faults.{script_fault, start}
 use Rattle.scripts.specs.Scripts.{IsScript, Names}
@@ -160,21 +161,32 @@ LoopOrUsage old_out new_out old_err new_err answer =
 
 -- ---- what is written of a folder
 
--- it was not written out whole, and the line that says why was told, or a beginning of it
-pub record DumpIsReported (old_err new_err : Option (List ℕ)) (answer : ℕ) : Type 0 where
+-- exactly the text of some store was written
+pub record DumpIsWritten (old_out new_out old_err new_err : Option (List ℕ)) (answer : ℕ)
+    : Type 0 where
+  pub status : answer ≡ 0
+  pub wrote : IsSomeDump old_out new_out
+  pub quiet : new_err ≡ old_err
+
+-- a beginning of such a text was written, and the line that says why was told, or a beginning of it
+pub record DumpIsReported (old_out new_out old_err new_err : Option (List ℕ)) (answer : ℕ)
+    : Type 0 where
   pub status : answer ≡ 1
   pub failure : DumpFailure
+  pub part : IsSomeBegun old_out new_out
   pub told : AppendsPart old_err new_err (dump_failure_line failure)
 
 -- how that ends
-abbrev pub DumpEnds : (old_err new_err : Option (List ℕ)) → ℕ → Type 0
-DumpEnds old_err new_err answer =
-    ((answer ≡ 0) × (new_err ≡ old_err)) ⊎ DumpIsReported old_err new_err answer
+abbrev pub DumpEnds : (old_out new_out old_err new_err : Option (List ℕ)) → ℕ → Type 0
+DumpEnds old_out new_out old_err new_err answer =
+    DumpIsWritten old_out new_out old_err new_err answer
+    ⊎ DumpIsReported old_out new_out old_err new_err answer
 
 -- how the words `dump ..` end
 abbrev pub DumpOrUsage : (old_out new_out old_err new_err : Option (List ℕ)) → ℕ → Type 0
 DumpOrUsage old_out new_out old_err new_err answer =
-    DumpEnds old_err new_err answer ⊎ UsageIsReported old_out new_out old_err new_err answer
+    DumpEnds old_out new_out old_err new_err answer
+    ⊎ UsageIsReported old_out new_out old_err new_err answer
 
 -- ---- the program
 

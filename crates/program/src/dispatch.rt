@@ -45,7 +45,8 @@ where
         result }
     ensures dumped { (folder : List ℕ) →
         dump_folder (map (λ w. w.now) words.now) ≡ Some folder → (input.new ≡ input.old)
-        × DumpEnds (E.contents err.old) (E.contents err.new) result }
+        × DumpEnds (O.contents out.old) (O.contents out.new) (E.contents err.old)
+        (E.contents err.new) result }
 
     // All words, by the command that they name.
     ensures ends { ProgramEnds (map (λ w. w.now) words.now) (O.contents out.old)

@@ -1,4 +1,7 @@
 //! What the store of one folder has is written out.
+ghost use Rattle.std.specs.Prelude.{MatchResult};
+ghost use Rattle.dumps.specs.Dumped.{IsSomeBegun, IsSomeDump};
+
 use crate::folder_failure::DumpFailure;
 use dir_disk::{DirDisk, Unchanged};
 use dumps::dump_store;
@@ -17,11 +20,15 @@ fn disk_to_read<F: Files<File = File> + Alloc<A = Global> + Clone + Drop>(
 }
 
 /// Writes what the store of a folder has. No file of it is changed, and none is made.
+#[tactic(auto, using(crate::proofs::FolderEnds::nothing_dumped))]
 pub fn dump_folder<F: Files<File = File> + Alloc<A = Global> + Clone + Drop, W: Write>(
     rt: &F,
     folder: &str,
     out: &mut W,
-) -> Result<(), DumpFailure> {
+) -> Result<(), DumpFailure>
+    ensures { MatchResult result (λ _. IsSomeDump (W.contents out.old) (W.contents out.new))
+        (λ _. IsSomeBegun (W.contents out.old) (W.contents out.new)) }
+{
     // An empty path is that of no folder.
     if folder.is_empty() {
         return Err(DumpFailure::Store(Stop::NotCreated));

@@ -3,7 +3,7 @@ ghost use Rattle.std.specs.Prelude.{◌≡◌, ◌≢◌, ℕ, List, false, map,
 ghost use Rattle.std.specs.Prelude.{Some, None};
 ghost use Rattle.client.specs.PrintedRuns.{AppendsPart};
 ghost use Rattle.program.specs.FolderFailures.{dump_failure_line, loop_failure_line};
-ghost use Rattle.program.specs.FolderRuns.{DumpEnds, DumpIsReported, DumpOrUsage, LoopEnds};
+ghost use Rattle.program.specs.FolderRuns.{DumpEnds, DumpOrUsage, LoopEnds};
 ghost use Rattle.program.specs.FolderRuns.{LoopEndsFor, LoopOrUsage, stopped_status};
 ghost use Rattle.program.specs.Invocations.{dump_folder, has_option, loop_paths};
 ghost use Rattle.program.specs.Runs.{UsageIsReported};
@@ -100,7 +100,9 @@ fn write_dump_failure<E: Write>(err: &mut E, failure: DumpFailure) -> io::Result
 /// The status where what a store has was not written out whole. Standard error may take only a
 /// beginning of the line that says why.
 fn report_dump<E: Write>(err: &mut E, failure: DumpFailure) -> u8
-    ensures { DumpIsReported (E.contents err.old) (E.contents err.new) result }
+    ensures status { result ≡ 1 }
+    ensures text { AppendsPart (E.contents err.old) (E.contents err.new)
+        (dump_failure_line failure) }
 {
     let _ = write_dump_failure(err, failure);
     1
@@ -110,7 +112,8 @@ fn report_dump<E: Write>(err: &mut E, failure: DumpFailure) -> u8
 fn write_folder<F, O: Write, E: Write>(rt: &F, folder: &str, out: &mut O, err: &mut E) -> u8
 where
     F: Files<File = File> + Alloc<A = Global> + Clone + Drop,
-    ensures { DumpEnds (E.contents err.old) (E.contents err.new) result }
+    ensures { DumpEnds (O.contents out.old) (O.contents out.new) (E.contents err.old)
+        (E.contents err.new) result }
 {
     match dump_folder(rt, folder, out) {
         Ok(()) => 0,
@@ -154,7 +157,8 @@ where
     F: Files<File = File> + Alloc<A = Global> + Clone + Drop,
     ensures dumped { (folder : List ℕ) →
         dump_folder (map (λ w. w.now) words.now) ≡ Some folder →
-        DumpEnds (E.contents err.old) (E.contents err.new) result }
+        DumpEnds (O.contents out.old) (O.contents out.new) (E.contents err.old)
+        (E.contents err.new) result }
     ensures unknown { dump_folder (map (λ w. w.now) words.now) ≡ None →
         has_option (codes "dump") (map (λ w. w.now) words.now) ≡ false →
         UsageIsReported (O.contents out.old) (O.contents out.new) (E.contents err.old)
