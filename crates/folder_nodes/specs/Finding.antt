@@ -1,11 +1,9 @@
 -- The node of a disk: the one that it represents, or one that is created there.
 use Rattle.std.specs.Prelude.{◌≡◌, ◌⊎◌, ◌↔◌, ◌<◌, ℕ, Bool, List, IsTrue, length, map}
 use Rattle.std.specs.Prelude.{Result, Ok, Err, IsErrAnd, MatchResult}
-use Rattle.std.specs.Global.{Box}
 use Rattle.disk.specs.{Contents, IsEnvironmental, KeepsDisk, State}
 use Rattle.disk.specs.declared.Disk.{Ghosts}
 use Rattle.configurations.specs.{at_epoch, Configurations}
-use Rattle.kv_types.specs.declared.Limits.{Limits}
 use Rattle.chain_model.specs.{created, started}
 use Rattle.chain_core.specs.{Machine}
 use Rattle.manifest.specs.{HasOnlyCreationFiles, IsNotCreated, ManifestRepresents, NodeVersion}
@@ -13,9 +11,8 @@ use Rattle.manifest.specs.{SlotsRead, WasCutShort}
 use Rattle.node.specs.declared.node.Node.{Node}
 use Rattle.node.specs.declared.stop.Stop.TheVariants as stop
 use Rattle.node.specs.Starts.{IsStarted, StartRefusal}
-use Rattle.node.specs.{IsOwned, NodeRefines, disk_of, node_limits}
+use Rattle.node.specs.{IsOwned, NodeRefines, disk_of}
 use Rattle.lab.specs.declared.SimNode.{SimNode}
-use Rattle.lab.specs.declared.node_state.NodeState.TheVariants.{Up}
 use Rattle.folder_nodes.specs.declared.fault.FolderError.{FolderError}
 use Rattle.folder_nodes.specs.declared.fault.FolderError.TheVariants.{OtherNode, Stopped}
 
@@ -74,11 +71,6 @@ module _ {D : Type 0} {g : Ghosts D} where
   -- the ids of simulated nodes, in order
   abbrev pub sim_ids : List (SimNode D g) → List ℕ
   sim_ids nodes = map (λ sim. sim.id) nodes
-
-  -- a simulated node is up, and works by these limits
-  abbrev pub IsUpWith : Limits → SimNode D g → Type 0
-  IsUpWith limits sim =
-      (node : Box (Node D g)) × (sim.state ≡ Up node) × (node_limits node.value ≡ limits)
 
   -- the disk that a call received: the node has it, or the refusal returns it
   abbrev pub disk_left : Result (Node D g) (FolderError × D) → D

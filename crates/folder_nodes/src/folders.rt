@@ -1,11 +1,11 @@
 // The nodes of a list of configurations, each in a folder of its own.
-ghost use Rattle.std.specs.Prelude.{◌≡◌, ◌++◌, ◌∷◌, [], All, Contains, IfErr, IfOk, OnOk};
+ghost use Rattle.std.specs.Prelude.{◌≡◌, ◌++◌, ◌∷◌, [], Contains, IfErr, IfOk, OnOk};
 ghost use Rattle.std.specs.Prelude.{string_bytes};
 ghost use Rattle.configurations.specs.{at_epoch};
 ghost use Rattle.dir_disk.specs.Disks.{HasLock, disk_folder};
 ghost use Rattle.dir_disk.specs.Names.{file_path};
 ghost use Rattle.node.specs.{IsReady, node_limits};
-ghost use Rattle.folder_nodes.specs.Finding.{IsUpWith, sim_ids};
+ghost use Rattle.folder_nodes.specs.Finding.{sim_ids};
 
 use crate::fault::{FolderError, FolderFault};
 use crate::finding::node_over;
@@ -78,9 +78,7 @@ fn add_node<D: Disk + Drop>(
     node: Node<D>,
 ) -> Result<(), FolderError>
     requires { IsReady node }
-    ensures ids { OnOk result (sim_ids nodes.new.items ≡ sim_ids nodes.old.items ++ id ∷ []) }
-    ensures ups { OnOk result (All (IsUpWith (node_limits node)) nodes.old.items →
-        All (IsUpWith (node_limits node)) nodes.new.items) }
+    ensures { OnOk result (sim_ids nodes.new.items ≡ sim_ids nodes.old.items ++ id ∷ []) }
 {
     nodes.push(SimNode::up(id, Box::new(alloc, node)?))?;
     Ok(())
@@ -95,9 +93,7 @@ fn add_node_in<R: Files<File = File> + Alloc<A = Global> + Clone + Drop>(
     limits: &Limits,
     nodes: &mut Vec<SimNode<DirDisk<R>>>,
 ) -> Result<(), FolderError>
-    ensures ids { OnOk result (sim_ids nodes.new.items ≡ sim_ids nodes.old.items ++ id ∷ []) }
-    ensures ups { OnOk result (All (IsUpWith limits.now) nodes.old.items →
-        All (IsUpWith limits.now) nodes.new.items) }
+    ensures { OnOk result (sim_ids nodes.new.items ≡ sim_ids nodes.old.items ++ id ∷ []) }
 {
     let node = node_in(rt, folder, id, configs, limits)?;
     add_node(rt.alloc(), nodes, id, node)
@@ -113,7 +109,6 @@ pub fn nodes_in<R: Files<File = File> + Alloc<A = Global> + Clone + Drop>(
     limits: &Limits,
 ) -> Result<Vec<SimNode<DirDisk<R>>>, FolderFault>
     ensures nodes { IfOk result (λ nodes. sim_ids nodes.items ≡ at_epoch configs.now 0) }
-    ensures ups { IfOk result (λ nodes. All (IsUpWith limits.now) nodes.items) }
     ensures fault { IfErr result (λ fault. Contains (at_epoch configs.now 0) fault.id) }
 {
     let mut nodes = Vec::new(rt.alloc());
