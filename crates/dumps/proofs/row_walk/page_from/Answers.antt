@@ -5,7 +5,7 @@ use Rattle.dumps.proofs.row_walk.page_from.Goals as goal
 -- the engine's page is that of this range
 pub returns-in-Ok-rows-clause-page : goal.returns-in-Ok-rows-clause-page
 returns-in-Ok-rows-clause-page g c = λ list shows.
-    let same = ap (page_of (take c.args.at list)) c.in-Ok.ensures.made in
+    let same = ap (page_of (take c.args.at list)) c.in-Ok.ensures.made.2 in
     elim shows [
       | inl reads ↦ c.in-Ok-rows.ensures.found.reads list reads ∙ same
       | inr meant ↦ c.in-Ok-rows.ensures.found.meant list meant ∙ same

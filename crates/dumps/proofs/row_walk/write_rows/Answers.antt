@@ -114,6 +114,12 @@ returns-in_default-clause-rows g c =
     c.loop.count (g.W.Write.contents c.args.out.now) mid new page before is part in
     begun
 
+pub returns-in_default-clause-device : goal.returns-in_default-clause-device
+returns-in_default-clause-device g c =
+    kept_as_told g.D.Disk
+    (kept_more g.D.Disk c.loop.invariant.0.kept c.in_ok-page.ensures.device answers)
+    (λ fails. cc)
+
 pub returns-then-not-has_more-clause-rows : goal.returns-then-not-has_more-clause-rows
 returns-then-not-has_more-clause-rows g c =
     let before = c.loop.invariant.2 in
