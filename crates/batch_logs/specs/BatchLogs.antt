@@ -7,7 +7,8 @@ use Rattle.disk.specs.declared.Disk.{Ghosts}
 use Rattle.disk.specs.{AlwaysLeaves, Contents, EndsOutOfRange, IsEnvironmental, IsFileOutcome}
 use Rattle.disk.specs.{IsLeftAt, IsSame, IsSameBut, KeepsDisk, State, seen}
 use Rattle.record_log.specs.declared.log.TheConstants.{MAX_RECORD}
-use Rattle.record_log.specs.{EndsInRange, HasFailed, LogHolds, MakesCalls, count_of, file_of}
+use Rattle.disk.specs.{MakesCalls}
+use Rattle.record_log.specs.{EndsInRange, HasFailed, LogHolds, count_of, file_of}
 use Rattle.record_log.specs.{gate_of, start_of}
 use Rattle.version_edits.specs.declared.line.LogLine.{LogLine}
 use Rattle.batch_logs.specs.declared.batch_logs.BatchLog.{BatchLog}

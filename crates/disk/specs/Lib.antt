@@ -1,5 +1,6 @@
 pub mod States
 pub mod Calls
+pub mod CallCounts
 pub mod Moments
 pub mod Faults
 pub mod Devices
@@ -22,6 +23,7 @@ pub mod WritesLemmas
 -- What crates above name.
 pub use Rattle.disk.specs.Calls.{EndsOutOfRange, HasStruck, RisesByOne, SyncOutcome}
 pub use Rattle.disk.specs.Calls.{WriteOutcome}
+pub use Rattle.disk.specs.CallCounts.{CallsAtMost, MakesCalls}
 pub use Rattle.disk.specs.Crashes.{CrashOutcome, CrashedIsDurable}
 pub use Rattle.disk.specs.Faults.{HasStruckBy, Marks, armed_after, fault_of, struck_call}
 pub use Rattle.disk.specs.Lent.{AlwaysLeaves, IsArmed, IsStill, KeepsDisk, WritesInto}

@@ -29,7 +29,8 @@ impl<D: Disk + Drop> EmbeddedStore<D> {
     ghost use Rattle.engine.specs.{AreOrdered, ChangesList, ChangesSnapshots, IsAdrift};
     ghost use Rattle.engine.specs.{IsCloseAnswer, IsNearlyFull, IsTendFile};
     ghost use Rattle.engine.specs.{RaisesFactsAtMost, ReadsEngine, raised_facts};
-    ghost use Rattle.engine.specs.{MakesCalls, look_ups, with_opened, with_closed};
+    ghost use Rattle.disk.specs.{MakesCalls};
+    ghost use Rattle.engine.specs.{look_ups, with_opened, with_closed};
     ghost use Rattle.engine.specs.Calls.{TendsAsDue};
     ghost use Rattle.compaction.specs.Outputs.{IsSameBeyond};
     ghost use Rattle.engine.specs.EngineError.TheVariants.{Disk, Exhausted, Memory};

@@ -27,7 +27,6 @@ pub use Rattle.engine.specs.Engines.{IsTendFile, look_ups, newest_log_file, rais
 pub use Rattle.engine.specs.Engines.{table_count, with_one_more, with_committed}
 pub use Rattle.engine.specs.Engines.{with_closed, with_opened}
 -- What they name of the files of a store.
-pub use Rattle.record_log.specs.{MakesCalls}
 pub use Rattle.store_tables.specs.declared.error.EngineError
 pub use Rattle.store_files.specs.declared.tended.Tended
 pub use Rattle.store_tables.specs.KeepingLemmas

@@ -65,7 +65,7 @@ impl<D: Disk + Drop> Engine<D> {
     ghost use Rattle.kv_types.specs.declared.bounds.TheConstants.{MAX_NUMBER};
     ghost use Rattle.kv_types.specs.{BatchContent, place};
     ghost use Rattle.disk.specs.{contents, IsEnvironmental, IsSameBut, IsStill};
-    ghost use Rattle.record_log.specs.{MakesCalls};
+    ghost use Rattle.disk.specs.{MakesCalls};
     ghost use Rattle.engine.specs.Calls.{ChangesList, ExplainsRefusal, IsAdrift, IsJustOpened};
     ghost use Rattle.engine.specs.Calls.{IsNewEngine, IsOpened, IsTendOf, TendsAsDue};
     ghost use Rattle.engine.specs.Calls.{KeepsOwnedDisk, OfEachList, OpensEngineFor, ReadsEngine};

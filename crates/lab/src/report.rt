@@ -118,15 +118,3 @@ pub struct Report {
     pub steps: Vec<Lines>,
     pub nodes: Vec<NodeReport>,
 }
-
-impl Report {
-    /// The lines of each event, without the nodes. A crate that ends a report by this call need not
-    /// prove the drop of all that nodes hold.
-    pub fn into_steps(self) -> Vec<Lines>
-        ensures { result ≡ self.steps }
-    {
-        let Report { steps, nodes } = self;
-        drop(nodes);
-        steps
-    }
-}

@@ -6,7 +6,8 @@ use Rattle.disk.specs.declared.Disk.{Ghosts}
 use Rattle.disk.specs.declared.DiskError.{DiskError}
 use Rattle.disk.specs.declared.DiskError.TheVariants as device
 use Rattle.disk.specs.{AlwaysLeaves, EndsOutOfRange, IsLeftAt, IsSameBut, KeepsDisk, State}
-use Rattle.record_log.specs.{IsClosed, IsDurableAs, MakesCalls}
+use Rattle.disk.specs.{MakesCalls}
+use Rattle.record_log.specs.{IsClosed, IsDurableAs}
 
 -- a file whose gate is as is said: open, with bytes behind it, or closed
 abbrev pub HasGate : Bool → List ℕ → Type 0

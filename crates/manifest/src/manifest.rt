@@ -16,7 +16,7 @@ ghost use Rattle.manifest.specs.Manifests.{IsOpenedManifest, IsRewritten};
 ghost use Rattle.manifest.specs.Manifests.{ManifestRefusal};
 ghost use Rattle.manifest.specs.Manifests.{counting_file, generation_of, slot_length, spare_file};
 ghost use Rattle.manifest.specs.Manifests.{rewrite_calls, version_of};
-ghost use Rattle.record_log.specs.{MakesCalls};
+ghost use Rattle.disk.specs.{MakesCalls};
 
 use crate::laws::version_is_one;
 use crate::opening::open_slots;

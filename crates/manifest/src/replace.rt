@@ -2,7 +2,8 @@
 ghost use Rattle.std.specs.Prelude.{ℕ, ◌+◌, ◌<◌, List, length, IfErr, IsErrOf, OnOk};
 ghost use Rattle.disk.specs.declared.DiskError.TheVariants.{Failed, Memory};
 ghost use Rattle.disk.specs.{IsEnvironmental, IsSameBut, KeepsDisk};
-ghost use Rattle.record_log.specs.{IsDurableAs, MakesCalls};
+ghost use Rattle.disk.specs.{MakesCalls};
+ghost use Rattle.record_log.specs.{IsDurableAs};
 ghost use Rattle.manifest.specs.Replace.{HasGate, IfGated, IsClosedFile, LeavesReplaced};
 ghost use Rattle.manifest.specs.Replace.{ReplacesFile, closing_calls};
 

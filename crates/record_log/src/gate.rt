@@ -4,7 +4,7 @@ ghost use Rattle.disk.specs.{IsEnvironmental};
 ghost use Rattle.disk.specs.declared.DiskError.TheVariants.{Failed, Memory};
 ghost use Rattle.disk.specs.{AlwaysLeaves, EndsOutOfRange, IsLeftAt, IsSameBut, KeepsDisk};
 ghost use Rattle.record_log.specs.Gate.{IsDurableAs, IsGatedWrite, IsPartlyOpened, with_open_gate};
-ghost use Rattle.record_log.specs.Calls.{MakesCalls};
+ghost use Rattle.disk.specs.{MakesCalls};
 
 use disk::{Disk, DiskError};
 

@@ -14,7 +14,7 @@ ghost use Rattle.record_log.specs.Logs.{IsOldOrNewFrom, EndsInRange, begun, file
 ghost use Rattle.record_log.specs.Logs.{IsDurableLog};
 ghost use Rattle.record_log.specs.Logs.{gate_of, count_of, first_length, HasFailed, HasNoRoom};
 ghost use Rattle.record_log.specs.Logs.{HasRead};
-ghost use Rattle.record_log.specs.Calls.{MakesCalls};
+ghost use Rattle.disk.specs.{MakesCalls};
 
 use crate::LogError;
 use crate::gate::write_gated;

@@ -7,8 +7,8 @@ ghost use Rattle.script_words.specs.Lines.{script_lines, words_of};
 use memchr::memchr;
 use std::alloc::AllocError;
 
-/// Where the first line feed stands.
-pub fn end_of_line(text: &[u8]) -> Option<usize>
+// Where the first line feed stands.
+fn end_of_line(text: &[u8]) -> Option<usize>
     ensures none { IfNone result ((k : ℕ) → k < length text.now → slice_index text.now k ≢ 10) }
     ensures some { IfSome result (λ i. (i < length text.now) × (slice_index text.now i ≡ 10)) }
     ensures first { IfSome result (λ i. (k : ℕ) → k < i → slice_index text.now k ≢ 10) }
@@ -16,7 +16,7 @@ pub fn end_of_line(text: &[u8]) -> Option<usize>
     memchr(b'\n', text)
 }
 
-/// The first line of a text, and what follows it.
+// The first line of a text, and what follows it.
 fn first_line(text: &[u8]) -> (&[u8], &[u8])
     requires { 0 < length text.now }
     ensures { script_lines text.now ≡ result.0.now ∷ script_lines result.1.now }

@@ -6,7 +6,8 @@ use Rattle.disk.specs.{IsEnvironmental, IsSame, IsStill, KeepsDisk}
 use Rattle.kv_types.specs.{Entry, StoredKey}
 use Rattle.merge_iter.specs.{ErrorCauses, reports}
 use Rattle.merge_iter.specs.declared.CursorError.{CursorError}
-use Rattle.table_files.specs.{CallsAtMost, KeepsFiles}
+use Rattle.disk.specs.{CallsAtMost}
+use Rattle.table_files.specs.{KeepsFiles}
 use Rattle.table_format.specs.declared.FileError.TheVariants as reading
 use Rattle.table_format.specs.declared.IndexLine.{IndexLine}
 use Rattle.table_format.specs.declared.FileError.{FileError}

@@ -4,7 +4,7 @@ ghost use Rattle.std.specs.Prelude.{Some, IfOk, IsTrue, IsSomeAnd};
 ghost use Rattle.std.specs.Prelude.{length, slice_get};
 ghost use Rattle.std.specs.Rc.{rc_slice_items};
 ghost use Rattle.kv_types.specs.{Entry};
-ghost use Rattle.table_files.specs.{CallsAtMost};
+ghost use Rattle.disk.specs.{CallsAtMost};
 ghost use Rattle.table_format.specs.{IsBlock, last_entry, lent_entry};
 ghost use Rattle.sorted_table.specs.Meant.{AreAtLine, HasEndOf, IsBehindLine, LineBlockAnswer};
 ghost use Rattle.sorted_table.specs.TableReads.{ReadsDisk};

@@ -5,7 +5,7 @@ ghost use Rattle.bloom.specs.{Covers, CoversHashed, hashes_of};
 ghost use Rattle.disk.specs.{IsEnvironmental, IsSame, IsStill, KeepsDisk, Slot, State};
 ghost use Rattle.kv_types.specs.{Entry, lent_key};
 ghost use Rattle.merge_iter.specs.{IsAlike, Off};
-ghost use Rattle.table_files.specs.{CallsAtMost};
+ghost use Rattle.disk.specs.{CallsAtMost};
 ghost use Rattle.table_format.specs.declared.FileError.TheVariants.{Disk, Memory};
 
 use crate::block::find_in;

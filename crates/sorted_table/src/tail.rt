@@ -5,7 +5,7 @@ ghost use Rattle.std.specs.Prelude.{IfOk, IfSome, IsSome, IsSomeAnd, MatchOption
 ghost use Rattle.std.specs.Prelude.{MatchResult};
 ghost use Rattle.std.specs.Rc.{rc_slice_items};
 ghost use Rattle.disk.specs.{IsEnvironmental, seen};
-ghost use Rattle.table_files.specs.{CallsAtMost};
+ghost use Rattle.disk.specs.{CallsAtMost};
 ghost use Rattle.kv_types.specs.{Entry};
 ghost use Rattle.table_format.specs.declared.FileError.TheVariants.{Disk, Memory};
 ghost use Rattle.table_format.specs.{IsFilterPart, IsIndex, TableRepresents, block_lines};

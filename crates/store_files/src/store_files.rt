@@ -5,7 +5,7 @@ ghost use Rattle.std.specs.Option.{option_flatten};
 ghost use Rattle.kv_types.specs.declared.bounds.TheConstants.{MAX_VALUE};
 ghost use Rattle.kv_types.specs.{map_of, place};
 ghost use Rattle.disk.specs.{IsEnvironmental, IsSame, IsSameBut, KeepsDisk};
-ghost use Rattle.record_log.specs.{MakesCalls};
+ghost use Rattle.disk.specs.{MakesCalls};
 ghost use Rattle.batch_logs.specs.BatchLogs.{HasFullLog, newest_file};
 ghost use Rattle.store_files.specs.BesideFiles.{with_free};
 ghost use Rattle.store_tables.specs.declared.error.EngineError.TheVariants.{Disk, Memory};

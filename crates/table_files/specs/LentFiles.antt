@@ -42,11 +42,6 @@ pub record KeepsFiles {D : Type 0} (g : Ghosts D) (old new : D) : Type 0 where
   pub spared : (HasStruck g.marks g.past old → ⊥) →
       ShowsNoFailure (g.failures old) (g.failures new) → HasStruck g.marks g.past new → ⊥
 
--- An honest disk was called so often at most. A call that wants memory never reaches the device,
--- and is not counted.
-abbrev pub CallsAtMost : {D : Type 0} → Ghosts D → ℕ → (old new : D) → Type 0
-CallsAtMost g n old new = g.is_honest old → length (g.past new) ≤ length (g.past old) + n
-
 -- one call is counted at most
 pub one_call : {T : Type 0} (result : Result T DiskError) (before now : ℕ) →
     Counts result before now → now ≤ before + 1

@@ -4,7 +4,7 @@ ghost use Rattle.std.specs.Rc.{rc_slice_items};
 ghost use Rattle.disk.specs.{IsSame, IsStill, KeepsDisk};
 ghost use Rattle.table_format.specs.declared.FileError.TheVariants.{Disk};
 ghost use Rattle.table_files.specs.BlockReads.{AreBlocksAt, BlockAnswer};
-ghost use Rattle.table_files.specs.LentFiles.{CallsAtMost};
+ghost use Rattle.disk.specs.{CallsAtMost};
 
 use crate::block::CheckedBlock;
 use crate::cache::BlockCache;
