@@ -39,7 +39,7 @@ greatest_behind b next blocks =
     ∙ ap (option_map (λ (e : Entry). e.key)) (last_behind (block_entries b) others some)
 
 -- the last line of an index has the key of the last entry
-last_key : (place : ℕ) (blocks : List Block)
+pub last_key : (place : ℕ) (blocks : List Block)
     → option_map (λ (line : IndexLine). line.key)
     (slice_get (block_lines place blocks) (length (block_lines place blocks) - 1))
     ≡ greatest_key (entries_of_blocks blocks)
@@ -58,7 +58,7 @@ last_key place (b ∷ next ∷ blocks) =
     ∙ (last_key behind (next ∷ blocks) ∙ sym (greatest_behind b next blocks))
 
 -- the key of the last of some lines, which stands at the last place
-last_line_is : (lines : List IndexLine)
+pub last_line_is : (lines : List IndexLine)
     → option_map (λ (line : IndexLine). line.key) (slice_get lines (length lines - 1))
     ≡ last_line_key lines
 last_line_is [] = refl

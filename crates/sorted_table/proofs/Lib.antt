@@ -17,6 +17,7 @@ pub mod MeantLemmas
 pub mod OpenLookups
 pub mod OpenTails
 pub mod TablePlaces
+pub mod CursorEnds
 pub mod CursorMoves
 pub mod CursorSteps
 pub mod TableFinds

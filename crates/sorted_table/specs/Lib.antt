@@ -18,5 +18,6 @@ pub use Rattle.sorted_table.specs.Open.{CanBeOpen, HasItsLines, IsOpenOn, Lookup
 pub use Rattle.sorted_table.specs.Open.{LookupFinds}
 pub use Rattle.sorted_table.specs.Open.{TableServes, found_entry, greatest_key, index_lines}
 pub use Rattle.sorted_table.specs.Open.{last_line_key, table_file, table_filter}
+pub use Rattle.sorted_table.specs.Searches.{EndsBefore}
 pub use Rattle.sorted_table.specs.TableReads.{AnswersLookup}
 pub use Rattle.sorted_table.specs.Tails.{HasTail}

@@ -2,8 +2,8 @@
 use Rattle.std.specs.Prelude.{◌≡◌, ℕ, List, ◌∷◌, ◌++◌, Option, Some, None, All}
 use Rattle.std.specs.Option.{option_map}
 use Rattle.std.specs.List.Sorted.{IsPartitionPoint}
-use Rattle.kv_types.specs.{Entry}
-use Rattle.merge_iter.specs.{EntryPrecedes}
+use Rattle.kv_types.specs.{Entry, StoredKey}
+use Rattle.merge_iter.specs.{EntryPrecedes, spot}
 use Rattle.merge_iter.specs.declared.Direction.TheVariants.{Forward}
 use Rattle.table_format.specs.{end_spot}
 use Rattle.table_format.specs.declared.IndexLine.{IndexLine}
@@ -40,3 +40,10 @@ IsLinePlace lines spot place =
 pub record IsVersionOf (entry : Entry) (found : FoundVersion) : Type 0 where
   pub number : found.number ≡ entry.number
   pub value : option_map (λ value. value.items) found.value ≡ entry.value
+
+-- the set has an entry, and each of its entries comes before the key, whatever the number
+pub record EndsBefore (entries : Entry → Type 0) (key : StoredKey) : Type 0 where
+  pub some : Entry
+  pub held : entries some
+  pub each : (entry : Entry) → entries entry → (number : ℕ) →
+      EntryPrecedes Forward entry (spot key number)

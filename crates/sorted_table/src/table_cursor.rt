@@ -1,15 +1,19 @@
 //! A cursor over a table.
 ghost use Rattle.std.specs.Prelude.{◌≡◌, ◌≢◌, ◌<◌, ◌≤◌, List, None, IfOk, IfSome, Err};
-ghost use Rattle.std.specs.Prelude.{IsTrue, OnOk, false, length};
+ghost use Rattle.std.specs.Prelude.{◌↔◌, IsSomeAnd, IsTrue, OnOk, false, length};
+ghost use Rattle.std.specs.declared.cmp.Ordering.TheVariants.{Less};
 ghost use Rattle.std.specs.Option.{ForSome};
 ghost use Rattle.std.specs.Rc.{rc_slice_items};
 ghost use Rattle.disk.specs.{Slot, State};
+ghost use Rattle.kv_types.specs.{lent_key, stored_cmp};
 ghost use Rattle.sorted_table.specs.MovedFiles.{MovesFiles};
 ghost use Rattle.table_files.specs.{BlockAnswer};
 ghost use Rattle.table_files.specs.{KeepsFiles};
 ghost use Rattle.sorted_table.specs.BlockPlaces.{PlaceReads};
 ghost use Rattle.sorted_table.specs.LineSizes.{IsBounded};
 ghost use Rattle.sorted_table.specs.Meant.{AreAsMeant};
+ghost use Rattle.sorted_table.specs.Open.{last_line_key};
+ghost use Rattle.sorted_table.specs.Searches.{EndsBefore};
 ghost use Rattle.sorted_table.specs.TableCursors.{HasEntered, HasLines, HasReached, IsPlaceIn};
 ghost use Rattle.sorted_table.specs.TableCursors.{move_error};
 ghost use Rattle.sorted_table.specs.TableReads.{EntersBlock, ReadsDisk};
@@ -87,6 +91,21 @@ impl<D: Disk + Drop> TableCursor<D> {
             place: None,
             has_failed: false,
             of: PhantomData,
+        }
+    }
+
+    /// Whether the table has entries, and the keys of all of them come before this one, by the
+    /// last line of the index. No block is read.
+    pub fn ends_before(&self, key: LentKey) -> bool
+        ensures line { IsTrue result ↔ IsSomeAnd (last_line_key (rc_slice_items self.now.lines))
+            (λ last. stored_cmp last (lent_key key.entry) ≡ Less) }
+        ensures serves { (meant : State) (files : _) → IsTrue result →
+            ⟦<TableCursor<D> as Cursor>⟧.is_sound meant self.now files → EndsBefore
+            (⟦<TableCursor<D> as Cursor>⟧.holds meant self.now files) (lent_key key.entry) }
+    {
+        match self.lines.last() {
+            Some(last) => last.key.lent().cmp(key).is_lt(),
+            None => false,
         }
     }
 
