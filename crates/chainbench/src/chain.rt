@@ -1,6 +1,6 @@
 //! Batches are submitted to a chain of three nodes on disks in memory.
-use crate::bench_error::BenchError;
 use crate::setting::{Setting, nanos};
+use anyhow::Result;
 use benchmarks::{Count, Measure, Work};
 use lab::{Config, Configs, Direct, Event, EventKind, Fault, Limits, MemDisk, NodeId, World};
 use std::alloc::Global;
@@ -10,16 +10,16 @@ const FRAMES: u64 = 4;
 
 type Chain = World<MemDisk, Direct>;
 
-fn chain_of_three(alloc: Global) -> Result<Configs, BenchError> {
+fn chain_of_three(alloc: Global) -> Result<Configs> {
     let ids = vec![in alloc; 1, 2, 3]?;
     let mut configs = Vec::with_capacity(alloc, 1)?;
     if let Ok(config) = Config::new(alloc, ids) {
         let _ = configs.push(config);
     }
-    Configs::new(configs).or(Err(BenchError::Memory))
+    Ok(Configs::new(configs)?)
 }
 
-fn step(alloc: Global, world: &mut Chain, kind: EventKind) -> Result<(), BenchError> {
+fn step(alloc: Global, world: &mut Chain, kind: EventKind) -> Result<()> {
     let event = Event {
         kind,
         fault: Fault::None,
@@ -36,7 +36,7 @@ fn commit(
     head: NodeId,
     work: &mut Work,
     count: &mut Count,
-) -> Result<(), BenchError> {
+) -> Result<()> {
     let before = world.sent();
     let batch = work.next_batch(alloc, 1)?;
     count.add_batch(batch.clone()?);
@@ -54,7 +54,7 @@ fn measured_in(
     head: NodeId,
     setting: &Setting,
     work: &mut Work,
-) -> Result<Measure, BenchError> {
+) -> Result<Measure> {
     let mut count = Count::new();
     let start = nanos(rt)?;
     for _ in 0..setting.operations {
@@ -69,7 +69,7 @@ fn measured_of(
     configs: &Configs,
     setting: &Setting,
     work: &mut Work,
-) -> Result<Measure, BenchError> {
+) -> Result<Measure> {
     let head = configs.first().head();
     let mut world = World::new(rt.alloc(), configs, &Limits::default())?;
     let measured = measured_in(rt, &mut world, head, setting, work);
@@ -78,11 +78,7 @@ fn measured_of(
 }
 
 /// Submits batches of one put, each acknowledged before the next.
-pub fn measured(
-    rt: &HostRuntime,
-    setting: &Setting,
-    work: &mut Work,
-) -> Result<Measure, BenchError> {
+pub fn measured(rt: &HostRuntime, setting: &Setting, work: &mut Work) -> Result<Measure> {
     let configs = chain_of_three(rt.alloc())?;
     let measured = measured_of(rt, &configs, setting, work);
     drop(configs);

@@ -1,7 +1,7 @@
 //! Benchmarks of a store in a folder.
-use crate::bench_error::BenchError;
 use crate::setting::{Setting, nanos};
 use crate::store::step;
+use anyhow::Result;
 use benchmarks::{Benchmark, Count, Measure, Work};
 use dir_disk::DirDisk;
 use disk::Disk;
@@ -16,7 +16,7 @@ fn perform<D: Disk + Drop>(
     setting: &Setting,
     work: &mut Work,
     count: &mut Count,
-) -> Result<(), BenchError> {
+) -> Result<()> {
     let all = setting.operations;
     for _ in 0..u64::MAX {
         if count.left_of(all) == 0 {
@@ -37,7 +37,7 @@ fn measured_at<D: Disk + Drop>(
     store: &mut EmbeddedStore<D>,
     setting: &Setting,
     work: &mut Work,
-) -> Result<Measure, BenchError> {
+) -> Result<Measure> {
     let mut count = Count::new();
     let start = nanos(rt)?;
     perform(rt, store, setting, work, &mut count)?;
@@ -56,7 +56,7 @@ fn limits_of(setting: &Setting) -> Limits {
 }
 
 /// Removes the files of a store that nobody uses.
-fn remove_all(disk: &mut DirDisk<HostRuntime>) -> Result<(), BenchError> {
+fn remove_all(disk: &mut DirDisk<HostRuntime>) -> Result<()> {
     disk.lock()?;
     for file in disk.files()? {
         disk.remove(file)?;
@@ -65,7 +65,7 @@ fn remove_all(disk: &mut DirDisk<HostRuntime>) -> Result<(), BenchError> {
 }
 
 /// Removes the store of this folder, which is made where it is absent.
-fn remove_store(rt: &HostRuntime, folder: &str) -> Result<(), BenchError> {
+fn remove_store(rt: &HostRuntime, folder: &str) -> Result<()> {
     fs::create_dir_all(rt, folder)?;
     let mut disk = DirDisk::new(*rt, folder)?;
     let removed = remove_all(&mut disk);
@@ -79,7 +79,7 @@ fn measured_in(
     folder: &str,
     setting: &Setting,
     work: &mut Work,
-) -> Result<Measure, BenchError> {
+) -> Result<Measure> {
     let mut store = EmbeddedStore::open(rt, folder, &limits_of(setting))?;
     let measured = measured_at(rt, &mut store, setting, work);
     drop(store.into_disk());
@@ -92,7 +92,7 @@ fn measured_opens(
     folder: &str,
     setting: &Setting,
     work: &mut Work,
-) -> Result<Measure, BenchError> {
+) -> Result<Measure> {
     let (mut count, mut idle) = (Count::new(), *setting);
     idle.operations = 0;
     let start = nanos(rt)?;
@@ -110,7 +110,7 @@ pub fn measured(
     folder: &str,
     setting: &Setting,
     work: &mut Work,
-) -> Result<Measure, BenchError> {
+) -> Result<Measure> {
     if setting.benchmark == Benchmark::Open {
         return measured_opens(rt, folder, setting, work);
     }

@@ -1,17 +1,19 @@
 //! Benchmarks of a store in a folder, and of a chain of three nodes in memory.
 #![tactic(auto)]
 
-mod bench_error;
 mod chain;
 mod folder;
 mod setting;
 mod store;
 
-use crate::bench_error::BenchError;
 use crate::setting::Setting;
+use anyhow::{Result, bail};
 use benchmarks::{Benchmark, Measure, TABLE_HEAD, Words, Work, benchmarks_in, read_words};
 use std::env;
-use std::process::ExitCode;
+
+/// How the program is called.
+const USAGE: &str = "usage: chainbench --dir D [--num N] [--value BYTES] [--benchmarks NAMES] \
+[--times no]";
 
 /// The seed of the first benchmark. Each later one has the next.
 const SEED: u32 = 1001;
@@ -23,7 +25,7 @@ fn measured(
     words: &Words<'_>,
     benchmark: Benchmark,
     work: &mut Work,
-) -> Result<Measure, BenchError> {
+) -> Result<Measure> {
     let setting = Setting {
         benchmark,
         operations: benchmark.operations(words.keys),
@@ -42,7 +44,7 @@ fn run_all(
     words: &Words<'_>,
     benchmarks: &[Benchmark],
     work: &mut Work,
-) -> Result<(), BenchError> {
+) -> Result<()> {
     let mut seed = SEED;
     for &benchmark in benchmarks {
         work.begin(rt.alloc(), benchmark, seed)?;
@@ -54,10 +56,10 @@ fn run_all(
 }
 
 /// Runs what the words ask for, in a folder of their folder.
-fn run(rt: &HostRuntime, words: &Words<'_>) -> Result<(), BenchError> {
+fn run(rt: &HostRuntime, words: &Words<'_>) -> Result<()> {
     let alloc = rt.alloc();
     let Some(benchmarks) = benchmarks_in(alloc, words.names)? else {
-        return Err(BenchError::Usage);
+        bail!(USAGE);
     };
     let folder = words.folder;
     let folder = format!(in alloc; "{folder}/chainbench")?;
@@ -69,20 +71,14 @@ fn run(rt: &HostRuntime, words: &Words<'_>) -> Result<(), BenchError> {
 }
 
 /// Runs what the program's words ask for.
-fn run_words(rt: &HostRuntime) -> Result<(), BenchError> {
+fn run_words(rt: &HostRuntime) -> Result<()> {
     let words: Vec<String> = env::args(rt)?.collect(rt.alloc())?;
     match read_words(&words) {
         Some(words) => run(rt, &words),
-        None => Err(BenchError::Usage),
+        None => bail!(USAGE),
     }
 }
 
-fn main(rt: HostRuntime) -> ExitCode {
-    match run_words(&rt) {
-        Ok(()) => ExitCode::from(0),
-        Err(failure) => {
-            let _ = rt.eprintln(failure);
-            ExitCode::from(1)
-        }
-    }
+fn main(rt: HostRuntime) -> Result<()> {
+    run_words(&rt)
 }

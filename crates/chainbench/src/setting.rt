@@ -1,5 +1,5 @@
 //! What one benchmark is to do, and the clock.
-use crate::bench_error::BenchError;
+use anyhow::Result;
 use benchmarks::Benchmark;
 use std::rt::Clock;
 
@@ -13,7 +13,7 @@ pub struct Setting {
 }
 
 /// Nanoseconds of the clock.
-pub fn nanos(clock: &HostRuntime) -> Result<u64, BenchError> {
+pub fn nanos(clock: &HostRuntime) -> Result<u64> {
     let nanos = clock.monotonic()?.as_nanos();
     Ok(u64::try_from(nanos).unwrap_or(u64::MAX))
 }

@@ -1,6 +1,6 @@
 //! The operations of benchmarks of a store.
-use crate::bench_error::BenchError;
 use crate::setting::Setting;
+use anyhow::Result;
 use benchmarks::{Benchmark, Count, Work};
 use disk::Disk;
 use embedded_store::{EmbeddedStore, Tended};
@@ -15,7 +15,7 @@ fn tend<D: Disk + Drop>(
     store: &mut EmbeddedStore<D>,
     most: u64,
     count: &mut Count,
-) -> Result<(), BenchError> {
+) -> Result<()> {
     for _ in 0..most {
         if store.tend(alloc)? != Tended::Worked {
             count.end();
@@ -33,7 +33,7 @@ fn write<D: Disk + Drop>(
     setting: &Setting,
     work: &mut Work,
     count: &mut Count,
-) -> Result<(), BenchError> {
+) -> Result<()> {
     let puts = setting.puts.min(count.left_of(setting.operations));
     let batch = work.next_batch(alloc, puts)?;
     let written = store.write(&batch);
@@ -48,7 +48,7 @@ fn read_value<D: Disk + Drop>(
     store: &mut EmbeddedStore<D>,
     work: &mut Work,
     count: &mut Count,
-) -> Result<(), BenchError> {
+) -> Result<()> {
     let key = work.next_key(alloc)?;
     let read = store.get(alloc, &key, None);
     Ok(count.add_value(key, read)?)
@@ -60,7 +60,7 @@ fn read_page<D: Disk + Drop>(
     store: &mut EmbeddedStore<D>,
     work: &mut Work,
     count: &mut Count,
-) -> Result<(), BenchError> {
+) -> Result<()> {
     let walk = work.walk(alloc)?;
     let page = store.rows(alloc, walk.range(), None)?;
     Ok(walk.pass(alloc, page, count)?)
@@ -73,7 +73,7 @@ pub fn step<D: Disk + Drop>(
     setting: &Setting,
     work: &mut Work,
     count: &mut Count,
-) -> Result<(), BenchError> {
+) -> Result<()> {
     match setting.benchmark {
         Benchmark::ReadRandom | Benchmark::ReadMissing => read_value(alloc, store, work, count),
         Benchmark::ReadSeq | Benchmark::ReadReverse | Benchmark::SeekRandom => {

@@ -28,6 +28,21 @@ HeadIs head.Short file =
 HeadIs (head.Open generation id) file =
     IsSomeAnd file (λ it. take head_length it ≡ slot_head generation id)
 
+-- the head is of a slot whose gate is closed or absent
+abbrev pub IsBlank : Head → Type 0
+IsBlank head.Missing = Unit {0}
+IsBlank head.Closed = Unit {0}
+IsBlank head.Short = ⊥
+IsBlank (head.Open generation id) = ⊥
+
+-- Why no slot counts, by the heads of both: neither gate is open, or an open one is no good.
+abbrev pub HeadsRefuse : Head → Head → ManifestError → Type 0
+HeadsRefuse first second manifest.NotCreated = IsBlank first × IsBlank second
+HeadsRefuse first second manifest.Damaged = (IsBlank first × IsBlank second) → ⊥
+HeadsRefuse first second manifest.Disk = ⊥
+HeadsRefuse first second manifest.Memory = ⊥
+HeadsRefuse first second manifest.Failed = ⊥
+
 -- one slot counts, if its log has records, and the other is superseded
 pub record SlotCounts (it : CountingSlot) (left : Contents) : Type 0 where
   pub one : IsSlotFile it.slot

@@ -5,7 +5,7 @@ ghost use Rattle.disk.specs.{Contents, IsEnvironmental, IsSame, seen};
 ghost use Rattle.record_log.specs.{IsClosed};
 ghost use Rattle.kv_types.specs.declared.bounds.TheConstants.{MAX_NUMBER};
 ghost use Rattle.manifest.specs.declared.error.ManifestError.TheVariants.{Disk, Memory};
-ghost use Rattle.manifest.specs.Heads.{HeadIs, IsFilled, NoneCounts, SlotCounts};
+ghost use Rattle.manifest.specs.Heads.{HeadIs, HeadsRefuse, IsFilled, NoneCounts, SlotCounts};
 ghost use Rattle.manifest.specs.Reads.{SlotsAreRead};
 ghost use Rattle.manifest.specs.Slots.{IsSlotFile, SlotsRead, slot_head};
 
@@ -114,8 +114,7 @@ fn counts(
 
 // The slot that counts, by the heads of both.
 fn counting(first: Head, second: Head) -> Result<CountingSlot, ManifestError>
-    ensures only { IfErr result (λ e.
-        (e ≡ ManifestError.Damaged) ⊎ (e ≡ ManifestError.NotCreated)) }
+    ensures refused { IfErr result (HeadsRefuse first second) }
     ensures one { IfOk result (λ it. IsSlotFile it.slot) }
     ensures counts { (left : Contents) → HeadIs first (left 1) → HeadIs second (left 2) →
         MatchResult result (λ it. SlotCounts it left) (λ e. NoneCounts e left) }
