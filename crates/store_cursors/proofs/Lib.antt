@@ -1,3 +1,7 @@
+mod Chaining
+mod Stepping
+mod Entering
+mod ChainMoves
 mod Arms
 mod MemoryArm
 mod TableArm

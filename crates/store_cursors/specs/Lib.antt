@@ -1,2 +1,4 @@
+pub mod Chains
+pub mod ChainLaws
 pub mod StoreCursors
 pub mod StoreCursorLaws

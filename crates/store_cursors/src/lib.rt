@@ -2,8 +2,14 @@
 //! several of them show at a number.
 #![tactic(auto)]
 
+mod chain;
+mod chain_place;
+mod chained;
 mod rows;
+mod start;
 mod store_cursor;
 
+pub use chain::Chain;
+pub use chained::Ends;
 pub use rows::{StoreRows, rows_at};
 pub use store_cursor::StoreCursor;
