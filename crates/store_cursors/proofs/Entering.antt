@@ -1,6 +1,7 @@
--- A walk that enters the children of a chain in turn.
+-- A walk that enters children in turn.
 use Rattle.std.proofs.Common.{◌≡◌, ◌<◌, ◌≤◌, ◌+◌, ◌-◌, ◌*◌, ℕ, refl, sym, ◌∙◌, ap, subst, List}
-use Rattle.std.proofs.Common.{slice_set, Some, Result, Ok, Err, arith, length, length-set, Option, false}
+use Rattle.std.proofs.Common.{slice_set, Some, Result, Ok, Err, arith, length, length-set, Option}
+use Rattle.std.proofs.Common.{false}
 use Rattle.std.proofs.Common.{get_or}
 use Rattle.std.specs.List.{slice_get, sum_by}
 use Rattle.std.specs.Prelude.{IsErrOf}
@@ -16,14 +17,15 @@ use Rattle.merge_iter.specs.declared.Cursor.{Ghosts}
 use Rattle.merge_iter.specs.declared.CursorError.{CursorError}
 use Rattle.merge_iter.specs.declared.Direction.{Direction}
 use Rattle.merge_iter.specs.declared.Direction.TheVariants.{Forward, Backward}
-use Rattle.store_cursors.specs.declared.chain_place.ChainPlace.TheVariants as place
+use Rattle.store_cursors.specs.declared.child_place.ChildPlace.TheVariants as place
 use Rattle.store_cursors.specs.declared.start.Start.{Start}
-use Rattle.store_cursors.specs.Chains.{EntersChildren, MeetAlike, NoneMet}
-use Rattle.store_cursors.specs.Chains.{left_from, may_allocate, rank, start_of, way_of}
-use Rattle.store_cursors.specs.ChainLaws.{left_within, linked_on, rank_within}
+use Rattle.store_cursors.specs.Concatenation.{EntersChildren, MeetAlike, NoneMet}
+use Rattle.store_cursors.specs.Concatenation.{left_from, may_allocate, rank, walk_start, walk_way}
+use Rattle.store_cursors.specs.ConcatenationLaws.{left_within, own_on, rank_within}
 use Rattle.store_cursors.specs.StoreCursorLaws.{HasCursorLaws}
-use Rattle.store_cursors.proofs.ChainMoves.{all_skipped, first_alike, found_first, keep_none, keep_one}
-use Rattle.store_cursors.proofs.ChainMoves.{none_met, set_there, tells_from}
+use Rattle.store_cursors.proofs.ChildMoves.{all_skipped, first_alike, found_first, keep_none}
+use Rattle.store_cursors.proofs.ChildMoves.{keep_one}
+use Rattle.store_cursors.proofs.ChildMoves.{none_met, set_there, tells_from}
 
 -- the rank of a child's rank is its place
 pub rank_back : (way : Direction) (n k : ℕ) → k < n → rank way n (rank way n k) ≡ k
@@ -40,7 +42,7 @@ module _ {C S : Type 0} (g : Ghosts C S) where
   -- a child was entered
   abbrev pub Enters : Start → C → S → C → S → Result (Unit {0}) CursorError → Type 0
   Enters begins = MovesBy g.is_intact g.holds g.is_sound g.suits g.keeps g.makes g.failures
-      g.position g.most (may_allocate g begins) (way_of begins) (start_of begins)
+      g.position g.most (may_allocate g begins) (walk_way begins) (walk_start begins)
 
   -- children up to this one were entered, and the walk meets nothing of them
   pub record HasPassed (begins : Start) (skipped : ℕ) (old : List C) (before : S) (behind : ℕ)
@@ -50,14 +52,16 @@ module _ {C S : Type 0} (g : Ghosts C S) where
     pub device : g.makes false before s
     pub count : g.failures s ≡ g.failures before
     pub none : (meant : g.Meant) (from : WalkStart) → AreSound g meant old before
-        → NoneMet (λ c. g.holds meant c before) (way_of begins) from skipped old
-        → MeetAlike (λ c. g.holds meant c before) (way_of begins) (start_of begins) from skipped old
-        → NoneMet (λ c. g.holds meant c before) (way_of begins) from behind old
+        → NoneMet (λ c. g.holds meant c before) (walk_way begins) from skipped old
+        → MeetAlike (λ c. g.holds meant c before) (walk_way begins) (walk_start begins) from
+        skipped old
+        → NoneMet (λ c. g.holds meant c before) (walk_way begins) from behind old
 
 -- a refusal of another call, whose value has another type
 pub other_type : {A B : Type 0} (e d : CursorError) → IsErrOf {T = A} (Err e) d
     → IsErrOf {T = B} (Err e) d
-other_type {B = B} e d is = let same : e ≡ d = cc in subst (λ x. IsErrOf {T = B} (Err e) x) same refl
+other_type {B = B} e d is = let same : e ≡ d = cc in subst (λ x. IsErrOf {T = B} (Err e) x)
+    same refl
 
 -- its causes are those of this one
 pub same_causes : {A B : Type 0} (T W M : Type 0) (f h : ℕ) (e : CursorError)
@@ -122,19 +126,19 @@ module _ {C S : Type 0} (g : Ghosts C S) (laws : HasCursorLaws g) (begins : Star
     };
     unbroken = λ never. never;
     ends = omega arith;
-    finds = λ meant from sounds chained none alike. (
-      all_skipped (λ c. g.holds meant c before) old (way_of begins) from behind le
+    finds = λ meant from sounds ordered none alike. (
+      all_skipped (λ c. g.holds meant c before) old (walk_way begins) from behind le
           (p.none meant from sounds none alike),
       tt,
     );
   }
 
   module _ (behind : ℕ) (xs : List C) (s : S) (p : Passed behind xs s) (lt : behind < length old)
-      (k : ℕ) (is_k : k ≡ rank (way_of begins) (length old) behind) (x v : C) (later : S)
+      (k : ℕ) (is_k : k ≡ rank (walk_way begins) (length old) behind) (x v : C) (later : S)
       (at : slice_get xs k ≡ Some x) where
-    place_is : rank (way_of begins) (length old) k ≡ behind
-    place_is = ap (rank (way_of begins) (length old)) is_k
-        ∙ rank_back (way_of begins) (length old) behind lt
+    place_is : rank (walk_way begins) (length old) k ≡ behind
+    place_is = ap (rank (walk_way begins) (length old)) is_k
+        ∙ rank_back (walk_way begins) (length old) behind lt
 
     moved_on : (result : Result (Unit {0}) CursorError) → Enters g begins x s v later result
         → (meant : g.Meant) → KeepsChildren g meant old before (slice_set xs k v) later
@@ -156,9 +160,10 @@ module _ {C S : Type 0} (g : Ghosts C S) (laws : HasCursorLaws g) (begins : Star
     -- what the walk meets first of this child
     first_here : Enters g begins x s v later (Ok tt) → (meant : g.Meant) (from : WalkStart)
         → AreSound g meant old before
-        → MeetAlike (λ c. g.holds meant c before) (way_of begins) (start_of begins) from skipped old
-        → (c : C) × (slice_get old k ≡ Some c) × IsFirst (way_of begins)
-        (λ e. g.holds meant c before e × WalkMeets (way_of begins) from e) (g.position v)
+        → MeetAlike (λ c. g.holds meant c before) (walk_way begins) (walk_start begins) from
+        skipped old
+        → (c : C) × (slice_get old k ≡ Some c) × IsFirst (walk_way begins)
+        (λ e. g.holds meant c before e × WalkMeets (walk_way begins) from e) (g.position v)
     first_here it meant from sounds alike =
         let o = there old xs k x (p.moved meant).len at in
         let stays = (p.moved meant).each k o.0 x o.1 at (sounds k o.0 o.1) in
@@ -166,7 +171,7 @@ module _ {C S : Type 0} (g : Ghosts C S) (laws : HasCursorLaws g) (begins : Star
         let here = place_is in (
           o.0,
           o.1,
-          first_alike (way_of begins) (start_of begins) from (g.holds meant x s)
+          first_alike (walk_way begins) (walk_start begins) from (g.holds meant x s)
               (g.holds meant o.0 before) (g.position v) stays.1
               (λ e held. alike k o.0 e o.1 (omega (arith, le, here)) held)
               (it.finds meant stays.0),
@@ -177,11 +182,12 @@ module _ {C S : Type 0} (g : Ghosts C S) (laws : HasCursorLaws g) (begins : Star
         → EntersChildren g begins skipped old before (slice_set xs k v) later (Err e)
     fails e it = let causes = causes_on (Err e) it in record {
       moves = moved_on (Err e) it;
-      device = laws.makes_through (reports {R = Unit {0}} (Err e)) before s later p.device it.device;
+      device = laws.makes_through (reports {R = Unit {0}} (Err e)) before s later p.device
+          it.device;
       causes = same_causes _ _ _ _ _ e causes;
       unbroken = tt;
       ends = tt;
-      finds = λ meant from sounds chained none alike. tt;
+      finds = λ meant from sounds ordered none alike. tt;
     }
 
     -- the child has no entry that the walk meets
@@ -195,10 +201,10 @@ module _ {C S : Type 0} (g : Ghosts C S) (laws : HasCursorLaws g) (begins : Star
       none = λ meant from sounds none alike.
           let here = first_here it meant from sounds alike in
           let so_far = p.none meant from sounds none alike in
-          subst (λ n. NoneMet (λ c. g.holds meant c before) (way_of begins) from (n + 1) old)
+          subst (λ n. NoneMet (λ c. g.holds meant c before) (walk_way begins) from (n + 1) old)
           place_is
-          (none_met (λ c. g.holds meant c before) old (way_of begins) from k here.0 here.1
-          (subst (λ n. NoneMet (λ c. g.holds meant c before) (way_of begins) from n old)
+          (none_met (λ c. g.holds meant c before) old (walk_way begins) from k here.0 here.1
+          (subst (λ n. NoneMet (λ c. g.holds meant c before) (walk_way begins) from n old)
           (sym place_is) so_far) (g.position v) off here.2);
     }
 
@@ -226,33 +232,34 @@ module _ {C S : Type 0} (g : Ghosts C S) (laws : HasCursorLaws g) (begins : Star
               let n = keep.len in
               let le = p.from in
               let here = place_is in
-              let r : rank (way_of begins) (length new) k ≡ rank (way_of begins) (length old) k =
-              ap (λ m. rank (way_of begins) m k) n in
-              let less = left_within g.left g.most laws.within new k skipped (way_of begins) v set
+              let r : rank (walk_way begins) (length new) k
+              ≡ rank (walk_way begins) (length old) k =
+              ap (λ m. rank (walk_way begins) m k) n in
+              let less = left_within g.left g.most laws.within new k skipped (walk_way begins) v set
               (omega (arith, le, here, r)) in
-              subst (λ (o : Option C). left_from g.left g.most new k (way_of begins) o
+              subst (λ (o : Option C). left_from g.left g.most new k (walk_way begins) o
               ≤ (length old - skipped) * sum_by g.most old) (sym set)
-              (subst (λ m. left_from g.left g.most new k (way_of begins) (Some v)
+              (subst (λ m. left_from g.left g.most new k (walk_way begins) (Some v)
               ≤ (length old - skipped) * m) keep.size
-              (subst (λ m. left_from g.left g.most new k (way_of begins) (Some v)
+              (subst (λ m. left_from g.left g.most new k (walk_way begins) (Some v)
               ≤ (m - skipped) * sum_by g.most new) n less));
-          finds = λ meant from sounds chained none alike.
+          finds = λ meant from sounds ordered none alike.
               let here = first_here it meant from sounds alike in
               let so_far = p.none meant from sounds none alike in
-              let found = found_first (λ c. g.holds meant c before) old (way_of begins) from k
-              here.0 here.1 chained
-              (subst (λ n. NoneMet (λ c. g.holds meant c before) (way_of begins) from n old)
+              let found = found_first (λ c. g.holds meant c before) old (walk_way begins) from k
+              here.0 here.1 ordered
+              (subst (λ n. NoneMet (λ c. g.holds meant c before) (walk_way begins) from n old)
               (sym place_is) so_far) (g.position v) on here.2 in
               let stays = (moved_on (Ok tt) it meant).each k here.0 v here.1 set
               (sounds k here.0 here.1) in (
-                subst (λ (o : Option C). IsFirst (way_of begins)
+                subst (λ (o : Option C). IsFirst (walk_way begins)
                     (λ e. UnionHolds (λ c. g.holds meant c before) old e
-                    × WalkMeets (way_of begins) from e) (child_position g.position o)) (sym set)
+                    × WalkMeets (walk_way begins) from e) (child_position g.position o)) (sym set)
                     found.0,
                 λ d is.
                     let same : v ≡ d = let both : Some v ≡ Some d = sym set ∙ is in cc in
                     subst (λ (y : C). IfOn (g.position y) (g.holds meant y later)) same
-                    (linked_on (g.position v) (g.holds meant here.0 before) (g.holds meant v later)
+                    (own_on (g.position v) (g.holds meant here.0 before) (g.holds meant v later)
                     stays.1 found.1),
               );
         }

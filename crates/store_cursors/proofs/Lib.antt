@@ -1,8 +1,8 @@
-mod Chaining
+mod Concatenating
 mod Stepping
 mod Entering
-mod ChainMoves
+mod ChildMoves
 mod Arms
 mod MemoryArm
-mod TableArm
+mod TablesArm
 mod Shown

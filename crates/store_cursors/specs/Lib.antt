@@ -1,4 +1,4 @@
-pub mod Chains
-pub mod ChainLaws
+pub mod Concatenation
+pub mod ConcatenationLaws
 pub mod StoreCursors
 pub mod StoreCursorLaws

@@ -1,5 +1,6 @@
 //! Where a walk over cursors starts.
-ghost use Rattle.store_cursors.specs.Chains.{end_of, may_allocate, rank, start_of, way_of};
+ghost use Rattle.store_cursors.specs.Concatenation.{may_allocate, rank, start_at_end};
+ghost use Rattle.store_cursors.specs.Concatenation.{walk_start, walk_way};
 ghost use Rattle.std.specs.Prelude.{◌≡◌, ◌<◌};
 ghost use Rattle.merge_iter.specs.{MovesBy};
 
@@ -20,7 +21,7 @@ pub enum Start<'k> {
 impl<'k> Start<'k> {
     /// At the end of the entries where a walk in this direction begins.
     pub fn at_end(way: Direction) -> Start<'k>
-        ensures { result ≡ end_of way }
+        ensures { result ≡ start_at_end way }
     {
         match way {
             Direction::Forward => Start::First,
@@ -30,7 +31,7 @@ impl<'k> Start<'k> {
 
     /// The direction of the walk.
     pub fn way(self) -> Direction
-        ensures { result ≡ way_of self.entry }
+        ensures { result ≡ walk_way self.entry }
     {
         match self {
             Start::First => Direction::Forward,
@@ -42,8 +43,8 @@ impl<'k> Start<'k> {
     /// Moves a cursor to the first entry of the walk.
     pub fn enter<C: Cursor>(self, cursor: &mut C, source: &mut C::Source) -> Result<(), CursorError>
         ensures { MovesBy C.is_intact C.holds C.is_sound C.suits C.keeps C.makes C.failures
-            C.position C.most (may_allocate C.Cursor self.entry) (way_of self.entry) (start_of self.entry)
-            cursor.old source.old cursor.new source.new result }
+            C.position C.most (may_allocate C.Cursor self.entry) (walk_way self.entry)
+            (walk_start self.entry) cursor.old source.old cursor.new source.new result }
     {
         match self {
             Start::First => cursor.first(source),
