@@ -43,14 +43,14 @@ impl<'a, D: Disk + Drop> StoreCursor<'a, D> {
     pub fn of_tables(tables: Vec<TableCursor<D>>) -> StoreCursor<'a, D>
         ensures off { ⟦<StoreCursor<'a, D> as Cursor>⟧.position result ≡ Off }
         ensures sound { (meant : State) (files : _) →
-            AreSound ⟦<TableCursor<D> as Cursor>⟧ meant tables.entry.items files →
+            AreSound ⟦<TableCursor<D> as Cursor>⟧ meant tables.items files →
             AreConcatenated (λ c. ⟦<TableCursor<D> as Cursor>⟧.holds meant c files)
-            tables.entry.items → ⟦<StoreCursor<'a, D> as Cursor>⟧.is_sound meant result files }
+            tables.items → ⟦<StoreCursor<'a, D> as Cursor>⟧.is_sound meant result files }
         ensures entries { (meant : State) (files : _) →
             IsAlike (⟦<StoreCursor<'a, D> as Cursor>⟧.holds meant result files)
-            (union_of ⟦<TableCursor<D> as Cursor>⟧ meant tables.entry.items files) }
+            (union_of ⟦<TableCursor<D> as Cursor>⟧ meant tables.items files) }
         ensures suits { (a b : _) →
-            EachChild (λ c. ⟦<TableCursor<D> as Cursor>⟧.suits c a b) tables.entry.items →
+            EachChild (λ c. ⟦<TableCursor<D> as Cursor>⟧.suits c a b) tables.items →
             ⟦<StoreCursor<'a, D> as Cursor>⟧.suits result a b }
     {
         StoreCursor::Tables(Concatenated::new(tables))

@@ -22,8 +22,7 @@ use Rattle.store_model.specs.PlacesLemmas.{slice_get_shorter}
 use Rattle.store_tables.specs.CursorListsLemmas.{each_more, place_cases, union_more}
 use Rattle.store_tables.specs.RangeReads.{HasTable}
 use Rattle.store_tables.specs.TableSeries.{AllPrecede, IsSeries, AreSeries, EachFitsRange}
-use Rattle.store_tables.specs.TableSeries.{EndsSeries}
-use Rattle.store_tables.specs.TableSeries.{GoThrough, GoesThrough}
+use Rattle.store_tables.specs.TableSeries.{EndsSeries, GoThrough, GoesThrough}
 use Rattle.store_tables.proofs.ThroughTables.{entries_both, through_more}
 
 -- ---- one series

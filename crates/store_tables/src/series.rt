@@ -90,7 +90,7 @@ impl<'a, D: Disk + Drop> TableSeries<'a, D> {
         ensures { OnOk result ((meant : State) (files : _) (tables : List LevelTable)
             (added : LevelTable) → AreSeries ⟦<StoreCursor<'a, D> as Cursor>⟧
             ⟦<TableCursor<D> as Cursor>⟧ meant meant files self.old.ended.items self.old.last.items
-            tables → HasTable ⟦<TableCursor<D> as Cursor>⟧ meant files table.entry added →
+            tables → HasTable ⟦<TableCursor<D> as Cursor>⟧ meant files table added →
             added.range.least ≡ least.now →
             AreSeries ⟦<StoreCursor<'a, D> as Cursor>⟧ ⟦<TableCursor<D> as Cursor>⟧ meant meant
             files
@@ -105,7 +105,8 @@ impl<'a, D: Disk + Drop> TableSeries<'a, D> {
     pub(crate) fn finish(self) -> Result<Vec<StoreCursor<'a, D>>, AllocError>
         ensures { IfOk result (λ cursors. (meant : State) (files : _)
             (tables : List LevelTable) → AreSeries ⟦<StoreCursor<'a, D> as Cursor>⟧
-            ⟦<TableCursor<D> as Cursor>⟧ meant meant files self.ended.items self.last.items tables →
+            ⟦<TableCursor<D> as Cursor>⟧ meant meant files self.entry.ended.items
+            self.entry.last.items tables →
             GoThrough ⟦<StoreCursor<'a, D> as Cursor>⟧ meant files cursors.items tables) }
     {
         let TableSeries { mut ended, last } = self;

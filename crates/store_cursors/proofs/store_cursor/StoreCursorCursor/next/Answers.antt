@@ -10,5 +10,5 @@ returns-in-Memory g c = memory_steps over_memory (over_tables _) _ c.args.self.n
 
 pub returns-in-Tables : goal.returns-in-Tables
 returns-in-Tables g c = tables_steps over_memory (over_tables _) _ c.args.self.now
-    c.in-Tables.cursor c.next-in-Tables.new.self c.args.files.now c.next-in-Tables.new.files
+    c.in-Tables.cursor c.next-in-Tables.new.self c.args.files.now c.next-in-Tables.new.source
     c.next-in-Tables.result c.in-Tables.is c.next-in-Tables.ensures

@@ -10,5 +10,5 @@ returns-in-Memory g c = memory_steps over_memory (over_tables _) _ c.args.self.n
 
 pub returns-in-Tables : goal.returns-in-Tables
 returns-in-Tables g c = tables_steps over_memory (over_tables _) _ c.args.self.now
-    c.in-Tables.cursor c.prev-in-Tables.new.self c.args.files.now c.prev-in-Tables.new.files
+    c.in-Tables.cursor c.prev-in-Tables.new.self c.args.files.now c.prev-in-Tables.new.source
     c.prev-in-Tables.result c.in-Tables.is c.prev-in-Tables.ensures

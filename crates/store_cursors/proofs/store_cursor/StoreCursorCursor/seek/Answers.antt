@@ -10,5 +10,5 @@ returns-in-Memory g c = memory_moves over_memory (over_tables _) _ _ _ _ c.args.
 
 pub returns-in-Tables : goal.returns-in-Tables
 returns-in-Tables g c = tables_moves over_memory (over_tables _) _ _ _ c.args.self.now
-    c.in-Tables.cursor c.seek-in-Tables.new.self c.args.files.now c.seek-in-Tables.new.files
+    c.in-Tables.cursor c.seek-in-Tables.new.self c.args.files.now c.seek-in-Tables.new.source
     c.seek-in-Tables.result c.in-Tables.is c.seek-in-Tables.ensures
