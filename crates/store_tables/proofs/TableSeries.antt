@@ -1,10 +1,11 @@
 -- Cursors over series of tables, as each table is added.
-use Rattle.std.proofs.Common.{◌≡◌, ◌⊎◌, inl, inr, ℕ, ◌+◌, ◌<◌, List, [], ◌∷◌, ◌++◌, length}
+use Rattle.std.proofs.Common.{◌≡◌, ◌⊎◌, inl, inr, ℕ, ◌+◌, ◌-◌, ◌<◌, List, [], ◌∷◌, ◌++◌, length}
 use Rattle.std.proofs.Common.{Contains, Some}
-use Rattle.std.proofs.Common.{slice_get, refl, sym, ◌∙◌, ap, subst, arith}
+use Rattle.std.proofs.Common.{Result, Ok, Err, slice_get, refl, sym, ◌∙◌, ap, subst, arith}
 use Rattle.std.proofs.lemmas.List.{append-nil, append_assoc, length-append}
 use Rattle.std.proofs.lemmas.List.Elements.{Contains-append_left, Contains-append_right}
 use Rattle.std.proofs.lemmas.Option.{slice_get_within}
+use Rattle.std.specs.Prelude.{OnOk}
 use Rattle.std.specs.Cmp.{nat_cmp_total, tied_itself}
 use Rattle.std.specs.Ordering.{nat_cmp, ordering_then}
 use Rattle.std.specs.declared.cmp.Ordering.{Ordering}
@@ -24,6 +25,12 @@ use Rattle.store_tables.specs.RangeReads.{HasTable}
 use Rattle.store_tables.specs.TableSeries.{AllPrecede, IsSeries, AreSeries, EachFitsRange}
 use Rattle.store_tables.specs.TableSeries.{EndsSeries, GoThrough, GoesThrough}
 use Rattle.store_tables.proofs.ThroughTables.{entries_both, through_more}
+
+-- where two things follow from one call, so does what follows from both
+pub both_ok : {X Y : Type 0} (r : Result X Y) (P Q R : Type 0) → (P → Q → R) → OnOk r P → OnOk r Q
+    → OnOk r R
+both_ok (Ok x) P Q R to p q = to p q
+both_ok (Err e) P Q R to p q = tt
 
 -- ---- one series
 
@@ -57,23 +64,36 @@ same_place xs i k x y same is_x is_y =
     let both : Some x ≡ Some y =
     sym is_x ∙ ap (λ (n : ℕ). slice_get xs n) same ∙ is_y in cc
 
-module _ {C S : Type 0} (g : Ghosts C S) (meant : g.Meant) (source : S) (xs : List C) (x : C)
-    (key : StoredKey) (k : ℕ) where
+module _ {C S : Type 0} (g : Ghosts C S) (meant : g.Meant) (source : S) (xs : List C)
+    (key : StoredKey) where
   -- where the last of several ends before a key, all do
-  pub last_precedes : slice_get xs k ≡ Some x → length xs ≡ k + 1
+  last_precedes : (x : C) (k : ℕ) → slice_get xs k ≡ Some x → length xs ≡ k + 1
       → AreConcatenated (λ c. g.holds meant c source) xs → EndsBefore (g.holds meant x source) key
       → AllPrecede g meant source xs key
-  last_precedes is len order ends entry held number =
+  last_precedes x k is len order ends entry held number =
       let within = slice_get_within xs held.0 held.1 held.2 in
       elim (up_to held.0 k (omega (arith, within, len))) [
         | inl less ↦ chain Forward entry ends.some (spot key number)
             (order held.0 k held.1 x entry ends.some less held.2 is held.3 ends.held)
             (ends.each ends.some ends.held number)
         | inr same ↦
-            let eq : held.1 ≡ x =
-            same_place xs held.0 k held.1 x same held.2 is in
+            let eq : held.1 ≡ x = same_place xs held.0 k held.1 x same held.2 is in
             ends.each entry (subst (λ (y : C). g.holds meant y source entry) eq held.3) number
       ]
+
+  -- the last one is sound, so what it tells of the key is so
+  pub all_precede : (read : List C) (x : C) (told : StoredKey) → read ≡ xs
+      → Some x ≡ slice_get read (length read - 1) → told ≡ key → AreSound g meant xs source
+      → AreConcatenated (λ c. g.holds meant c source) xs
+      → (g.is_sound meant x source → EndsBefore (g.holds meant x source) told)
+      → AllPrecede g meant source xs key
+  all_precede read x told same at is each order ends =
+      let here : slice_get xs (length xs - 1) ≡ Some x =
+      subst (λ (l : List C). slice_get l (length l - 1) ≡ Some x) same (sym at) in
+      let within = slice_get_within xs (length xs - 1) x here in
+      last_precedes x (length xs - 1) here (omega (arith, within)) order
+      (subst (λ (k : StoredKey). EndsBefore (g.holds meant x source) k) is
+      (ends (each (length xs - 1) x here)))
 
 module _ {C S : Type 0} (g : Ghosts C S) (meant : g.Meant) (source : S) where
   -- a series of no tables
@@ -178,17 +198,18 @@ module _ {C T S : Type 0} (g : Ghosts C S) (t : Ghosts T S) (meant : g.Meant) (l
   module _ (ended : List C) (these : List T) (tables : List LevelTable)
       (series : AreSeries g t meant lent source ended these tables) where
     -- the series has ended
-    pub series_ended : (now : List C) (c : C) → now ≡ ended ++ c ∷ []
-        → (AreSound t lent these source → AreConcatenated (λ x. t.holds lent x source) these
-        → g.is_sound meant c source)
-        → IsAlike (g.holds meant c source) (union_of t lent these source)
+    pub series_ended : (given : List T) → given ≡ these → (now : List C) (c : C)
+        → now ≡ ended ++ c ∷ [] → (AreSound t lent given source
+        → AreConcatenated (λ x. t.holds lent x source) given → g.is_sound meant c source)
+        → IsAlike (g.holds meant c source) (union_of t lent given source)
         → GoThrough g meant source now tables
-    series_ended now c pushed sound holds =
+    series_ended given same now c pushed sound holds =
+        let mine : IsSeries t lent source given series.last =
+        subst (λ (l : List T). IsSeries t lent source l series.last) (sym same) series.series in
         subst (λ (l : List C). GoThrough g meant source l tables) (sym pushed)
         (subst (λ (l : List LevelTable). GoThrough g meant source (ended ++ c ∷ []) l)
         (sym series.whole) (through_more g meant source ended series.before series.last c
-        series.through
-        (over_series c these series.last series.series sound holds)))
+        series.through (over_series c given series.last mine sound holds)))
 
     -- the last series has no tables
     pub series_empty : these ≡ [] → GoThrough g meant source ended tables
