@@ -138,7 +138,7 @@ index_of (y ∷ xs) (suc i) x d is = index_of xs i x d is
 -- tables with files of their own stand at one place each
 pub own_before : (tables : List LevelTable) → HaveOwnFiles tables → (i j : ℕ) (t u : LevelTable)
     → slice_get tables i ≡ Some t → slice_get tables j ≡ Some u → t ≡ u → i < j → ⊥
-pub own_before tables own i j t u is_t is_u same lt =
+own_before tables own i j t u is_t is_u same lt =
     let within = slice_get_within tables j u is_u in
     own i j t lt within (ap (λ (x : LevelTable). x.file)
     (index_of tables i t t is_t ∙ same ∙ sym (index_of tables j u t is_u)))

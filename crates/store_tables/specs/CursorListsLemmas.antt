@@ -13,10 +13,10 @@ module _ {C : Type 0} (xs : List C) (x : C) where
 -- each element stands in the list or is the one behind it
 pub place_cases : {C : Type 0} (xs : List C) (x : C) (i : ℕ) (c : C)
     → slice_get (xs ++ x ∷ []) i ≡ Some c → IsPlaceOf xs x i c
-pub place_cases [] x zero c is = inr (refl, cc)
-pub place_cases [] x (suc i) c is = absurd cc
-pub place_cases (y ∷ xs) x zero c is = inl is
-pub place_cases (y ∷ xs) x (suc i) c is = elim (place_cases xs x i c is) [
+place_cases [] x zero c is = inr (refl, cc)
+place_cases [] x (suc i) c is = absurd cc
+place_cases (y ∷ xs) x zero c is = inl is
+place_cases (y ∷ xs) x (suc i) c is = elim (place_cases xs x i c is) [
   | inl at ↦ inl at
   | inr last ↦ inr (ap suc last.0, last.1)
 ]

@@ -1,7 +1,7 @@
 use Rattle.sorted_table.specs.contracts.table_cursor.TableCursorCursor.TheImpl as table
 use Rattle.store_cursors.specs.contracts.store_cursor.StoreCursorCursor.TheImpl.{ghosts, no_dict}
 use Rattle.std.proofs.Common.{refl}
-use Rattle.store_tables.proofs.TableSeries.{series_empty, series_ended}
+use Rattle.store_tables.proofs.TableSeries.{series_ended}
 use Rattle.store_tables.proofs.series.TableSeries.finish.Goals as goal
 
 pub returns : goal.returns

@@ -9,7 +9,7 @@ pub returns : goal.returns
 returns g c = λ meant files.
     let store = ghosts g.row.D g.D.Disk no_dict no_dict in
     let over = table.ghosts g.row.D g.D.Disk table.no_dict table.no_dict in
-    subst (λ (l : List _). AreSeries store over meant meant files l c.new-last.result.items [])
-    (sym c.new-ended.ensures.items)
+    subst (λ (l : List _). AreSeries store over meant meant files l c.new-2.result.items [])
+    (sym c.new.ensures.items)
     (subst (λ (l : List _). AreSeries store over meant meant files [] l [])
-    (sym c.new-last.ensures.items) (all_none store over meant meant files))
+    (sym c.new-2.ensures.items) (all_none store over meant meant files))
