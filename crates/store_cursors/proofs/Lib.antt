@@ -1,4 +1,8 @@
+mod Concatenating
+mod Stepping
+mod Entering
+mod ChildMoves
 mod Arms
 mod MemoryArm
-mod TableArm
+mod TablesArm
 mod Shown

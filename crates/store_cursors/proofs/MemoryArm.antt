@@ -1,4 +1,4 @@
--- A move of a cursor over a memtable, as one of a cursor over a memtable or a table.
+-- A move of a cursor over a memtable, as one of a cursor over a memtable or tables.
 use Rattle.std.proofs.Common.{◌≡◌, ℕ, refl, sym, subst, false, Result, Ok, Err, arith}
 use Rattle.std.specs.Prelude.{IsErrOf}
 use Rattle.disk.specs.{RisesByOne}
@@ -10,6 +10,7 @@ use Rattle.merge_iter.specs.declared.CursorError.TheVariants.{Disk, Damaged, Fai
 use Rattle.merge_iter.specs.declared.CursorError.TheVariants.{Memory as memory}
 use Rattle.merge_iter.specs.declared.Direction.{Direction}
 use Rattle.sorted_table.specs.declared.TableCursor.{TableCursor}
+use Rattle.store_cursors.specs.declared.concatenated.Concatenated.{Concatenated}
 use Rattle.store_cursors.specs.declared.store_cursor.StoreCursor.{StoreCursor}
 use Rattle.store_cursors.specs.declared.store_cursor.StoreCursor.TheVariants.{Memory}
 use Rattle.store_cursors.specs.StoreCursors.{StoreCursorHolds, StoreCursorIsSound}
@@ -41,7 +42,8 @@ causes_there count result were allocates causes = record {
   failed = causes.failed;
 }
 
-module _ {D S : Type 0} (m : Ghosts MemCursor (Unit {0})) (t : Ghosts (TableCursor D) S) where
+module _ {D S : Type 0} (m : Ghosts MemCursor (Unit {0}))
+    (t : Ghosts (Concatenated (TableCursor D)) S) where
   -- What a move over a memtable needs of both: its steps may allocate where those over a table may,
   -- its own source is intact and has not failed, and no move at all leaves the other as it is.
   pub record ServesMemory (source : S) : Type 0 where

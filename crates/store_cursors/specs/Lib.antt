@@ -1,2 +1,4 @@
+pub mod Concatenation
+pub mod ConcatenationLaws
 pub mod StoreCursors
 pub mod StoreCursorLaws

@@ -1,18 +1,18 @@
 -- Tables of which some are given up and others are added are edited.
-use Rattle.std.proofs.Common.{◌≡◌, ◌⊎◌, ◌≤◌, ◌<◌, ◌&&◌, ◌==◌, ◌||◌, ℕ, List, [], ◌∷◌, Contains}
+use Rattle.std.proofs.Common.{◌≡◌, ◌⊎◌, ◌&&◌, ◌==◌, ℕ, List, [], ◌∷◌, Contains}
 use Rattle.std.proofs.Common.{Bool, true, false, Some, inl, inr, map, not, refl, slice_get, sym, ap}
 use Rattle.std.proofs.Common.{arith, subst, ◌∙◌}
 use Rattle.std.specs.List.{filter, fold, list_any}
 use Rattle.std.proofs.lemmas.Bool.{cases_lt, eq-eqb, eqb-true}
 use Rattle.std.proofs.lemmas.Option.{slice_get_within}
-use Rattle.store_model.specs.{AreEdited, LevelTable}
+use Rattle.store_model.specs.{LevelTable}
 use Rattle.store_model.specs.PlacesLemmas.{contains_cases, contains_head, contains_next}
 use Rattle.store_model.specs.PlacesLemmas.{contains_none}
 use Rattle.version_edits.specs.declared.TableName.{TableName}
 use Rattle.version_edits.specs.Versions.{placed}
 use Rattle.compaction.specs.Merges.{table_name}
 use Rattle.store_tables.specs.MergeTables.{ReplacedTablesAreEdited, level_table_is_before}
-use Rattle.store_tables.specs.MergeTables.{level_tables_left, replaced_tables}
+use Rattle.store_tables.specs.MergeTables.{level_tables_left}
 use Rattle.store_tables.specs.RangeReads.{HaveOwnFiles}
 use Rattle.store_tables.proofs.LevelLemmas.{either}
 use Rattle.store_tables.proofs.RangeTables.{index_of, is_kept, kept_was, place_of}

@@ -5,6 +5,8 @@ pub mod TableWalks
 pub mod TableCalls
 pub mod FinishedTables
 pub mod RangeTables
+pub mod ThroughTables
+pub mod TableSeries
 pub mod OwnFiles
 pub mod ZipLemmas
 pub mod MergeInputs

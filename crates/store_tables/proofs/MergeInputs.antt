@@ -19,7 +19,7 @@ use Rattle.compaction.specs.Walks.{table_files}
 use Rattle.compaction.specs.declared.plan.Plan.{Plan}
 use Rattle.store_tables.specs.declared.levels.OpenTable.{OpenTable}
 use Rattle.store_tables.specs.declared.levels.LevelTables.{LevelTables}
-use Rattle.store_tables.specs.LevelTables.{AreServed, IsServed, WasServed, WereServed}
+use Rattle.store_tables.specs.LevelTables.{IsServed, WasServed}
 use Rattle.store_tables.specs.MergeTables.{HaveInputs}
 use Rattle.store_tables.specs.RangeReads.{HasTable, HaveOwnFiles}
 use Rattle.store_tables.proofs.RangeTables.{all_apart, all_entries_of, at_place, beside_left}

@@ -136,7 +136,7 @@ index_of (y ∷ xs) zero x d is = cc
 index_of (y ∷ xs) (suc i) x d is = index_of xs i x d is
 
 -- tables with files of their own stand at one place each
-own_before : (tables : List LevelTable) → HaveOwnFiles tables → (i j : ℕ) (t u : LevelTable)
+pub own_before : (tables : List LevelTable) → HaveOwnFiles tables → (i j : ℕ) (t u : LevelTable)
     → slice_get tables i ≡ Some t → slice_get tables j ≡ Some u → t ≡ u → i < j → ⊥
 own_before tables own i j t u is_t is_u same lt =
     let within = slice_get_within tables j u is_u in
@@ -186,6 +186,21 @@ module _ {C S : Type 0} (g : Ghosts C S) (meant : g.Meant) (source : S) (cursors
 
 -- ---- a loop over the tables
 
+module _ {T : Type 0} (test : T → Bool) (passed now : List T) (t : T)
+    (taken : now ≡ passed ++ t ∷ []) where
+  -- a filter keeps an element that passes
+  pub kept_more : test t ≡ true → filter test now ≡ filter test passed ++ t ∷ []
+  kept_more meets =
+      ap (filter test) taken ∙ filter-append test passed (t ∷ [])
+      ∙ ap (λ (b : Bool). filter test passed ++ cond b (t ∷ []) []) meets
+
+  -- and not one that does not
+  pub kept_same : test t ≡ false → filter test now ≡ filter test passed
+  kept_same meets =
+      ap (filter test) taken ∙ filter-append test passed (t ∷ [])
+      ∙ ap (λ (b : Bool). filter test passed ++ cond b (t ∷ []) []) meets
+      ∙ append-nil (filter test passed)
+
 module _ {C T : Type 0} (R : C → T → Type 0) (test : T → Bool) (passed now : List T) (t : T)
     (taken : now ≡ passed ++ t ∷ []) where
   -- a table that passes the test has a cursor
@@ -193,32 +208,25 @@ module _ {C T : Type 0} (R : C → T → Type 0) (test : T → Bool) (passed now
       → made ≡ cursors ++ c ∷ [] → test t ≡ true → R c t → AllZip R made (filter test now)
   one_met cursors made c so_far pushed meets is =
       let both = zip_push R cursors (filter test passed) c t so_far is in
-      let more : filter test now ≡ filter test passed ++ t ∷ [] =
-      ap (filter test) taken ∙ filter-append test passed (t ∷ [])
-      ∙ ap (λ (b : Bool). filter test passed ++ cond b (t ∷ []) []) meets in
       subst (λ (l : List C). AllZip R l (filter test now)) (sym pushed)
-      (subst (λ (l : List T). AllZip R (cursors ++ c ∷ []) l) (sym more) both)
+      (subst (λ (l : List T). AllZip R (cursors ++ c ∷ []) l)
+      (sym (kept_more test passed now t taken meets)) both)
 
   -- and one that does not has none
   pub one_passed : (cursors : List C) → AllZip R cursors (filter test passed)
       → test t ≡ false → AllZip R cursors (filter test now)
   one_passed cursors so_far meets =
-      let same : filter test now ≡ filter test passed =
-      ap (filter test) taken ∙ filter-append test passed (t ∷ [])
-      ∙ ap (λ (b : Bool). filter test passed ++ cond b (t ∷ []) []) meets
-      ∙ append-nil (filter test passed) in
-      subst (λ (l : List T). AllZip R cursors l) (sym same) so_far
+      subst (λ (l : List T). AllZip R cursors l) (sym (kept_same test passed now t taken meets))
+      so_far
 
 -- a loop that has passed all open tables has passed all tables
-pub all_asked : {C : Type 0} (R : C → LevelTable → Type 0) (span : Span)
-    (W : OpenTable → LevelTable → Type 0) (items passed : List OpenTable)
-    (tables : List LevelTable) (i : ℕ) (cursors : List C) → passed ≡ items
-    → AllZip W items tables → length passed ≤ i → AllZip R cursors (tables_in span (take i tables))
-    → AllZip R cursors (tables_in span tables)
-all_asked R span W items passed tables i cursors same zip le so_far =
+pub all_asked : (span : Span) (W : OpenTable → LevelTable → Type 0)
+    (items passed : List OpenTable) (tables : List LevelTable) (i : ℕ) → passed ≡ items
+    → AllZip W items tables → length passed ≤ i
+    → tables_in span (take i tables) ≡ tables_in span tables
+all_asked span W items passed tables i same zip le =
     let past = subst (λ (l : List OpenTable). length l ≤ i) same le in
-    subst (λ (l : List LevelTable). AllZip R cursors (tables_in span l))
-    (all_taken W items tables i zip past) so_far
+    ap (tables_in span) (all_taken W items tables i zip past)
 
 -- ---- the tables of a store
 

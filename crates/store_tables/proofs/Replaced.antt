@@ -1,9 +1,9 @@
 -- Tables that are given up and added, each at its place, and their lines alike.
-use Rattle.std.proofs.Common.{◌≡◌, ◌+◌, ◌&&◌, ◌==◌, List, [], ◌∷◌, Bool, true, false, inl, inr, map}
-use Rattle.std.proofs.Common.{refl, sym, ap, subst, suc, arith, not, ◌∙◌}
+use Rattle.std.proofs.Common.{◌≡◌, ◌+◌, ◌&&◌, ◌==◌, List, [], ◌∷◌, Bool, inl, inr, map}
+use Rattle.std.proofs.Common.{refl, sym, ap, suc, arith, not, ◌∙◌}
 use Rattle.std.specs.List.{AllZip, filter, fold, insert, list_any, prefix_len}
 use Rattle.std.proofs.lemmas.Slice.Zip.{AllZip-map}
-use Rattle.disk.specs.{Contents, State}
+use Rattle.disk.specs.{State}
 use Rattle.store_model.specs.{LevelTable}
 use Rattle.version_edits.specs.declared.TableLine.{TableLine}
 use Rattle.version_edits.specs.declared.TableName.{TableName}

@@ -1,6 +1,6 @@
 -- What stands side by side still does when both sides are filtered, or get more at their places.
 use Rattle.std.proofs.Common.{◌≡◌, List, [], ◌∷◌, Contains, Bool, true, false, inl, inr, map, sym}
-use Rattle.std.proofs.Common.{◌∙◌, ap}
+use Rattle.std.proofs.Common.{◌∙◌}
 use Rattle.std.specs.List.{AllZip, filter, fold}
 use Rattle.store_model.specs.PlacesLemmas.{contains_head, contains_next}
 use Rattle.version_edits.specs.Versions.{placed}

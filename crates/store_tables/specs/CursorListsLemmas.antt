@@ -11,7 +11,7 @@ module _ {C : Type 0} (xs : List C) (x : C) where
   IsPlaceOf i c = (slice_get xs i ≡ Some c) ⊎ ((i ≡ length xs) × (x ≡ c))
 
 -- each element stands in the list or is the one behind it
-place_cases : {C : Type 0} (xs : List C) (x : C) (i : ℕ) (c : C)
+pub place_cases : {C : Type 0} (xs : List C) (x : C) (i : ℕ) (c : C)
     → slice_get (xs ++ x ∷ []) i ≡ Some c → IsPlaceOf xs x i c
 place_cases [] x zero c is = inr (refl, cc)
 place_cases [] x (suc i) c is = absurd cc

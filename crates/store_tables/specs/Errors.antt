@@ -1,5 +1,5 @@
 -- What the refusals of an engine say.
-use Rattle.std.specs.Prelude.{◌≡◌, ◌⊎◌, Result, Ok, Err}
+use Rattle.std.specs.Prelude.{Result, Ok, Err}
 use Rattle.disk.specs.declared.DiskError.{DiskError}
 use Rattle.disk.specs.declared.DiskError.TheVariants as disk
 use Rattle.manifest.specs.declared.ManifestError.{ManifestError}

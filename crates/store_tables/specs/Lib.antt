@@ -4,6 +4,7 @@ pub mod RefusalLemmas
 pub mod LevelTables
 pub mod TableReads
 pub mod TableWriting
+pub mod TableSeries
 pub mod RangeReads
 pub mod MergeTables
 pub mod CursorListsLemmas

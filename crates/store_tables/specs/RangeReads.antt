@@ -12,6 +12,7 @@ use Rattle.manifest.specs.{IsVersion, StoreVersion}
 use Rattle.store_model.specs.{AreLeveled, KeyRange, LevelTable, tables_entries}
 use Rattle.store_cursors.specs.StoreCursors.{HasEntries}
 use Rattle.store_tables.specs.LevelTables.{AreTablesOf}
+use Rattle.store_tables.specs.TableSeries.{EachFitsRange}
 
 -- the keys from the least to the greatest meet the span: they end no sooner than it begins, and
 -- begin before it ends
@@ -41,8 +42,8 @@ HasTable g meant source cursor table = HasEntries g meant source cursor (Contain
 -- the cursors of a read of the span, over open tables that were meant to serve these
 pub record AreRangeCursors {C S : Type 0} (g : Ghosts C S) (meant : g.Meant) (source : S)
     (span : Span) (tables : List LevelTable) (cursors : List C) : Type 0 where
-  -- each of them is sound
-  pub sound : AreSound g meant cursors source
+  -- where each table fits its range, each of them is sound
+  pub sound : EachFitsRange tables → AreSound g meant cursors source
   -- together they have exactly the entries of the tables whose keys meet the span
   pub entries : IsAlike (union_of g meant cursors source) (tables_entries (tables_in span tables))
   -- of entries with a key in the span they have exactly those of all tables

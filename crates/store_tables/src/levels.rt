@@ -24,6 +24,7 @@ ghost use Rattle.store_tables.specs.TableReads.{OpensTables, ReadsTables, by_all
 ghost use Rattle.store_tables.specs.TableReads.{by_one_line};
 
 use crate::EngineError;
+use crate::series::TableSeries;
 use bloom::KeyHashes;
 use compaction::Plan;
 use disk::Disk;
@@ -111,13 +112,13 @@ impl OpenTable {
     }
 
     // A cursor over the entries of the table.
-    fn cursor<'a, D: Disk + Drop>(&self, alloc: Global) -> Result<StoreCursor<'a, D>, AllocError>
+    fn cursor<D: Disk + Drop>(&self, alloc: Global) -> Result<TableCursor<D>, AllocError>
         ensures { IfOk result (λ cursor. (meant : State) (files : _) (table : LevelTable) →
             ⟦<CachedDisk<D> as Disk>⟧.is_honest files →
             WasServed (⟦<CachedDisk<D> as Disk>⟧.state files) meant self.now table →
-            HasTable ⟦<StoreCursor<'a, D> as Cursor>⟧ meant files cursor table) }
+            HasTable ⟦<TableCursor<D> as Cursor>⟧ meant files cursor table) }
     {
-        Ok(StoreCursor::of_table(alloc, &self.table)?)
+        self.table.cursor(alloc)
     }
 
     // What the table has of the key with these hashes, or `Damaged` where the block that may have
@@ -277,8 +278,9 @@ impl LevelTables {
         Ok(best)
     }
 
-    /// Cursors over the tables whose keys meet the range, in order of the tables. No file is read.
-    /// Together they have each entry of the tables with a key in the range.
+    /// Cursors over the tables whose keys meet the range, in order of the tables, one for as many
+    /// of them as come one after another in order of key. No file is read. Together they have each
+    /// entry of the tables with a key in the range.
     pub fn cursors<'a, D: Disk + Drop>(
         &self,
         alloc: Global,
@@ -290,13 +292,13 @@ impl LevelTables {
             AreRangeCursors ⟦<StoreCursor<'a, D> as Cursor>⟧ meant files range.now tables
             cursors.items) }
     {
-        let mut cursors = Vec::new(alloc);
+        let mut series = TableSeries::new(alloc);
         for open in &self.tables {
             if open.meets(range) {
-                cursors.push(open.cursor(alloc)?)?;
+                series.add(alloc, open.cursor(alloc)?, &open.line.least)?;
             }
         }
-        Ok(cursors)
+        series.finish()
     }
 
     /// Cursors over the inputs of a plan in a version with these tables, which are the open ones,

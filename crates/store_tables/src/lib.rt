@@ -5,6 +5,7 @@
 mod error;
 pub mod laws;
 mod levels;
+mod series;
 mod table_writing;
 
 pub use error::{EngineError, refusal_of_edit};

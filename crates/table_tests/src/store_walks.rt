@@ -12,7 +12,7 @@ use crate::tables::{FILE, build, table_in, with_cache};
 use crate::walks::{agreeing, changes_of};
 use disk::MemDisk;
 use kv_types::{Batch, Edit, Number, Value};
-use merge_iter::Merged;
+use merge_iter::{Merged, OwnedEntry};
 use sorted_table::CachedDisk;
 use std::alloc::Global;
 use std::process::Abort;
@@ -55,6 +55,22 @@ fn files_of(rt: &impl Abort, alloc: Global, entries: &[PlainEntry]) -> CachedDis
     with_cache(rt, alloc, disk, 2)
 }
 
+/// A cursor over the tables of these files, one after another.
+fn over<'a>(
+    rt: &impl Abort,
+    alloc: Global,
+    files: &mut CachedDisk<MemDisk>,
+    of: &[u64],
+) -> StoreCursor<'a, MemDisk> {
+    let mut tables = Vec::new(alloc);
+    for file in of {
+        let table = table_in(rt, alloc, files, *file);
+        let cursor = table.cursor(alloc).expect(rt, "memory");
+        tables.push(cursor).expect(rt, "memory");
+    }
+    StoreCursor::of_tables(tables)
+}
+
 /// A cursor over the memtable, and one over each table.
 fn cursors_of<'a>(
     rt: &impl Abort,
@@ -66,8 +82,7 @@ fn cursors_of<'a>(
     let newest = StoreCursor::of_memtable(memtable.table()).expect(rt, "a memtable");
     cursors.push(newest).expect(rt, "memory");
     for file in [FILE, SOUND] {
-        let table = table_in(rt, alloc, files, file);
-        let older = StoreCursor::of_table(alloc, &table).expect(rt, "memory");
+        let older = over(rt, alloc, files, &[file]);
         cursors.push(older).expect(rt, "memory");
     }
     cursors
@@ -95,6 +110,33 @@ fn agreeing_in_a_union(rt: &impl Abort, alloc: Global) -> usize {
 #[test]
 fn a_memtable_beside_two_tables(rt: HostRuntime) {
     is_count(&rt, agreeing_in_a_union(&rt, rt.alloc()), 2_000);
+}
+
+/// A disk with tables in these files, each of the next third of the entries, and a cache of two
+/// blocks.
+fn files_of_thirds(
+    rt: &impl Abort,
+    alloc: Global,
+    entries: &[OwnedEntry],
+    of: &[u64],
+) -> CachedDisk<MemDisk> {
+    let mut disk = MemDisk::new(alloc);
+    for (file, third) in of.iter().zip(entries.chunks(entries.len() / 3 + 1)) {
+        build(rt, alloc, &mut disk, *file, third);
+    }
+    with_cache(rt, alloc, disk, 2)
+}
+
+#[test]
+fn three_tables_one_after_another(rt: HostRuntime) {
+    let (alloc, of) = (rt.alloc(), [FILE, SOUND, 5]);
+    let entries = entries_and_memtable(&rt, alloc).0;
+    let owned = all_owned(&rt, alloc, &entries);
+    let mut files = files_of_thirds(&rt, alloc, &owned, &of);
+    let mut cursor = over(&rt, alloc, &mut files, &of);
+    meet_all(&rt, &mut cursor, &mut files, &owned, owned.len());
+    let count = agreeing(&rt, &mut cursor, &mut files, &entries, NUMBERS);
+    is_count(&rt, count, 2_000);
 }
 
 /// Fails the test where a walk each way over the rows at a number does not meet each in its place.

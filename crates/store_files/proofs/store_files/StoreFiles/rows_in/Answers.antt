@@ -42,7 +42,7 @@ returns g c = λ meant files list honest hold blocks floor count.
     ) in
     let met = told.entries in
     let sound = all_sound G meant files cursors memory list store known.store range met holds
-    told.sound mine.sound in
+    (told.sound known.store.tables.ranges) mine.sound in
     let apart = all_apart G meant files cursors memory list store known.store range met holds
     (told.disjoint store.flushed known.store.tables own) in
     let has = all_in_range G meant files cursors memory list store known.store range met holds
