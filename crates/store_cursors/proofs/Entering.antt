@@ -21,7 +21,7 @@ use Rattle.store_cursors.specs.declared.child_place.ChildPlace.TheVariants as pl
 use Rattle.store_cursors.specs.declared.start.Start.{Start}
 use Rattle.store_cursors.specs.Concatenation.{EntersChildren, MeetAlike, NoneMet}
 use Rattle.store_cursors.specs.Concatenation.{left_from, may_allocate, rank, walk_start, walk_way}
-use Rattle.store_cursors.specs.ConcatenationLaws.{left_within, own_on, rank_within}
+use Rattle.store_cursors.specs.ConcatenationLaws.{left_bound, own_on, rank_within}
 use Rattle.store_cursors.specs.StoreCursorLaws.{HasCursorLaws}
 use Rattle.store_cursors.proofs.ChildMoves.{all_skipped, first_alike, found_first, keep_none}
 use Rattle.store_cursors.proofs.ChildMoves.{keep_one}
@@ -235,7 +235,7 @@ module _ {C S : Type 0} (g : Ghosts C S) (laws : HasCursorLaws g) (begins : Star
               let r : rank (walk_way begins) (length new) k
               ≡ rank (walk_way begins) (length old) k =
               ap (λ m. rank (walk_way begins) m k) n in
-              let less = left_within g.left g.most laws.within new k skipped (walk_way begins) v set
+              let less = left_bound g.left g.most laws.within new k skipped (walk_way begins) v set
               (omega (arith, le, here, r)) in
               subst (λ (o : Option C). left_from g.left g.most new k (walk_way begins) o
               ≤ (length old - skipped) * sum_by g.most old) (sym set)

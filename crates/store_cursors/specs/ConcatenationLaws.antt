@@ -48,10 +48,10 @@ sides i j = grind arith
 module _ {C : Type 0} (left : C → Direction → ℕ) (most : C → ℕ)
     (within : (c : C) (way : Direction) → left c way ≤ most c) where
   -- the steps from a child on are within those of the children that a walk has not skipped
-  pub left_within : (xs : List C) (k skipped : ℕ) (way : Direction) (c : C)
+  pub left_bound : (xs : List C) (k skipped : ℕ) (way : Direction) (c : C)
       → slice_get xs k ≡ Some c → skipped ≤ rank way (length xs) k
       → left_from left most xs k way (Some c) ≤ (length xs - skipped) * sum_by most xs
-  left_within xs k skipped way c at le =
+  left_bound xs k skipped way c at le =
       let n = length xs in
       let r = rank way n k in
       let lt = rank_within way n k (slice_get_within xs k c at) in
@@ -66,7 +66,7 @@ module _ {C : Type 0} (left : C → Direction → ℕ) (most : C → ℕ)
   left_all xs k way None at = omega arith
   left_all xs k way (Some c) at =
       let n = length xs in
-      let less = left_within xs k 0 way c at (omega arith) in
+      let less = left_bound xs k 0 way c at (omega arith) in
       let same : (n - 0) * sum_by most xs ≡ n * sum_by most xs =
       ap (λ (m : ℕ). m * sum_by most xs) (omega arith) in
       omega (arith, less, same)

@@ -23,7 +23,7 @@ use Rattle.store_model.specs.PlacesLemmas.{slice_get_shorter}
 use Rattle.store_tables.specs.CursorListsLemmas.{each_more, place_cases, union_more}
 use Rattle.store_tables.specs.RangeReads.{HasTable}
 use Rattle.store_tables.specs.TableSeries.{AllPrecede, IsSeries, AreSeries, EachFitsRange}
-use Rattle.store_tables.specs.TableSeries.{EndsSeries, GoThrough, GoesThrough}
+use Rattle.store_tables.specs.TableSeries.{EndsSeries, AreOver, IsOver}
 use Rattle.store_tables.proofs.ThroughTables.{entries_both, through_more}
 
 -- where two things follow from one call, so does what follows from both
@@ -186,7 +186,7 @@ module _ {C T S : Type 0} (g : Ghosts C S) (t : Ghosts T S) (meant : g.Meant) (l
       → IsSeries t lent source these last
       → (AreSound t lent these source → AreConcatenated (λ x. t.holds lent x source) these
       → g.is_sound meant c source) → IsAlike (g.holds meant c source) (union_of t lent these source)
-      → GoesThrough g meant source c last
+      → IsOver g meant source c last
   over_series c these last it sound holds = record {
     sound = λ fit. sound it.each (it.order fit);
     holds = λ entry. (
@@ -202,24 +202,24 @@ module _ {C T S : Type 0} (g : Ghosts C S) (t : Ghosts T S) (meant : g.Meant) (l
         → now ≡ ended ++ c ∷ [] → (AreSound t lent given source
         → AreConcatenated (λ x. t.holds lent x source) given → g.is_sound meant c source)
         → IsAlike (g.holds meant c source) (union_of t lent given source)
-        → GoThrough g meant source now tables
+        → AreOver g meant source now tables
     series_ended given same now c pushed sound holds =
         let mine : IsSeries t lent source given series.last =
         subst (λ (l : List T). IsSeries t lent source l series.last) (sym same) series.series in
-        subst (λ (l : List C). GoThrough g meant source l tables) (sym pushed)
-        (subst (λ (l : List LevelTable). GoThrough g meant source (ended ++ c ∷ []) l)
+        subst (λ (l : List C). AreOver g meant source l tables) (sym pushed)
+        (subst (λ (l : List LevelTable). AreOver g meant source (ended ++ c ∷ []) l)
         (sym series.whole) (through_more g meant source ended series.before series.last c
         series.through (over_series c given series.last mine sound holds)))
 
     -- the last series has no tables
-    pub series_empty : these ≡ [] → GoThrough g meant source ended tables
+    pub series_empty : these ≡ [] → AreOver g meant source ended tables
     series_empty none =
         let len : length series.last ≡ 0 =
         sym series.series.len ∙ ap (λ (l : List T). length l) none in
         let no_last = no_tables series.last len in
         let same : tables ≡ series.before = series.whole
         ∙ ap (λ (l : List LevelTable). series.before ++ l) no_last ∙ append-nil series.before in
-        subst (λ (l : List LevelTable). GoThrough g meant source ended l) (sym same) series.through
+        subst (λ (l : List LevelTable). AreOver g meant source ended l) (sym same) series.through
       where
         no_tables : (ts : List LevelTable) → length ts ≡ 0 → ts ≡ []
         no_tables [] len = refl
@@ -236,7 +236,7 @@ module _ {C T S : Type 0} (g : Ghosts C S) (t : Ghosts T S) (meant : g.Meant) (l
 
   -- after all series have ended another begins
   pub begun_series : (ended : List C) (these : List T) (tables : List LevelTable) (key : StoredKey)
-      → these ≡ [] → GoThrough g meant source ended tables
+      → these ≡ [] → AreOver g meant source ended tables
       → EndsSeries g t meant lent source ended these tables key
   begun_series ended these tables key none through = record {
     series = record {

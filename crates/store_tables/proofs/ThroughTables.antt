@@ -12,7 +12,7 @@ use Rattle.merge_iter.specs.declared.Cursor.{Ghosts}
 use Rattle.store_model.specs.{LevelTable, tables_entries}
 use Rattle.store_model.specs.PlacesLemmas.{contains_none, slice_get_longer}
 use Rattle.store_tables.specs.RangeReads.{AreRangeCursors, HaveOwnFiles, meets_span, tables_in}
-use Rattle.store_tables.specs.TableSeries.{EachFitsRange, GoThrough, GoesThrough}
+use Rattle.store_tables.specs.TableSeries.{EachFitsRange, AreOver, IsOver}
 use Rattle.store_tables.proofs.RangeTables.{kept_was, own_before, place_of, span_has, span_own}
 use Rattle.store_tables.proofs.RangeTables.{span_unique}
 
@@ -76,8 +76,8 @@ module _ {C : Type 0} (holds : C → Entry → Type 0) (c : C) (cs : List C) (en
 module _ {C S : Type 0} (g : Ghosts C S) (meant : g.Meant) (source : S) where
   -- with one cursor more they go through what it goes through too
   pub through_more : (cs : List C) (ts us : List LevelTable) (c : C)
-      → GoThrough g meant source cs ts → GoesThrough g meant source c us
-      → GoThrough g meant source (cs ++ c ∷ []) (ts ++ us)
+      → AreOver g meant source cs ts → IsOver g meant source c us
+      → AreOver g meant source (cs ++ c ∷ []) (ts ++ us)
   through_more [] ts us c none one = (
     us,
     [],
@@ -94,7 +94,7 @@ module _ {C S : Type 0} (g : Ghosts C S) (meant : g.Meant) (source : S) where
   )
 
   -- where the tables fit their ranges, each is sound
-  pub through_sound : (cs : List C) (ts : List LevelTable) → GoThrough g meant source cs ts
+  pub through_sound : (cs : List C) (ts : List LevelTable) → AreOver g meant source cs ts
       → EachFitsRange ts → EachChild (λ c. g.is_sound meant c source) cs
   through_sound [] ts none fit i d is = absurd cc
   through_sound (c ∷ cs) ts through fit zero d is =
@@ -108,7 +108,7 @@ module _ {C S : Type 0} (g : Ghosts C S) (meant : g.Meant) (source : S) where
       (Contains-append_right through.0 through.1 t has))) i d is
 
   -- they have the entries of the tables
-  pub through_holds : (cs : List C) (ts : List LevelTable) → GoThrough g meant source cs ts
+  pub through_holds : (cs : List C) (ts : List LevelTable) → AreOver g meant source cs ts
       → IsAlike (union_of g meant cs source) (tables_entries ts)
   through_holds [] ts none entry = (
     λ held. let is : slice_get [] held.0 ≡ Some held.1 = held.2 in absurd cc,
@@ -132,7 +132,7 @@ module _ {C S : Type 0} (g : Ghosts C S) (meant : g.Meant) (source : S) where
       )
 
   -- no two have entries of one key and number where no two tables do
-  pub through_apart : (cs : List C) (ts : List LevelTable) → GoThrough g meant source cs ts
+  pub through_apart : (cs : List C) (ts : List LevelTable) → AreOver g meant source cs ts
       → ((t u : LevelTable) → Contains ts t → Contains ts u → (a b : Entry) → Contains t.entries a
       → Contains u.entries b → a.key ≡ b.key → a.number ≡ b.number → t ≡ u) → HaveOwnFiles ts
       → AreApart (λ c. g.holds meant c source) cs
@@ -176,7 +176,7 @@ module _ {C S : Type 0} (g : Ghosts C S) (meant : g.Meant) (source : S) where
 -- cursors that go through them are those of a read of the span
 pub are_range_cursors : {C S : Type 0} (g : Ghosts C S) (meant : g.Meant) (source : S) (span : Span)
     (tables : List LevelTable) (cursors : List C)
-    → GoThrough g meant source cursors (tables_in span tables)
+    → AreOver g meant source cursors (tables_in span tables)
     → AreRangeCursors g meant source span tables cursors
 are_range_cursors g meant source span tables cursors through =
     let met = tables_in span tables in

@@ -14,16 +14,16 @@ EachFitsRange tables = (t : LevelTable) → Contains tables t → FitsRange t
 
 module _ {C S : Type 0} (g : Ghosts C S) (meant : g.Meant) (source : S) where
   -- the cursor has the entries of the tables, and is sound where each fits its range
-  pub record GoesThrough (cursor : C) (tables : List LevelTable) : Type 0 where
+  pub record IsOver (cursor : C) (tables : List LevelTable) : Type 0 where
     pub sound : EachFitsRange tables → g.is_sound meant cursor source
     pub holds : IsAlike (g.holds meant cursor source) (tables_entries tables)
 
   -- the cursors go through the tables in order: each through those that come next
-  abbrev pub GoThrough : List C → List LevelTable → Type 0
-  GoThrough [] tables = tables ≡ []
-  GoThrough (cursor ∷ others) tables =
+  abbrev pub AreOver : List C → List LevelTable → Type 0
+  AreOver [] tables = tables ≡ []
+  AreOver (cursor ∷ others) tables =
       (next : List LevelTable) × (later : List LevelTable) × (tables ≡ next ++ later)
-      × GoesThrough cursor next × GoThrough others later
+      × IsOver cursor next × AreOver others later
 
   -- the cursors are over these tables, one over each, and where each fits its range, the entries
   -- of one come before those of the next
@@ -46,7 +46,7 @@ module _ {C T S : Type 0} (g : Ghosts C S) (t : Ghosts T S) (meant : g.Meant) (l
     pub before : List LevelTable
     pub last : List LevelTable
     pub whole : tables ≡ before ++ last
-    pub through : GoThrough g meant source ended before
+    pub through : AreOver g meant source ended before
     pub series : IsSeries t lent source these last
 
   -- the last series ends before the key

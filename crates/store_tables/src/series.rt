@@ -1,13 +1,11 @@
-//! Cursors over tables in order: one for each series of tables of which the keys of each come
-//! before
-//! those of the next.
+//! Cursors over tables in order: one for each series of tables, whose keys come one after another.
 ghost use Rattle.std.specs.Prelude.{◌≡◌, ◌++◌, ℕ, List, [], ◌∷◌, IfOk, IsTrue, OnOk};
 ghost use Rattle.disk.specs.{State};
 ghost use Rattle.merge_iter.specs.{AreSound};
 ghost use Rattle.store_cursors.specs.Concatenation.{AreConcatenated};
 ghost use Rattle.store_model.specs.{LevelTable};
 ghost use Rattle.store_tables.specs.RangeReads.{HasTable};
-ghost use Rattle.store_tables.specs.TableSeries.{AllPrecede, AreSeries, EndsSeries, GoThrough};
+ghost use Rattle.store_tables.specs.TableSeries.{AllPrecede, AreOver, AreSeries, EndsSeries};
 
 use disk::Disk;
 use kv_types::StoredKey;
@@ -57,7 +55,7 @@ impl<'a, D: Disk + Drop> TableSeries<'a, D> {
             AreSeries ⟦<StoreCursor<'a, D> as Cursor>⟧ ⟦<TableCursor<D> as Cursor>⟧ meant meant
             files
             self.old.ended.items self.old.last.items tables →
-            GoThrough ⟦<StoreCursor<'a, D> as Cursor>⟧ meant files self.new.ended.items tables) }
+            AreOver ⟦<StoreCursor<'a, D> as Cursor>⟧ meant files self.new.ended.items tables) }
     {
         let last = replace(&mut self.last, Vec::new(alloc));
         self.ended.push(StoreCursor::of_tables(last))?;
@@ -107,7 +105,7 @@ impl<'a, D: Disk + Drop> TableSeries<'a, D> {
             (tables : List LevelTable) → AreSeries ⟦<StoreCursor<'a, D> as Cursor>⟧
             ⟦<TableCursor<D> as Cursor>⟧ meant meant files self.entry.ended.items
             self.entry.last.items tables →
-            GoThrough ⟦<StoreCursor<'a, D> as Cursor>⟧ meant files cursors.items tables) }
+            AreOver ⟦<StoreCursor<'a, D> as Cursor>⟧ meant files cursors.items tables) }
     {
         let TableSeries { mut ended, last } = self;
         if last.is_empty() {
