@@ -1,5 +1,7 @@
 // One file that is open. No call here makes more than two system calls, as long as the system
 // reads and writes at once what it is asked for.
+ghost use Rattle.std.specs.Prelude.{◌≡◌};
+
 use disk::DiskError;
 use std::fs::File;
 use std::io::{self, ErrorKind};
@@ -29,7 +31,9 @@ fn done(answer: io::Result<()>) -> Result<(), DiskError> {
 }
 
 impl OpenFile {
-    pub fn new(number: u64, file: File, len: u64) -> OpenFile {
+    pub fn new(number: u64, file: File, len: u64) -> OpenFile
+        ensures { result.number ≡ number }
+    {
         OpenFile {
             number,
             file,
@@ -37,7 +41,9 @@ impl OpenFile {
         }
     }
 
-    pub fn number(&self) -> u64 {
+    pub fn number(&self) -> u64
+        ensures { result ≡ self.now.number }
+    {
         self.number
     }
 
