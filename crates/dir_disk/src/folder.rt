@@ -1,8 +1,9 @@
 // A folder as a disk. No contract says what the system does with its files, so this disk claims
 // neither that it is honest nor that it is reliable.
-ghost use Rattle.std.specs.Prelude.{◌≡◌, ◌≤◌, ◌<◌, ◌^◌, ◌-◌, [], None, IfOk, IsErrOf, OnOk};
-ghost use Rattle.std.specs.Prelude.{IsSome, false, string_bytes, true};
+ghost use Rattle.std.specs.Prelude.{◌≡◌, ◌≤◌, ◌<◌, ◌^◌, ◌-◌, [], None, IfErr, IfOk, IsErrOf, OnOk};
+ghost use Rattle.std.specs.Prelude.{IsSome, false, length, string_bytes, true};
 ghost use Rattle.disk.specs.{Absent};
+ghost use Rattle.disk.specs.Calls.{EndsOutOfRange};
 
 use crate::failure_count::FailureCount;
 use crate::lock::{LockError, locked};
@@ -86,6 +87,7 @@ impl<R: Files<File = File> + Alloc<A = Global> + Clone + Drop> DirDisk<R> {
     fn may_write(&self) -> Result<(), DiskError>
         ensures last { 2 ^ 64 - 1 ≤ self.now.failures.count → IsErrOf result DiskError.Failed }
         ensures reads { self.now.writes ≡ false → IsErrOf result DiskError.Failed }
+        ensures refused { IfErr result (λ e. e ≡ DiskError.Failed) }
     {
         if !self.writes {
             return Err(DiskError::Failed);
@@ -129,6 +131,7 @@ impl<R: Files<File = File> + Alloc<A = Global> + Clone + Drop> DirDisk<R> {
         ensures same { IsSetUpAs self.old self.new }
         ensures last { 2 ^ 64 - 1 ≤ self.old.failures.count → IsErrOf result DiskError.Failed }
         ensures reads { self.old.writes ≡ false → IsErrOf result DiskError.Failed }
+        ensures range { EndsOutOfRange at (length bytes.now) → IsErrOf result DiskError.Failed }
     {
         self.may_write()?;
         if ends_out_of_range(at, bytes.len()) {
