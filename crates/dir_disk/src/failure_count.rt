@@ -1,5 +1,5 @@
 // How often the device of a disk has failed.
-ghost use Rattle.std.specs.Prelude.{◌≡◌, ◌≤◌, ◌^◌, ◌-◌, IsErrOf};
+ghost use Rattle.std.specs.Prelude.{◌≡◌, ◌<◌, ◌≤◌, ◌^◌, ◌-◌, IsErrOf, MatchResult};
 ghost use Rattle.disk.specs.{RisesByOne};
 
 use disk::DiskError;
@@ -19,7 +19,8 @@ impl FailureCount {
 
     /// Whether a call is made at all: the count is below its last value.
     pub fn works(&self) -> Result<(), DiskError>
-        ensures { 2 ^ 64 - 1 ≤ self.now.count → IsErrOf result DiskError.Failed }
+        ensures { MatchResult result (λ _. self.now.count < 2 ^ 64 - 1)
+            (λ e. (e ≡ DiskError.Failed) × (2 ^ 64 - 1 ≤ self.now.count)) }
     {
         if self.count == u64::MAX {
             return Err(DiskError::Failed);

@@ -1,8 +1,9 @@
 // A folder as a disk. No contract says what the system does with its files, so this disk claims
 // neither that it is honest nor that it is reliable.
-ghost use Rattle.std.specs.Prelude.{◌≡◌, ◌≤◌, ◌<◌, ◌^◌, ◌-◌, [], None, IfOk, IsErrOf, OnOk};
-ghost use Rattle.std.specs.Prelude.{IsSome, false, string_bytes, true, vec_len};
+ghost use Rattle.std.specs.Prelude.{◌≡◌, ◌≤◌, ◌<◌, ◌^◌, ◌-◌, [], None, IfErr, IfOk, IsErrOf, OnOk};
+ghost use Rattle.std.specs.Prelude.{IsSome, false, length, string_bytes, true};
 ghost use Rattle.disk.specs.{Absent};
+ghost use Rattle.disk.specs.Calls.{EndsOutOfRange};
 
 use crate::failure_count::FailureCount;
 use crate::lock::{LockError, locked};
@@ -28,6 +29,7 @@ pub struct DirDisk<R> {
 
 impl<R: Files<File = File> + Alloc<A = Global> + Clone + Drop> DirDisk<R> {
     ghost use Rattle.dir_disk.specs.Disks.{HasLock, disk_folder, may_change};
+    ghost use Rattle.dir_disk.specs.Open.{IsLatest, IsSetUpAs};
 
     /// The folder at this path. It need not be there, and is not made.
     pub fn new(rt: R, folder: &str) -> Result<DirDisk<R>, AllocError>
@@ -85,6 +87,7 @@ impl<R: Files<File = File> + Alloc<A = Global> + Clone + Drop> DirDisk<R> {
     fn may_write(&self) -> Result<(), DiskError>
         ensures last { 2 ^ 64 - 1 ≤ self.now.failures.count → IsErrOf result DiskError.Failed }
         ensures reads { self.now.writes ≡ false → IsErrOf result DiskError.Failed }
+        ensures refused { IfErr result (λ e. e ≡ DiskError.Failed) }
     {
         if !self.writes {
             return Err(DiskError::Failed);
@@ -96,10 +99,9 @@ impl<R: Files<File = File> + Alloc<A = Global> + Clone + Drop> DirDisk<R> {
     // absent, it is created if that is asked for.
     fn reach(&mut self, number: u64, creates: bool) -> Result<(), DiskError>
         ensures count { self.new.failures.count ≡ self.old.failures.count }
-        ensures same { (self.new.writes ≡ self.old.writes)
-            × (self.new.folder ≡ self.old.folder) }
+        ensures same { IsSetUpAs self.old self.new }
         ensures last { 2 ^ 64 - 1 ≤ self.old.failures.count → IsErrOf result DiskError.Failed }
-        ensures latest { OnOk result (0 < vec_len self.new.files.files) }
+        ensures latest { OnOk result (IsLatest number self.new.files) }
     {
         self.failures.works()?;
         if self.files.touch(number)? {
@@ -126,10 +128,10 @@ impl<R: Files<File = File> + Alloc<A = Global> + Clone + Drop> DirDisk<R> {
 
     fn write_in(&mut self, file: u64, at: u64, bytes: &[u8]) -> Result<(), DiskError>
         ensures count { self.new.failures.count ≡ self.old.failures.count }
-        ensures same { (self.new.writes ≡ self.old.writes)
-            × (self.new.folder ≡ self.old.folder) }
+        ensures same { IsSetUpAs self.old self.new }
         ensures last { 2 ^ 64 - 1 ≤ self.old.failures.count → IsErrOf result DiskError.Failed }
         ensures reads { self.old.writes ≡ false → IsErrOf result DiskError.Failed }
+        ensures range { EndsOutOfRange at (length bytes.now) → IsErrOf result DiskError.Failed }
     {
         self.may_write()?;
         if ends_out_of_range(at, bytes.len()) {
@@ -141,8 +143,7 @@ impl<R: Files<File = File> + Alloc<A = Global> + Clone + Drop> DirDisk<R> {
 
     fn cut_in(&mut self, file: u64, length: u64) -> Result<(), DiskError>
         ensures count { self.new.failures.count ≡ self.old.failures.count }
-        ensures same { (self.new.writes ≡ self.old.writes)
-            × (self.new.folder ≡ self.old.folder) }
+        ensures same { IsSetUpAs self.old self.new }
         ensures last { 2 ^ 64 - 1 ≤ self.old.failures.count → IsErrOf result DiskError.Failed }
         ensures reads { self.old.writes ≡ false → IsErrOf result DiskError.Failed }
     {
@@ -153,8 +154,7 @@ impl<R: Files<File = File> + Alloc<A = Global> + Clone + Drop> DirDisk<R> {
 
     fn remove_in(&mut self, file: u64) -> Result<(), DiskError>
         ensures count { self.new.failures.count ≡ self.old.failures.count }
-        ensures same { (self.new.writes ≡ self.old.writes)
-            × (self.new.folder ≡ self.old.folder) }
+        ensures same { IsSetUpAs self.old self.new }
         ensures last { 2 ^ 64 - 1 ≤ self.old.failures.count → IsErrOf result DiskError.Failed }
         ensures reads { self.old.writes ≡ false → IsErrOf result DiskError.Failed }
     {

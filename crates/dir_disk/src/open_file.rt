@@ -1,5 +1,8 @@
 // One file that is open. No call here makes more than two system calls, as long as the system
 // reads and writes at once what it is asked for.
+ghost use Rattle.std.specs.Prelude.{◌≡◌, ◌↔◌, IsTrue};
+ghost use Rattle.disk.specs.Calls.{EndsOutOfRange};
+
 use disk::DiskError;
 use std::fs::File;
 use std::io::{self, ErrorKind};
@@ -9,7 +12,9 @@ use std::os::unix::fs::FileExt;
 const MAX_LEN: u64 = (1 << 63) - 1;
 
 /// Whether so many bytes from this place on end past the greatest place of a file.
-pub fn ends_out_of_range(at: u64, len: usize) -> bool {
+pub fn ends_out_of_range(at: u64, len: usize) -> bool
+    ensures { IsTrue result ↔ EndsOutOfRange at len }
+{
     at > MAX_LEN || len as u64 > MAX_LEN - at
 }
 
@@ -29,7 +34,9 @@ fn done(answer: io::Result<()>) -> Result<(), DiskError> {
 }
 
 impl OpenFile {
-    pub fn new(number: u64, file: File, len: u64) -> OpenFile {
+    pub fn new(number: u64, file: File, len: u64) -> OpenFile
+        ensures { result.number ≡ number }
+    {
         OpenFile {
             number,
             file,
@@ -37,7 +44,9 @@ impl OpenFile {
         }
     }
 
-    pub fn number(&self) -> u64 {
+    pub fn number(&self) -> u64
+        ensures { result ≡ self.now.number }
+    {
         self.number
     }
 

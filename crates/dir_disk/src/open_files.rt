@@ -1,5 +1,7 @@
 // The files of a folder that are open.
-ghost use Rattle.std.specs.Prelude.{◌<◌, IfOk, IfSome, IsTrue, OnOk, vec_len};
+ghost use Rattle.std.specs.Prelude.{◌≡◌, ◌<◌, ◌≤◌, ◌==◌, IfOk, IsTrue, OnOk, vec_len};
+ghost use Rattle.std.specs.List.{position};
+ghost use Rattle.dir_disk.specs.declared.open_files.TheConstants.{MOST};
 
 use crate::open_file::OpenFile;
 use std::alloc::{AllocError, Global};
@@ -12,9 +14,14 @@ const MOST: usize = 32;
 #[derive(Drop)]
 pub struct OpenFiles {
     files: Vec<OpenFile>,
+    ghost few: { vec_len files ≤ MOST },
 }
 
 impl OpenFiles {
+    ghost use Rattle.std.specs.Prelude.{ℕ};
+    ghost use Rattle.dir_disk.specs.Open.{IsClosed, IsLatest};
+    ghost use Rattle.dir_disk.specs.declared.open_file.OpenFile.{OpenFile};
+
     pub fn new(alloc: Global) -> Result<OpenFiles, AllocError> {
         Ok(OpenFiles {
             files: Vec::with_capacity(alloc, MOST)?,
@@ -23,22 +30,23 @@ impl OpenFiles {
 
     // Where the file with this number is.
     fn index_of(&self, number: u64) -> Option<usize>
-        ensures { IfSome result (λ index. index < vec_len self.now.files) }
+        ensures { result
+            ≡ position (λ (it : OpenFile). it.number == number) self.now.files.items }
     {
         self.files.iter().position(|it| it.number() == number)
     }
 
     /// Closes the file with this number, if it is open.
-    pub fn close(&mut self, number: u64) {
-        if let Some(index) = self.index_of(number) {
-            self.files.remove(index);
-        }
+    pub fn close(&mut self, number: u64)
+        ensures { IsClosed number self.new }
+    {
+        self.files.retain(|it| it.number() != number);
     }
 
     /// Keeps an open file as the latest. Where too many are open, the one that was used least
     /// lately is closed.
     pub fn keep(&mut self, file: OpenFile) -> Result<(), AllocError>
-        ensures { OnOk result (0 < vec_len self.new.files) }
+        ensures { OnOk result (IsLatest file.number self.new) }
     {
         if self.files.len() >= MOST {
             self.files.remove(0);
@@ -49,7 +57,7 @@ impl OpenFiles {
 
     /// Makes an open file with this number the latest. It answers whether there is one.
     pub fn touch(&mut self, number: u64) -> Result<bool, AllocError>
-        ensures { IfOk result (λ is_open. IsTrue is_open → 0 < vec_len self.new.files) }
+        ensures { IfOk result (λ is_open. IsTrue is_open → IsLatest number self.new) }
     {
         let Some(index) = self.index_of(number) else {
             return Ok(false);
@@ -62,6 +70,7 @@ impl OpenFiles {
     /// The latest file.
     pub fn latest(&mut self) -> &mut OpenFile
         requires { 0 < vec_len self.old.files }
+        ensures { (number : ℕ) → IsLatest number self.old → result.now.number ≡ number }
     {
         let last = self.files.len() - 1;
         &mut self.files[last]

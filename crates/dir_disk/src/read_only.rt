@@ -1,6 +1,7 @@
 // A disk that is only read.
-ghost use Rattle.std.specs.Prelude.{◌≡◌};
+ghost use Rattle.std.specs.Prelude.{◌≡◌, length};
 ghost use Rattle.disk.specs.{IsSame};
+ghost use Rattle.disk.specs.Calls.{FilesAnswer, LengthAnswer, ReadAnswer};
 
 use disk::{Disk, DiskError};
 
@@ -26,22 +27,27 @@ impl<D: Disk + Drop> ReadOnly<D> {
     }
 
     pub fn files(&mut self) -> Result<Vec<u64>, DiskError>
-        ensures { D.is_honest self.old.disk →
+        ensures same { D.is_honest self.old.disk →
             IsSame (D.state self.old.disk) (D.state self.new.disk) }
+        ensures files { D.is_honest self.old.disk → FilesAnswer (D.state self.old.disk) result }
     {
         self.disk.files()
     }
 
     pub fn length(&mut self, file: u64) -> Result<u64, DiskError>
-        ensures { D.is_honest self.old.disk →
+        ensures same { D.is_honest self.old.disk →
             IsSame (D.state self.old.disk) (D.state self.new.disk) }
+        ensures length { D.is_honest self.old.disk →
+            LengthAnswer (D.state self.old.disk) file result }
     {
         self.disk.length(file)
     }
 
     pub fn read(&mut self, file: u64, at: u64, into: &mut [u8]) -> Result<(), DiskError>
-        ensures { D.is_honest self.old.disk →
+        ensures same { D.is_honest self.old.disk →
             IsSame (D.state self.old.disk) (D.state self.new.disk) }
+        ensures read { D.is_honest self.old.disk →
+            ReadAnswer (D.state self.old.disk) file at (length into.old) result into.new }
     {
         self.disk.read(file, at, into)
     }

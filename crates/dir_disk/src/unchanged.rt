@@ -1,6 +1,8 @@
 // A disk over another one, of which it changes nothing.
-ghost use Rattle.std.specs.Prelude.{◌≡◌, ◌≤◌, ◌^◌, ◌-◌, [], None, IsErrOf};
+ghost use Rattle.std.specs.Prelude.{◌≡◌, ◌≤◌, ◌^◌, ◌-◌, ◌++◌, ◌∷◌, [], None, IsErrOf, MatchResult};
+ghost use Rattle.std.specs.Prelude.{length};
 ghost use Rattle.disk.specs.{Absent, IsSame};
+ghost use Rattle.disk.specs.Calls.{LengthAnswer, ReadAnswer};
 
 use crate::failure_count::FailureCount;
 use crate::read_only::ReadOnly;
@@ -18,7 +20,8 @@ pub struct Unchanged<D: Disk> {
 }
 
 impl<D: Disk + Drop> Unchanged<D> {
-    ghost use Rattle.dir_disk.specs.Disks.{disk_below, files_left_out};
+    ghost use Rattle.dir_disk.specs.Disks.{FindsFile, MayLook, disk_below, files_left_out};
+    ghost use Rattle.dir_disk.specs.Disks.{shown_state};
 
     /// A disk over this one, none of whose files is left out.
     pub fn new(alloc: Global, disk: D) -> Unchanged<D>
@@ -42,7 +45,8 @@ impl<D: Disk + Drop> Unchanged<D> {
 
     // Whether a call is made of the file: it was not removed.
     fn may_look(&self, file: u64) -> Result<(), DiskError>
-        ensures { 2 ^ 64 - 1 ≤ self.now.failures.count → IsErrOf result DiskError.Failed }
+        ensures last { 2 ^ 64 - 1 ≤ self.now.failures.count → IsErrOf result DiskError.Failed }
+        ensures looks { MayLook self.now.removed.items file result }
     {
         self.failures.works()?;
         if self.removed.contains(&file) {
@@ -56,6 +60,7 @@ impl<D: Disk + Drop> Unchanged<D> {
             IsSame (D.state self.old.inner.disk) (D.state self.new.inner.disk) }
         ensures count { self.new.failures.count ≡ self.old.failures.count }
         ensures last { 2 ^ 64 - 1 ≤ self.old.failures.count → IsErrOf result DiskError.Failed }
+        ensures left_out { self.new.removed.items ≡ self.old.removed.items }
     {
         self.failures.works()?;
         let mut numbers = self.inner.files()?;
@@ -69,6 +74,9 @@ impl<D: Disk + Drop> Unchanged<D> {
             IsSame (D.state self.old.inner.disk) (D.state self.new.inner.disk) }
         ensures count { self.new.failures.count ≡ self.old.failures.count }
         ensures last { 2 ^ 64 - 1 ≤ self.old.failures.count → IsErrOf result DiskError.Failed }
+        ensures left_out { self.new.removed.items ≡ self.old.removed.items }
+        ensures length { D.is_honest self.old.inner.disk → LengthAnswer
+            (shown_state self.old.removed.items (D.state self.old.inner.disk)) file result }
     {
         self.may_look(file)?;
         self.inner.length(file)
@@ -79,6 +87,10 @@ impl<D: Disk + Drop> Unchanged<D> {
             IsSame (D.state self.old.inner.disk) (D.state self.new.inner.disk) }
         ensures count { self.new.failures.count ≡ self.old.failures.count }
         ensures last { 2 ^ 64 - 1 ≤ self.old.failures.count → IsErrOf result DiskError.Failed }
+        ensures left_out { self.new.removed.items ≡ self.old.removed.items }
+        ensures read { D.is_honest self.old.inner.disk → ReadAnswer
+            (shown_state self.old.removed.items (D.state self.old.inner.disk)) file at
+            (length into.old) result into.new }
     {
         self.may_look(file)?;
         self.inner.read(file, at, into)
@@ -89,6 +101,9 @@ impl<D: Disk + Drop> Unchanged<D> {
             IsSame (D.state self.old.inner.disk) (D.state self.new.inner.disk) }
         ensures count { self.new.failures.count ≡ self.old.failures.count }
         ensures last { 2 ^ 64 - 1 ≤ self.old.failures.count → IsErrOf result DiskError.Failed }
+        ensures left_out { self.new.removed.items ≡ self.old.removed.items }
+        ensures found { D.is_honest self.old.inner.disk → FindsFile
+            (shown_state self.old.removed.items (D.state self.old.inner.disk)) file result }
     {
         self.may_look(file)?;
         self.inner.length(file)?;
@@ -100,6 +115,9 @@ impl<D: Disk + Drop> Unchanged<D> {
             IsSame (D.state self.old.inner.disk) (D.state self.new.inner.disk) }
         ensures count { self.new.failures.count ≡ self.old.failures.count }
         ensures last { 2 ^ 64 - 1 ≤ self.old.failures.count → IsErrOf result DiskError.Failed }
+        ensures left_out { MatchResult result
+            (λ _. self.new.removed.items ≡ self.old.removed.items ++ file ∷ [])
+            (λ _. self.new.removed.items ≡ self.old.removed.items) }
     {
         self.look_for(file)?;
         self.removed.push(file)?;

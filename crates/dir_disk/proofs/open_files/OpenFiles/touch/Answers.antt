@@ -1,0 +1,21 @@
+use Rattle.std.proofs.Common.{◌≡◌, ◌∙◌, ◌==◌, arith, subst, sym, true}
+use Rattle.std.proofs.lemmas.Bool.Decides.{nat_tests}
+use Rattle.std.proofs.lemmas.List.Quantifiers.{position-Some}
+use Rattle.dir_disk.specs.declared.open_file.OpenFile.{OpenFile}
+use Rattle.dir_disk.proofs.open_files.OpenFiles.touch.Goals as goal
+
+-- the file at that place has the number, and is put behind the others
+pub returns : goal.returns
+returns c = λ is_open.
+    let file = c.remove-file.result in
+    let found = position-Some (λ (it : OpenFile). it.number == c.args.number) _ _ file
+    (sym c.index_of.ensures ∙ c.in-Some.is) in
+    let same : (file.number == c.args.number) ≡ true =
+    subst (λ (it : OpenFile). (it.number == c.args.number) ≡ true)
+    (sym c.remove-file.ensures.value) found.1 in
+    record {
+      before = c.remove-file.new.self.items;
+      file = file;
+      ends = c.in_ok-push.ensures.items;
+      numbered = grind (arith, nat_tests);
+    }
