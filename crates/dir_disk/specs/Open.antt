@@ -12,8 +12,8 @@ pub record IsLatest (number : ℕ) (open_files : OpenFiles) : Type 0 where
   pub numbered : file.number ≡ number
 
 -- no open file has this number
-abbrev pub IsClosed : ℕ → OpenFiles → Type 0
-IsClosed number open_files =
+abbrev pub IsNotOpen : ℕ → OpenFiles → Type 0
+IsNotOpen number open_files =
     All (λ (it : OpenFile). it.number ≡ number → ⊥) open_files.files.items
 
 -- the same folder, whose files may be changed or not as before, under the same lock

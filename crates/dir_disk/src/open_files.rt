@@ -19,7 +19,7 @@ pub struct OpenFiles {
 
 impl OpenFiles {
     ghost use Rattle.std.specs.Prelude.{ℕ};
-    ghost use Rattle.dir_disk.specs.Open.{IsClosed, IsLatest};
+    ghost use Rattle.dir_disk.specs.Open.{IsLatest, IsNotOpen};
     ghost use Rattle.dir_disk.specs.declared.open_file.OpenFile.{OpenFile};
 
     pub fn new(alloc: Global) -> Result<OpenFiles, AllocError> {
@@ -38,7 +38,7 @@ impl OpenFiles {
 
     /// Closes the file with this number, if it is open.
     pub fn close(&mut self, number: u64)
-        ensures { IsClosed number self.new }
+        ensures { IsNotOpen number self.new }
     {
         self.files.retain(|it| it.number() != number);
     }
