@@ -1,5 +1,5 @@
 // What carries bytes between the nodes of a chain and their client.
-ghost use Rattle.std.specs.Prelude.{◌↔◌, IfOk, List};
+ghost use Rattle.std.specs.Prelude.{◌↔◌, IfOk, IsTrue, List};
 ghost use Rattle.carriers.specs.Carriers.{HasLost, IsCarried};
 ghost use Rattle.carriers.specs.Transmissions.{HasCarriedMore, Transmission, carried_lost};
 ghost use Rattle.carriers.specs.Transmissions.{one_transmission};
@@ -38,6 +38,15 @@ pub trait Carrier {
     /// Only `carry` makes this list longer, so of a carrier of which nothing else is known it tells
     /// what was asked of it. A carrier may leave the list open.
     ghost has_carried: { Self → List Transmission → Type 0 };
+
+    /// Whether all that is sent arrives as it is, and nothing of it is kept. Then `carry` need not
+    /// be called, and no bytes be spelled.
+    fn is_direct(&self) -> bool
+        ensures direct { IsTrue result → (more : List Transmission) →
+            HasCarriedMore has_carried self.now self.now more }
+    {
+        false
+    }
 
     /// Carries these bytes from one peer to another.
     fn carry(

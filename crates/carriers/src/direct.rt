@@ -13,6 +13,10 @@ impl Carrier for Direct {
 
     ghost has_carried = { λ _ _. Unit {0} };
 
+    fn is_direct(&self) -> bool {
+        true
+    }
+
     fn carry(
         &mut self,
         _alloc: Global,

@@ -5,6 +5,7 @@ mod carrier;
 mod deliveries;
 mod direct;
 mod error;
+mod kept_reply;
 mod replies;
 mod sending;
 
@@ -12,5 +13,6 @@ pub use carrier::{Carried, Carrier, Peer};
 pub use deliveries::{Delivery, NodeInput, send_posted, send_request};
 pub use direct::Direct;
 pub use error::LabError;
+pub use kept_reply::{KeptReply, ReplyForm};
 pub use replies::send_reply;
 pub use sending::{Received, send, send_bytes};

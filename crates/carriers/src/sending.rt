@@ -69,7 +69,8 @@ pub fn send_bytes<C: Carrier>(
     }
 }
 
-/// Sends a frame: what arrives of it. Bytes that arrive as they were sent are not read again.
+/// Sends a frame: what arrives of it. Bytes that arrive as they were sent are not read again, and a
+/// direct carrier needs none.
 pub fn send<C: Carrier>(
     alloc: Global,
     carrier: &mut C,
@@ -83,6 +84,9 @@ pub fn send<C: Carrier>(
     ensures asked { IfOk result (λ it. HasCarriedMore C.has_carried carrier.old carrier.new
         (one_transmission from to (frame_bytes frame) (received_lost it))) }
 {
+    if carrier.is_direct() {
+        return Ok(Received::Frame(frame));
+    }
     let bytes = write(alloc, &frame)?;
     let got = match carrier.carry(alloc, from, to, &bytes)? {
         Carried::Lost => return Ok(Received::Lost),

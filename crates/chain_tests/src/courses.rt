@@ -4,7 +4,9 @@ use crate::items::{Change, Walk, batch_of, config_of, id_of, key_of, number, ran
 use configurations::{Configs, Epoch, NodeId};
 use disk::{Fault, Junk, JunkBytes, MemDisk};
 use kv_types::Limits;
-use lab::{Direct, Event, EventKind, Line, Report, Tended, World, names_nodes, run};
+use lab::{
+    Direct, Event, EventKind, KeptReply, Line, ReplyForm, Report, Tended, World, names_nodes, run,
+};
 use node::{Numbers, Stop};
 use std::alloc::{AllocError, Global};
 use std::process::Abort;
@@ -96,7 +98,7 @@ fn kind_of(rt: &impl Abort, alloc: Global, step: &Step) -> EventKind {
 /// The event of a step, with this fault.
 pub fn event(rt: &impl Abort, alloc: Global, step: &Step, fault: Fault) -> Event {
     let kind = kind_of(rt, alloc, step);
-    Event { kind, fault }
+    Event::new(alloc, kind, fault).expect(rt, "memory")
 }
 
 fn events_of(rt: &impl Abort, alloc: Global, steps: &[Step]) -> Vec<Event> {
@@ -172,12 +174,19 @@ fn tended_text(did: Tended) -> &'static str {
     }
 }
 
+fn put_kept_reply(text: &mut String, reply: &KeptReply) -> Result<(), AllocError> {
+    match reply.form() {
+        ReplyForm::Committed { number, .. } => write!(text, "committed {}", number.get()),
+        ReplyForm::Other(reply) => put_reply(text, reply.as_ref()),
+    }
+}
+
 fn put_line(text: &mut String, line: &Line) -> Result<(), AllocError> {
     match line {
         Line::Nothing => text.push_str("nothing"),
         Line::Lost => text.push_str("lost"),
         Line::Dropped(reason) => write!(text, "dropped {reason:?}"),
-        Line::Replied(reply) => put_reply(text, reply),
+        Line::Replied(reply) => put_kept_reply(text, reply),
         Line::Stopped { node, cause } => put_stop(text, *node, *cause),
         Line::Tended(did) => text.push_str(tended_text(*did)),
         Line::Adopted { node, epoch } => {

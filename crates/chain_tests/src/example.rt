@@ -1,9 +1,8 @@
 //! The example of the README: a chain of three nodes, a batch, its frames, a read.
 use crate::courses::{configs_of, shows};
 use configurations::Configs;
-use disk::Fault;
 use kv_types::{Batch, Edit, Key, KvError, Limits, Value};
-use lab::{Event, EventKind, Report, World};
+use lab::{Direct, Event, EventKind, LabError, MemDisk, Report, World};
 use std::alloc::Global;
 use std::process::Abort;
 use std::test::Fail;
@@ -18,10 +17,16 @@ fn put_name(alloc: Global) -> Result<Batch, KvError> {
     Batch::new(vec![in alloc; Edit::Put(name(alloc)?, value)]?)
 }
 
-// An event in which no call of a disk fails.
-fn event(kind: EventKind) -> Event {
-    let fault = Fault::None;
-    Event { kind, fault }
+// Applies an event in which no call of a disk fails.
+fn step(
+    alloc: Global,
+    world: &mut World<MemDisk, Direct>,
+    kind: EventKind,
+) -> Result<(), LabError> {
+    let event = Event::faultless(alloc, kind)?;
+    let stepped = world.step(alloc, &event);
+    drop(event);
+    stepped
 }
 
 // README begins
@@ -30,12 +35,12 @@ fn event(kind: EventKind) -> Event {
 fn write_and_read(alloc: Global, chain: &Configs, batch: Batch, key: Key) -> Result<Report, Fail> {
     let (head, tail) = (chain.first().head(), chain.first().tail());
     let mut world = World::new(alloc, chain, &Limits::default())?;
-    world.step(alloc, &event(EventKind::Submit { node: head, batch }))?;
+    step(alloc, &mut world, EventKind::Submit { node: head, batch })?;
     for place in 1..=4 {
-        world.step(alloc, &event(EventKind::Deliver { place }))?;
+        step(alloc, &mut world, EventKind::Deliver { place })?;
     }
     let (node, at) = (tail, None);
-    world.step(alloc, &event(EventKind::Get { node, key, at }))?;
+    step(alloc, &mut world, EventKind::Get { node, key, at })?;
     Ok(world.finish(alloc)?)
 }
 // README ends

@@ -5,7 +5,7 @@ use crate::items::{Change, batch_of, key_of, number, range_of};
 use disk::MemDisk;
 use engine::Engine;
 use kv_types::{Batch, Edit, Key, Number, Page, Value, value_at};
-use lab::{Line, Lines, NodeReport};
+use lab::{KeptReply, Line, Lines, NodeReport, ReplyForm};
 use manifest::Manifest;
 use node::Reply;
 use record_log::Log;
@@ -134,14 +134,20 @@ pub fn is_taken(list: &[Batch], taken: &[Step]) -> bool {
     passed == list.len() as u64
 }
 
+// Whether a reply reports the batch of this request as committed.
+fn is_commit_of(reply: &KeptReply, place: u64) -> bool {
+    match reply.form() {
+        ReplyForm::Committed { request, .. } => request.get() == place,
+        ReplyForm::Other(_) => false,
+    }
+}
+
 // Whether an event's submit was acknowledged, by the lines of all events.
 fn is_acknowledged(steps: &[Lines], place: u64) -> bool {
     for lines in steps {
         for line in lines.as_slice() {
             match line {
-                Line::Replied(Reply::Committed { request, .. }) if request.get() == place => {
-                    return true;
-                }
+                Line::Replied(reply) if is_commit_of(reply, place) => return true,
                 _ => {}
             }
         }
@@ -248,13 +254,24 @@ pub struct History<'a> {
 
 impl History<'_> {
     // Whether the reply is of the list.
+    fn has_commit(&self, request: Number, number: Number) -> bool {
+        match at(self.taken, request.get()) {
+            Some(step) => is_at(self.list, number.get(), step),
+            None => false,
+        }
+    }
+
+    fn has_kept_reply(&self, reply: &KeptReply) -> bool {
+        match reply.form() {
+            ReplyForm::Committed { request, number } => self.has_commit(*request, *number),
+            ReplyForm::Other(reply) => self.has_reply(reply.as_ref()),
+        }
+    }
+
     fn has_reply(&self, reply: &Reply) -> bool {
         match reply {
             Reply::Refused { .. } => true,
-            Reply::Committed { request, number } => match at(self.taken, request.get()) {
-                Some(step) => is_at(self.list, number.get(), step),
-                None => false,
-            },
+            Reply::Committed { request, number } => self.has_commit(*request, *number),
             Reply::Value { number, value, .. } => self.has_value(number.get(), value),
             Reply::Rows { number, page, .. } => self.has_rows(number.get(), page),
             Reply::Opened { number, .. } | Reply::Closed { number, .. } => {
@@ -293,7 +310,7 @@ impl History<'_> {
         for lines in steps {
             for line in lines.as_slice() {
                 match line {
-                    Line::Replied(reply) if !self.has_reply(reply) => return false,
+                    Line::Replied(reply) if !self.has_kept_reply(reply) => return false,
                     _ => {}
                 }
             }

@@ -2,7 +2,7 @@
 use crate::setting::{Setting, nanos};
 use anyhow::Result;
 use benchmarks::{Count, Measure, Work};
-use lab::{Config, Configs, Direct, Event, EventKind, Fault, Limits, MemDisk, NodeId, World};
+use lab::{Config, Configs, Direct, Event, EventKind, Limits, MemDisk, NodeId, World};
 use std::alloc::Global;
 
 /// Frames of a batch: a Forward down each of two links, and an Ack back.
@@ -20,10 +20,7 @@ fn chain_of_three(alloc: Global) -> Result<Configs> {
 }
 
 fn step(alloc: Global, world: &mut Chain, kind: EventKind) -> Result<()> {
-    let event = Event {
-        kind,
-        fault: Fault::None,
-    };
+    let event = Event::faultless(alloc, kind)?;
     let stepped = world.step(alloc, &event);
     drop(event);
     Ok(stepped?)

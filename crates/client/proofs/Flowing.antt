@@ -4,7 +4,7 @@ use Rattle.std.proofs.Common.{take, drop, refl, sym, ap, ap₂, subst, ◌∙◌
 use Rattle.std.proofs.Common.{append-nil, length-append}
 use Rattle.disk.specs.declared.disk.Disk.{Ghosts}
 use Rattle.carriers.specs.declared.Carrier.{Ghosts as Carriers}
-use Rattle.lab.specs.declared.Event as lab
+use Rattle.lab.specs.EventContent as lab
 use Rattle.lab.specs.declared.Line.{Line}
 use Rattle.lab.specs.declared.world.World.{World}
 use Rattle.lab.specs.{Choice, frames_in_steps, frames_of_step}
@@ -121,7 +121,7 @@ reaches (x ∷ xs) ys rest (suc k) p e = omega (arith, reaches xs ys rest k p e)
 map-more : (xs : List ℕ) (p : ℕ) →
     map delivery (xs ++ p ∷ []) ≡ map delivery xs ++ delivery p ∷ []
 map-more [] p = refl
-map-more (x ∷ xs) p = ap (λ (l : List lab.Event). delivery x ∷ l) (map-more xs p)
+map-more (x ∷ xs) p = ap (λ (l : List lab.EventContent). delivery x ∷ l) (map-more xs p)
 
 -- one frame more
 module _ (setup : Setup) (past : Stretch) (old : List ℕ) where
@@ -160,7 +160,7 @@ module _ (setup : Setup) (past : Stretch) (old : List ℕ) where
         own = followed_by f.own (one_step (delivery p) choice lines);
         run = subst (λ (s : Stretch). HasRunTo h after setup s)
             (joined_assoc past f.own (one_step (delivery p) choice lines)) run;
-        events = ap (λ (l : List lab.Event). l ++ delivery p ∷ []) f.events
+        events = ap (λ (l : List lab.EventContent). l ++ delivery p ∷ []) f.events
             ∙ (sym (map-more (take count all) p) ∙ ap (λ (l : List ℕ). map delivery l) (sym taken));
         each = omega (arith, f.each, length-append f.own.steps (lines ∷ []));
         behind = is ∙ sym (drop_more all new rest count p front)
@@ -208,7 +208,7 @@ HasFlowed h world setup past old left count =
     × (left ≡ drop most (all_left old past.steps own.steps))
 
 -- the frames that were delivered are as many as there were events
-counted : (xs : List ℕ) (events : List lab.Event) (count : ℕ) →
+counted : (xs : List ℕ) (events : List lab.EventContent) (count : ℕ) →
     events ≡ map delivery (take count xs) → count ≤ length xs → count ≡ length events
 counted xs events count is within = sym (length-take xs count within)
     ∙ (sym (length-map (take count xs)) ∙ ap length (sym is))

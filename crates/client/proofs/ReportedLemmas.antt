@@ -12,7 +12,7 @@ use Rattle.lab.specs.declared.world.World.{World}
 use Rattle.lab.specs.{AddsLines, EventAddsLines, HasItsNodes, configs_of, lines_so_far}
 use Rattle.lab.specs.NodeLists.{Configurations}
 use Rattle.kv_types.specs.declared.KvError.{KvError}
-use Rattle.lab.specs.declared.Event as lab
+use Rattle.lab.specs.EventContent as lab
 use Rattle.lab.specs.Numbers.{Numbers}
 use Rattle.scripts.specs.Scripts.{Names}
 use Rattle.scripts.specs.declared.statement.Action.{Action}
@@ -82,7 +82,7 @@ busy_or_not (place ∷ left) = inr refl
 
 module _ {D C : Type 0} {g : Ghosts D} (old new : World D C g) (it : Statement)
     (turn : StatementResult) where
-  pub reported_event : (event : lab.Event) → it.action ≡ Event event →
+  pub reported_event : (event : lab.EventContent) → it.action ≡ Event event →
       turn ≡ record { line = it.line; events = 1; silent = 0; note = note.Nothing } →
       EventAddsLines event old new → IsReportedIn old new it turn
   reported_event event is made adds = rw made (record {

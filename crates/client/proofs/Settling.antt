@@ -8,7 +8,7 @@ use Rattle.std.proofs.lemmas.Bool.{false≢true}
 use Rattle.std.proofs.lemmas.List.Elements.{All-cons, All-head, All-nil, All-push, All-tail}
 use Rattle.disk.specs.declared.disk.Disk.{Ghosts}
 use Rattle.carriers.specs.declared.Carrier.{Ghosts as Carriers}
-use Rattle.lab.specs.declared.Event as lab
+use Rattle.lab.specs.EventContent as lab
 use Rattle.lab.specs.declared.Line.{Line}
 use Rattle.lab.specs.declared.world.World.{World}
 use Rattle.lab.specs.{Choice, frames_in_steps, frames_of_step}
@@ -88,7 +88,7 @@ module _ {D C : Type 0} {g : Ghosts D} {h : Carriers C}
       (joined_assoc past s.own (one_step (tending node) choice lines)) run
 
   tended : more.events ≡ replicate (suc count) (tending node)
-  tended = ap (λ (l : List lab.Event). l ++ tending node ∷ []) s.events
+  tended = ap (λ (l : List lab.EventContent). l ++ tending node ∷ []) s.events
       ∙ replicate-more count (tending node)
 
   behind : next ≡ all_left old past.steps more.steps

@@ -6,14 +6,15 @@ use Rattle.std.specs.Prelude.{IfSome}
 use Rattle.kv_types.specs.Snapshots.{without}
 use Rattle.disk.specs.declared.disk.Disk.{Ghosts}
 use Rattle.carriers.specs.declared.Carrier.{Ghosts as Carriers}
-use Rattle.lab.specs.declared.Event as lab
-use Rattle.lab.specs.declared.EventKind.{EventKind}
-use Rattle.lab.specs.declared.EventKind.TheVariants.{Submit, Get, Deliver, Tick, Tend, Start, Stop}
-use Rattle.lab.specs.declared.EventKind.TheVariants.{Rows, Open, Close, Notice}
+use Rattle.lab.specs.EventContent as lab
+use Rattle.lab.specs.EventKind.{EventKind}
+use Rattle.lab.specs.EventKind.TheVariants.{Submit, Get, Deliver, Tick, Tend, Start, Stop}
+use Rattle.lab.specs.EventKind.TheVariants.{Rows, Open, Close, Notice}
 use Rattle.lab.specs.declared.Line.{Line}
 use Rattle.lab.specs.declared.world.World.{World}
 use Rattle.lab.specs.Numbers.{Numbers}
 use Rattle.lab.specs.{AreNumbersOf, Choice, ShowsTables, frames_in_steps, frames_of_step}
+use Rattle.lab.specs.{delivered_place}
 use Rattle.scripts.specs.declared.setup.Setup.{Setup}
 use Rattle.scripts.specs.declared.statement.Statement.{Statement}
 use Rattle.scripts.specs.declared.statement.Action.TheVariants.{Event, Flow, Settle, Show}
@@ -47,6 +48,36 @@ pub left_as : (what : EventKind) (left new : List ℕ) → ((place : ℕ) → wh
     new ≡ left → new ≡ left_after_event what left
 left_as what left new other e = e ∙ sym (leaves_all what left other)
 
+-- an event that delivers a place is a delivery
+pub delivered_kind : (what : EventKind) (place : ℕ) → delivered_place what ≡ Some place →
+    what ≡ Deliver place
+delivered_kind (Deliver place) other is = ap Deliver (cc)
+delivered_kind (Submit node batch) other is = cc
+delivered_kind (Get node key at) other is = cc
+delivered_kind (Rows node range at) other is = cc
+delivered_kind (Open node at) other is = cc
+delivered_kind (Close node number) other is = cc
+delivered_kind (Notice node epoch) other is = cc
+delivered_kind (Tick node) other is = cc
+delivered_kind (Tend node) other is = cc
+delivered_kind (Start node) other is = cc
+delivered_kind (Stop node junk) other is = cc
+
+-- an event that delivers no place leaves all frames
+pub undelivered_kind : (what : EventKind) (left : List ℕ) → delivered_place what ≡ None →
+    left ≡ left_after_event what left
+undelivered_kind (Deliver place) left is = cc
+undelivered_kind (Submit node batch) left is = refl
+undelivered_kind (Get node key at) left is = refl
+undelivered_kind (Rows node range at) left is = refl
+undelivered_kind (Open node at) left is = refl
+undelivered_kind (Close node number) left is = refl
+undelivered_kind (Notice node epoch) left is = refl
+undelivered_kind (Tick node) left is = refl
+undelivered_kind (Tend node) left is = refl
+undelivered_kind (Start node) left is = refl
+undelivered_kind (Stop node junk) left is = refl
+
 -- an event that delivers a frame leaves the others
 pub left_delivered : (what : EventKind) (place : ℕ) (left mid new : List ℕ) → what ≡ Deliver place →
     mid ≡ left → new ≡ without place mid → new ≡ left_after_event what left
@@ -74,7 +105,7 @@ never_shown world setup past (place ∷ places) = tt
 module _ {D C : Type 0} {g : Ghosts D} {h : Carriers C} (setup : Setup) (past : Stretch)
     (it : Statement)
     (old new : World D C g) (left behind : List ℕ) where
-  pub turned_by_event : (event : lab.Event) (choice : Choice) (lines : List Line) →
+  pub turned_by_event : (event : lab.EventContent) (choice : Choice) (lines : List Line) →
       it.action ≡ Event event → HasRunTo h new setup
       (followed_by past (one_step event choice lines)) →
       behind ≡ left_after_event event.kind (left
@@ -123,7 +154,8 @@ module _ {D C : Type 0} {g : Ghosts D} {h : Carriers C} (setup : Setup) (past : 
         note = (if goes_on then note.Busy else note.Nothing);
       }) → HasTurned h setup past it turn old new left behind
   turned_by_settle node count turn goes_on is settles same told =
-      let tends : length settles.0.events ≡ count = ap (λ (l : List lab.Event). length l) settles.2
+      let tends : length settles.0.events ≡ count =
+      ap (λ (l : List lab.EventContent). length l) settles.2
       ∙ replicate-length count (tending node) in
       record {
         own = settles.0;

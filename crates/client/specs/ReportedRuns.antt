@@ -7,7 +7,7 @@ use Rattle.disk.specs.declared.disk.Disk.{Ghosts}
 use Rattle.lab.specs.declared.Line.{Line}
 use Rattle.lab.specs.declared.world.World.{World}
 use Rattle.lab.specs.Numbers.{Numbers}
-use Rattle.lab.specs.declared.EventKind.TheVariants.{Tend}
+use Rattle.lab.specs.EventKind.TheVariants.{Tend}
 use Rattle.lab.specs.{AddsLines, AreEventLines, HasItsNodes, configs_of, lines_so_far}
 use Rattle.lab.specs.NodeLists.{Configurations}
 use Rattle.scripts.specs.Scripts.{Names}

@@ -7,18 +7,17 @@ use Rattle.disk.specs.declared.disk.Disk.{Ghosts}
 use Rattle.carriers.specs.declared.Carrier.{Ghosts as Carriers}
 use Rattle.lab.specs.NodeLists.{Configurations}
 use Rattle.kv_types.specs.Snapshots.{without}
-use Rattle.lab.specs.Fault.TheVariants as fault
-use Rattle.lab.specs.declared.Event as lab
-use Rattle.lab.specs.declared.EventKind.{EventKind}
-use Rattle.lab.specs.declared.EventKind.TheVariants.{Submit, Get, Deliver, Tick, Tend, Start, Stop}
-use Rattle.lab.specs.declared.EventKind.TheVariants.{Rows, Open, Close, Notice}
+use Rattle.lab.specs.EventContent as lab
+use Rattle.lab.specs.EventKind.{EventKind}
+use Rattle.lab.specs.EventKind.TheVariants.{Submit, Get, Deliver, Tick, Tend, Start, Stop}
+use Rattle.lab.specs.EventKind.TheVariants.{Rows, Open, Close, Notice}
 use Rattle.lab.specs.declared.Line.{Line}
 use Rattle.lab.specs.declared.Line.TheVariants as line
 use Rattle.lab.specs.Numbers.{Numbers}
 use Rattle.lab.specs.declared.world.World.{World}
 use Rattle.lab.specs.Tended.TheVariants as tended
 use Rattle.lab.specs.{AreNumbersOf, Choice, HasRun, ShowsTables, WorldHasLimits, WorldRun}
-use Rattle.lab.specs.{frames_in_steps}
+use Rattle.lab.specs.{faultless, frames_in_steps}
 use Rattle.scripts.specs.declared.setup.Setup.{Setup}
 use Rattle.scripts.specs.declared.statement.Action.{Action}
 use Rattle.scripts.specs.declared.statement.Action.TheVariants.{Event, Invalid, Flow}
@@ -42,17 +41,13 @@ abbrev pub IsRising : ℕ → ℕ → List ℕ → Type 0
 IsRising low high [] = low ≤ high
 IsRising low high (place ∷ places) = (low < place) × IsRising place high places
 
--- something happens, without a fault of the disk
-abbrev pub faultless : EventKind → lab.Event
-faultless kind = record { kind = kind; fault = fault.None }
-
 -- a frame is delivered
-abbrev pub delivery : ℕ → lab.Event
+abbrev pub delivery : ℕ → lab.EventContent
 delivery place = faultless (Deliver place)
 
 -- the events of a flow, where these frames had not been delivered by another statement before it
 -- ended: it delivers them in order of place, up to its bound
-abbrev pub deliveries : List ℕ → List lab.Event
+abbrev pub deliveries : List ℕ → List lab.EventContent
 deliveries left = map delivery (take most left)
 
 -- the frames of these that an event does not deliver
@@ -83,7 +78,7 @@ busy [] = note.Nothing
 busy (place ∷ places) = note.Busy
 
 -- a node tends
-abbrev pub tending : ℕ → lab.Event
+abbrev pub tending : ℕ → lab.EventContent
 tending node = faultless (Tend node)
 
 -- the lines of a tend that worked
@@ -112,7 +107,7 @@ pub record ShowsLast (last : List Line) (silent count : ℕ) (said : Note) : Typ
 
 -- what a statement does, where these frames had not been delivered by another one before it ended:
 -- the lines of its steps, its events, how many of these are silent, and what is said besides
-abbrev pub IsResultOfAction : Action → List ℕ → List (List Line) → List lab.Event → ℕ → Note
+abbrev pub IsResultOfAction : Action → List ℕ → List (List Line) → List lab.EventContent → ℕ → Note
     → Type 0
 IsResultOfAction (Event event) left steps events silent said =
     (events ≡ event ∷ []) × (silent ≡ 0) × (said ≡ note.Nothing)
@@ -130,7 +125,7 @@ IsResultOfAction (Show node) left steps events silent said =
 -- a statement was run: its turn, its events, and the lines of each. So many frames had been sent,
 -- and these of them not been delivered.
 pub record IsResult (sent : ℕ) (left : List ℕ) (it : Statement) (turn : StatementResult)
-    (events : List lab.Event) (steps : List (List Line)) : Type 0 where
+    (events : List lab.EventContent) (steps : List (List Line)) : Type 0 where
   pub line : turn.line ≡ it.line
   pub count : turn.events ≡ length events
   pub each : length steps ≡ length events
@@ -139,7 +134,7 @@ pub record IsResult (sent : ℕ) (left : List ℕ) (it : Statement) (turn : Stat
 
 -- a stretch of a run: its events, what was chosen in each, and the lines of each
 pub record Stretch : Type 0 where
-  pub events : List lab.Event
+  pub events : List lab.EventContent
   pub choices : List Choice
   pub steps : List (List Line)
 
@@ -156,7 +151,7 @@ followed_by first second = record {
 }
 
 -- .. of one event
-abbrev pub one_step : lab.Event → Choice → List Line → Stretch
+abbrev pub one_step : lab.EventContent → Choice → List Line → Stretch
 one_step event choice lines =
     record { events = event ∷ []; choices = choice ∷ []; steps = lines ∷ [] }
 

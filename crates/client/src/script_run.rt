@@ -8,8 +8,9 @@ ghost use Rattle.lab.specs.NodeLists.{at_epoch};
 ghost use Rattle.kv_types.specs.Snapshots.{without};
 ghost use Rattle.lab.specs.declared.Line.{Line};
 ghost use Rattle.lab.specs.{Choice, EventAddsLines, NamesNode, frames_in_steps, frames_of_step};
+ghost use Rattle.lab.specs.{faultless};
 ghost use Rattle.client.specs.ReportedRuns.{ActionAddsLines, IsReportedIn};
-ghost use Rattle.client.specs.ScriptRuns.{HasRunTo, HasSettled, HasTurned, IsRising, faultless};
+ghost use Rattle.client.specs.ScriptRuns.{HasRunTo, HasSettled, HasTurned, IsRising};
 ghost use Rattle.client.specs.ScriptRuns.{Stretch, busy, deliveries, delivery, followed_by};
 ghost use Rattle.client.specs.ScriptRuns.{has_worked};
 ghost use Rattle.client.specs.ScriptRuns.{left_after, left_after_event, most};
@@ -21,7 +22,7 @@ ghost use Rattle.client.specs.declared.statement_result.Note.TheVariants as note
 
 use crate::statement_result::{Note, StatementResult};
 use disk::{Crash, Disk};
-use lab::{Carrier, Event, EventKind, Fault, LabError, Line, NodeId, Numbers, Tended, World};
+use lab::{Carrier, Event, EventKind, LabError, Line, NodeId, Numbers, Tended, World};
 use scripts::{Action, Statement};
 use std::alloc::{AllocError, Global};
 use std::collections::VecDeque;
@@ -41,12 +42,12 @@ fn add_places(left: &mut VecDeque<u64>, before: u64, now: u64) -> Result<(), All
 }
 
 // A frame that an event delivers is no longer left. The places rise, so it is found by halving.
-fn remove_delivered(left: &mut VecDeque<u64>, kind: &EventKind)
+fn remove_delivered(left: &mut VecDeque<u64>, event: &Event)
     ensures { (low high : ℕ) → IsRising low high left.old.items →
-        left.new.items ≡ left_after_event kind.now left.old.items }
+        left.new.items ≡ left_after_event event.now.kind left.old.items }
 {
-    if let EventKind::Deliver { place } = kind {
-        if let Ok(index) = left.binary_search(place) {
+    if let Some(place) = event.delivered() {
+        if let Ok(index) = left.binary_search(&place) {
             left.remove(index);
         }
     }
@@ -147,8 +148,7 @@ fn happen<D: Crash + Drop, C: Carrier + Drop>(
         ++ places_after (frames_in_steps past.steps) (frames_of_step lines))) }
     ensures adds { OnOk result (EventAddsLines (faultless kind) world.old world.new) }
 {
-    let fault = Fault::None;
-    let event = Event { kind, fault };
+    let event = Event::faultless(alloc, kind)?;
     let done = step(alloc, world, left, &event);
     drop(event);
     done
@@ -242,7 +242,7 @@ pub fn run_statement<D: Crash + Drop, C: Carrier + Drop>(
     match &statement.action {
         Action::Event(event) => {
             step(alloc, world, left, event)?;
-            remove_delivered(left, &event.kind);
+            remove_delivered(left, event);
             Ok(result_of(line, 1, 0, Note::Nothing))
         }
         Action::Invalid(error) => Ok(result_of(line, 0, 0, Note::Invalid(*error))),

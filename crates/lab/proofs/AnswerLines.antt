@@ -16,8 +16,8 @@ use Rattle.link_messages.specs.declared.Frame.TheVariants as frame
 use Rattle.chain_core.specs.declared.Sent.{Sent}
 use Rattle.chain_core.specs.{AreFrames, frame_as, Machine}
 use Rattle.node.specs.declared.Reply.{Reply}
-use Rattle.lab.specs.declared.event.EventKind.{EventKind}
-use Rattle.lab.specs.declared.event.EventKind.TheVariants.{Notice}
+use Rattle.events.specs.declared.EventKind.{EventKind}
+use Rattle.events.specs.declared.EventKind.TheVariants.{Notice}
 use Rattle.lab.specs.declared.report.Line.{Line}
 use Rattle.lab.specs.declared.report.Line.TheVariants as line
 use Rattle.lab.specs.Events.{arrived, dropped_lines, epoch_in, first_arrives, frame_line}

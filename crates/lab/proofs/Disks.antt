@@ -19,9 +19,9 @@ use Rattle.node.specs.{HasLongFile}
 use Rattle.disk.specs.declared.Disk.{Ghosts}
 use Rattle.lab.specs.declared.input.StepOutcome.{StepOutcome}
 use Rattle.lab.specs.declared.input.StepOutcome.TheVariants as done
-use Rattle.lab.specs.declared.event.Event.{Event}
-use Rattle.lab.specs.declared.event.EventKind.{EventKind}
-use Rattle.lab.specs.declared.event.EventKind.TheVariants.{Stop}
+use Rattle.events.specs.declared.EventContent.{EventContent}
+use Rattle.events.specs.declared.EventKind.{EventKind}
+use Rattle.events.specs.declared.EventKind.TheVariants.{Stop}
 use Rattle.lab.specs.declared.node_state.NodeState.{NodeState}
 use Rattle.lab.specs.declared.node_state.NodeState.TheVariants.{Up, Down}
 use Rattle.lab.specs.Outcomes.{HasCrashed, DiskEnds, DiskFits, DiskStays, IsExplained}
@@ -187,7 +187,7 @@ module _ {D : Type 0} {g : Ghosts D} where
     reached_then (Up node) it struck down is = absurd down
     reached_then (Down disk) it struck down is = is
 
-    module _ (event : Event) (choice : Choice) (o : Outcome BatchContent) (x : ℕ)
+    module _ (event : EventContent) (choice : Choice) (o : Outcome BatchContent) (x : ℕ)
         (n : Machine) where
       -- the fault struck, then, as the count of calls says
       abbrev pub StruckSo : Type 0
@@ -310,7 +310,7 @@ disk_elsewhere disks x own y other = cond-false (y == x) own (disks y) other
 
 module _ {D : Type 0} {g : Ghosts D} where
   -- what the node that an event was for left is what the event leaves of all disks
-  pub all_follow : (event : Event) (choice : Choice) (o : Outcome BatchContent) (x : ℕ)
+  pub all_follow : (event : EventContent) (choice : Choice) (o : Outcome BatchContent) (x : ℕ)
       (n : Machine)
       (disks : ℕ → D) (own : D) → o.acted_on ≡ Some (x, n) →
       DiskFollows g event choice o n (disks x) own →
@@ -331,7 +331,8 @@ module _ {D : Type 0} {g : Ghosts D} where
   }
 
   -- an event that was for none leaves them
-  pub none_follow : (event : Event) (choice : Choice) (o : Outcome BatchContent) (disks : ℕ → D) →
+  pub none_follow : (event : EventContent) (choice : Choice) (o : Outcome BatchContent)
+      (disks : ℕ → D) →
       o.acted_on ≡ None → DisksFollow g event choice o disks disks
   none_follow event choice o disks none = record {
     at = λ x n is.

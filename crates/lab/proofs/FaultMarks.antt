@@ -17,8 +17,8 @@ use Rattle.configurations.specs.{Configurations, at_epoch}
 use Rattle.chain_model.specs as model
 use Rattle.chain_model.specs.declared.DropReason.{DropReason}
 use Rattle.chain_core.specs.{Machine}
-use Rattle.lab.specs.declared.event.Event.{Event}
-use Rattle.lab.specs.declared.event.EventKind.{EventKind}
+use Rattle.events.specs.declared.EventContent.{EventContent}
+use Rattle.events.specs.declared.EventKind.{EventKind}
 use Rattle.lab.specs.Disks.{AllFollow, DiskFollows, IsMarkedBy, junk_at_end, junk_of}
 use Rattle.lab.specs.Disks.{marks_of_event}
 use Rattle.lab.specs.Disks.{IsStopOf, before_crash, marks_of_step}
@@ -47,7 +47,7 @@ same_ends (x ∷ a) (y ∷ c) b d is long =
     same_ends a c b d rest long
 
 -- the marks of a step
-worked_so : (event : Event) (choice : Choice) (o : model.Outcome BatchContent) (n : Machine)
+worked_so : (event : EventContent) (choice : Choice) (o : model.Outcome BatchContent) (n : Machine)
     (old new : Slots) → DiskFollows in_memory event choice o n old new →
     HasWorked event.kind o n → marks new ≡ marks_of_step event.fault choice.struck o.stopped
     (length (past_states old)) (length (past_of_step o.stopped (past_states new))) (marks old)
@@ -107,7 +107,8 @@ marks_told it other struck true before before' now now' old old' same =
     )
 
 -- one step
-step_told : (event event' : Event) (choice : Choice) (o : model.Outcome BatchContent) (n : Machine)
+step_told : (event event' : EventContent) (choice : Choice) (o : model.Outcome BatchContent)
+    (n : Machine)
     (old old' new new' : Slots) →
     DiskFollows in_memory event choice o n old new →
     DiskFollows in_memory event' choice o n old' new' →
@@ -147,8 +148,8 @@ told cs i [] f f' choices w first first' disks disks' works a b same = (
 told cs i (kind ∷ kinds) f f' [] w first first' disks disks' works a b same = absurd a
 told cs i (kind ∷ kinds) f f' (choice ∷ choices) w first first' disks disks' works a b same =
     let o = model.outcome w cs (modelled i kind choice) in
-    let event : Event = record { kind = kind; fault = f zero } in
-    let event' : Event = record { kind = kind; fault = f' zero } in
+    let event : EventContent = record { kind = kind; fault = f zero } in
+    let event' : EventContent = record { kind = kind; fault = f' zero } in
     let later = told cs (suc i) kinds (λ j. f (suc j)) (λ j. f' (suc j)) choices (model.after w o)
     a.0 b.0 disks disks' works.1 a.2 b.2 same in
     let x = works.0.0 in
@@ -201,7 +202,7 @@ pub faults_told : (cs : Configurations) (kinds : List EventKind) (f f' : ℕ →
     AreSame cs 1 f f' kinds choices (model.first_state cs)
 faults_told cs kinds f f' choices report works run run' =
     let nodes = report.nodes.items in
-    let P : (events : List Event) → (ℕ → Slots) → NodeReport → Type 0 = λ events disks node.
+    let P : (events : List EventContent) → (ℕ → Slots) → NodeReport → Type 0 = λ events disks node.
     IsDiskOf state node.id (model.node_of cs (modelled_from 1 events choices) node.id) node.disk
     (disks node.id) in
     let one = P (with_faults f kinds) run.disks.disks in
@@ -217,7 +218,7 @@ faults_told cs kinds f f' choices report works run run' =
 -- ---- stop events
 
 -- the mark of a stop event, and the past that its disk had
-stop_marks : (event : Event) (choice : Choice) (o : model.Outcome BatchContent) (n : Machine)
+stop_marks : (event : EventContent) (choice : Choice) (o : model.Outcome BatchContent) (n : Machine)
     (junk : Junk) (old new : Slots) → junk_of event.kind ≡ Some junk → o.stopped ≡ true →
     DiskFollows in_memory event choice o n old new →
     (marks new ≡ (length (past_states old), Crashed junk) ∷ marks old)
@@ -257,7 +258,8 @@ same_state a (now ∷ before) s t same left other =
     let first = subst (λ (l : List State). IsLastLeft l s) same left in
     λ file. other file ∙ sym (first file)
 
-pub stops_told : (event event' : Event) (choice choice' : Choice) (o : model.Outcome BatchContent)
+pub stops_told : (event event' : EventContent) (choice choice' : Choice)
+    (o : model.Outcome BatchContent)
     (n : Machine) (junk junk' : Junk) (old old' new : Slots) → junk_of event.kind ≡ Some junk →
     junk_of event'.kind ≡ Some junk' → o.stopped ≡ true →
     DiskFollows in_memory event choice o n old new →

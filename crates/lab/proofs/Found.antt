@@ -10,8 +10,8 @@ use Rattle.carriers.specs.declared.Delivery.{Delivery}
 use Rattle.carriers.specs.declared.Delivery.TheVariants as delivery
 use Rattle.carriers.specs.declared.NodeInput.{NodeInput}
 use Rattle.carriers.specs.{IsSentTo, input_of}
-use Rattle.lab.specs.declared.event.EventKind.{EventKind}
-use Rattle.lab.specs.declared.event.EventKind.TheVariants.{Deliver}
+use Rattle.events.specs.declared.EventKind.{EventKind}
+use Rattle.events.specs.declared.EventKind.TheVariants.{Deliver}
 use Rattle.lab.specs.Deliveries.{IsDeliverable, IsDeliveryOf}
 use Rattle.lab.specs.Events.{MayBeLost}
 

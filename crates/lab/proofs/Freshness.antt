@@ -17,9 +17,9 @@ use Rattle.chain_core.specs.{Machine}
 use Rattle.chain_model.specs.declared.Refusal.TheVariants.{NotRunning}
 use Rattle.chain_model.specs.Freshness.{IsAtMost, ReadsFresh}
 use Rattle.chain_model.specs.Retention.{KeepsEnough}
-use Rattle.lab.specs.declared.event.Event.{Event}
-use Rattle.lab.specs.declared.event.EventKind.{EventKind}
-use Rattle.lab.specs.declared.event.EventKind.TheVariants.{Get, Rows}
+use Rattle.events.specs.declared.EventContent.{EventContent}
+use Rattle.events.specs.declared.EventKind.{EventKind}
+use Rattle.events.specs.declared.EventKind.TheVariants.{Get, Rows}
 use Rattle.lab.specs.declared.report.Line.{Line}
 use Rattle.lab.specs.Events.{arriving, modelled, reported_lines, reply_line, reply_lines}
 use Rattle.lab.specs.Freshness.{AreFresh, IsTailRead, NodesKeepEnough, LineIsAtMost, LineIsFresh}
@@ -73,7 +73,7 @@ IsBounded w earlier = (s : ℕ) → AllByRecursion (IsAtMost s) w.replies →
     AllByRecursion (λ lines. All (LineIsAtMost s) lines) earlier
 
 -- nor have those of one event more
-bounded_more : (cs : Configurations) (w : SystemState BatchContent) (i : ℕ) (event : Event)
+bounded_more : (cs : Configurations) (w : SystemState BatchContent) (i : ℕ) (event : EventContent)
     (ch : Choice) (earlier : List (List Line)) → IsBounded w earlier →
     IsBounded (state_after cs w (modelled i event.kind ch)) (earlier ++ reported_lines
     (length w.frames) event ch (outcome w cs (modelled i event.kind ch)) ∷ [])
@@ -179,7 +179,7 @@ module _ (cs : Configurations) (law : (es : List (ModelEvent BatchContent))
       (λ _. tt) (λ _. asked_replies es kind t i ch earlier bounded read)
 
   -- the lines of the read
-  tail_lines : (es : List (ModelEvent BatchContent)) (i : ℕ) (event : Event) (ch : Choice)
+  tail_lines : (es : List (ModelEvent BatchContent)) (i : ℕ) (event : EventContent) (ch : Choice)
       (earlier : List (List Line)) → IsBounded (reached cs es) earlier → (t : ℕ) →
       IsTailRead cs (reached cs es) event.kind t →
       All (LineIsFresh earlier) (reported_lines (length (reached cs es).frames) event ch
@@ -199,7 +199,7 @@ module _ (cs : Configurations) (law : (es : List (ModelEvent BatchContent))
   run_one (first ∷ es) e w = run_one es e (state_after cs w first)
 
   -- .. and those of all events
-  all_fresh : (i : ℕ) (events : List Event) (chs : List Choice)
+  all_fresh : (i : ℕ) (events : List EventContent) (chs : List Choice)
       (es : List (ModelEvent BatchContent)) (earlier : List (List Line)) →
       length chs ≡ length events → IsBounded (reached cs es) earlier →
       AreFresh cs i events chs (reached cs es) earlier (lines_from cs i events chs (reached cs es))
@@ -220,7 +220,7 @@ module _ (cs : Configurations) (law : (es : List (ModelEvent BatchContent))
       )
 
 -- the reads of a run are fresh, by the model's law
-pub reads_are_fresh : (cs : Configurations) (events : List Event) (choices : List Choice)
+pub reads_are_fresh : (cs : Configurations) (events : List EventContent) (choices : List Choice)
     (steps : List (List Line)) →
     ((cs : Configurations) (es : List (ModelEvent BatchContent)) → Lawful cs → ReadsFresh cs es) →
     Lawful cs → IsTrace cs events choices steps → ReadsAreFresh cs events choices steps
@@ -234,7 +234,7 @@ reads_are_fresh cs events choices steps law lawful trace =
     }
 
 -- its nodes keep what may be needed, by the model's law
-pub keep_needed : (cs : Configurations) (events : List Event) (choices : List Choice) →
+pub keep_needed : (cs : Configurations) (events : List EventContent) (choices : List Choice) →
     ((cs : Configurations) (es : List (ModelEvent BatchContent)) → Lawful cs → KeepsEnough cs es) →
     Lawful cs → NodesKeepEnough cs events choices
 keep_needed cs events choices law lawful =

@@ -11,7 +11,7 @@ use Rattle.kv_types.specs.{BatchContent}
 use Rattle.configurations.specs.{Configurations, at_epoch}
 use Rattle.chain_model.specs.{SystemState, run, reached, first_state}
 use Rattle.chain_model.specs.{state_after, outcome}
-use Rattle.lab.specs.declared.event.Event.{Event}
+use Rattle.events.specs.declared.EventContent.{EventContent}
 use Rattle.lab.specs.declared.delivery.Posted.{Posted}
 use Rattle.lab.specs.declared.report.Line.{Line}
 use Rattle.lab.specs.declared.sim_node.SimNode.{SimNode}
@@ -24,8 +24,9 @@ use Rattle.lab.specs.Worlds.{RunRefines, SimNodeRefines, WorldRun, extended, fra
 use Rattle.lab.specs.Worlds.{frames_of_step}
 
 -- one event more at the end
-module _ (cs : Configurations) (e : Event) (ch : Choice) where
-  pub run-push : (i k : ℕ) (es : List Event) (chs : List Choice) (w : SystemState BatchContent) →
+module _ (cs : Configurations) (e : EventContent) (ch : Choice) where
+  pub run-push : (i k : ℕ) (es : List EventContent) (chs : List Choice)
+      (w : SystemState BatchContent) →
       length chs ≡ length es → k ≡ i + length es →
       run cs (modelled_from i (es ++ e ∷ []) (chs ++ ch ∷ [])) w ≡ state_after cs
       (run cs (modelled_from i es chs) w) (modelled k e.kind ch)
@@ -36,7 +37,7 @@ module _ (cs : Configurations) (e : Event) (ch : Choice) where
   run-push i k (f ∷ es) (c ∷ chs) w same at = run-push (suc i) k es chs
       (state_after cs w (modelled i f.kind c)) (omega arith) (omega arith)
 
-  pub lines_from-push : (i k : ℕ) (es : List Event) (chs : List Choice)
+  pub lines_from-push : (i k : ℕ) (es : List EventContent) (chs : List Choice)
       (w : SystemState BatchContent) →
       length chs ≡ length es → k ≡ i + length es →
       let u = run cs (modelled_from i es chs) w in
@@ -53,7 +54,8 @@ module _ (cs : Configurations) (e : Event) (ch : Choice) where
       (lines_from-push (suc i) k es chs (state_after cs w (modelled i f.kind c)) (omega arith)
       (omega arith))
 
-  pub fit-push : (i k : ℕ) (es : List Event) (chs : List Choice) (w : SystemState BatchContent) →
+  pub fit-push : (i k : ℕ) (es : List EventContent) (chs : List Choice)
+      (w : SystemState BatchContent) →
       length chs ≡ length es → k ≡ i + length es → AllFit cs i es chs w →
       let u = run cs (modelled_from i es chs) w in
       ChoiceFits u.frames e ch (outcome u cs (modelled k e.kind ch)) →
@@ -72,8 +74,9 @@ module _ (cs : Configurations) (e : Event) (ch : Choice) where
   )
 
 module _ {D : Type 0} {g : Ghosts D} where
-  module _ (cs : Configurations) (e : Event) (ch : Choice) where
-    pub follow-push : (i k : ℕ) (es : List Event) (chs : List Choice) (w : SystemState BatchContent)
+  module _ (cs : Configurations) (e : EventContent) (ch : Choice) where
+    pub follow-push : (i k : ℕ) (es : List EventContent) (chs : List Choice)
+        (w : SystemState BatchContent)
         (old disks new : ℕ → D) → length chs ≡ length es → k ≡ i + length es →
         AllFollow g cs i es chs w old disks →
         let u = run cs (modelled_from i es chs) w in
@@ -97,7 +100,7 @@ module _ {D : Type 0} {g : Ghosts D} where
           (omega arith) (omega arith) all.2 one,
     )
 
-    pub nodes-push : (limits : Limits) (i k : ℕ) (es : List Event) (chs : List Choice)
+    pub nodes-push : (limits : Limits) (i k : ℕ) (es : List EventContent) (chs : List Choice)
         (w : SystemState BatchContent) (old sims new : List (SimNode D g)) →
         length chs ≡ length es → k ≡ i + length es →
         AllNodesFollow cs limits i es chs w old sims →
@@ -129,7 +132,7 @@ module _ {D : Type 0} {g : Ghosts D} where
     )
 
   -- nodes that follow from some with these limits have them
-  pub follow_limited : (cs : Configurations) (limits : Limits) (i : ℕ) (es : List Event)
+  pub follow_limited : (cs : Configurations) (limits : Limits) (i : ℕ) (es : List EventContent)
       (chs : List Choice)
       (w : SystemState BatchContent) (old new : List (SimNode D g)) →
       AllNodesFollow cs limits i es chs w old new → HaveLimits old limits → HaveLimits new limits
@@ -142,7 +145,7 @@ module _ {D : Type 0} {g : Ghosts D} where
       all.2
 
 -- each event has its lines
-pub length-lines_from : (cs : Configurations) (i : ℕ) (es : List Event) (chs : List Choice)
+pub length-lines_from : (cs : Configurations) (i : ℕ) (es : List EventContent) (chs : List Choice)
     (w : SystemState BatchContent) → length chs ≡ length es →
     length (lines_from cs i es chs w) ≡ length es
 length-lines_from cs i [] chs w same = refl
@@ -160,7 +163,7 @@ frames_in_steps-push (step ∷ steps) lines = omega (arith, frames_in_steps-push
 module _ {D : Type 0} {g : Ghosts D} where
   -- what the event in place i makes of a world, and its lines
   pub record Next (cs : Configurations) (w : SystemState BatchContent) (old : ℕ → D) (i : ℕ)
-      (event : Event) (choice : Choice) (sims : List (SimNode D g)) (posted : List Posted)
+      (event : EventContent) (choice : Choice) (sims : List (SimNode D g)) (posted : List Posted)
       (lines : List Line)
       : Type 0 where
     pub traced : lines ≡ reported_lines (length w.frames) event choice
@@ -185,7 +188,7 @@ module _ {D : Type 0} {g : Ghosts D} (past : WorldRun) (sims : List (SimNode D g
     abbrev cs : Configurations
     cs = past.configs
 
-    abbrev events : List Event
+    abbrev events : List EventContent
     events = past.events
 
     abbrev choices : List Choice
@@ -201,7 +204,7 @@ module _ {D : Type 0} {g : Ghosts D} (past : WorldRun) (sims : List (SimNode D g
         ∙ length-lines_from cs 1 events choices (first_state cs) made.trace.one_each
 
     -- the next step is one event more
-    pub grown : (i : ℕ) (event : Event) (choice : Choice) (now : List (SimNode D g))
+    pub grown : (i : ℕ) (event : EventContent) (choice : Choice) (now : List (SimNode D g))
         (more : List Posted)
         (lines : List Line) → i ≡ length events + 1 →
         Next cs so_far made.disks i event choice now more lines →

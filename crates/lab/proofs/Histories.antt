@@ -12,9 +12,9 @@ use Rattle.chain_model.specs.{submitted, Response, Committed, Shows, Opened, Clo
 use Rattle.chain_model.specs.{SystemEvent as ModelEvent, SystemState, Outcome, outcome, outcomes}
 use Rattle.chain_model.specs.{state_after}
 use Rattle.chain_model.specs.System.{Lost}
-use Rattle.lab.specs.declared.event.Event.{Event}
-use Rattle.lab.specs.declared.event.EventKind.{EventKind}
-use Rattle.lab.specs.declared.event.EventKind.TheVariants.{Submit, Get, Rows}
+use Rattle.events.specs.declared.EventContent.{EventContent}
+use Rattle.events.specs.declared.EventKind.{EventKind}
+use Rattle.events.specs.declared.EventKind.TheVariants.{Submit, Get, Rows}
 use Rattle.lab.specs.declared.report.Line.{Line}
 use Rattle.lab.specs.Events.{arriving, modelled, reported_lines, reply_line, reply_lines}
 use Rattle.lab.specs.SimNodes.{Choice}
@@ -26,7 +26,7 @@ use Rattle.lab.proofs.TraceLines.{IsQuiet, back, both, front, reported_have}
 -- ---- events
 
 -- requests have the numbers of their events' places
-pub numbered_same : (i : ℕ) (events : List Event) (chs : List Choice) →
+pub numbered_same : (i : ℕ) (events : List EventContent) (chs : List Choice) →
     numbered i (modelled_from i events chs) ≡ modelled_from i events chs
 numbered_same i [] chs = refl
 numbered_same i (event ∷ events) [] = refl
@@ -47,7 +47,7 @@ numbered_same i (event ∷ events) (ch ∷ chs) =
     one kind later = ap (λ (l : List (ModelEvent BatchContent)). arriving i kind ch ∷ l) later
 
 -- the model's events submit what the events submit, without what was lost
-pub submitted_part : (i : ℕ) (events : List Event) (chs : List Choice) →
+pub submitted_part : (i : ℕ) (events : List EventContent) (chs : List Choice) →
     length chs ≡ length events →
     Part (submitted i (modelled_from i events chs)) (submitted_from i events)
 submitted_part i [] chs same = tt
@@ -128,7 +128,7 @@ module _ (pages : PagesAgree) where
       (agrees_by B kind r agree.0) (replied B kind replies agree.1)
 
   -- the lines of all events agree with B where the replies of their outcomes do
-  pub all_agree : (B : List Placed) (cs : Configurations) (i : ℕ) (events : List Event)
+  pub all_agree : (B : List Placed) (cs : Configurations) (i : ℕ) (events : List EventContent)
       (chs : List Choice) (w : SystemState BatchContent) → length chs ≡ length events
       → AllByRecursion (ResponseAgrees B) (flat_map (λ (o : Outcome BatchContent). o.replies)
       (outcomes cs (modelled_from i events chs) w))

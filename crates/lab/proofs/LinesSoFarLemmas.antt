@@ -3,7 +3,7 @@ use Rattle.std.proofs.Common.{◌≡◌, Bool, List, [], ◌∷◌, ◌++◌, �
 use Rattle.std.proofs.lemmas.List.Elements.{All-from_recursion}
 use Rattle.configurations.specs.{at_epoch}
 use Rattle.disk.specs.declared.disk.Disk.{Ghosts}
-use Rattle.lab.specs.declared.event.Event.{Event}
+use Rattle.events.specs.declared.EventContent.{EventContent}
 use Rattle.lab.specs.declared.report.Line.{Line}
 use Rattle.lab.specs.declared.world.World.{World}
 use Rattle.lab.specs.Events.{NamesNode}
@@ -13,7 +13,7 @@ use Rattle.lab.specs.Worlds.{HasBegunEvent, HasKept}
 
 module _ {D C : Type 0} {g : Ghosts D} where
   -- none, where it names a node that the world does not have
-  pub adds_none : (world : World D C g) (event : Event) →
+  pub adds_none : (world : World D C g) (event : EventContent) →
       (NamesNode (configs_of world) event.kind → ⊥) → EventAddsLines event world world
   adds_none world event unknown = record {
     more = [];
@@ -26,7 +26,7 @@ module _ {D C : Type 0} {g : Ghosts D} where
   }
 
   -- the event was begun, and its lines were kept
-  pub adds_one : (old begun mid new : World D C g) (event : Event) (lost : Bool)
+  pub adds_one : (old begun mid new : World D C g) (event : EventContent) (lost : Bool)
       (lines : List Line) → HasBegunEvent old begun event →
       lines_so_far mid ≡ lines_so_far begun → configs_of mid ≡ configs_of begun →
       sim_node_ids mid.nodes.items ≡ sim_node_ids begun.nodes.items →

@@ -32,7 +32,7 @@ use Rattle.lab.specs.Outcomes.{StateFollows, Tends, TendsNot, has_struck_in, ris
 use Rattle.lab.specs.SimNodes.{Choice, StateHasLimits, StateRefines, disk_in}
 use Rattle.lab.specs.LinesSoFar.{sim_node_ids}
 use Rattle.lab.specs.declared.delivery.Posted.{Posted}
-use Rattle.lab.specs.declared.event.Event.{Event}
+use Rattle.events.specs.declared.EventContent.{EventContent}
 use Rattle.lab.specs.declared.report.Line.{Line}
 use Rattle.lab.specs.Events.{epoch_in}
 use Rattle.lab.specs.OutcomeLines.{outcome_lines, sent_by}
@@ -117,7 +117,7 @@ module _ {D : Type 0} {g : Ghosts D} where
   -- lines.
   pub record HasStepped (sims : List (SimNode D g)) (posted : List Posted) (x : ℕ)
       (node_input : NodeInput)
-      (event : Event) (given : Limits) (lines : List Line) (now : List (SimNode D g))
+      (event : EventContent) (given : Limits) (lines : List Line) (now : List (SimNode D g))
       (more : List Posted)
       : Type 0 where
     pub did : StepOutcome

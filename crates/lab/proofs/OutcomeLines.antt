@@ -20,9 +20,9 @@ use Rattle.carriers.specs.{Transmission}
 use Rattle.carriers.specs.declared.Delivery.TheVariants as delivery
 use Rattle.carriers.specs.declared.NodeInput.{NodeInput}
 use Rattle.carriers.specs.declared.NodeInput.TheVariants as to_node
-use Rattle.lab.specs.declared.event.EventKind.{EventKind}
-use Rattle.lab.specs.declared.event.EventKind.TheVariants.{Submit, Get, Rows, Open, Close, Deliver}
-use Rattle.lab.specs.declared.event.EventKind.TheVariants.{Notice, Tick, Tend, Start, Stop}
+use Rattle.events.specs.declared.EventKind.{EventKind}
+use Rattle.events.specs.declared.EventKind.TheVariants.{Submit, Get, Rows, Open, Close, Deliver}
+use Rattle.events.specs.declared.EventKind.TheVariants.{Notice, Tick, Tend, Start, Stop}
 use Rattle.lab.specs.declared.input.StepOutcome.{StepOutcome}
 use Rattle.lab.specs.declared.input.StepOutcome.TheVariants as done
 use Rattle.lab.specs.declared.report.Line.{Line}

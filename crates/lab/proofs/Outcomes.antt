@@ -27,8 +27,8 @@ use Rattle.node.specs.{replies_of, replies_to_response}
 use Rattle.disk.specs.declared.Disk.{Ghosts}
 use Rattle.lab.specs.declared.input.StepOutcome.{StepOutcome}
 use Rattle.lab.specs.declared.input.StepOutcome.TheVariants as done
-use Rattle.lab.specs.declared.event.Event.{Event}
-use Rattle.lab.specs.declared.event.EventKind.{EventKind}
+use Rattle.events.specs.declared.EventContent.{EventContent}
+use Rattle.events.specs.declared.EventKind.{EventKind}
 use Rattle.lab.specs.declared.node_state.NodeState.{NodeState}
 use Rattle.lab.specs.declared.report.Line.{Line}
 use Rattle.lab.specs.declared.report.Line.TheVariants as line
@@ -47,14 +47,14 @@ use Rattle.lab.proofs.Rises.{ChoosesNoRise, IsNoTend, RaisesAsTold, no_answer, n
 -- ---- outcomes
 
 -- a node that stops by itself stops for its device or for memory
-abbrev pub CauseFits : Event → Choice → Outcome BatchContent → Type 0
+abbrev pub CauseFits : EventContent → Choice → Outcome BatchContent → Type 0
 CauseFits event choice o =
     o.stopped ≡ true → IfSome (reported_cause event.kind event.fault choice)
     (IsEnvironmental Disk Memory)
 
 -- the node stopped where its doing says so, with the cause that was chosen: for its device where
 -- the fault struck
-abbrev pub StopsSo : Event → Choice → StepOutcome → Outcome BatchContent → Type 0
+abbrev pub StopsSo : EventContent → Choice → StepOutcome → Outcome BatchContent → Type 0
 StopsSo event choice (done.Answered output) o =
     (o.stopped ≡ false) × (output.dropped ≡ o.dropped)
 StopsSo event choice (done.Started epoch count committed) o = o.stopped ≡ false
@@ -72,7 +72,7 @@ TellsChosen choice (done.Started epoch count committed) = Unit {0}
 TellsChosen choice (done.Stopped traced) = Unit {0}
 
 -- the event of this kind with this fault
-abbrev pub with_fault : EventKind → Fault → Event
+abbrev pub with_fault : EventKind → Fault → EventContent
 with_fault kind it = record { kind = kind; fault = it }
 
 -- an event's outcome with its lines: the node that it was for, and the state of that node now,
@@ -101,7 +101,7 @@ pub record IsOutcome {D : Type 0} {g : Ghosts D} (cs : Configurations)
   pub told : TellsChosen choice did
 
 -- what a node's doing is at an outcome
-pub record IsTraced (x : ℕ) (event : Event) (choice : Choice) (did : StepOutcome)
+pub record IsTraced (x : ℕ) (event : EventContent) (choice : Choice) (did : StepOutcome)
     (o : Outcome BatchContent)
     : Type 0 where
   pub frames : AreFrames (sent_by did) o.frames
@@ -172,7 +172,7 @@ module _ {D : Type 0} {g : Ghosts D} (cs : Configurations) (w : SystemState Batc
 -- ---- answers and stops
 
 -- an input's answer has the lines of the model's
-module _ (x : ℕ) (event : Event) (inp : Input) (choice : Choice) (a : Answer BatchContent)
+module _ (x : ℕ) (event : EventContent) (inp : Input) (choice : Choice) (a : Answer BatchContent)
     (output : Output) (is : IsAnswer inp a output) where
   answer_lines : (n : ℕ) → outcome_lines x (epoch_in event.kind) n (done.Answered output)
       ≡ answered_lines x (epoch_in event.kind) n a (replies_of inp a.replies)
@@ -200,7 +200,7 @@ module _ (x : ℕ) (event : Event) (inp : Input) (choice : Choice) (a : Answer B
   }
 
 -- a stop has a line with its cause
-pub stop_traced : (x : ℕ) (event : Event) (choice : Choice) (traced : Option Cause)
+pub stop_traced : (x : ℕ) (event : EventContent) (choice : Choice) (traced : Option Cause)
     (n : Machine) → reported_cause event.kind event.fault choice ≡ traced →
     (choice.struck ≡ true → choice.cause ≡ Disk) → IfSome traced (IsEnvironmental Disk Memory) →
     IsTraced x event choice (done.Stopped traced) (stops x n)
@@ -223,7 +223,7 @@ told_fits (fault.Stop call junk) true cause is = tt
 told_fits (fault.Stop call junk) false cause is = is
 
 -- a drop has a line with its reason
-pub drop_traced : (x : ℕ) (event : Event) (choice : Choice) (n : Machine)
+pub drop_traced : (x : ℕ) (event : EventContent) (choice : Choice) (n : Machine)
     (why : DropReason) (output : Output) → IsDrop why output →
     turn_trace event.kind choice (answers x (dropped_for n why)) ≡ [] →
     IsTraced x event choice (done.Answered output) (answers x (dropped_for n why))

@@ -16,7 +16,7 @@ use Rattle.chain_core.specs.{Machine}
 use Rattle.disk.specs.declared.Disk.{Ghosts}
 use Rattle.node.specs.declared.Node.{Node}
 use Rattle.node.specs.{NodeRefines, DiskAlwaysRefines, disk_of}
-use Rattle.lab.specs.declared.event.Event.{Event}
+use Rattle.events.specs.declared.EventContent.{EventContent}
 use Rattle.lab.specs.declared.node_state.NodeState.{NodeState}
 use Rattle.lab.specs.declared.node_state.NodeState.TheVariants.{Up, Down}
 use Rattle.lab.specs.declared.delivery.Posted.{Posted}
@@ -40,7 +40,8 @@ use Rattle.lab.proofs.Nodes.{reported_ids}
 
 -- the model's one list is that of the lines and of the disks
 pub one_of : {D N : Type 0} (g : Ghosts D) (id : N → ℕ) (disk : N → D)
-    (cs : Configurations) (events : List Event) (choices : List Choice) (steps : List (List Line))
+    (cs : Configurations) (events : List EventContent) (choices : List Choice)
+    (steps : List (List Line))
     (nodes : List N) → IsTrace cs events choices steps →
     HaveDisks g id disk cs events choices nodes →
     OneList cs (modelled_from 1 events choices) →
@@ -100,7 +101,7 @@ module _ {D : Type 0} {g : Ghosts D} (sims : List (SimNode D g)) (posted : List 
   abbrev cs : Configurations
   cs = past.configs
 
-  abbrev events : List Event
+  abbrev events : List EventContent
   events = past.events
 
   abbrev choices : List Choice

@@ -13,7 +13,7 @@ use Rattle.node.specs.declared.Stop.{Stop as Cause}
 use Rattle.node.specs.declared.Stop.TheVariants.{Disk}
 use Rattle.lab.specs.declared.input.StepOutcome.{StepOutcome}
 use Rattle.lab.specs.declared.input.StepOutcome.TheVariants as done
-use Rattle.lab.specs.declared.event.EventKind.{EventKind}
+use Rattle.events.specs.declared.EventKind.{EventKind}
 use Rattle.lab.specs.declared.node_state.NodeState.{NodeState}
 use Rattle.lab.specs.Events.{RiseFits}
 use Rattle.lab.specs.Outcomes.{rises_in}

@@ -3,9 +3,9 @@ use Rattle.std.proofs.Common.{◌≡◌, inl, inr, ℕ, suc, ◌+◌, ◌<◌, L
 use Rattle.std.proofs.Common.{All, AllPairs, refl, sym, ap, subst, ◌∙◌, arith}
 use Rattle.kv_types.specs.OrderLemmas.{Among, All-among, AllPairs-rises, Rises}
 use Rattle.kv_types.specs.{Part, place}
-use Rattle.lab.specs.declared.event.Event.{Event}
-use Rattle.lab.specs.declared.event.EventKind.{EventKind}
-use Rattle.lab.specs.declared.event.EventKind.TheVariants.{Submit}
+use Rattle.events.specs.declared.EventContent.{EventContent}
+use Rattle.events.specs.declared.EventKind.{EventKind}
+use Rattle.events.specs.declared.EventKind.TheVariants.{Submit}
 use Rattle.lab.specs.History.{IsSubmitted, Placed}
 
 -- ---- parts of a list
@@ -53,18 +53,18 @@ with_batch i (Submit node batch) later = (i, batch) ∷ later
 with_batch i kind later = later
 
 -- the batches that these events submit, each with the place of its event
-abbrev pub submitted_from : ℕ → List Event → List Placed
+abbrev pub submitted_from : ℕ → List EventContent → List Placed
 submitted_from i [] = []
 submitted_from i (event ∷ events) = with_batch i event.kind (submitted_from (suc i) events)
 
 -- the batch is that of one of these events, before the first of which there are i others
-abbrev IsSubmittedFrom : ℕ → List Event → Placed → Type 0
+abbrev IsSubmittedFrom : ℕ → List EventContent → Placed → Type 0
 IsSubmittedFrom i events placed =
-    (k : ℕ) × (i + suc k ≡ placed.0) × (node : ℕ) × (event : Event)
+    (k : ℕ) × (i + suc k ≡ placed.0) × (node : ℕ) × (event : EventContent)
     × (place events (suc k) ≡ Some event) × (event.kind ≡ Submit node placed.1)
 
 -- each of these batches is that of an event
-from_event : (i : ℕ) (events : List Event) (placed : Placed) →
+from_event : (i : ℕ) (events : List EventContent) (placed : Placed) →
     Among placed (submitted_from (suc i) events) → IsSubmittedFrom i events placed
 from_event i [] placed a = absurd a
 from_event i (event ∷ events) placed a =
@@ -91,7 +91,7 @@ abbrev Precedes : Placed → Placed → Type 0
 Precedes a b = a.0 < b.0
 
 -- they stand in the order of their events
-in_places : (i : ℕ) (events : List Event) → Rises Precedes (submitted_from (suc i) events)
+in_places : (i : ℕ) (events : List EventContent) → Rises Precedes (submitted_from (suc i) events)
 in_places i [] = tt
 in_places i (event ∷ events) = one event.kind (in_places (suc i) events)
   where
@@ -107,7 +107,8 @@ in_places i (event ∷ events) = one event.kind (in_places (suc i) events)
 -- ---- a part of them
 
 -- each batch of a part was submitted by the event at its place
-pub all_submitted : (B : List Placed) (events : List Event) → Part B (submitted_from 1 events) →
+pub all_submitted : (B : List Placed) (events : List EventContent) →
+    Part B (submitted_from 1 events) →
     All (IsSubmitted events) B
 all_submitted B events part = All-among (IsSubmitted events) B (λ placed a.
     let it = from_event 0 events placed (part_among B (submitted_from 1 events) part placed a) in
@@ -115,7 +116,8 @@ all_submitted B events part = All-among (IsSubmitted events) B (λ placed a.
     (it.2, it.3, subst (λ (n : ℕ). place events n ≡ Some it.3) at it.4, it.5))
 
 -- and a part of them is in the order of their submits
-pub all_ordered : (B : List Placed) (events : List Event) → Part B (submitted_from 1 events) →
+pub all_ordered : (B : List Placed) (events : List EventContent) →
+    Part B (submitted_from 1 events) →
     AllPairs (λ (a b : Placed). a.0 < b.0) B
 all_ordered B events part = AllPairs-rises Precedes B
     (part_rises Precedes B (submitted_from 1 events) part (in_places 0 events))

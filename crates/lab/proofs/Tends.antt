@@ -20,7 +20,7 @@ use Rattle.node.specs.declared.Node.{Node}
 use Rattle.node.specs.declared.Stop.{Stop as Cause}
 use Rattle.node.specs.declared.Stop.TheVariants.{Disk}
 use Rattle.node.specs.{engine_of, facts_for, has_risen}
-use Rattle.lab.specs.declared.event.EventKind.TheVariants.{Tend}
+use Rattle.events.specs.declared.EventKind.TheVariants.{Tend}
 use Rattle.lab.specs.declared.input.StepOutcome.{StepOutcome}
 use Rattle.lab.specs.declared.input.StepOutcome.TheVariants as done
 use Rattle.lab.specs.declared.node_state.NodeState.{NodeState}

@@ -8,9 +8,9 @@ use Rattle.chain_model.specs.declared.DropReason.{DropReason}
 use Rattle.chain_core.specs.{Machine}
 use Rattle.engine.specs.Tended.{Tended}
 use Rattle.node.specs.declared.Stop.{Stop as Cause}
-use Rattle.lab.specs.declared.event.Event.{Event}
-use Rattle.lab.specs.declared.event.EventKind.{EventKind}
-use Rattle.lab.specs.declared.event.EventKind.TheVariants.{Notice, Tend, Start}
+use Rattle.events.specs.declared.EventContent.{EventContent}
+use Rattle.events.specs.declared.EventKind.{EventKind}
+use Rattle.events.specs.declared.EventKind.TheVariants.{Notice, Tend, Start}
 use Rattle.lab.specs.declared.report.Line.{Line}
 use Rattle.lab.specs.declared.report.Line.TheVariants as line
 use Rattle.lab.specs.Events.{lines_at, lines_if, dropped_lines, if_adopted, if_started}
@@ -85,7 +85,7 @@ module _ (Of : Line → Type 0) (quiet : IsQuiet Of) where
   turns kind choice o = tt
 
   -- the lines of an event at a node
-  lines_have_at : (x n : ℕ) (event : Event) (choice : Choice) (o : Outcome BatchContent) →
+  lines_have_at : (x n : ℕ) (event : EventContent) (choice : Choice) (o : Outcome BatchContent) →
       Each (reply_lines event.kind o.replies) → Each (lines_at x n event choice o)
   lines_have_at x n event choice o have =
       let kind = event.kind in
@@ -101,7 +101,7 @@ module _ (Of : Line → Type 0) (quiet : IsQuiet Of) where
       (both Of (frame_lines n o.frames) replies (sent n o.frames) have)))
 
   -- so do those of an event that was for none
-  lines_have : (at : Option (ℕ × Machine)) (n : ℕ) (event : Event) (choice : Choice)
+  lines_have : (at : Option (ℕ × Machine)) (n : ℕ) (event : EventContent) (choice : Choice)
       (o : Outcome BatchContent) → Each (reply_lines event.kind o.replies) →
       Each (lines_if at n event choice o)
   lines_have None n event choice o have = (quiet.nothing, tt)
@@ -117,7 +117,7 @@ module _ (Of : Line → Type 0) (quiet : IsQuiet Of) where
   arrived_have told (other ∷ lines) all = (all.0, arrived_have told lines all.1)
 
   -- and those of an event that may be lost
-  pub reported_have : (n : ℕ) (event : Event) (choice : Choice) (o : Outcome BatchContent) →
+  pub reported_have : (n : ℕ) (event : EventContent) (choice : Choice) (o : Outcome BatchContent) →
       Each (reply_lines event.kind o.replies) → Each (reported_lines n event choice o)
   reported_have n event choice o have =
       let lines = lines_if o.acted_on n event choice o in

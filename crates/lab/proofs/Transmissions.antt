@@ -6,7 +6,7 @@ use Rattle.chain_model.specs.{Outcome}
 use Rattle.chain_core.specs.{Machine}
 use Rattle.carriers.specs.{HasCarriedMore, Transmission}
 use Rattle.lab.specs.declared.delivery.Posted.{Posted}
-use Rattle.lab.specs.declared.event.Event.{Event}
+use Rattle.events.specs.declared.EventContent.{EventContent}
 use Rattle.lab.specs.declared.report.Line.{Line}
 use Rattle.lab.specs.Events.{lines_of_event}
 use Rattle.lab.specs.SimNodes.{Choice}
@@ -25,7 +25,7 @@ module _ {C : Type 0} (has_carried : C → List Transmission → Type 0) where
       subst (has_carried new) (append_assoc earlier first second)
       (two (earlier ++ first) (one earlier was))
 
-module _ (posted : List Posted) (i : ℕ) (event : Event) (choice : Choice)
+module _ (posted : List Posted) (i : ℕ) (event : EventContent) (choice : Choice)
     (o : Outcome BatchContent) where
   -- where a node gave these lines, of which these were told
   pub sent_by_both : (x : ℕ) (n : Machine) (lost : Bool) (heard : List Bool) (given : List Line) →

@@ -16,8 +16,8 @@ use Rattle.carriers.specs.declared.Delivery.{Delivery}
 use Rattle.carriers.specs.declared.Delivery.TheVariants as delivery
 use Rattle.carriers.specs.{DeliveryWasLost, HasCarriedMore, delivery_lost}
 use Rattle.lab.specs.declared.delivery.Posted.{Posted}
-use Rattle.lab.specs.declared.event.Event.{Event}
-use Rattle.lab.specs.declared.event.EventKind.{EventKind}
+use Rattle.events.specs.declared.EventContent.{EventContent}
+use Rattle.events.specs.declared.EventKind.{EventKind}
 use Rattle.lab.specs.declared.event.EventRecord.{EventRecord}
 use Rattle.carriers.specs.declared.NodeInput.{NodeInput}
 use Rattle.lab.specs.declared.report.Line.{Line}
@@ -57,7 +57,8 @@ place_of h world past run n i long fits is = record {
 }
 
 -- events as a world keeps them, and one more
-records-push : (events : List Event) (choices : List Choice) (event : Event) (choice : Choice) →
+records-push : (events : List EventContent) (choices : List Choice) (event : EventContent)
+    (choice : Choice) →
     length choices ≡ length events →
     event_records (events ++ event ∷ []) (choices ++ choice ∷ [])
     ≡ event_records events choices ++ event_record event choice.lost ∷ []
@@ -71,7 +72,8 @@ records-push (e ∷ events) (c ∷ choices) event choice same =
 -- A world began an event, which changed its nodes, its frames and its carrier, and then it kept the
 -- lines of that.
 module _ {D C : Type 0} {g : Ghosts D} (h : Carriers C) (old begun mid new : World D C g)
-    (event : Event) (begins : HasBegunEvent old begun event) (lost : Bool) (lines : List Line)
+    (event : EventContent) (begins : HasBegunEvent old begun event) (lost : Bool)
+    (lines : List Line)
     (moves : mid ≡ record begun { nodes = mid.nodes; frames = mid.frames; carrier = mid.carrier })
     (keeps : HasKept mid new lost lines)
     (stay : HaveLimits old.nodes.items old.limits → HaveLimits mid.nodes.items old.limits) where
@@ -190,7 +192,8 @@ IsFoundFor h world i kind found = h.is_faithful world.carrier →
 
 -- The next event of a world, which names a node of it or none, by what was found on its way.
 module _ {D C : Type 0} {g : Ghosts D} (h : Carriers C) (in_order : AlwaysInOrder)
-    (old begun : World D C g) (event : Event) (begins : HasBegunEvent old begun event) (n i : ℕ)
+    (old begun : World D C g) (event : EventContent) (begins : HasBegunEvent old begun event)
+    (n i : ℕ)
     (long : n ≡ begun.steps.len) (few : n + 1 ≤ MAX_NUMBER) (at : i ≡ n + 1) (found : Delivery)
     (here : IsFoundFor h begun i event.kind found) (may : DeliveryWasLost found → h.loses)
     (after : C) (asked : HasCarriedMore h.has_carried begun.carrier after

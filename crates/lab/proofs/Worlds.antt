@@ -18,9 +18,9 @@ use Rattle.chain_model.specs.{SystemState, Outcome, reached, first_state, outcom
 use Rattle.chain_model.specs.{state_after, after, nothing}
 use Rattle.chain_core.specs.{Machine}
 use Rattle.carriers.specs.declared.NodeInput.{NodeInput}
-use Rattle.lab.specs.declared.event.Event.{Event}
-use Rattle.lab.specs.declared.event.EventKind.{EventKind}
-use Rattle.lab.specs.declared.event.EventKind.TheVariants.{Deliver, Notice}
+use Rattle.events.specs.declared.EventContent.{EventContent}
+use Rattle.events.specs.declared.EventKind.{EventKind}
+use Rattle.events.specs.declared.EventKind.TheVariants.{Deliver, Notice}
 use Rattle.lab.specs.declared.delivery.Posted.{Posted}
 use Rattle.lab.specs.declared.report.Line.{Line}
 use Rattle.lab.specs.declared.report.Line.TheVariants as line
@@ -63,7 +63,7 @@ FitsDelivery cs posted i kind found = (frames : List (ModelFrame BatchContent)) 
     AllZip PostedRefines posted frames → IsDeliverable cs frames i kind found
 
 -- the number is the place of the event behind these
-pub record IsNext (events : List Event) (i : ℕ) : Type 0 where
+pub record IsNext (events : List EventContent) (i : ℕ) : Type 0 where
   pub at : i ≡ length events + 1
   pub fits : i ≤ MAX_NUMBER
 
@@ -73,12 +73,12 @@ AlwaysInOrder = (cs : Configurations) (es : List (ModelEvent BatchContent)) → 
     InOrder cs es
 
 module _ {D : Type 0} {g : Ghosts D} (in_order : AlwaysInOrder) (past : WorldRun)
-    (sims : List (SimNode D g)) (posted : List Posted)
-    (made : RunRefines sims posted past) (i : ℕ) (next : IsNext past.events i) (event : Event) where
+    (sims : List (SimNode D g)) (posted : List Posted) (made : RunRefines sims posted past)
+    (i : ℕ) (next : IsNext past.events i) (event : EventContent) where
   abbrev cs : Configurations
   cs = past.configs
 
-  abbrev events : List Event
+  abbrev events : List EventContent
   events = past.events
 
   abbrev choices : List Choice

@@ -11,10 +11,10 @@ use Rattle.carriers.specs.declared.Delivery.TheVariants as delivery
 use Rattle.carriers.specs.declared.NodeInput.{NodeInput}
 use Rattle.carriers.specs.declared.NodeInput.TheVariants as to_node
 use Rattle.carriers.specs.{input_of}
-use Rattle.lab.specs.declared.event.EventKind.{EventKind}
-use Rattle.lab.specs.declared.event.EventKind.TheVariants.{Submit, Get, Rows, Open, Close}
-use Rattle.lab.specs.declared.event.EventKind.TheVariants.{Deliver, Notice, Tick, Tend, Start}
-use Rattle.lab.specs.declared.event.EventKind.TheVariants.{Stop}
+use Rattle.events.specs.declared.EventKind.{EventKind}
+use Rattle.events.specs.declared.EventKind.TheVariants.{Submit, Get, Rows, Open, Close}
+use Rattle.events.specs.declared.EventKind.TheVariants.{Deliver, Notice, Tick, Tend, Start}
+use Rattle.events.specs.declared.EventKind.TheVariants.{Stop}
 use Rattle.lab.specs.declared.delivery.Posted.{Posted}
 use Rattle.lab.specs.Events.{MayBeLost}
 

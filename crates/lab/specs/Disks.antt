@@ -15,9 +15,9 @@ use Rattle.chain_model.specs as model
 use Rattle.chain_core.specs.{Machine}
 use Rattle.node.specs.declared.Stop.TheVariants.{Disk}
 use Rattle.node.specs.{DiskAlwaysRefines, HasLongFile}
-use Rattle.lab.specs.declared.event.Event.{Event}
-use Rattle.lab.specs.declared.event.EventKind.{EventKind}
-use Rattle.lab.specs.declared.event.EventKind.TheVariants.{Stop}
+use Rattle.events.specs.declared.EventContent.{EventContent}
+use Rattle.events.specs.declared.EventKind.{EventKind}
+use Rattle.events.specs.declared.EventKind.TheVariants.{Stop}
 use Rattle.lab.specs.Events.{modelled}
 use Rattle.lab.specs.SimNodes.{Choice}
 use Rattle.lab.specs.Traces.{modelled_from}
@@ -117,7 +117,7 @@ IsMarkedBy state past marks may_rest junk fault struck stopped old new =
     (length (past_of_step stopped (past new))) (marks old)) new
 
 -- what an event leaves of the disk of the node that it was for, which is n after it
-pub record DiskFollows {D : Type 0} (g : Ghosts D) (event : Event)
+pub record DiskFollows {D : Type 0} (g : Ghosts D) (event : EventContent)
     (choice : Choice) (o : model.Outcome BatchContent) (n : Machine) (old new : D) : Type 0 where
   -- it is the same disk
   pub grows : HasGrown g.past old new
@@ -135,14 +135,15 @@ pub record DiskFollows {D : Type 0} (g : Ghosts D) (event : Event)
   pub rests : o.stopped ≡ false → n.running ≡ false → new ≡ old
 
 -- what an event leaves of all disks, by the ids of their nodes
-pub record DisksFollow {D : Type 0} (g : Ghosts D) (event : Event)
+pub record DisksFollow {D : Type 0} (g : Ghosts D) (event : EventContent)
     (choice : Choice) (o : model.Outcome BatchContent) (old new : ℕ → D) : Type 0 where
   pub at : (x : ℕ) (n : Machine) → o.acted_on ≡ Some (x, n) →
       DiskFollows g event choice o n (old x) (new x)
   pub others : (x : ℕ) → ((n : Machine) → o.acted_on ≡ Some (x, n) → ⊥) → new x ≡ old x
 
 -- what the events from place i on leave of all disks, one event after another, from a world on
-abbrev pub AllFollow : {D : Type 0} → Ghosts D → Configurations → ℕ → List Event → List Choice →
+abbrev pub AllFollow : {D : Type 0} → Ghosts D → Configurations → ℕ → List EventContent
+    → List Choice →
     model.SystemState BatchContent → (ℕ → D)
     → (ℕ → D) → Type 0
 AllFollow g cs i [] choices w old new = new ≡ old
@@ -160,7 +161,8 @@ IsNewDisk g disk =
 
 -- the disks that a run leaves, by the ids of their nodes: no call of them failed before it
 pub record AreDisksAfter {D : Type 0} (g : Ghosts D)
-    (cs : Configurations) (events : List Event) (choices : List Choice) (disks : ℕ → D) : Type 0
+    (cs : Configurations) (events : List EventContent) (choices : List Choice)
+    (disks : ℕ → D) : Type 0
   where
     pub first : ℕ → D
     pub begun : (x : ℕ) → g.failures (first x) ≡ 0
@@ -178,7 +180,7 @@ pub record IsDiskOf {D : Type 0} (state : D → State) (x : ℕ) (n : Machine) (
 
 -- each node of configuration 0 has the disk that the run leaves
 pub record HaveDisks {D N : Type 0} (g : Ghosts D) (id : N → ℕ)
-    (disk : N → D) (cs : Configurations) (events : List Event) (choices : List Choice)
+    (disk : N → D) (cs : Configurations) (events : List EventContent) (choices : List Choice)
     (nodes : List N) : Type 0 where
   pub ids : map id nodes ≡ at_epoch cs 0
   pub disks : ℕ → D

@@ -17,41 +17,15 @@ use Rattle.engine.specs.Tended.{Tended}
 use Rattle.node.specs.declared.Stop.{Stop as Cause}
 use Rattle.node.specs.declared.Stop.TheVariants.{Disk, Memory}
 use Rattle.node.specs.declared.Reply.TheVariants as reply
-use Rattle.lab.specs.declared.event.Event.{Event}
-use Rattle.lab.specs.declared.event.EventKind.{EventKind}
-use Rattle.lab.specs.declared.event.EventKind.TheVariants.{Submit, Get, Rows, Open, Close}
-use Rattle.lab.specs.declared.event.EventKind.TheVariants.{Deliver, Notice, Tick, Tend, Start}
-use Rattle.lab.specs.declared.event.EventKind.TheVariants.{Stop}
+use Rattle.events.specs.declared.EventContent.{EventContent}
+use Rattle.events.specs.declared.EventKind.{EventKind}
+use Rattle.events.specs.declared.EventKind.TheVariants.{Submit, Get, Rows, Open, Close}
+use Rattle.events.specs.declared.EventKind.TheVariants.{Deliver, Notice, Tick, Tend, Start}
+use Rattle.events.specs.declared.EventKind.TheVariants.{Stop}
+pub use Rattle.events.specs.{NamesNode, NamesNodes, epoch_in, node_in}
 use Rattle.lab.specs.declared.report.Line.{Line}
 use Rattle.lab.specs.declared.report.Line.TheVariants as line
 use Rattle.lab.specs.SimNodes.{Choice}
-
--- the node that an event names; a frame goes to its addressee
-abbrev pub node_in : EventKind → Option ℕ
-node_in (Submit node batch) = Some node
-node_in (Get node key at) = Some node
-node_in (Rows node range at) = Some node
-node_in (Open node at) = Some node
-node_in (Close node number) = Some node
-node_in (Deliver place) = None
-node_in (Notice node epoch) = Some node
-node_in (Tick node) = Some node
-node_in (Tend node) = Some node
-node_in (Start node) = Some node
-node_in (Stop node junk) = Some node
-
--- an event names a node of configuration 0, if it names one
-abbrev pub NamesNode : Configurations → EventKind → Type 0
-NamesNode cs kind = IfSome (node_in kind) (λ x. has (at_epoch cs 0) x ≡ true)
-
--- each of these events does, if it names one
-abbrev pub NamesNodes : Configurations → List Event → Type 0
-NamesNodes cs events = All (λ event. NamesNode cs event.kind) events
-
--- the epoch of a notice
-abbrev pub epoch_in : EventKind → Option ℕ
-epoch_in (Notice node epoch) = Some epoch
-epoch_in kind = None
 
 -- the event in place i that was not lost, as the model has it, by what was chosen in it
 abbrev pub arriving : ℕ → EventKind → Choice → model_frame.SystemEvent BatchContent
@@ -153,21 +127,22 @@ reported_cause kind fault choice = line_cause fault choice.struck choice.cause
 
 -- the lines of an event at node x: why it was dropped, then a start, an adoption or a tend, then
 -- frames, then replies
-abbrev pub lines_at : ℕ → ℕ → Event → Choice → model_frame.Outcome BatchContent → List Line
+abbrev pub lines_at : ℕ → ℕ → EventContent → Choice → model_frame.Outcome BatchContent → List Line
 lines_at x sent event choice o =
     if o.stopped then line.Stopped x (reported_cause event.kind event.fault choice) ∷ []
     else dropped_lines o.dropped ++ (turn_trace event.kind choice o
     ++ (frame_lines sent o.frames ++ reply_lines event.kind o.replies))
 
 -- the lines of an event, after so many frames
-abbrev pub lines_if : Option (ℕ × Machine) → ℕ → Event → Choice → model_frame.Outcome BatchContent
+abbrev pub lines_if : Option (ℕ × Machine) → ℕ → EventContent → Choice
+    → model_frame.Outcome BatchContent
     → List Line
 lines_if None sent event choice o = line.Nothing ∷ []
 lines_if (Some at) sent event choice o = lines_at at.0 sent event choice o
 
 -- the lines that the node gives of an event after so many frames, and of one that stopped by itself
 -- the cause
-abbrev pub lines_of_event : ℕ → Event → Choice → model_frame.Outcome BatchContent → List Line
+abbrev pub lines_of_event : ℕ → EventContent → Choice → model_frame.Outcome BatchContent → List Line
 lines_of_event sent event choice o = lines_if o.acted_on sent event choice o
 
 -- how many of these lines are replies
@@ -196,7 +171,7 @@ arrived told (other ∷ lines) = other ∷ arrived told lines
 
 -- the lines of an event after so many frames: of one that was lost only that, and else those of the
 -- node, with the replies that arrived
-abbrev pub reported_lines : ℕ → Event → Choice → model_frame.Outcome BatchContent → List Line
+abbrev pub reported_lines : ℕ → EventContent → Choice → model_frame.Outcome BatchContent → List Line
 reported_lines sent event choice o =
     if choice.lost then line.Lost ∷ []
     else arrived choice.told (lines_of_event sent event choice o)
@@ -229,7 +204,7 @@ pub record RiseFits (kind : EventKind) (choice : Choice) (o : model_frame.Outcom
     pub rests : choice.rises ≡ false → choice.gives_up ≡ 0
 
 -- what was chosen fits the event and its outcome, after these frames
-pub record ChoiceFits (frames : List (model_frame.Message BatchContent)) (event : Event)
+pub record ChoiceFits (frames : List (model_frame.Message BatchContent)) (event : EventContent)
     (choice : Choice) (o : model_frame.Outcome BatchContent) : Type 0
   where
     -- a node stops by itself for its device or for memory alone

@@ -7,8 +7,8 @@ use Rattle.disk.specs.{IsLastLeft, IsSame, Slots, past_states, struck_call}
 use Rattle.configurations.specs.{Configurations, at_epoch}
 use Rattle.chain_model.specs as model
 use Rattle.chain_core.specs.{Machine}
-use Rattle.lab.specs.declared.event.Event.{Event}
-use Rattle.lab.specs.declared.event.EventKind.{EventKind}
+use Rattle.events.specs.declared.EventContent.{EventContent}
+use Rattle.events.specs.declared.EventKind.{EventKind}
 use Rattle.lab.specs.declared.report.Report.{Report}
 use Rattle.lab.specs.Disks.{DiskFollows, junk_at_end, junk_of}
 use Rattle.lab.specs.Runs.{IsRun}
@@ -16,7 +16,7 @@ use Rattle.lab.specs.Events.{modelled}
 use Rattle.lab.specs.SimNodes.{Choice, in_memory, marks, state}
 
 -- events of these kinds with these faults
-abbrev pub with_faults : (ℕ → Fault) → List EventKind → List Event
+abbrev pub with_faults : (ℕ → Fault) → List EventKind → List EventContent
 with_faults f [] = []
 with_faults f (kind ∷ kinds) =
     record { kind = kind; fault = f zero } ∷ with_faults (λ i. f (suc i)) kinds
@@ -71,7 +71,7 @@ FaultsAreDetermined = (cs : Configurations) (kinds : List EventKind) (f f' : ℕ
 -- what two stop events with this junk and that left of a disk is one disk: then the junk is the
 -- same, and so is what the disk had had
 abbrev pub StopsAreDetermined : Type 0
-StopsAreDetermined = (event event' : Event) (choice choice' : Choice)
+StopsAreDetermined = (event event' : EventContent) (choice choice' : Choice)
     (o : model.Outcome BatchContent)
     (n : Machine) (junk junk' : Junk) (old old' new : Slots) → junk_of event.kind ≡ Some junk →
     junk_of event'.kind ≡ Some junk' → o.stopped ≡ true →

@@ -9,9 +9,9 @@ use Rattle.chain_model.specs.Retention.{KeepsEnough}
 use Rattle.node.specs.declared.Reply.{Reply}
 use Rattle.node.specs.declared.Reply.TheVariants.{Committed, Value, Opened}
 use Rattle.node.specs.declared.Reply.TheVariants as reply
-use Rattle.lab.specs.declared.event.Event.{Event}
-use Rattle.lab.specs.declared.event.EventKind.{EventKind}
-use Rattle.lab.specs.declared.event.EventKind.TheVariants.{Get, Rows}
+use Rattle.events.specs.declared.EventContent.{EventContent}
+use Rattle.events.specs.declared.EventKind.{EventKind}
+use Rattle.events.specs.declared.EventKind.TheVariants.{Get, Rows}
 use Rattle.lab.specs.declared.report.Line.{Line}
 use Rattle.lab.specs.declared.report.Line.TheVariants as line
 use Rattle.lab.specs.Events.{modelled}
@@ -62,7 +62,8 @@ pub record IsTailRead (cs : Configurations) (w : model.SystemState BatchContent)
 
 -- The values and pages that such reads show are fresh: those of the events from place i on, which
 -- have these lines, behind the lines of the events before.
-abbrev pub AreFresh : Configurations → ℕ → List Event → List Choice → model.SystemState BatchContent
+abbrev pub AreFresh : Configurations → ℕ → List EventContent → List Choice
+    → model.SystemState BatchContent
     → (earlier steps : List (List Line)) → Type 0
 AreFresh cs i [] choices w earlier steps = Unit {0}
 AreFresh cs i (event ∷ events) [] w earlier steps = ⊥
@@ -75,12 +76,12 @@ AreFresh cs i (event ∷ events) (choice ∷ choices) w earlier (lines ∷ steps
 -- Reads at the last tail are fresh. Behind each event its machine, while it runs, shows its whole
 -- list to such a read, and every number that was acknowledged or read is of that list. So no
 -- earlier line has a greater number than the value that it shows.
-pub record ReadsAreFresh (cs : Configurations) (events : List Event) (choices : List Choice)
+pub record ReadsAreFresh (cs : Configurations) (events : List EventContent) (choices : List Choice)
     (steps : List (List Line)) : Type 0 where
   pub machines : (k : ℕ) → ReadsFresh cs (modelled_from 1 (take k events) choices)
   pub lines : AreFresh cs 1 events choices (model.first_state cs) [] steps
 
 -- Behind each event no node has given up a batch that another one of its configuration may lack.
-abbrev pub NodesKeepEnough : Configurations → List Event → List Choice → Type 0
+abbrev pub NodesKeepEnough : Configurations → List EventContent → List Choice → Type 0
 NodesKeepEnough cs events choices = (k : ℕ)
     → KeepsEnough cs (modelled_from 1 (take k events) choices)

@@ -8,9 +8,9 @@ use Rattle.configurations.specs.{Configurations, last_of}
 use Rattle.chain_model.specs.{batches}
 use Rattle.node.specs.{DiskRepresents}
 use Rattle.node.specs.declared.Reply.TheVariants as reply
-use Rattle.lab.specs.declared.event.Event.{Event}
-use Rattle.lab.specs.declared.event.EventKind.{EventKind}
-use Rattle.lab.specs.declared.event.EventKind.TheVariants as kind
+use Rattle.events.specs.declared.EventContent.{EventContent}
+use Rattle.events.specs.declared.EventKind.{EventKind}
+use Rattle.events.specs.declared.EventKind.TheVariants as kind
 use Rattle.lab.specs.declared.report.Line.{Line}
 use Rattle.lab.specs.declared.report.Line.TheVariants as line
 use Rattle.lab.specs.declared.report.NodeReport.{NodeReport}
@@ -24,9 +24,9 @@ abbrev pub Placed : Type 0
 Placed = ℕ × BatchContent
 
 -- the event at this place submits the batch
-abbrev pub IsSubmitted : List Event → Placed → Type 0
+abbrev pub IsSubmitted : List EventContent → Placed → Type 0
 IsSubmitted events placed =
-    (node : ℕ) × (event : Event) × (place events placed.0 ≡ Some event)
+    (node : ℕ) × (event : EventContent) × (place events placed.0 ≡ Some event)
     × (event.kind ≡ kind.Submit node placed.1)
 
 -- An acknowledgement of n to request i says that place n of B is the batch of event i. A read at s
@@ -45,7 +45,7 @@ LineAgrees B asked (line.Replied (reply.Rows i s page)) = ⊥
 LineAgrees B asked other = Unit {0}
 
 -- The list B is a history of what clients see of these events, by the lines of each.
-pub record ClientHistory (events : List Event) (steps : List (List Line)) (B : List Placed)
+pub record ClientHistory (events : List EventContent) (steps : List (List Line)) (B : List Placed)
     : Type 0 where
   -- its batches were submitted ..
   pub submitted : All (IsSubmitted events) B
@@ -72,13 +72,13 @@ DisksHold state id disk cs nodes B =
 
 -- There is one list B: clients see it, and the disks hold it.
 pub record IsHistory {D N : Type 0} (state : D → State) (id : N → ℕ) (disk : N → D)
-    (cs : Configurations) (events : List Event) (steps : List (List Line)) (nodes : List N)
+    (cs : Configurations) (events : List EventContent) (steps : List (List Line)) (nodes : List N)
     : Type 0 where
   pub B : List Placed
   pub clients : ClientHistory events steps B
   pub disks : DisksHold state id disk cs nodes B
 
 -- .. for a report
-abbrev pub OneHistory : Configurations → List Event → Report → Type 0
+abbrev pub OneHistory : Configurations → List EventContent → Report → Type 0
 OneHistory cs events report = IsHistory state (λ (node : NodeReport). node.id)
     (λ (node : NodeReport). node.disk) cs events report.steps.items report.nodes.items

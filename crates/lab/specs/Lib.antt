@@ -1,4 +1,5 @@
 pub mod Events
+pub mod HeldLines
 pub mod SimNodes
 pub mod Traces
 pub mod Posting
@@ -25,8 +26,11 @@ pub use Rattle.node.specs.declared.numbers.Numbers
 pub use Rattle.node.specs.declared.output.Reply
 pub use Rattle.node.specs.declared.stop.Stop
 pub use Rattle.engine.specs.Tended
+pub use Rattle.events.specs.declared.content.EventContent
+pub use Rattle.events.specs.declared.kind.EventKind
 -- What crates above name.
 pub use Rattle.lab.specs.Events.{NamesNode, node_in}
+pub use Rattle.events.specs.{delivered_place, faultless}
 pub use Rattle.lab.specs.LinesSoFar.{AddsLines, AreEventLines, EventAddsLines, HasItsNodes}
 pub use Rattle.lab.specs.LinesSoFar.{configs_of, lines_so_far, sim_node_ids}
 pub use Rattle.lab.specs.History.{ClientHistory, DisksHold, OneHistory}

@@ -3,9 +3,9 @@ use Rattle.std.specs.Prelude.{◌≡◌, ℕ, List, [], ◌∷◌, ◌++◌, All
 use Rattle.configurations.specs.{Configurations, at_epoch}
 use Rattle.disk.specs.declared.disk.Disk.{Ghosts}
 use Rattle.chain_model.specs.declared.DropReason.TheVariants as reason
-use Rattle.lab.specs.declared.event.Event.{Event}
-use Rattle.lab.specs.declared.event.EventKind.{EventKind}
-use Rattle.lab.specs.declared.event.EventKind.TheVariants.{Notice, Start, Stop, Tend}
+use Rattle.events.specs.declared.EventContent.{EventContent}
+use Rattle.events.specs.declared.EventKind.{EventKind}
+use Rattle.events.specs.declared.EventKind.TheVariants.{Notice, Start, Stop, Tend}
 use Rattle.lab.specs.declared.report.Line.{Line}
 use Rattle.lab.specs.declared.report.Line.TheVariants as line
 use Rattle.lab.specs.declared.sim_node.SimNode.{SimNode}
@@ -96,6 +96,6 @@ module _ {D C : Type 0} {g : Ghosts D} where
     pub nodes : HasItsNodes old → HasItsNodes new
 
   -- .. one event, which may name no node
-  abbrev pub EventAddsLines : Event → World D C g → World D C g → Type 0
+  abbrev pub EventAddsLines : EventContent → World D C g → World D C g → Type 0
   EventAddsLines event old new =
       AddsLines (NamesNode (configs_of old) event.kind) (AreEventLines event.kind) 1 old new

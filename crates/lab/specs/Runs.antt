@@ -6,7 +6,7 @@ use Rattle.chain_model.specs as model
 use Rattle.chain_core.specs.{Machine}
 use Rattle.node.specs.declared.Numbers.{Numbers}
 use Rattle.node.specs.{NumbersRefine}
-use Rattle.lab.specs.declared.event.Event.{Event}
+use Rattle.events.specs.declared.EventContent.{EventContent}
 use Rattle.lab.specs.declared.report.NodeReport.{NodeReport}
 use Rattle.lab.specs.declared.report.Report.{Report}
 use Rattle.lab.specs.Disks.{HaveDisks, StaysReliable}
@@ -20,7 +20,8 @@ RunningRefines None n = n.running ≡ false
 RunningRefines (Some numbers) n = (n.running ≡ true) × NumbersRefine n numbers
 
 -- the numbers of node x after these events, in each of which was chosen so: none if it is down
-abbrev pub AreNumbersOf : Configurations → List Event → List Choice → ℕ → Option Numbers → Type 0
+abbrev pub AreNumbersOf : Configurations → List EventContent → List Choice → ℕ → Option Numbers
+    → Type 0
 AreNumbersOf cs events choices x told =
     RunningRefines told (model.node_of cs (modelled_from 1 events choices) x)
 
@@ -29,7 +30,7 @@ AreNumbersOf cs events choices x told =
 -- its outcome, and each node is the one behind the run. Its disk is the one that the events left,
 -- represents its machine's whole list, and has no fault. Reads at the last tail are fresh, and no
 -- node gives up what another one may lack.
-pub record IsRunOver (loses : Type 0) (cs : Configurations) (events : List Event)
+pub record IsRunOver (loses : Type 0) (cs : Configurations) (events : List EventContent)
     (choices : List Choice) (report : Report) : Type 0 where
   pub trace : IsTrace cs events choices report.steps.items
   -- nothing was lost by a carrier that loses nothing
@@ -45,5 +46,5 @@ pub record IsRunOver (loses : Type 0) (cs : Configurations) (events : List Event
   pub enough : NodesKeepEnough cs events choices
 
 -- .. in which nothing was lost
-abbrev pub IsRun : Configurations → List Event → List Choice → Report → Type 0
+abbrev pub IsRun : Configurations → List EventContent → List Choice → Report → Type 0
 IsRun cs events choices report = IsRunOver ⊥ cs events choices report

@@ -11,9 +11,9 @@ use Rattle.carriers.specs.{Transmission, one_transmission, reply_frame}
 use Rattle.disk.specs.declared.disk.Disk.{Ghosts}
 use Rattle.lab.specs.declared.delivery.Posted.{Posted}
 use Rattle.lab.specs.declared.world.World.{World}
-use Rattle.lab.specs.declared.event.Event.{Event}
-use Rattle.lab.specs.declared.event.EventKind.{EventKind}
-use Rattle.lab.specs.declared.event.EventKind.TheVariants.{Submit, Get, Rows, Open, Close, Deliver}
+use Rattle.events.specs.declared.EventContent.{EventContent}
+use Rattle.events.specs.declared.EventKind.{EventKind}
+use Rattle.events.specs.declared.EventKind.TheVariants.{Submit, Get, Rows, Open, Close, Deliver}
 use Rattle.lab.specs.declared.report.Line.{Line}
 use Rattle.lab.specs.declared.report.Line.TheVariants as line
 use Rattle.lab.specs.Events.{first_arrives, later_arrivals, lines_of_event}
@@ -68,7 +68,8 @@ replies_from (Some at) told lines = replies_sent at.0 told lines
 -- All that the event in place i asks of the carrier, after these posted frames: its request or
 -- frame, lost as it was chosen, and then each reply that its node gave, lost where the client was
 -- not told.
-abbrev pub transmissions_of : List Posted → ℕ → Event → Choice → model_frame.Outcome BatchContent
+abbrev pub transmissions_of : List Posted → ℕ → EventContent → Choice
+    → model_frame.Outcome BatchContent
     → List Transmission
 transmissions_of posted i event choice o =
     frame_sent posted i event.kind choice.lost

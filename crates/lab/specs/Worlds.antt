@@ -23,9 +23,9 @@ use Rattle.carriers.specs.declared.Direct.{Direct}
 use Rattle.carriers.specs.{HasCarriedMore, Transmission}
 use Rattle.carriers.specs.declared.NodeInput.{NodeInput}
 use Rattle.lab.specs.declared.input.StepOutcome.{StepOutcome}
-use Rattle.lab.specs.declared.event.Event.{Event}
+use Rattle.events.specs.declared.EventContent.{EventContent}
 use Rattle.lab.specs.declared.event.EventRecord.{EventRecord}
-use Rattle.lab.specs.declared.event.EventKind.TheVariants.{Stop, Tend}
+use Rattle.events.specs.declared.EventKind.TheVariants.{Stop, Tend}
 use Rattle.lab.specs.declared.node_state.NodeState.{NodeState}
 use Rattle.lab.specs.declared.node_state.NodeState.TheVariants.{Up, Down}
 use Rattle.lab.specs.declared.report.Line.{Line}
@@ -78,11 +78,11 @@ pub record PostedRefines (posted : Posted) (frame : model_frame.Message BatchCon
   pub bytes : posted.bytes.items ≡ frame_bytes it
 
 -- an event as a world keeps it, lost or not
-abbrev pub event_record : Event → Bool → EventRecord
+abbrev pub event_record : EventContent → Bool → EventRecord
 event_record event lost = record { event = event; lost = lost }
 
 -- events as a world keeps them, by what was chosen in each
-abbrev pub event_records : List Event → List Choice → List EventRecord
+abbrev pub event_records : List EventContent → List Choice → List EventRecord
 event_records (event ∷ events) (choice ∷ choices) =
     event_record event choice.lost ∷ event_records events choices
 event_records _ _ = []
@@ -90,7 +90,7 @@ event_records _ _ = []
 -- a run of a world: its configurations, its events, what was chosen in each, and the lines of each
 pub record WorldRun : Type 0 where
   pub configs : Configurations
-  pub events : List Event
+  pub events : List EventContent
   pub choices : List Choice
   pub steps : List (List Line)
 
@@ -99,7 +99,7 @@ abbrev pub empty_run : Configurations → WorldRun
 empty_run cs = record { configs = cs; events = []; choices = []; steps = [] }
 
 -- .. and one with an event more
-abbrev pub extended : WorldRun → Event → Choice → List Line → WorldRun
+abbrev pub extended : WorldRun → EventContent → Choice → List Line → WorldRun
 extended run event choice lines = record {
   configs = run.configs;
   events = run.events ++ event ∷ [];
@@ -108,13 +108,13 @@ extended run event choice lines = record {
 }
 
 -- the outcome of an event in the model, behind a run
-abbrev pub outcome_after : WorldRun → Event → Choice → model_frame.Outcome BatchContent
+abbrev pub outcome_after : WorldRun → EventContent → Choice → model_frame.Outcome BatchContent
 outcome_after run event choice = model_frame.outcome
     (model_frame.reached run.configs (modelled_from 1 run.events run.choices)) run.configs
     (modelled (suc (length run.events)) event.kind choice)
 
 -- all that an event asked of the carrier, behind a run and these posted frames
-abbrev pub asked_after : WorldRun → List Posted → Event → Choice → List Transmission
+abbrev pub asked_after : WorldRun → List Posted → EventContent → Choice → List Transmission
 asked_after run posted event choice =
     transmissions_of posted (suc (length run.events)) event choice (outcome_after run event choice)
 
@@ -187,7 +187,8 @@ module _ {D : Type 0} {g : Ghosts D} where
 
   -- An event acted on node x, which is machine n after it, and the disk that the node has follows
   -- from the one that it had. Every other node is as it was.
-  pub record HasActedOn (event : Event) (choice : Choice) (o : model_frame.Outcome BatchContent)
+  pub record HasActedOn (event : EventContent) (choice : Choice)
+      (o : model_frame.Outcome BatchContent)
       (x : ℕ) (n : Machine) (old new : List (SimNode D g)) : Type 0 where
     pub index : ℕ
     pub at : IsIndexOf old index x
@@ -206,13 +207,15 @@ module _ {D : Type 0} {g : Ghosts D} where
         TendsAsChosen choice was.value now.value
 
   -- the nodes follow from those before, by the node that the event acted on
-  abbrev pub NodesFollow : Option (ℕ × Machine) → Event → Choice → model_frame.Outcome BatchContent
+  abbrev pub NodesFollow : Option (ℕ × Machine) → EventContent → Choice
+      → model_frame.Outcome BatchContent
       → List (SimNode D g) → List (SimNode D g) → Type 0
   NodesFollow None event choice o old new = new ≡ old
   NodesFollow (Some at) event choice o old new = HasActedOn event choice o at.0 at.1 old new
 
   -- these nodes follow by the outcome of the event in the model, behind a run
-  abbrev pub FollowRun : WorldRun → Event → Choice → List (SimNode D g) → List (SimNode D g) →
+  abbrev pub FollowRun : WorldRun → EventContent → Choice → List (SimNode D g) →
+      List (SimNode D g) →
       Type 0
   FollowRun run event choice old new =
       let o = outcome_after run event choice in
@@ -245,7 +248,7 @@ module _ {D : Type 0} {g : Ghosts D} where
   -- What the events from place i on leave of these nodes, one event after another, from a state of
   -- the model on. Behind each of them those that are up have these limits, and all refine their
   -- machines.
-  abbrev pub AllNodesFollow : Configurations → Limits → ℕ → List Event → List Choice
+  abbrev pub AllNodesFollow : Configurations → Limits → ℕ → List EventContent → List Choice
       → model_frame.SystemState BatchContent → List (SimNode D g) → List (SimNode D g) → Type 0
   AllNodesFollow cs limits i [] choices w old new = new ≡ old
   AllNodesFollow cs limits i (event ∷ events) [] w old new = ⊥
@@ -258,7 +261,7 @@ module _ {D : Type 0} {g : Ghosts D} where
 
   -- The nodes that a run leaves: they were created with the first configuration and these limits,
   -- and each event left nodes that follow from those before it.
-  pub record AreNodesAfter (cs : Configurations) (limits : Limits) (events : List Event)
+  pub record AreNodesAfter (cs : Configurations) (limits : Limits) (events : List EventContent)
       (choices : List Choice) (sims : List (SimNode D g)) : Type 0 where
     pub first : List (SimNode D g)
     pub created : AreCreated (at_epoch cs 0) (at_epoch cs 0) limits first
@@ -277,7 +280,7 @@ module _ {D C : Type 0} {g : Ghosts D} where
     pub arrives : Arrives h.loses run.choices
 
   -- the world has begun an event, which is not known to be lost; it is as it was otherwise
-  pub record HasBegunEvent (old new : World D C g) (event : Event) : Type 0 where
+  pub record HasBegunEvent (old new : World D C g) (event : EventContent) : Type 0 where
     pub taken : new.events.items ≡ old.events.items ++ event_record event false ∷ []
     pub others : new ≡ record old { events = new.events; ended = true }
 
@@ -285,7 +288,7 @@ module _ {D C : Type 0} {g : Ghosts D} where
   -- is as it was otherwise.
   pub record HasKept (old new : World D C g) (lost : Bool) (lines : List Line) : Type 0 where
     pub kept : new.steps.items ≡ old.steps.items ++ lines ∷ []
-    pub taken : (before : List EventRecord) (event : Event) →
+    pub taken : (before : List EventRecord) (event : EventContent) →
         old.events.items ≡ before ++ event_record event false ∷ [] →
         new.events.items ≡ before ++ event_record event lost ∷ []
     pub others : new ≡ record old { events = new.events; steps = new.steps; ended = false }
@@ -304,7 +307,7 @@ module _ {D C : Type 0} {g : Ghosts D} where
   -- frames that were posted for it are of the node that it acted on; and the carrier was asked for
   -- exactly what the event sends, and lost exactly what was chosen.
   pub record HasFollowed (h : Carriers C) (old new : World D C g) (past : WorldRun)
-      (event : Event) : Type 0 where
+      (event : EventContent) : Type 0 where
     pub choice : Choice
     pub lines : List Line
     pub run : HasRun h new (extended past event choice lines)
@@ -323,7 +326,7 @@ module _ {D C : Type 0} {g : Ghosts D} where
   -- An event was applied if it names a node of the world, or none. Where it names another node, all
   -- stays.
   pub record HasApplied (h : Carriers C) (old new : World D C g) (past : WorldRun)
-      (event : Event) : Type 0 where
+      (event : EventContent) : Type 0 where
     pub follows : NamesNode past.configs event.kind → HasFollowed h old new past event
     pub nothing : (NamesNode past.configs event.kind → ⊥) → HasStayed h old new past
 
@@ -387,7 +390,7 @@ pub record AreLeft (sims : List MemNode) (nodes : List NodeReport) : Type 0 wher
       All (λ node. IsLeft (machines node.id) (disks node.id) node) nodes
 
 -- the reports are of the nodes that a run leaves, one of each in order
-pub record AreReportsAfter (cs : Configurations) (limits : Limits) (events : List Event)
+pub record AreReportsAfter (cs : Configurations) (limits : Limits) (events : List EventContent)
     (choices : List Choice) (reports : List NodeReport) : Type 0 where
   pub sims : List MemNode
   pub after : AreNodesAfter cs limits events choices sims

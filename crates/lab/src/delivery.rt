@@ -9,10 +9,11 @@ ghost use Rattle.lab.specs.Deliveries.{HasNoFrame, IsCarriedEvent, IsDeliverable
 ghost use Rattle.lab.specs.Transmissions.{frame_sent};
 ghost use Rattle.lab.specs.Worlds.{PostedRefines};
 
-use crate::{Carrier, EventKind, LabError};
+use crate::{Carrier, Event, EventKind, LabError};
 use carriers::{Delivery, NodeInput, send_posted, send_request};
 use configurations::{Configs, Epoch, NodeId};
-use kv_types::Number;
+use events::LentKind;
+use kv_types::{Batch, Key, Number};
 use link_messages::Frame;
 use node::Input;
 use std::alloc::Global;
@@ -71,9 +72,51 @@ fn noticed(configs: &Configs, node: NodeId, epoch: Epoch) -> Result<Delivery, La
     Ok(Delivery::To(node, input))
 }
 
-/// The delivery of an event, where a request has this number: requests and posted frames are
-/// carried, and may be lost.
-pub fn delivery_of<C: Carrier>(
+// The delivery of a client's batch, where its request has this number.
+fn submitted<C: Carrier>(
+    alloc: Global,
+    carrier: &mut C,
+    request: Number,
+    node: NodeId,
+    batch: &Batch,
+) -> Result<Delivery, LabError>
+    ensures faithful { C.is_faithful carrier.new ↔ C.is_faithful carrier.old }
+    ensures found { (cs : Configurations) (frames : List (ModelFrame BatchContent)) →
+        C.is_faithful carrier.old →
+        IfOk result (IsDeliverable cs frames request (EventKind.Submit node batch.now)) }
+    ensures lost { IfOk result (λ it. DeliveryWasLost it → C.loses) }
+    ensures asked { (posted : List Posted) → IfOk result (λ it. HasCarriedMore C.has_carried
+        carrier.old carrier.new
+        (frame_sent posted request (EventKind.Submit node batch.now) (delivery_lost it))) }
+{
+    let batch = batch.clone()?;
+    send_request(alloc, carrier, node, Frame::Submit { request, batch })
+}
+
+// The delivery of a read of a key, where its request has this number.
+fn looked_up<C: Carrier>(
+    alloc: Global,
+    carrier: &mut C,
+    request: Number,
+    node: NodeId,
+    key: &Key,
+    at: Option<Number>,
+) -> Result<Delivery, LabError>
+    ensures faithful { C.is_faithful carrier.new ↔ C.is_faithful carrier.old }
+    ensures found { (cs : Configurations) (frames : List (ModelFrame BatchContent)) →
+        C.is_faithful carrier.old → IfOk result
+        (IsDeliverable cs frames request (EventKind.Get node key.now at)) }
+    ensures lost { IfOk result (λ it. DeliveryWasLost it → C.loses) }
+    ensures asked { (posted : List Posted) → IfOk result (λ it. HasCarriedMore C.has_carried
+        carrier.old carrier.new (frame_sent posted request
+        (EventKind.Get node key.now at) (delivery_lost it))) }
+{
+    let key = key.clone()?;
+    send_request(alloc, carrier, node, Frame::Get { request, at, key })
+}
+
+// The delivery of an event of this kind, where a request has this number.
+fn delivery_of_kind<C: Carrier>(
     alloc: Global,
     carrier: &mut C,
     configs: &Configs,
@@ -90,14 +133,8 @@ pub fn delivery_of<C: Carrier>(
         (frame_sent posted.now request kind.now (delivery_lost it))) }
 {
     match kind {
-        EventKind::Submit { node, batch } => {
-            let batch = batch.clone()?;
-            send_request(alloc, carrier, *node, Frame::Submit { request, batch })
-        }
-        EventKind::Get { node, key, at } => {
-            let (key, at) = (key.clone()?, *at);
-            send_request(alloc, carrier, *node, Frame::Get { request, at, key })
-        }
+        EventKind::Submit { node, batch } => submitted(alloc, carrier, request, *node, batch),
+        EventKind::Get { node, key, at } => looked_up(alloc, carrier, request, *node, key, *at),
         EventKind::Rows { node, range, at } => {
             let (range, at) = (range.clone()?, *at);
             send_request(alloc, carrier, *node, Frame::Rows { request, at, range })
@@ -116,5 +153,31 @@ pub fn delivery_of<C: Carrier>(
         EventKind::Tend { node } => Ok(Delivery::To(*node, NodeInput::Tend)),
         EventKind::Start { node } => Ok(Delivery::To(*node, NodeInput::Start)),
         EventKind::Stop { node, junk } => Ok(Delivery::To(*node, NodeInput::Stop(junk.clone()?))),
+    }
+}
+
+/// The delivery of an event, where a request has this number: requests and posted frames are
+/// carried, and may be lost.
+pub fn delivery_of<C: Carrier>(
+    alloc: Global,
+    carrier: &mut C,
+    configs: &Configs,
+    posted: &[Posted],
+    request: Number,
+    event: &Event,
+) -> Result<Delivery, LabError>
+    ensures faithful { C.is_faithful carrier.new ↔ C.is_faithful carrier.old }
+    ensures found { (frames : List (ModelFrame BatchContent)) → (IsCarriedEvent event.now.kind →
+        AllZip PostedRefines posted.now frames × C.is_faithful carrier.old) →
+        IfOk result (IsDeliverable configs.now frames request event.now.kind) }
+    ensures lost { IfOk result (λ it. DeliveryWasLost it → C.loses) }
+    ensures asked { IfOk result (λ it. HasCarriedMore C.has_carried carrier.old carrier.new
+        (frame_sent posted.now request event.now.kind (delivery_lost it))) }
+{
+    match event.kind() {
+        LentKind::Deliver(place) => delivered(alloc, carrier, posted, place),
+        LentKind::Submit(node, batch) => submitted(alloc, carrier, request, node, batch),
+        LentKind::Get(node, key, at) => looked_up(alloc, carrier, request, node, key, at),
+        LentKind::Kept(kind) => delivery_of_kind(alloc, carrier, configs, posted, request, kind),
     }
 }

@@ -16,12 +16,13 @@ mod world;
 
 // The types that events, lines and reports have, and a law of their words, so that a caller names
 // this crate alone.
-pub use carriers::{Carried, Carrier, Direct, LabError, Peer};
+pub use carriers::{Carried, Carrier, Direct, KeptReply, LabError, Peer, ReplyForm};
 pub use configurations::laws::test_decides_config;
 pub use configurations::{Config, ConfigError, Configs, Epoch, NodeId};
 pub use disk::{Fault, Junk, JunkBytes, MemDisk};
 pub use engine::Tended;
-pub use event::{Event, EventKind, EventRecord, names_node, names_nodes};
+pub use event::EventRecord;
+pub use events::{Event, EventContent, EventKind, names_nodes};
 pub use kv_types::{Batch, Key, Limits, Number, Page, Range, Row, Value};
 pub use link_messages::Refusal;
 pub use node::{DropReason, Numbers, Reply, Stop};

@@ -1,14 +1,22 @@
 // The replies of a step, as they are carried to the client.
-ghost use Rattle.std.specs.Prelude.{◌↔◌, OnOk};
+ghost use Rattle.std.specs.Prelude.{◌≡◌, ◌↔◌, ◌∷◌, ◌++◌, [], OnOk};
 ghost use Rattle.carriers.specs.{HasCarriedMore};
 ghost use Rattle.lab.specs.Arrivals.{RepliesFollow};
 
 use crate::report::{Line, Lines};
 use crate::{Carrier, LabError};
-use carriers::send_reply;
+use carriers::{KeptReply, send_reply};
 use configurations::NodeId;
 use node::Reply;
-use std::alloc::Global;
+use std::alloc::{AllocError, Global};
+
+// Adds the line of a reply that arrived.
+fn push_reply(alloc: Global, lines: &mut Lines, reply: Reply) -> Result<(), AllocError>
+    ensures { OnOk result (lines.new ≡ lines.old ++ Line.Replied reply ∷ []) }
+{
+    let reply = KeptReply::new(alloc, reply)?;
+    lines.push(Line::Replied(reply))
+}
 
 /// Carries the replies of a node to the client, one after another. Each that arrives has a line
 /// behind those that there are.
@@ -26,7 +34,7 @@ pub fn carry_replies<C: Carrier>(
 {
     for reply in replies {
         if let Some(reply) = send_reply(alloc, carrier, from, reply)? {
-            lines.push(Line::Replied(reply))?;
+            push_reply(alloc, lines, reply)?;
         }
     }
     Ok(())

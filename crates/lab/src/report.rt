@@ -1,20 +1,20 @@
 // The report of a run: the lines of each event, and each node at the end.
 ghost use Rattle.std.specs.Prelude.{◌≡◌, ◌∷◌, ◌++◌, [], OnOk};
 
+use carriers::KeptReply;
 use configurations::{Epoch, NodeId};
 use disk::MemDisk;
 use engine::Tended;
 use kv_types::Number;
-use node::{DropReason, Numbers, Reply, Stop};
-use smallvec::SmallVec;
+use node::{DropReason, Numbers, Stop};
 use std::alloc::{AllocError, Global};
 use std::marker::Model;
+use std::{mem, slice};
 
 /// One line of the trace of an event.
-#[derive(Default, Drop)]
+#[derive(Drop)]
 pub enum Line {
     /// No frame has the place, no configuration the epoch, or no node the id.
-    #[default]
     Nothing,
     /// The request or the frame did not arrive.
     Lost,
@@ -47,7 +47,7 @@ pub enum Line {
         committed: Number,
         have: Number,
     },
-    Replied(Reply),
+    Replied(KeptReply),
     /// The node stopped: by itself for this cause, or the event or its fault stopped it.
     Stopped {
         node: NodeId,
@@ -60,45 +60,71 @@ pub enum Line {
 /// The lines of one event, in order. Most events have one, which needs no allocation.
 #[derive(Drop)]
 pub struct Lines {
-    lines: SmallVec<Line, 1>,
+    alloc: Global,
+    held: HeldLines,
+}
+
+#[derive(Drop)]
+pub enum HeldLines {
+    None,
+    One(Line),
+    Many(Vec<Line>),
 }
 
 impl Model for Lines {
     ghost use Rattle.std.specs.Prelude.{List};
     ghost use Rattle.lab.specs.declared.report.Line.{Line};
+    ghost use Rattle.lab.specs.HeldLines.{lines_held};
 
     ghost Value = { List Line };
 
-    ghost view = { λ lines. lines.lines.items };
+    ghost view = { λ lines. lines_held lines.held };
 }
 
 impl Lines {
     pub(crate) fn new(alloc: Global) -> Lines
         ensures { result ≡ [] }
     {
-        let lines = SmallVec::new(alloc);
-        Lines { lines }
+        let held = HeldLines::None;
+        Lines { alloc, held }
     }
 
     pub(crate) fn one(alloc: Global, line: Line) -> Lines
         ensures { result ≡ line ∷ [] }
     {
-        let mut lines = SmallVec::new(alloc);
-        lines.push_reserved(line);
-        Lines { lines }
+        let held = HeldLines::One(line);
+        Lines { alloc, held }
     }
 
     pub(crate) fn push(&mut self, line: Line) -> Result<(), AllocError>
         ensures { OnOk result (self.new ≡ self.old ++ line ∷ []) }
     {
-        Ok(self.lines.push(line)?)
+        let held = mem::replace(&mut self.held, HeldLines::None);
+        self.held = match held {
+            HeldLines::None => HeldLines::One(line),
+            HeldLines::One(first) => {
+                let mut all = Vec::with_capacity(self.alloc, 2)?;
+                all.push(first)?;
+                all.push(line)?;
+                HeldLines::Many(all)
+            }
+            HeldLines::Many(mut all) => {
+                all.push(line)?;
+                HeldLines::Many(all)
+            }
+        };
+        Ok(())
     }
 
     /// The lines in order.
     pub fn as_slice(&self) -> &[Line]
         ensures { result.now ≡ self.now }
     {
-        self.lines.as_slice()
+        match &self.held {
+            HeldLines::None => &[],
+            HeldLines::One(line) => slice::from_ref(line),
+            HeldLines::Many(lines) => lines.as_slice(),
+        }
     }
 }
 

@@ -11,13 +11,13 @@ ghost use Rattle.lab.specs.Worlds.{AreCreated, HasApplied, HasBegunEvent, HasHis
 ghost use Rattle.lab.specs.Worlds.{HasMoved, HasNoNode, HasRun, HaveLimits, IsCreated, IsIndexOf};
 ghost use Rattle.lab.specs.Worlds.{IsDownAmong, IsReportOf, IsRunSoFar, ShowsTables, WorldHasEnded};
 ghost use Rattle.lab.specs.Worlds.{WorldHasLimits, WorldKeepsLimits, WorldRun, direct_carrier};
-ghost use Rattle.lab.specs.Worlds.{empty_run, event_record, event_records, frames_in_steps};
+ghost use Rattle.lab.specs.Worlds.{empty_run, event_records, frames_in_steps};
 ghost use Rattle.lab.specs.LinesSoFar.{EventAddsLines, HasItsNodes, configs_of, lines_so_far};
 ghost use Rattle.lab.specs.LinesSoFar.{sim_node_ids};
 ghost use Rattle.lab.specs.Transmissions.{carrier_of};
 
 use crate::delivery::{Posted, delivery_of};
-use crate::event::names_node;
+use crate::event::mark;
 use crate::input::StepOutcome;
 use crate::leaving::left_of_all;
 use crate::node_state::NodeState;
@@ -107,17 +107,17 @@ fn index_of<D: Disk + Drop>(nodes: &[SimNode<D>], id: NodeId) -> Option<usize>
 fn deliver<D: Crash + Drop>(
     alloc: Global,
     nodes: &mut Vec<SimNode<D>>,
-    fault: &Fault,
+    event: &Event,
     index: usize,
     delivery: (NodeId, NodeInput),
     limits: &Limits,
 ) -> Result<StepOutcome, AllocError>
     requires { IsIndexOf nodes.old.items index delivery.0 }
-    ensures { IfOk result (λ did. HasMoved nodes.old.items delivery.0 delivery.1 fault.now
-        limits.now did nodes.new.items) }
+    ensures { IfOk result (λ did. HasMoved nodes.old.items delivery.0 delivery.1
+        event.now.fault limits.now did nodes.new.items) }
 {
     let (id, input) = delivery;
-    let fault = match fault.clone() {
+    let fault = match event.fault() {
         Ok(fault) => fault,
         Err(e) => {
             drop(input);
@@ -128,17 +128,6 @@ fn deliver<D: Crash + Drop>(
     let (state, outcome) = node.state.dispatch(alloc, input, fault, limits)?;
     nodes.insert(index, SimNode { id, state })?;
     Ok(outcome)
-}
-
-// Marks the last event as lost, or not.
-fn mark(events: &mut Vec<EventRecord>, lost: bool)
-    ensures { (before : List EventRecord) (event : Event) →
-        events.old.items ≡ before ++ event_record event false ∷ [] →
-        events.new.items ≡ before ++ event_record event lost ∷ [] }
-{
-    if let Some(record) = events.last_mut() {
-        record.lost = lost;
-    }
 }
 
 impl World<MemDisk, Direct> {
@@ -345,7 +334,7 @@ impl<D: Crash + Drop, C: Carrier + Drop> World<D, C> {
         if self.ended {
             return Err(LabError::Memory);
         }
-        if !names_node(&self.configs, &event.kind) {
+        if !event.names_node(&self.configs) {
             return Ok(());
         }
         self.begin(event)?;
@@ -361,7 +350,7 @@ impl<D: Crash + Drop, C: Carrier + Drop> World<D, C> {
             &self.configs,
             &self.frames,
             request,
-            &event.kind,
+            event,
         )? {
             Delivery::Nothing => return self.keep(false, Lines::one(alloc, Line::Nothing)),
             Delivery::Lost => return self.keep(true, Lines::one(alloc, Line::Lost)),
@@ -372,9 +361,9 @@ impl<D: Crash + Drop, C: Carrier + Drop> World<D, C> {
             return self.keep(false, Lines::one(alloc, Line::Nothing));
         };
         let (nodes, limits) = (&mut self.nodes, &self.limits);
-        let outcome = deliver(alloc, nodes, &event.fault, at, (id, input), limits)?;
+        let outcome = deliver(alloc, nodes, event, at, (id, input), limits)?;
         let (carrier, frames) = (&mut self.carrier, &mut self.frames);
-        let lines = trace_of(alloc, carrier, frames, id, event.kind.epoch(), outcome)?;
+        let lines = trace_of(alloc, carrier, frames, id, event.epoch(), outcome)?;
         self.keep(false, lines)
     }
 }

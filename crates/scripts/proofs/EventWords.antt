@@ -12,10 +12,10 @@ use Rattle.lab.specs.Junk.{Junk}
 use Rattle.lab.specs.Junk.TheVariants.{Old, New, Bytes}
 use Rattle.kv_types.specs.declared.Edit.{Edit}
 use Rattle.kv_types.specs.declared.Edit.TheVariants.{Put, Delete}
-use Rattle.lab.specs.declared.Event.{Event}
-use Rattle.lab.specs.declared.EventKind.{EventKind}
-use Rattle.lab.specs.declared.EventKind.TheVariants.{Submit, Get, Deliver, Tick, Tend, Start, Stop}
-use Rattle.lab.specs.declared.EventKind.TheVariants.{Rows, Open, Close, Notice}
+use Rattle.lab.specs.EventContent.{EventContent}
+use Rattle.lab.specs.EventKind.{EventKind}
+use Rattle.lab.specs.EventKind.TheVariants.{Submit, Get, Deliver, Tick, Tend, Start, Stop}
+use Rattle.lab.specs.EventKind.TheVariants.{Rows, Open, Close, Notice}
 use Rattle.script_words.specs.Words.{AreBytes, is_plain, bound_text, bytes_text, begins_fault}
 use Rattle.script_words.specs.Words.{has_fault, before_fault, from_fault}
 use Rattle.script_words.specs.Edits.{AreBytesIn, edit_word}
@@ -229,14 +229,14 @@ opens (Stop node junk) words (inl p) = (_, p.1)
 opens (Stop node junk) words (inr p) = (_, p.2)
 
 -- an event's words, divided where its fault begins
-pub record Divides (event : Event) (name : List ℕ) (args : List (List ℕ)) : Type 0 where
+pub record Divides (event : EventContent) (name : List ℕ) (args : List (List ℕ)) : Type 0 where
   pub kind_said : CanBeSaid event.kind
   pub kind : IsSpelled event.kind (name ∷ before_fault args)
   pub fault_said : FaultCanBeSaid event.fault
   pub fault : IsFault event.fault (from_fault args)
   pub none : may_bear_fault name ≡ false → event.fault ≡ disk.None
 
-pub divides : (event : Event) (name : List ℕ) (args : List (List ℕ))
+pub divides : (event : EventContent) (name : List ℕ) (args : List (List ℕ))
     → SpellsEvent (name ∷ args) event → Divides event name args
 divides event name args s =
     let front = opens event.kind s.first s.kind in
@@ -297,7 +297,7 @@ bare false name args fits =
       λ _. sym (none_after args none),
     )
 
-pub divided_read : (faults : Bool) (event : Event) (name : List ℕ) (args : List (List ℕ))
+pub divided_read : (faults : Bool) (event : EventContent) (name : List ℕ) (args : List (List ℕ))
     → (faults ≡ false → is_faultless (name ∷ args) ≡ true) → Divides event name args
     → spelling_fault faults name args ≡ None
 divided_read faults event name args fits d =
@@ -309,17 +309,17 @@ pub whole_read : EventsAreRead
 whole_read faults event name args fits s =
     divided_read faults event name args fits (divides event name args s)
 
-no_words : (event : Event) → SpellsEvent [] event → ⊥
+no_words : (event : EventContent) → SpellsEvent [] event → ⊥
 no_words event s =
     let front = opens event.kind s.first s.kind in
     let all : [] ≡ name_of event.kind ∷ (front.0 ++ s.behind) = rw front.1 at s.parts in
     absurd (omega (arith, ap length all))
 
 same_event : (k l : EventKind) (f g : Fault) → k ≡ l → f ≡ g
-    → ◌≡◌ {A = Event} (record { kind = k; fault = f }) (record { kind = l; fault = g })
+    → ◌≡◌ {A = EventContent} (record { kind = k; fault = f }) (record { kind = l; fault = g })
 same_event k l f g kinds faults = rw (kinds, faults) refl
 
-pub one_whole : (a b : Event) (words : List (List ℕ)) → SpellsEvent words a
+pub one_whole : (a b : EventContent) (words : List (List ℕ)) → SpellsEvent words a
     → SpellsEvent words b → a ≡ b
 one_whole a b [] p q = absurd (no_words a p)
 one_whole a b (name ∷ args) p q =

@@ -7,7 +7,7 @@ use Rattle.std.specs.Option.{option_map_or}
 use Rattle.std.proofs.lemmas.Bool.Decides.{nat_tests}
 use Rattle.lab.specs.NodeLists.{Configurations}
 use Rattle.lab.specs.Fault.{Fault}
-use Rattle.lab.specs.declared.EventKind.TheVariants.{Notice}
+use Rattle.lab.specs.EventKind.TheVariants.{Notice}
 use Rattle.script_words.specs.declared.error.ScriptError.{ScriptError}
 use Rattle.scripts.specs.declared.statement.ParserState.{ParserState}
 use Rattle.scripts.specs.declared.statement.Action.TheVariants.{Event}
@@ -18,9 +18,9 @@ use Rattle.scripts.specs.Reading.{HasEpoch, Places}
 use Rattle.script_words.specs.FaultWords.{ReadsFaultAs}
 use Rattle.scripts.proofs.Placing.{IsRead, is_of_place, is_read, stands}
 use Rattle.scripts.proofs.ReadBack.{event_read}
-use Rattle.lab.specs.declared.Event as lab
+use Rattle.lab.specs.EventContent as lab
 
-abbrev noticing : ℕ → ℕ → Fault → lab.Event
+abbrev noticing : ℕ → ℕ → Fault → lab.EventContent
 noticing node epoch fault = record { kind = Notice node epoch; fault = fault }
 
 pub read_notice : (faults : Bool) (args cut behind : List (List ℕ)) (node epoch : ℕ) (fault : Fault)

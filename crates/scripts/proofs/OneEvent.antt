@@ -14,9 +14,9 @@ use Rattle.script_words.specs.Words.{AreBytes, bound_text, bytes_text}
 use Rattle.script_words.specs.Edits.{edit_word, AreBytesIn}
 use Rattle.scripts.specs.Statements.{IsSpelled, CanBeSaid, NumberCanBeSaid, RangeCanBeSaid}
 use Rattle.scripts.specs.Statements.{number_words, walk_name}
-use Rattle.lab.specs.declared.EventKind.{EventKind}
-use Rattle.lab.specs.declared.EventKind.TheVariants.{Submit, Get, Deliver, Tick, Tend, Start, Stop}
-use Rattle.lab.specs.declared.EventKind.TheVariants.{Rows, Open, Close, Notice}
+use Rattle.lab.specs.EventKind.{EventKind}
+use Rattle.lab.specs.EventKind.TheVariants.{Submit, Get, Deliver, Tick, Tend, Start, Stop}
+use Rattle.lab.specs.EventKind.TheVariants.{Rows, Open, Close, Notice}
 use Rattle.scripts.proofs.FirstWords.{first_word, head, words_behind}
 use Rattle.script_words.specs.EditsLemmas.{no_star, one_edit, one_text}
 use Rattle.script_words.specs.JunksLemmas.{one_junk}

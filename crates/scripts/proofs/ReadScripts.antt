@@ -7,7 +7,7 @@ use Rattle.std.specs.Str.{bytes_eq}
 use Rattle.std.specs.Fmt.{decimal}
 use Rattle.std.proofs.lemmas.Bool.Decides.{nat_tests}
 use Rattle.std.proofs.lemmas.List.Elements.{All-head, All-tail}
-use Rattle.lab.specs.declared.EventKind.{EventKind}
+use Rattle.lab.specs.EventKind.{EventKind}
 use Rattle.lab.specs.Events.{epoch_in}
 use Rattle.lab.specs.{node_in, NamesNode}
 use Rattle.kv_types.specs.{has}
@@ -42,7 +42,7 @@ use Rattle.scripts.proofs.OneEvent.{name_of, of_name}
 use Rattle.scripts.proofs.EventWords.{divides, divided_read, opens}
 use Rattle.scripts.specs.Laws.{AreFaultless, ScriptsAreRead, is_faultless}
 use Rattle.scripts.proofs.FirstBytes.{first_byte, not_skipped}
-use Rattle.lab.specs.declared.Event as lab
+use Rattle.lab.specs.EventContent as lab
 
 -- ---- a line that is a statement has no fault
 
@@ -95,7 +95,8 @@ known cs None is = refl
 known cs (Some epoch) is = known_epoch cs epoch is
 
 good_statement : (faults : Bool) (cs : Configurations) (begun : Bool) (limits : ScriptLimits)
-    (event : lab.Event) (name : List ℕ) (args : List (List ℕ)) → Allows faults (name ∷ args) →
+    (event : lab.EventContent) (name : List ℕ) (args : List (List ℕ)) →
+    Allows faults (name ∷ args) →
     SpellsEvent (name ∷ args) event →
     NamesNode cs event.kind → NamesEpoch cs event.kind
     → statement_fault (behind_configs faults cs begun limits) name args ≡ None
@@ -106,7 +107,7 @@ good_statement faults cs begun limits event name args allows spells named told =
     ∙ rw (known cs (epoch_in event.kind) told) (free cs (node_in event.kind) named)
 
 passes : (faults : Bool) (cs : Configurations) (begun : Bool) (limits : ScriptLimits)
-    (event : lab.Event) (words : List (List ℕ)) (action : Action) (name : List ℕ)
+    (event : lab.EventContent) (words : List (List ℕ)) (action : Action) (name : List ℕ)
     (args : List (List ℕ)) → Allows faults words →
     words ≡ name ∷ args → bytes_eq name (codes "config") ≡ false →
     bytes_eq name (codes "limit") ≡ false → 97 ≤ first_byte (name ∷ args) →
@@ -174,7 +175,7 @@ lettered what args = of_name (λ name. 97 ≤ first_byte (name ∷ args)) (recor
 }) what
 
 event_passes : (faults : Bool) (cs : Configurations) (begun : Bool) (limits : ScriptLimits)
-    (event : lab.Event) (words : List (List ℕ)) (action : Action) → Allows faults words →
+    (event : lab.EventContent) (words : List (List ℕ)) (action : Action) → Allows faults words →
     SpellsEvent words event →
     NamesNode cs event.kind → NamesEpoch cs event.kind → action ≡ action_of event →
     IsPassed faults cs begun limits words action

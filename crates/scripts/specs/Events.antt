@@ -1,9 +1,9 @@
 -- The spelling of an event: the words of its kind, and behind them those of its fault.
 use Rattle.std.specs.Prelude.{◌≡◌, ℕ, Bool, true, false, List, ◌++◌}
-use Rattle.lab.specs.declared.Event.{Event}
-use Rattle.lab.specs.declared.EventKind.{EventKind}
-use Rattle.lab.specs.declared.EventKind.TheVariants.{Submit, Get, Deliver, Tick, Tend, Start, Stop}
-use Rattle.lab.specs.declared.EventKind.TheVariants.{Rows, Open, Close, Notice}
+use Rattle.lab.specs.EventContent.{EventContent}
+use Rattle.lab.specs.EventKind.{EventKind}
+use Rattle.lab.specs.EventKind.TheVariants.{Submit, Get, Deliver, Tick, Tend, Start, Stop}
+use Rattle.lab.specs.EventKind.TheVariants.{Rows, Open, Close, Notice}
 use Rattle.scripts.specs.Statements.{CanBeSaid, IsSpelled}
 use Rattle.script_words.specs.FaultWords.{FaultCanBeSaid, IsFault}
 use Rattle.lab.specs.Fault.TheVariants as disk
@@ -23,7 +23,7 @@ bears_fault (Start node) = true
 bears_fault (Stop node junk) = false
 
 -- words spell an event: first those of its kind, then those of its fault
-pub record SpellsEvent (words : List (List ℕ)) (event : Event) : Type 0 where
+pub record SpellsEvent (words : List (List ℕ)) (event : EventContent) : Type 0 where
   pub first : List (List ℕ)
   pub behind : List (List ℕ)
   pub parts : words ≡ first ++ behind

@@ -2,7 +2,7 @@
 use Rattle.std.specs.Prelude.{◌≡◌, ◌≤◌, ℕ, List, ◌∷◌, All, length, None, Bool, [], codes, false}
 use Rattle.std.specs.Prelude.{not, true, ◌&&◌, ◌==◌}
 use Rattle.kv_types.specs.declared.Edit.{Edit}
-use Rattle.lab.specs.declared.Event.{Event}
+use Rattle.lab.specs.EventContent.{EventContent}
 use Rattle.script_words.specs.declared.limits.ScriptLimits.{ScriptLimits}
 use Rattle.scripts.specs.declared.setup.Setup.{Setup}
 use Rattle.scripts.specs.declared.statement.Statement.{Statement}
@@ -25,7 +25,8 @@ EditsDiffer = (a b : Edit) → AreBytesIn a → AreBytesIn b → edit_word a ≡
 
 -- no two events have one spelling
 abbrev pub EventsDiffer : Type 0
-EventsDiffer = (a b : Event) (words : List (List ℕ)) → SpellsEvent words a → SpellsEvent words b
+EventsDiffer = (a b : EventContent) (words : List (List ℕ)) → SpellsEvent words a
+    → SpellsEvent words b
     → a ≡ b
 
 -- two setups have the same configurations and the same limits
@@ -53,7 +54,7 @@ AreFaultless lines =
 
 -- the words that spell an event have no fault of their own, where they may spell what they do
 abbrev pub EventsAreRead : Type 0
-EventsAreRead = (faults : Bool) (event : Event) (name : List ℕ) (args : List (List ℕ))
+EventsAreRead = (faults : Bool) (event : EventContent) (name : List ℕ) (args : List (List ℕ))
     → (faults ≡ false → is_faultless (name ∷ args) ≡ true)
     → SpellsEvent (name ∷ args) event → spelling_fault faults name args ≡ None
 

@@ -3,7 +3,7 @@ use Rattle.std.specs.Prelude.{◌≡◌, ◌≢◌, ◌≤◌, ℕ, Bool, ◌||�
 use Rattle.std.specs.Prelude.{codes, Option, Some, None, Result, Ok, Err, ◌⊎◌, ◌<◌, ◌^◌, length}
 use Rattle.std.specs.Fmt.{decimal}
 use Rattle.lab.specs.Fault.{Fault}
-use Rattle.lab.specs.declared.EventKind.{EventKind}
+use Rattle.lab.specs.EventKind.{EventKind}
 use Rattle.kv_types.specs.{has}
 use Rattle.lab.specs.NodeLists.{Configurations, at_epoch}
 use Rattle.script_words.specs.declared.error.ScriptError.{ScriptError}
@@ -24,7 +24,7 @@ use Rattle.script_words.specs.Lines.{words_of}
 use Rattle.scripts.specs.Faults.{statement_fault, words_fault, after_words, line_fault, after_line}
 use Rattle.scripts.specs.Faults.{numbered_fault, junk_fault}
 use Rattle.std.specs.Option.{option_or}
-use Rattle.lab.specs.declared.EventKind.TheVariants as what
+use Rattle.lab.specs.EventKind.TheVariants as what
 
 -- the event that a command asks for
 abbrev pub what_of : Command → EventKind

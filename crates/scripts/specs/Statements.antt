@@ -7,9 +7,9 @@ use Rattle.std.specs.Option.{option_map_or}
 use Rattle.std.specs.Str.{bytes_eq}
 use Rattle.kv_types.specs.{Span}
 use Rattle.lab.specs.Junk.TheVariants.{Old}
-use Rattle.lab.specs.declared.EventKind.{EventKind}
-use Rattle.lab.specs.declared.EventKind.TheVariants.{Submit, Get, Deliver, Tick, Tend, Start, Stop}
-use Rattle.lab.specs.declared.EventKind.TheVariants.{Rows, Open, Close, Notice}
+use Rattle.lab.specs.EventKind.{EventKind}
+use Rattle.lab.specs.EventKind.TheVariants.{Submit, Get, Deliver, Tick, Tend, Start, Stop}
+use Rattle.lab.specs.EventKind.TheVariants.{Rows, Open, Close, Notice}
 use Rattle.script_words.specs.declared.error.ScriptError.{ScriptError}
 use Rattle.script_words.specs.declared.error.ScriptError.TheVariants.{UnknownStatement}
 use Rattle.script_words.specs.declared.error.ScriptError.TheVariants.{WrongNumberOfWords, BadNumber}

@@ -78,7 +78,7 @@ fn submit(
     match Batch::new(edits) {
         Ok(batch) => {
             let kind = EventKind::Submit { node, batch };
-            Ok(Action::Event(Event { kind, fault }))
+            Ok(Action::Event(Event::new(alloc, kind, fault)?))
         }
         Err(e) => Ok(Action::Invalid(e)),
     }
@@ -136,5 +136,5 @@ pub fn action(
         Command::Stop(_, junk) => EventKind::Stop { node, junk },
         Command::Start(_) => EventKind::Start { node },
     };
-    Ok(Action::Event(Event { kind, fault }))
+    Ok(Action::Event(Event::new(alloc, kind, fault)?))
 }

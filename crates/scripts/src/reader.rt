@@ -81,7 +81,7 @@ fn deliver(alloc: Global, before: &ParserState, args: &[&[u8]]) -> Result<Action
         return Err(ScriptError::OutOfPlace);
     }
     let kind = EventKind::Deliver { place };
-    Ok(Action::Event(Event { kind, fault }))
+    Ok(Action::Event(Event::new(alloc, kind, fault)?))
 }
 
 // A notice, if it may stand here.
@@ -99,7 +99,7 @@ fn notice(alloc: Global, before: &ParserState, args: &[&[u8]]) -> Result<Action,
     let epoch = before.epoch(epoch)?;
     let node = before.place(node)?;
     let kind = EventKind::Notice { node, epoch };
-    Ok(Action::Event(Event { kind, fault }))
+    Ok(Action::Event(Event::new(alloc, kind, fault)?))
 }
 
 // A flow, if it may stand here.

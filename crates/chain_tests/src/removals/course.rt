@@ -10,7 +10,7 @@ use crate::removals::history::{Asked, History, KEYS};
 use crate::removals::lists::{Brings, Lists};
 use crate::sweep::{ALL_WAYS, fault_at};
 use disk::{Fault, MemDisk};
-use lab::{Direct, Event, EventKind, Line, NodeReport, Reply, World};
+use lab::{Direct, Event, EventKind, Line, NodeReport, Reply, ReplyForm, World};
 use std::alloc::Global;
 use std::process::Abort;
 
@@ -31,6 +31,20 @@ struct Course {
     next: u64,
     told: u8,
     open: Vec<(u16, u64)>,
+}
+
+// The number of a snapshot that a line reports to be open.
+fn opened_at(line: &Line) -> Option<u64> {
+    let Line::Replied(reply) = line else {
+        return None;
+    };
+    let ReplyForm::Other(reply) = reply.form() else {
+        return None;
+    };
+    match reply.as_ref() {
+        Reply::Opened { number, .. } => Some(number.get()),
+        _ => None,
+    }
 }
 
 impl Course {
@@ -123,7 +137,7 @@ impl Course {
             batch: batch_of(rt, alloc, place, &edits),
         };
         let fault = self.fault(rt, alloc);
-        let event = Event { kind, fault };
+        let event = Event::new(alloc, kind, fault).expect(rt, "memory");
         let asked = (node, Asked::Submit(edits));
         self.take(rt, alloc, event, asked, Brings::Batch(node));
     }
@@ -166,7 +180,7 @@ impl Course {
                 key: key_at(rt, alloc, key),
                 at: at.map(number),
             };
-            let event = Event { kind, fault };
+            let event = Event::new(alloc, kind, fault).expect(rt, "memory");
             self.take(
                 rt,
                 alloc,
@@ -198,8 +212,7 @@ impl Course {
         }
         let node = self.chance.node();
         self.step(rt, alloc, node, Step::Open(node, None), Brings::Nothing);
-        if let Some(Line::Replied(Reply::Opened { number, .. })) = self.first_line() {
-            let number = number.get();
+        if let Some(number) = self.first_line().and_then(opened_at) {
             self.open.push((node, number)).expect(rt, "memory");
         }
     }

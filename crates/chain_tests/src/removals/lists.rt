@@ -2,7 +2,7 @@
 use crate::answers::is_so;
 use crate::removals::history::{Answer, Asked, Rows, Said, at};
 use kv_types::{Page, Value};
-use lab::{Line, Numbers};
+use lab::{KeptReply, Line, Numbers, ReplyForm};
 use node::Reply;
 use std::alloc::Global;
 use std::process::Abort;
@@ -42,11 +42,18 @@ pub enum Brings {
     Nothing,
 }
 
+fn is_refusal(reply: &KeptReply) -> bool {
+    match reply.form() {
+        ReplyForm::Committed { .. } => false,
+        ReplyForm::Other(reply) => matches!(reply.as_ref(), Reply::Refused { .. }),
+    }
+}
+
 // Whether the lines are those of an event that its node took.
 fn is_taken(lines: &[Line]) -> bool {
     match lines.first() {
         None | Some(Line::Nothing | Line::Dropped(_) | Line::Stopped { .. }) => false,
-        Some(Line::Replied(Reply::Refused { .. })) => false,
+        Some(Line::Replied(reply)) => !is_refusal(reply),
         Some(_) => true,
     }
 }
@@ -73,6 +80,15 @@ pub fn rows_of(page: &Page) -> Rows {
         }
     }
     rows
+}
+
+fn kept_answer(reply: &KeptReply) -> Option<(u64, u64, Answer)> {
+    match reply.form() {
+        ReplyForm::Committed { request, number } => {
+            Some((request.get(), number.get(), Answer::Committed))
+        }
+        ReplyForm::Other(reply) => answer_of(reply.as_ref()),
+    }
 }
 
 fn answer_of(reply: &Reply) -> Option<(u64, u64, Answer)> {
@@ -172,8 +188,8 @@ impl Lists {
         node.epoch = epoch;
     }
 
-    fn hear_reply(&mut self, rt: &impl Abort, reply: &Reply, node: u16) {
-        let Some((request, number, answer)) = answer_of(reply) else {
+    fn hear_reply(&mut self, rt: &impl Abort, reply: &KeptReply, node: u16) {
+        let Some((request, number, answer)) = kept_answer(reply) else {
             return;
         };
         let (tail, configs) = self.last;

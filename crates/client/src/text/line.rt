@@ -7,7 +7,7 @@ use super::names::{cause_name, reason_name, refusal_name, tended_name};
 use super::rows::RowsText;
 use super::spelled::Spelled;
 use kv_types::Number;
-use lab::{Epoch, Line, NodeId, Reply, Stop};
+use lab::{Epoch, KeptReply, Line, NodeId, Reply, ReplyForm, Stop};
 use std::fmt;
 
 #[derive(Clone, Copy)]
@@ -40,6 +40,21 @@ impl fmt::Display for ReplyText<'_> {
             Reply::Opened { number, .. } => write!(f, "opened {}", number.get()),
             Reply::Closed { number, .. } => write!(f, "closed {}", number.get()),
             Reply::Refused { refusal, .. } => write!(f, "refused {}", refusal_name(refusal)),
+        }
+    }
+}
+
+// The reply of a line.
+#[derive(Clone, Copy)]
+struct LineReplyText<'a>(&'a KeptReply);
+
+impl fmt::Display for LineReplyText<'_> {
+    ghost output = { λ it. Some (reply_text it.0.now) };
+
+    fn fmt<W: fmt::Write>(&self, f: &mut fmt::Formatter<W>) -> fmt::Result {
+        match self.0.form() {
+            ReplyForm::Committed { number, .. } => write!(f, "committed {}", number.get()),
+            ReplyForm::Other(reply) => ReplyText(reply.as_ref()).fmt(f),
         }
     }
 }
@@ -161,7 +176,7 @@ impl fmt::Display for LineText<'_> {
         match *self.0 {
             Line::Nothing => f.write_str("nothing"),
             Line::Lost => f.write_str("lost"),
-            Line::Replied(ref reply) => ReplyText(reply).fmt(f),
+            Line::Replied(ref reply) => LineReplyText(reply).fmt(f),
             Line::Dropped(reason) => write!(f, "dropped {}", reason_name(reason)),
             Line::Started {
                 node,

@@ -5,6 +5,7 @@ ghost use Rattle.std.specs.Io.KnownBytes.{Appends};
 ghost use Rattle.client.specs.Text.{line_of_request, reply_place, line_output};
 ghost use Rattle.client.specs.Text.{step_text, note_text, result_text, request_of};
 ghost use Rattle.client.specs.Text.{line_text, numbered_line, printed_row, rows_of_line};
+ghost use Rattle.client.specs.Text.{rows_of_reply};
 
 use super::line::{LineText, StoppedText};
 use super::names::error_name;
@@ -12,7 +13,7 @@ use super::rows::RowText;
 use super::shown::NumbersText;
 use crate::statement_result::{Note, StatementResult};
 use kv_types::Row;
-use lab::{Line, Lines, Reply};
+use lab::{KeptReply, Line, Lines, Reply, ReplyForm};
 use std::alloc::AllocError;
 use std::io::{self, Write};
 
@@ -26,7 +27,7 @@ pub fn add_places(places: &mut Vec<u32>, line: u32, count: usize) -> Result<(), 
     Ok(())
 }
 
-fn request(reply: &Reply) -> u64
+fn request_in(reply: &Reply) -> u64
     ensures { result ≡ request_of reply.now }
 {
     match reply {
@@ -36,6 +37,16 @@ fn request(reply: &Reply) -> u64
         Reply::Opened { request, .. } => request.get(),
         Reply::Closed { request, .. } => request.get(),
         Reply::Refused { request, .. } => request.get(),
+    }
+}
+
+/// The request that the reply of a line answers.
+fn request(reply: &KeptReply) -> u64
+    ensures { result ≡ request_of reply.now }
+{
+    match reply.form() {
+        ReplyForm::Committed { request, .. } => request.get(),
+        ReplyForm::Other(reply) => request_in(reply.as_ref()),
     }
 }
 
@@ -60,12 +71,25 @@ fn place_of(places: &[u32], here: u32, line: &Line) -> u32
     }
 }
 
+// The rows of a reply, if it has a page.
+fn rows_in(reply: &KeptReply) -> &[Row]
+    ensures { result.now ≡ rows_of_reply reply.now }
+{
+    let ReplyForm::Other(reply) = reply.form() else {
+        return &[];
+    };
+    match reply.as_ref() {
+        Reply::Rows { page, .. } => page.rows(),
+        _ => &[],
+    }
+}
+
 /// The rows of an answer, which stand before its own line.
 fn rows_of(line: &Line) -> &[Row]
     ensures { result.now ≡ rows_of_line line.now }
 {
     match line {
-        Line::Replied(Reply::Rows { page, .. }) => page.rows(),
+        Line::Replied(reply) => rows_in(reply),
         _ => &[],
     }
 }

@@ -30,7 +30,7 @@ loop-reply-preserved-in-Continue-branch-3 g c =
       lines = follow_heard (g.C.Carrier.is_faithful old) g.C.Carrier.loses
           (HasCarriedMore has_carried old at.carrier) (HasCarriedMore has_carried old new)
           c.args.from at.yielded c.args.lines.now at.lines reply at.invariant.lines
-          c.in-Some-2.reply c.push.new.self c.in_ok-push.ensures
+          c.in-Some-2.reply c.push_reply.new.lines c.in_ok-push_reply.ensures
           (λ first. subst (ReplyArrives g.C.Carrier.loses reply) c.in-Some-2.is
           (here.arrives (is.1 first)))
           (λ first m was. carried_both has_carried old at.carrier new m

@@ -1,6 +1,6 @@
 use Rattle.std.proofs.Common.{List, ◌∷◌, [], ◌++◌, take, sym, ap, subst, ◌∙◌}
 use Rattle.std.proofs.lemmas.List.{take_more, take_all}
-use Rattle.lab.specs.declared.event.Event.{Event}
+use Rattle.events.specs.declared.EventContent.{EventContent}
 use Rattle.lab.specs.Events.{NamesNode}
 use Rattle.lab.specs.Worlds.{HasRun, WorldRun, direct_carrier}
 use Rattle.lab.proofs.Reports.{reported_run}
@@ -16,14 +16,14 @@ loop-event-preserved c =
     let was = c.loop-event.invariant in
     let past : WorldRun =
     record { configs = cs; events = take i events; choices = was.0; steps = was.1 } in
-    let names = subst (λ (e : Event). NamesNode cs e.kind) (sym c.event-item.is)
+    let names = subst (λ (e : EventContent). NamesNode cs e.kind) (sym c.event-item.is)
     (c.requires.named i event c.loop-event-test.true) in
     let ran = (c.in_ok-step.ensures.ran past was.2).follows names in
-    let more = ap (λ (e : Event). take i events ++ e ∷ []) c.event-item.is
+    let more = ap (λ (e : EventContent). take i events ++ e ∷ []) c.event-item.is
     ∙ sym (take_more events i event c.loop-event-test.true) in (
       was.0 ++ ran.choice ∷ [],
       was.1 ++ ran.lines ∷ [],
-      subst (λ (es : List Event). HasRun direct_carrier c.step.new.self (record {
+      subst (λ (es : List EventContent). HasRun direct_carrier c.step.new.self (record {
         configs = cs;
         events = es;
         choices = was.0 ++ ran.choice ∷ [];
@@ -43,7 +43,8 @@ past_of c = record {
 
 has_run : (c : goal.After-finish) → HasRun direct_carrier c.loop-event.world (past_of c)
 has_run c =
-    subst (λ (es : List Event). HasRun direct_carrier c.loop-event.world (record (past_of c) {
+    subst (λ (es : List EventContent). HasRun direct_carrier c.loop-event.world
+    (record (past_of c) {
       events = es;
     }))
     (take_all c.loop-event.event-index c.args.events.now c.loop-event-test.false)

@@ -11,7 +11,7 @@ returns g c =
     let state = c.in_ok-state.state in
     let did = c.in_ok-state.outcome in
     let limits = c.args.limits.now in
-    let fault = c.args.fault.now in
+    let fault = c.args.event.now.fault in
     moved c.args.nodes.now.items c.remove-node.new.self.items c.insert.new.self.items
     c.args.index it.0 c.remove-node.result (record { id = it.0; state = state; ready = _ }) it.1
     fault limits did c.requires c.remove-node.ensures.value c.remove-node.ensures.items

@@ -1,5 +1,5 @@
 use Rattle.std.proofs.Common.{map, rules}
-use Rattle.lab.specs.declared.Event.{Event}
+use Rattle.lab.specs.EventContent.{EventContent}
 use Rattle.scripts.specs.Reading.{what_of}
 use Rattle.scripts.proofs.Placing.{is_misplaced, is_placed, is_read, no_epoch}
 use Rattle.scripts.proofs.reader.placed.Goals as goal
@@ -9,7 +9,7 @@ returns-in-Err-place c =
     let cut = c.split_fault.ensures in let command = c.in_ok-command.ensures in
     let fault = c.in-Ok.ensures in
     let args = map (λ w. w.now) c.args.args.now in
-    let event : Event = record {
+    let event : EventContent = record {
       kind = what_of c.in_ok-command.command;
       fault = c.in-Ok.fault;
     } in
@@ -26,7 +26,7 @@ returns-in_ok-action-in-Ok-place c =
     let cut = c.split_fault.ensures in let command = c.in_ok-command.ensures in
     let fault = c.in-Ok.ensures in let at = c.in-Ok-place.ensures in
     let args = map (λ w. w.now) c.args.args.now in
-    let event : Event = record {
+    let event : EventContent = record {
       kind = what_of c.in_ok-command.command;
       fault = c.in-Ok.fault;
     } in

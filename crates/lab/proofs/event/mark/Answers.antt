@@ -3,7 +3,7 @@ use Rattle.std.proofs.Common.{length, length-append, slice_set}
 use Rattle.std.proofs.Math.Seq.{get_or-append_seam, set-append_seam}
 use Rattle.lab.specs.declared.event.EventRecord.{EventRecord}
 use Rattle.lab.specs.Worlds.{event_record}
-use Rattle.lab.proofs.world.mark.Goals as goal
+use Rattle.lab.proofs.event.mark.Goals as goal
 
 -- the event that was begun is the last one
 pub returns-in-Some : goal.returns-in-Some
