@@ -13,7 +13,7 @@ pub record IsFolderToRead {R : Type 0} (path : List ℕ) (disk : DirDisk R) : Ty
   pub reads : may_change disk ≡ false
 
 -- a store was read whole from a disk that changes nothing, over the folder at this path
-pub record IsReadFrom {R : Type 0} (g : Ghosts (Unchanged (DirDisk R))) (path : List ℕ) : Type 0
+pub record IsReadOfFolder {R : Type 0} (g : Ghosts (Unchanged (DirDisk R))) (path : List ℕ) : Type 0
   where
     pub disk : Unchanged (DirDisk R)
     pub below : IsFolderToRead path (disk_below disk)
@@ -23,4 +23,4 @@ pub record IsReadFrom {R : Type 0} (g : Ghosts (Unchanged (DirDisk R))) (path : 
 pub record DumpEndsFor {R : Type 0} (g : Ghosts (Unchanged (DirDisk R))) (path : List ℕ)
     (old_out new_out old_err new_err : Option (List ℕ)) (answer : ℕ) : Type 0 where
   pub ends : DumpEnds old_out new_out old_err new_err answer
-  pub from : answer ≡ 0 → IsReadFrom g path
+  pub from : answer ≡ 0 → IsReadOfFolder g path

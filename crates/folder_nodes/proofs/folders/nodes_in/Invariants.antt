@@ -7,5 +7,5 @@ use Rattle.folder_nodes.proofs.folders.nodes_in.Given as goal
 abbrev pub invariant-loop-id : goal.invariant-loop-id
 invariant-loop-id g l = record {
   ids : sim_ids l.nodes.items ≡ take l.id-index l.id-items;
-  found : All (IsFoundIn l.folder l.limits) l.nodes.items
+  found : All (IsFoundIn l.folder l.limits) l.nodes.items;
 }
