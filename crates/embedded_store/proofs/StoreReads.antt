@@ -1,12 +1,13 @@
 -- Reads at a number, or at the newest one.
 use Rattle.std.proofs.Common.{◌≡◌, ℕ, ◌<◌, ◌≤◌, List, [], ◌∷◌, length, take, false, eqb}
-use Rattle.std.proofs.Common.{Option, None, Some, ap, arith, inl, inr, refl}
+use Rattle.std.proofs.Common.{Option, None, Some, ap, arith, inl, inr, refl, subst}
 use Rattle.std.specs.Prelude.{◌⊎◌, Result, Ok, Err, IfErr}
 use Rattle.std.specs.List.{All}
 use Rattle.std.proofs.lemmas.Bool.Decides.{nat_tests}
 use Rattle.std.proofs.lemmas.List.{take_all}
 use Rattle.std.proofs.lemmas.List.Elements.{All-tail}
 use Rattle.kv_types.specs.{BatchContent, IsBatch}
+use Rattle.kv_types.specs.declared.bounds.TheConstants.{MAX_NUMBER}
 use Rattle.disk.specs.declared.Disk.{Ghosts}
 use Rattle.disk.specs.{IsEnvironmental}
 use Rattle.kv_types.specs.Snapshots.{is_open}
@@ -98,3 +99,18 @@ read_refused told at (Ok x) ordered all answer sound works = tt
 read_refused {T = T} told at (Err e) ordered all answer sound works =
     refused_as told at e ordered all (refused_at T told (read_number told at) e answer
     (λ is. sound (ap (λ d. Err d) is)) (λ is. works (ap (λ d. Err d) is)))
+
+-- ---- a write
+
+-- why a write is refused, of each list that is shown
+abbrev IsWriteRefusal : ℕ → EngineError → Type 0
+IsWriteRefusal count e = IsEnvironmental engine.Disk engine.Memory e
+    ⊎ ((e ≡ engine.Exhausted) × (MAX_NUMBER ≤ count))
+
+pub write_refused : {D : Type 0} {g : Ghosts D} (store : EmbeddedStore D g)
+    (list : List BatchContent) (e : EngineError) →
+    OfEachList g (store_engine store) (λ _. IsWriteRefusal (look_ups (store_engine store)).count e)
+    → ShowsBatches g store list → IsWriteRefusal (length list) e
+write_refused store list e each shown =
+    subst (λ (n : ℕ). IsWriteRefusal n e) (shown_count store list shown)
+    (shown_said store list (λ _. IsWriteRefusal (look_ups (store_engine store)).count e) each shown)

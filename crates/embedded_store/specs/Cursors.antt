@@ -11,7 +11,7 @@ use Rattle.kv_types.specs.declared.bounds.TheConstants.{MAX_KEY, MAX_VALUE, ROW_
 use Rattle.disk.specs.declared.Disk.{Ghosts}
 use Rattle.engine.specs.EngineError.{EngineError}
 use Rattle.engine.specs.EngineError.TheVariants as engine
-use Rattle.engine.specs.{ReadsEngine, look_ups}
+use Rattle.engine.specs.{IsReadableAnswer, ReadsEngine, look_ups}
 use Rattle.embedded_store.specs.declared.cursor.RowCursor.{RowCursor}
 use Rattle.embedded_store.specs.declared.store.EmbeddedStore.{EmbeddedStore}
 use Rattle.embedded_store.specs.Stores.{HoldsBatches, IsReadRefusal, ShowsBatches}
@@ -81,20 +81,25 @@ abbrev pub CursorsOutliveWrites : Type 0
 CursorsOutliveWrites = (list more : List BatchContent) (cursor : RowCursor) →
     cursor_number cursor ≤ length list → CursorIsOf list cursor → CursorIsOf (list ++ more) cursor
 
--- nothing was read, and at most memory was wanting; or rows were read, and the call is refused as
--- that was
-abbrev pub ReadsAtMost : {D : Type 0} (g : Ghosts D) → (old new : EmbeddedStore D g) →
+-- rows were read at this number, if it can be read, and the call is refused as that was
+pub record ReadsRows {D : Type 0} (g : Ghosts D) (at : ℕ) (old new : EmbeddedStore D g)
+    (result : Result (Unit {0}) EngineError) : Type 0 where
+  pub answer : Result Rows EngineError
+  pub reads : ReadsEngine g (store_engine old) (store_engine new) answer
+  pub readable : IsReadableAnswer (look_ups (store_engine old)) at answer
+  pub same : result ≡ whether answer
+
+-- nothing was read, and at most memory was wanting; or rows were read at this number
+abbrev pub ReadsAtMost : {D : Type 0} (g : Ghosts D) → ℕ → (old new : EmbeddedStore D g) →
     Result (Unit {0}) EngineError → Type 0
-ReadsAtMost g old new result =
-    ((new ≡ old) × IfErr result (λ e. e ≡ engine.Memory))
-    ⊎ ((answer : Result Rows EngineError)
-    × ReadsEngine g (store_engine old) (store_engine new) answer × (result ≡ whether answer))
+ReadsAtMost g at old new result =
+    ((new ≡ old) × IfErr result (λ e. e ≡ engine.Memory)) ⊎ ReadsRows g at old new result
 
 -- what a move of a cursor promises, whatever it finds
 pub record MovesRowCursor {D : Type 0} (g : Ghosts D) (old new : EmbeddedStore D g)
     (before now : RowCursor) (result : Result (Unit {0}) EngineError) : Type 0 where
-  -- the store is read at most
-  pub reads : ReadsAtMost g old new result
+  -- the store is read at most, at the cursor's number
+  pub reads : ReadsAtMost g (cursor_number before) old new result
   -- the number stays
   pub number : cursor_number now ≡ cursor_number before
   -- a move that is refused leaves the cursor where it stood

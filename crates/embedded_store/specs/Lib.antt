@@ -3,3 +3,4 @@ pub mod Alone
 pub mod Stores
 pub mod Openings
 pub mod Cursors
+pub mod Folders

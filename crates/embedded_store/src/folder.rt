@@ -35,12 +35,14 @@ fn locked_folder<R: Files<File = File> + Alloc<A = Global> + Clone + Drop>(
 
 impl<R: Files<File = File> + Alloc<A = Global> + Clone + Drop> EmbeddedStore<DirDisk<R>> {
     ghost use Rattle.std.specs.Prelude.{IfOk};
+    ghost use Rattle.embedded_store.specs.Folders.{IsStoreOfFolder};
     ghost use Rattle.embedded_store.specs.Stores.{IsFreshStore};
 
     /// The store of the folder at this path, which is made where it is absent, and locked until the
     /// store is dropped. It is opened, or created where nothing was created yet, as by `over`.
     pub fn open(rt: &R, path: &str, limits: &Limits) -> Result<EmbeddedStore<DirDisk<R>>, OpenError>
-        ensures { IfOk result (IsFreshStore limits.now) }
+        ensures fresh { IfOk result (IsFreshStore limits.now) }
+        ensures folder { IfOk result (IsStoreOfFolder path.now) }
     {
         let disk = locked_folder(rt, path)?;
         match EmbeddedStore::over(rt.alloc(), disk, limits) {

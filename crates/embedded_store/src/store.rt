@@ -27,7 +27,7 @@ impl<D: Disk + Drop> EmbeddedStore<D> {
     ghost use Rattle.kv_types.specs.Pages.{page_of};
     ghost use Rattle.disk.specs.{IsEnvironmental};
     ghost use Rattle.engine.specs.{AreOrdered, ChangesList, ChangesSnapshots, IsAdrift};
-    ghost use Rattle.engine.specs.{IsCloseAnswer, IsNearlyFull, IsTendFile};
+    ghost use Rattle.engine.specs.{IsCloseAnswer, IsNearlyFull, IsReadableAnswer, IsTendFile};
     ghost use Rattle.engine.specs.{RaisesFactsAtMost, ReadsEngine, raised_facts};
     ghost use Rattle.disk.specs.{MakesCalls};
     ghost use Rattle.engine.specs.{look_ups, with_opened, with_closed};
@@ -62,7 +62,7 @@ impl<D: Disk + Drop> EmbeddedStore<D> {
             × (look_ups (store_engine self.new)
             ≡ with_one_written (look_ups (store_engine self.old))))
             (λ _. look_ups (store_engine self.new) ≡ look_ups (store_engine self.old)) }
-        ensures refused { (list : List BatchContent) → HoldsBatches D.Disk self.old list →
+        ensures refused { (list : List BatchContent) → ShowsBatches D.Disk self.old list →
             IfErr result (λ e. IsEnvironmental Disk Memory e
             ⊎ ((e ≡ Exhausted) × (MAX_NUMBER ≤ length list))) }
         ensures calls { MakesCalls D.Disk 4 (store_disk self.old) (store_disk self.new) result }
@@ -83,6 +83,8 @@ impl<D: Disk + Drop> EmbeddedStore<D> {
         ensures reads { ReadsEngine D.Disk (store_engine self.old) (store_engine self.new) result }
         ensures found { (list : List BatchContent) → ShowsBatches D.Disk self.old list →
             IfOk result (λ value. value ≡ map_of (first_batches at list) key.now) }
+        ensures readable { IsReadableAnswer (look_ups (store_engine self.old))
+            (read_number (look_ups (store_engine self.old)) at) result }
         ensures refused { (list : List BatchContent) → HoldsBatches D.Disk self.old list →
             IfErr result (IsReadRefusal (look_ups (store_engine self.old)) at) }
     {
@@ -101,6 +103,8 @@ impl<D: Disk + Drop> EmbeddedStore<D> {
         ensures reads { ReadsEngine D.Disk (store_engine self.old) (store_engine self.new) result }
         ensures found { (list : List BatchContent) → ShowsBatches D.Disk self.old list →
             IfOk result (λ page. page ≡ page_of (first_batches at list) range.now) }
+        ensures readable { IsReadableAnswer (look_ups (store_engine self.old))
+            (read_number (look_ups (store_engine self.old)) at) result }
         ensures refused { (list : List BatchContent) → HoldsBatches D.Disk self.old list →
             IfErr result (IsReadRefusal (look_ups (store_engine self.old)) at) }
     {

@@ -12,7 +12,12 @@ use Rattle.embedded_store.proofs.cursor.RowCursor.read.Goals as goal
 -- the page was read
 pub returns-in-Ok-clause-moves : goal.returns-in-Ok-clause-moves
 returns-in-Ok-clause-moves g c = record {
-  reads = inr (c.rows.result, c.rows.ensures.reads, sym (ap whether c.in-Ok.is));
+  reads = inr record {
+    answer = c.rows.result;
+    reads = c.rows.ensures.reads;
+    readable = c.rows.ensures.readable;
+    same = sym (ap whether c.in-Ok.is);
+  };
   number = refl;
   kept = tt;
   refused = λ list holds. tt;
@@ -36,7 +41,12 @@ returns-in-Ok-clause-finds g c = λ list shown.
 -- it was refused
 pub returns-in-Err-clause-moves : goal.returns-in-Err-clause-moves
 returns-in-Err-clause-moves g c = record {
-  reads = inr (c.rows.result, c.rows.ensures.reads, sym (ap whether c.in-Err.is));
+  reads = inr record {
+    answer = c.rows.result;
+    reads = c.rows.ensures.reads;
+    readable = c.rows.ensures.readable;
+    same = sym (ap whether c.in-Err.is);
+  };
   number = refl;
   kept = refl;
   refused = λ list holds. c.in-Err.ensures.refused list holds;

@@ -19,6 +19,12 @@ returns-clause-found g c = λ list shown.
     (λ it. it ≡ page_of (take c.number_of-at.result l) c.args.range.now))
     c.rows.ensures.found shown)
 
+-- the number that is read is the one that is asked for
+pub returns-clause-readable : goal.returns-clause-readable
+returns-clause-readable g c =
+    subst (λ (n : ℕ). IsReadableAnswer (look_ups (store_engine c.args.self.now)) n c.rows.result)
+    c.number_of-at.ensures.number c.rows.ensures.readable
+
 -- a store that holds its batches works, and has no damage
 pub returns-clause-refused : goal.returns-clause-refused
 returns-clause-refused g c = λ list holds.

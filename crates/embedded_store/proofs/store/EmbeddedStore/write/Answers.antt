@@ -1,10 +1,18 @@
-use Rattle.std.proofs.Common.{◌++◌, ◌∷◌, [], ap, arith, subst, sym, ℕ, ◌∙◌}
+use Rattle.std.proofs.Common.{◌++◌, ◌∷◌, [], ap, arith, rules, subst, sym, ℕ, ◌∙◌}
 use Rattle.disk.specs.{AlwaysLeaves}
 use Rattle.engine.specs.{IsOldOrNewSince, LookUps, WereOneOf, facts_of, look_ups}
 use Rattle.engine.specs.{with_committed, with_one_more}
 use Rattle.embedded_store.specs.Stores.{store_disk, store_engine}
+use Rattle.embedded_store.proofs.StoreReads.{write_refused}
 use Rattle.embedded_store.proofs.StoreWrites.{kept_on}
 use Rattle.embedded_store.proofs.store.EmbeddedStore.write.Goals as goal
+
+-- what the engine says of each list is said of the one that is shown
+pub returns-in_err-number-clause-refused : goal.returns-in_err-number-clause-refused
+returns-in_err-number-clause-refused g c = λ list shown.
+    let cause = write_refused c.args.self.now list c.in_err-number.field-0.0
+    c.in_err-number.ensures.met shown in
+    search (rules, cause)
 
 -- no fewer batches are committed, and no more than there are
 pub set_committed-requires : goal.set_committed-requires
