@@ -1,5 +1,6 @@
 -- What is written of a store: its numbers, all rows of the map at its count, and how many they are.
-use Rattle.std.specs.Prelude.{◌≡◌, ◌⊎◌, ℕ, List, [], ◌∷◌, ◌++◌, Option, length, codes, take}
+use Rattle.std.specs.Prelude.{◌≡◌, ◌⊎◌, ◌<◌, ℕ, List, [], ◌∷◌, ◌++◌, Option, length, codes, take}
+use Rattle.std.specs.Prelude.{slice_index}
 use Rattle.std.specs.Prelude.{Result, Ok, Err, IsErrAnd, IsErrOf}
 use Rattle.std.specs.List.{flat_map}
 use Rattle.std.specs.Fmt.{decimal}
@@ -10,7 +11,7 @@ use Rattle.disk.specs.{Contents, KeepsDisk}
 use Rattle.disk.specs.declared.Disk.{Ghosts}
 use Rattle.engine.specs.declared.Engine.{Engine}
 use Rattle.engine.specs.{EngineReads, EngineWasMeant, Facts, IsDamaged, IsNotCreated, IsOwned}
-use Rattle.engine.specs.{OpensAs}
+use Rattle.engine.specs.{OpensAs, table_count}
 use Rattle.node.specs.declared.stop.Stop.TheVariants as stop
 use Rattle.client.specs.PrintedRuns.{AppendsPart}
 use Rattle.client.specs.Text.{printed_row, store_text}
@@ -36,6 +37,12 @@ count_line count at =
 abbrev pub dump_text : Facts → ℕ → List ℕ → List Row → List ℕ
 dump_text facts count tables rows = store_line facts count tables
     ++ (flat_map row_line rows ++ count_line (length rows) count)
+
+-- these are the numbers of tables of each level of an engine
+pub record AreTableCounts {D : Type 0} {g : Ghosts D} (engine : Engine D g) (tables : List ℕ)
+    : Type 0 where
+  pub levels : length tables ≡ 7
+  pub each : (level : ℕ) → level < 7 → slice_index tables level ≡ table_count engine level
 
 -- ---- which lists an engine shows
 

@@ -6,6 +6,7 @@ ghost use Rattle.engine.specs.{EngineReads, Facts, FilesRepresent, WereMeant, en
 ghost use Rattle.engine.specs.{facts_of, look_ups};
 ghost use Rattle.node.specs.declared.stop.Stop.TheVariants as stop;
 ghost use Rattle.dumps.specs.declared.dump_error.DumpError.TheVariants.{Store};
+ghost use Rattle.dumps.specs.Dumped.{AreTableCounts};
 ghost use Rattle.dumps.specs.Dumped.{IsBegunDump, IsBegunFor, IsCutDump, IsDumpFor, IsDumpOf};
 ghost use Rattle.dumps.specs.Dumped.{IsDumpRefusal, IsNotOpened, IsSomeBegun, IsSomeDump};
 ghost use Rattle.dumps.specs.Dumped.{LeavesDevice, OpenAsNone, ShowsList, WritesText, count_line};
@@ -28,6 +29,7 @@ fn numbers_of<D: Disk + Drop>(engine: &Engine<D>) -> Numbers
     ensures count { result.count ≡ (look_ups engine.now).count }
     ensures floor { result.floor ≡ (look_ups engine.now).facts.floor }
     ensures kept { result.kept ≡ (look_ups engine.now).facts.kept }
+    ensures tables { AreTableCounts engine.now result.tables }
 {
     Numbers {
         epoch: engine.epoch(),
@@ -47,7 +49,7 @@ fn write_numbers<D: Disk + Drop, W: Write>(
 ) -> Result<(), DumpError>
     ensures { (tables : List ℕ) × WritesText
         (store_line (look_ups engine.now).facts (look_ups engine.now).count tables)
-        (W.contents out.old) (W.contents out.new) result }
+        (W.contents out.old) (W.contents out.new) result × AreTableCounts engine.now tables }
 {
     let mut text = Vec::new(alloc);
     let numbers = numbers_of(engine);

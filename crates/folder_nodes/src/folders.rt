@@ -1,11 +1,12 @@
 // The nodes of a list of configurations, each in a folder of its own.
-ghost use Rattle.std.specs.Prelude.{◌≡◌, ◌++◌, ◌∷◌, [], Contains, IfErr, IfOk, OnOk};
+ghost use Rattle.std.specs.Prelude.{◌≡◌, ◌++◌, ◌∷◌, [], All, Contains, IfErr, IfOk, OnOk};
 ghost use Rattle.std.specs.Prelude.{string_bytes};
 ghost use Rattle.configurations.specs.{at_epoch};
 ghost use Rattle.dir_disk.specs.Disks.{HasLock, disk_folder};
 ghost use Rattle.dir_disk.specs.Names.{file_path};
 ghost use Rattle.node.specs.{IsReady, node_limits};
 ghost use Rattle.folder_nodes.specs.Finding.{sim_ids};
+ghost use Rattle.folder_nodes.specs.FoundNodes.{AddsNode, IsFoundIn, IsNodeIn};
 
 use crate::fault::{FolderError, FolderFault};
 use crate::finding::node_over;
@@ -59,6 +60,7 @@ fn node_in<R: Files<File = File> + Alloc<A = Global> + Clone + Drop>(
 ) -> Result<Node<DirDisk<R>>, FolderError>
     ensures works { IfOk result IsReady }
     ensures limits { IfOk result (λ node. node_limits node ≡ limits.now) }
+    ensures found { IfOk result (IsNodeIn folder.now id) }
 {
     let disk = locked_disk(rt, folder, id)?;
     match node_over(rt.alloc(), disk, id, configs, limits) {
@@ -78,7 +80,7 @@ fn add_node<D: Disk + Drop>(
     node: Node<D>,
 ) -> Result<(), FolderError>
     requires { IsReady node }
-    ensures { OnOk result (sim_ids nodes.new.items ≡ sim_ids nodes.old.items ++ id ∷ []) }
+    ensures { OnOk result (AddsNode id node nodes.old.items nodes.new.items) }
 {
     nodes.push(SimNode::up(id, Box::new(alloc, node)?))?;
     Ok(())
@@ -93,7 +95,9 @@ fn add_node_in<R: Files<File = File> + Alloc<A = Global> + Clone + Drop>(
     limits: &Limits,
     nodes: &mut Vec<SimNode<DirDisk<R>>>,
 ) -> Result<(), FolderError>
-    ensures { OnOk result (sim_ids nodes.new.items ≡ sim_ids nodes.old.items ++ id ∷ []) }
+    ensures ids { OnOk result (sim_ids nodes.new.items ≡ sim_ids nodes.old.items ++ id ∷ []) }
+    ensures found { OnOk result (All (IsFoundIn folder.now limits.now) nodes.old.items →
+        All (IsFoundIn folder.now limits.now) nodes.new.items) }
 {
     let node = node_in(rt, folder, id, configs, limits)?;
     add_node(rt.alloc(), nodes, id, node)
@@ -109,6 +113,7 @@ pub fn nodes_in<R: Files<File = File> + Alloc<A = Global> + Clone + Drop>(
     limits: &Limits,
 ) -> Result<Vec<SimNode<DirDisk<R>>>, FolderFault>
     ensures nodes { IfOk result (λ nodes. sim_ids nodes.items ≡ at_epoch configs.now 0) }
+    ensures found { IfOk result (λ nodes. All (IsFoundIn folder.now limits.now) nodes.items) }
     ensures fault { IfErr result (λ fault. Contains (at_epoch configs.now 0) fault.id) }
 {
     let mut nodes = Vec::new(rt.alloc());

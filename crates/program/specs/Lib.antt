@@ -3,3 +3,4 @@ pub mod FolderFailures
 pub mod Invocations
 pub mod Runs
 pub mod FolderRuns
+pub mod FolderDumps

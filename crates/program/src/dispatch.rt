@@ -1,12 +1,15 @@
 //! From the program's words and streams to its exit status.
 ghost use Rattle.std.specs.Prelude.{◌≡◌, ◌≢◌, ℕ, List, map, codes, Some, None};
-ghost use Rattle.program.specs.FolderRuns.{DumpEnds, LoopEndsFor, ProgramEnds};
+ghost use Rattle.program.specs.FolderDumps.{DumpEndsFor};
+ghost use Rattle.program.specs.FolderRuns.{LoopEndsFor, ProgramEnds};
 ghost use Rattle.program.specs.Invocations.{AsksForNothing, dump_folder, lab_script, loop_paths};
 ghost use Rattle.program.specs.Runs.{RunEndsAs, UsageIsReported};
 
 use crate::folder_service::{serve_dump, serve_loop};
 use crate::invocation::is_named;
 use crate::service::serve_lab;
+use dir_disk::{DirDisk, Unchanged};
+use disk::Disk;
 use std::alloc::Global;
 use std::fs::File;
 use std::io::{Read, Write};
@@ -45,8 +48,8 @@ where
         result }
     ensures dumped { (folder : List ℕ) →
         dump_folder (map (λ w. w.now) words.now) ≡ Some folder → (input.new ≡ input.old)
-        × DumpEnds (O.contents out.old) (O.contents out.new) (E.contents err.old)
-        (E.contents err.new) result }
+        × DumpEndsFor ⟦<Unchanged<DirDisk<F>> as Disk>⟧ folder (O.contents out.old)
+        (O.contents out.new) (E.contents err.old) (E.contents err.new) result }
 
     // All words, by the command that they name.
     ensures ends { ProgramEnds (map (λ w. w.now) words.now) (O.contents out.old)

@@ -1,9 +1,11 @@
 //! What the store of one folder has is written out.
-ghost use Rattle.std.specs.Prelude.{MatchResult};
+ghost use Rattle.std.specs.Prelude.{IfOk, MatchResult, OnOk};
 ghost use Rattle.dumps.specs.Dumped.{IsSomeBegun, IsSomeDump};
+ghost use Rattle.program.specs.FolderDumps.{IsFolderToRead, IsReadFrom};
 
 use crate::folder_failure::DumpFailure;
 use dir_disk::{DirDisk, Unchanged};
+use disk::Disk;
 use dumps::dump_store;
 use lab::Stop;
 use std::alloc::{AllocError, Global};
@@ -15,7 +17,9 @@ use std::rt::Files;
 fn disk_to_read<F: Files<File = File> + Alloc<A = Global> + Clone + Drop>(
     rt: &F,
     folder: &str,
-) -> Result<DirDisk<F>, AllocError> {
+) -> Result<DirDisk<F>, AllocError>
+    ensures { IfOk result (IsFolderToRead folder.now) }
+{
     DirDisk::to_read(rt.clone()?, folder)
 }
 
@@ -26,8 +30,10 @@ pub fn dump_folder<F: Files<File = File> + Alloc<A = Global> + Clone + Drop, W: 
     folder: &str,
     out: &mut W,
 ) -> Result<(), DumpFailure>
-    ensures { MatchResult result (λ _. IsSomeDump (W.contents out.old) (W.contents out.new))
+    ensures printed { MatchResult result
+        (λ _. IsSomeDump (W.contents out.old) (W.contents out.new))
         (λ _. IsSomeBegun (W.contents out.old) (W.contents out.new)) }
+    ensures from { OnOk result (IsReadFrom ⟦<Unchanged<DirDisk<F>> as Disk>⟧ folder.now) }
 {
     // An empty path is that of no folder.
     if folder.is_empty() {

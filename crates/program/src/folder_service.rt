@@ -3,7 +3,8 @@ ghost use Rattle.std.specs.Prelude.{◌≡◌, ◌≢◌, ℕ, List, false, map,
 ghost use Rattle.std.specs.Prelude.{Some, None};
 ghost use Rattle.client.specs.PrintedRuns.{AppendsPart};
 ghost use Rattle.program.specs.FolderFailures.{dump_failure_line, loop_failure_line};
-ghost use Rattle.program.specs.FolderRuns.{DumpEnds, DumpOrUsage, LoopEnds};
+ghost use Rattle.program.specs.FolderDumps.{DumpEndsFor};
+ghost use Rattle.program.specs.FolderRuns.{DumpOrUsage, LoopEnds};
 ghost use Rattle.program.specs.FolderRuns.{LoopEndsFor, LoopOrUsage, stopped_status};
 ghost use Rattle.program.specs.Invocations.{dump_folder, has_option, loop_paths};
 ghost use Rattle.program.specs.Runs.{UsageIsReported};
@@ -16,6 +17,8 @@ use crate::invocation::{WordsError, loop_request, path_request};
 use crate::service::refuse;
 use arrayvec::ArrayVec;
 use client::print;
+use dir_disk::{DirDisk, Unchanged};
+use disk::Disk;
 use std::alloc::Global;
 use std::fs::{File, OpenOptions};
 use std::io::{self, Read, Write};
@@ -112,8 +115,8 @@ fn report_dump<E: Write>(err: &mut E, failure: DumpFailure) -> u8
 fn write_folder<F, O: Write, E: Write>(rt: &F, folder: &str, out: &mut O, err: &mut E) -> u8
 where
     F: Files<File = File> + Alloc<A = Global> + Clone + Drop,
-    ensures { DumpEnds (O.contents out.old) (O.contents out.new) (E.contents err.old)
-        (E.contents err.new) result }
+    ensures { DumpEndsFor ⟦<Unchanged<DirDisk<F>> as Disk>⟧ folder.now (O.contents out.old)
+        (O.contents out.new) (E.contents err.old) (E.contents err.new) result }
 {
     match dump_folder(rt, folder, out) {
         Ok(()) => 0,
@@ -157,8 +160,8 @@ where
     F: Files<File = File> + Alloc<A = Global> + Clone + Drop,
     ensures dumped { (folder : List ℕ) →
         dump_folder (map (λ w. w.now) words.now) ≡ Some folder →
-        DumpEnds (O.contents out.old) (O.contents out.new) (E.contents err.old)
-        (E.contents err.new) result }
+        DumpEndsFor ⟦<Unchanged<DirDisk<F>> as Disk>⟧ folder (O.contents out.old)
+        (O.contents out.new) (E.contents err.old) (E.contents err.new) result }
     ensures unknown { dump_folder (map (λ w. w.now) words.now) ≡ None →
         has_option (codes "dump") (map (λ w. w.now) words.now) ≡ false →
         UsageIsReported (O.contents out.old) (O.contents out.new) (E.contents err.old)

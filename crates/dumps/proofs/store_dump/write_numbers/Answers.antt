@@ -9,4 +9,5 @@ returns-in_err-print g c = (
   written_in_part _ (g.W.Write.contents c.args.out.now) (g.W.Write.contents c.print.new.out)
       c.from_residual.result c.from_residual.ensures.1
       (search (rules, c.in_err-print.ensures.part)),
+  c.numbers_of-numbers.ensures.tables,
 )

@@ -1,0 +1,38 @@
+-- Nodes that were found in folders.
+use Rattle.std.specs.Prelude.{◌≡◌, ℕ, List, [], ◌∷◌, ◌++◌, string_bytes}
+use Rattle.std.specs.Global.{Box}
+use Rattle.disk.specs.{KeepsDisk}
+use Rattle.disk.specs.declared.Disk.{Ghosts}
+use Rattle.dir_disk.specs.declared.folder.DirDisk.{DirDisk}
+use Rattle.dir_disk.specs.Disks.{HasLock, disk_folder}
+use Rattle.dir_disk.specs.Names.{file_path}
+use Rattle.kv_types.specs.declared.Limits.{Limits}
+use Rattle.node.specs.declared.node.Node.{Node}
+use Rattle.node.specs.{IsOwned, disk_of, node_limits}
+use Rattle.lab.specs.declared.SimNode.{SimNode}
+use Rattle.lab.specs.declared.node_state.NodeState.TheVariants.{Up}
+
+-- these nodes, and behind them one with this id, which is up
+pub record AddsNode {D : Type 0} {g : Ghosts D} (id : ℕ) (node : Node D g)
+    (old new : List (SimNode D g)) : Type 0 where
+  pub sim : SimNode D g
+  pub more : new ≡ old ++ sim ∷ []
+  pub named : sim.id ≡ id
+  pub up : (box : Box (Node D g)) × (sim.state ≡ Up box) × (box.value ≡ node)
+
+module _ {R : Type 0} {g : Ghosts (DirDisk R)} where
+  -- the node was found on a disk of the folder behind this path that has the id for its name, with
+  -- its lock, whose device has not failed since
+  pub record IsNodeIn (path : List ℕ) (id : ℕ) (node : Node (DirDisk R) g) : Type 0 where
+    pub disk : DirDisk R
+    pub folder : string_bytes (disk_folder disk) ≡ file_path path id
+    pub locked : HasLock disk
+    pub kept : KeepsDisk g disk (disk_of node) ⊥ ⊥ IsOwned
+
+  -- a simulated node is up, was found in its folder behind this path, and has these limits
+  pub record IsFoundIn (path : List ℕ) (limits : Limits) (sim : SimNode (DirDisk R) g) : Type 0
+    where
+      pub node : Box (Node (DirDisk R) g)
+      pub up : sim.state ≡ Up node
+      pub limits_are : node_limits node.value ≡ limits
+      pub found : IsNodeIn path sim.id node.value
