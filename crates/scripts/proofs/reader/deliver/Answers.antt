@@ -21,12 +21,12 @@ returns c =
     let cut = c.split_fault.ensures in
     let word = c.in-Some.ensures in
     let args = map (λ w. w.now) c.args.args.now in
-    delivers c.args.before.now args c.in-Some.place c.in_ok-fault.fault
+    rw c.in_ok-new.ensures (delivers c.args.before.now args c.in-Some.place c.in_ok-fault.fault
     (read_delivery c.args.before.now.faults args _ _ c.in-Some.place c.in_ok-fault.fault cut.before
     cut.behind word.1
     (only_word c.split_fault.result.0.now _ _
     (omega (arith, c.in-len1.len_at_least, c.in-len1.len_below)) word.2) c.in_ok-fault.ensures)
-    (rw c.if-is_none.ensures refl)
+    (rw c.if-is_none.ensures refl))
 
 pub returns-in_default : goal.returns-in_default
 returns-in_default c = grind (arith, common_steps)

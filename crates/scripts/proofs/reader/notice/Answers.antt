@@ -11,7 +11,7 @@ returns c =
     let known = c.in_ok-epoch.ensures in
     let placed = c.in_ok-node.ensures in
     let args = map (λ w. w.now) c.args.args.now in
-    rw (placed.0, known.0) (notices c.args.before.now args c.in-Some-Some.node
+    rw (c.in_ok-new.ensures, placed.0, known.0) (notices c.args.before.now args c.in-Some-Some.node
     c.in-Some-Some.epoch c.in_ok-fault.fault
     (read_notice c.args.before.now.faults args _ _ c.in-Some-Some.node c.in-Some-Some.epoch
     c.in_ok-fault.fault cut.before cut.behind node.1 epoch.1
