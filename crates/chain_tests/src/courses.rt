@@ -176,7 +176,9 @@ fn tended_text(did: Tended) -> &'static str {
 
 fn put_kept_reply(text: &mut String, reply: &KeptReply) -> Result<(), AllocError> {
     match reply.form() {
-        ReplyForm::Committed { number, .. } => write!(text, "committed {}", number.get()),
+        ReplyForm::Committed { request, number } => {
+            write!(text, "{}: committed {}", request.get(), number.get())
+        }
         ReplyForm::Other(reply) => put_reply(text, reply.as_ref()),
     }
 }
