@@ -215,10 +215,12 @@ impl<D: Disk + Drop> Cursor for TableCursor<D> {
 
     ghost seeks_allocate = { Unit {0} };
 
+    #[inline(always)]
     fn valid(&self) -> bool {
         self.place.is_some()
     }
 
+    #[inline(always)]
     fn key(&self) -> LentKey<'_> {
         match &self.place {
             Some(place) => place.entry().key,
@@ -226,6 +228,7 @@ impl<D: Disk + Drop> Cursor for TableCursor<D> {
         }
     }
 
+    #[inline(always)]
     fn number(&self) -> u64 {
         match &self.place {
             Some(place) => place.entry().number,
@@ -233,6 +236,7 @@ impl<D: Disk + Drop> Cursor for TableCursor<D> {
         }
     }
 
+    #[inline(always)]
     fn value(&self) -> Option<&[u8]> {
         match &self.place {
             Some(place) => place.entry().value,

@@ -92,6 +92,7 @@ impl<C: Ends> Cursor for Concatenated<C> {
 
     ghost seeks_allocate = { C.seeks_allocate };
 
+    #[inline(always)]
     fn valid(&self) -> bool {
         match self.place {
             ChildPlace::On(k) => match self.children.get(k) {
@@ -103,6 +104,7 @@ impl<C: Ends> Cursor for Concatenated<C> {
         }
     }
 
+    #[inline(always)]
     fn key(&self) -> LentKey<'_> {
         match self.place {
             ChildPlace::On(k) => self.children[k].key(),
@@ -111,6 +113,7 @@ impl<C: Ends> Cursor for Concatenated<C> {
         }
     }
 
+    #[inline(always)]
     fn number(&self) -> u64 {
         match self.place {
             ChildPlace::On(k) => self.children[k].number(),
@@ -119,6 +122,7 @@ impl<C: Ends> Cursor for Concatenated<C> {
         }
     }
 
+    #[inline(always)]
     fn value(&self) -> Option<&[u8]> {
         match self.place {
             ChildPlace::On(k) => self.children[k].value(),

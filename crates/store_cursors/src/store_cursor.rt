@@ -15,6 +15,8 @@ use sorted_table::{CachedDisk, TableCursor};
 
 /// A cursor over a memtable or over tables. The source of both is the files of the disk: a cursor
 /// over a memtable reads nothing of them and leaves them as they are.
+///
+/// What a step of a walk asks is inlined, since a union asks it several times.
 #[derive(Drop)]
 pub enum StoreCursor<'a, D> {
     /// Over a memtable.
@@ -103,6 +105,7 @@ impl<'a, D: Disk + Drop> Cursor for StoreCursor<'a, D> {
 
     ghost seeks_allocate = { ⟦<Concatenated<TableCursor<D>> as Cursor>⟧.seeks_allocate };
 
+    #[inline(always)]
     fn valid(&self) -> bool {
         match self {
             StoreCursor::Memory(cursor) => cursor.valid(),
@@ -110,6 +113,7 @@ impl<'a, D: Disk + Drop> Cursor for StoreCursor<'a, D> {
         }
     }
 
+    #[inline(always)]
     fn key(&self) -> LentKey<'_> {
         match self {
             StoreCursor::Memory(cursor) => cursor.key(),
@@ -117,6 +121,7 @@ impl<'a, D: Disk + Drop> Cursor for StoreCursor<'a, D> {
         }
     }
 
+    #[inline(always)]
     fn number(&self) -> u64 {
         match self {
             StoreCursor::Memory(cursor) => cursor.number(),
@@ -124,6 +129,7 @@ impl<'a, D: Disk + Drop> Cursor for StoreCursor<'a, D> {
         }
     }
 
+    #[inline(always)]
     fn value(&self) -> Option<&[u8]> {
         match self {
             StoreCursor::Memory(cursor) => cursor.value(),
@@ -131,6 +137,7 @@ impl<'a, D: Disk + Drop> Cursor for StoreCursor<'a, D> {
         }
     }
 
+    #[inline(always)]
     fn next(&mut self, files: &mut CachedDisk<D>) -> Result<(), CursorError> {
         match self {
             StoreCursor::Memory(cursor) => cursor.next(&mut ()),
@@ -138,6 +145,7 @@ impl<'a, D: Disk + Drop> Cursor for StoreCursor<'a, D> {
         }
     }
 
+    #[inline(always)]
     fn prev(&mut self, files: &mut CachedDisk<D>) -> Result<(), CursorError> {
         match self {
             StoreCursor::Memory(cursor) => cursor.prev(&mut ()),
