@@ -4,7 +4,7 @@ ghost use Rattle.kv_types.specs.StoredKeys.{lent_key, stored_cmp};
 
 use crate::Key;
 use crate::bounds::MAX_KEY;
-use byte_fields::read_u64;
+use byte_fields::{read_u32, read_u64};
 use std::alloc::{AllocError, Global};
 use std::cmp::Ordering;
 use std::marker::Model;
@@ -84,10 +84,23 @@ fn order(a: &[u8], b: &[u8]) -> Ordering
         }
         (bytes, others) = (rest, other_rest);
     }
-    order_few(bytes, others)
+    order_four(bytes, others)
 }
 
-// The order of bytes, one by one: of less than eight on one side at least.
+// The order of bytes: of the first four as numbers, where both have so many, and of the rest.
+fn order_four(a: &[u8], b: &[u8]) -> Ordering
+    ensures { result ≡ stored_cmp a.now b.now }
+{
+    let (Some((x, rest)), Some((y, other_rest))) = (read_u32(a), read_u32(b)) else {
+        return order_few(a, b);
+    };
+    if x != y {
+        return x.cmp(&y);
+    }
+    order_few(rest, other_rest)
+}
+
+// The order of bytes, one by one.
 fn order_few(a: &[u8], b: &[u8]) -> Ordering
     ensures { result ≡ stored_cmp a.now b.now }
 {

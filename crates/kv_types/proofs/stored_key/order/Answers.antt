@@ -1,5 +1,6 @@
 use Rattle.std.proofs.Common.{ℕ, List, ◌∙◌, refl, arith}
-use Rattle.kv_types.proofs.Words.{fewer, rest_fits, rest_decides, words_decide}
+use Rattle.std.specs.Int.{w64}
+use Rattle.kv_types.proofs.Words.{eight, fewer, rest_fits, rest_decides, words_decide}
 use Rattle.kv_types.proofs.stored_key.order.Goals as goal
 
 pub loop-x-init : goal.loop-x-init
@@ -19,8 +20,8 @@ returns-then-x-y c =
     let read = c.in-Some-Some in
     let so_far = c.loop-x.invariant in
     c.cmp.ensures
-    ∙ words_decide c.loop-x.bytes.now c.loop-x.others.now (read.x, read.rest.now)
-    (read.y, read.other_rest.now) so_far.bytes so_far.others read.ensures read.ensures'
+    ∙ words_decide w64 c.loop-x.bytes.now c.loop-x.others.now (read.x, read.rest.now)
+    (read.y, read.other_rest.now) eight so_far.bytes so_far.others read.ensures read.ensures'
     c.if-x-y.true
     ∙ so_far.order
 
@@ -34,10 +35,10 @@ loop-x-preserved c =
       bytes = rest_fits c.loop-x.bytes.now x so_far.bytes read.ensures;
       others = rest_fits c.loop-x.others.now y so_far.others read.ensures';
       order =
-          rest_decides c.loop-x.bytes.now c.loop-x.others.now x y so_far.bytes so_far.others
-          read.ensures read.ensures' c.if-x-y.false
+          rest_decides w64 c.loop-x.bytes.now c.loop-x.others.now x y eight so_far.bytes
+          so_far.others read.ensures read.ensures' c.if-x-y.false
           ∙ so_far.order;
     }
 
 pub returns : goal.returns
-returns c = c.order_few.ensures ∙ c.loop-x.invariant.order
+returns c = c.order_four.ensures ∙ c.loop-x.invariant.order
