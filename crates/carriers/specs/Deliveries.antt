@@ -1,5 +1,5 @@
 -- What arrives of a frame at a node: the inputs of nodes.
-use Rattle.std.specs.Prelude.{◌≡◌, ℕ}
+use Rattle.std.specs.Prelude.{◌≡◌, ◌⊎◌, ℕ}
 use Rattle.link_messages.specs.declared.Frame.{Frame}
 use Rattle.link_messages.specs.declared.Frame.TheVariants as frame
 use Rattle.chain_model.specs.declared.DropReason.TheVariants as reason
@@ -32,11 +32,17 @@ IsSentTo node sent delivery.Nothing = ⊥
 IsSentTo node sent delivery.Lost = Unit {0}
 IsSentTo node sent (delivery.To x got) = (x ≡ node) × (got ≡ sent)
 
--- whatever a carrier made of what was sent to this node, it arrives nowhere else
-abbrev pub IsAddressedTo : ℕ → Delivery → Type 0
-IsAddressedTo node delivery.Nothing = ⊥
-IsAddressedTo node delivery.Lost = Unit {0}
-IsAddressedTo node (delivery.To x got) = x ≡ node
+-- bytes that arrived are the input that some frame of this sender is, or are no frame
+abbrev pub IsReadAs : (Frame → NodeInput) → NodeInput → Type 0
+IsReadAs means got = ((frame : Frame) × (got ≡ means frame))
+    ⊎ (got ≡ to_node.BadFrame reason.Unreadable)
+
+-- whatever a carrier made of what was sent to this node, it arrives nowhere else, and as what a
+-- frame of its sender may be
+abbrev pub IsAddressedTo : (Frame → NodeInput) → ℕ → Delivery → Type 0
+IsAddressedTo means node delivery.Nothing = ⊥
+IsAddressedTo means node delivery.Lost = Unit {0}
+IsAddressedTo means node (delivery.To x got) = (x ≡ node) × IsReadAs means got
 
 -- it was lost on its way
 abbrev pub DeliveryWasLost : Delivery → Type 0

@@ -27,6 +27,12 @@ abbrev pub HasCarriedMore : {C : Type 0} → (C → List Transmission → Type 0
 HasCarriedMore has_carried old new more =
     (earlier : List Transmission) → has_carried old earlier → has_carried new (earlier ++ more)
 
+-- behind all that a carrier had carried, it has carried these bytes once, or lost them
+abbrev pub HasCarriedOne : {C : Type 0} → (C → List Transmission → Type 0) → C → C
+    → Peer → Peer → List ℕ → Type 0
+HasCarriedOne has_carried old new from to bytes =
+    (lost : Bool) × HasCarriedMore has_carried old new (one_transmission from to bytes lost)
+
 -- whether bytes were lost
 abbrev pub carried_lost : Carried → Bool
 carried_lost Same = false

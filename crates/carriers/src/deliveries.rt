@@ -97,7 +97,7 @@ pub fn send_request<C: Carrier>(
     ensures faithful { C.is_faithful carrier.new ↔ C.is_faithful carrier.old }
     ensures arrives { C.is_faithful carrier.old →
         IfOk result (IsSentTo node (request_input frame)) }
-    ensures addressed { IfOk result (IsAddressedTo node) }
+    ensures addressed { IfOk result (IsAddressedTo request_input node) }
     ensures lost { IfOk result (λ it. DeliveryWasLost it → C.loses) }
     ensures asked { IfOk result (λ it. HasCarriedMore C.has_carried carrier.old carrier.new
         (one_transmission Peer.Client (Peer.Node node) (frame_bytes frame) (delivery_lost it))) }
@@ -120,7 +120,7 @@ pub fn send_posted<C: Carrier>(
     ensures faithful { C.is_faithful carrier.new ↔ C.is_faithful carrier.old }
     ensures arrives { (frame : Frame) → IsFrame frame → bytes.now ≡ frame_bytes frame →
         C.is_faithful carrier.old → IfOk result (IsSentTo to (input_of frame)) }
-    ensures addressed { IfOk result (IsAddressedTo to) }
+    ensures addressed { IfOk result (IsAddressedTo input_of to) }
     ensures lost { IfOk result (λ it. DeliveryWasLost it → C.loses) }
     ensures asked { IfOk result (λ it. HasCarriedMore C.has_carried carrier.old carrier.new
         (one_transmission (Peer.Node from) (Peer.Node to) bytes.now (delivery_lost it))) }

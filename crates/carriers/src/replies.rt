@@ -2,7 +2,8 @@
 ghost use Rattle.std.specs.Prelude.{◌≡◌, ◌↔◌, IfOk};
 ghost use Rattle.link_messages.specs.{frame_bytes};
 ghost use Rattle.carriers.specs.Replies.{ReplyArrives, reply_frame, reply_of};
-ghost use Rattle.carriers.specs.Transmissions.{HasCarriedMore, one_transmission, reply_lost};
+ghost use Rattle.carriers.specs.Transmissions.{HasCarriedMore, HasCarriedOne, one_transmission};
+ghost use Rattle.carriers.specs.Transmissions.{reply_lost};
 
 use crate::{Carrier, LabError, Peer, Received, send};
 use configurations::NodeId;
@@ -85,6 +86,8 @@ pub fn send_reply<C: Carrier>(
         IfOk result (λ it. HasCarriedMore C.has_carried carrier.old carrier.new
         (one_transmission (Peer.Node from) Peer.Client (frame_bytes (reply_frame reply))
         (reply_lost it))) }
+    ensures once { IfOk result (λ it. HasCarriedOne C.has_carried carrier.old carrier.new
+        (Peer.Node from) Peer.Client (frame_bytes (reply_frame reply))) }
 {
     match send(
         alloc,

@@ -1,4 +1,6 @@
 // A carrier that alters bytes.
+ghost use Rattle.std.specs.Prelude.{◌≡◌};
+
 use carriers::{Carried, Carrier, LabError, Peer};
 use std::alloc::Global;
 
@@ -18,7 +20,11 @@ pub struct Altering {
 }
 
 impl Altering {
-    pub fn new(alterations: Vec<Alteration>) -> Altering {
+    /// A carrier that makes these alterations. Its next turn is 0.
+    pub fn new(alterations: Vec<Alteration>) -> Altering
+        ensures alterations { result.alterations ≡ alterations }
+        ensures first { result.turn ≡ 0 }
+    {
         Altering {
             alterations,
             turn: 0,

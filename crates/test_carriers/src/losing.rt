@@ -1,4 +1,6 @@
 // A carrier that loses chosen turns.
+ghost use Rattle.std.specs.Prelude.{◌≡◌};
+
 use carriers::{Carried, Carrier, LabError, Peer};
 use std::alloc::Global;
 
@@ -10,7 +12,11 @@ pub struct Losing {
 }
 
 impl Losing {
-    pub fn new(turns: Vec<u64>) -> Losing {
+    /// A carrier that loses these turns. Its next turn is 0.
+    pub fn new(turns: Vec<u64>) -> Losing
+        ensures turns { result.turns ≡ turns }
+        ensures first { result.turn ≡ 0 }
+    {
         Losing { turns, turn: 0 }
     }
 }

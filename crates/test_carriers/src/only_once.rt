@@ -1,4 +1,6 @@
 // A carrier that carries no message again.
+ghost use Rattle.std.specs.Prelude.{◌≡◌, []};
+
 use carriers::{Carried, Carrier, LabError, Peer};
 use std::alloc::Global;
 
@@ -17,7 +19,10 @@ pub struct OnlyOnce {
 }
 
 impl OnlyOnce {
-    pub fn new(alloc: Global) -> OnlyOnce {
+    /// A carrier that has carried nothing.
+    pub fn new(alloc: Global) -> OnlyOnce
+        ensures { result.carried.items ≡ [] }
+    {
         OnlyOnce {
             carried: Vec::new(alloc),
         }
