@@ -1,6 +1,6 @@
 -- Nodes that were found in folders.
 use Rattle.std.proofs.Common.{◌≡◌, ◌∙◌, ℕ, List, [], ◌∷◌, ◌++◌, ap, subst, sym}
-use Rattle.std.specs.Prelude.{Result, Ok, Err, OnOk, All}
+use Rattle.std.specs.Prelude.{Result, Ok, Err, OnOk, All, ◌≢◌}
 use Rattle.std.proofs.lemmas.List.{map-append}
 use Rattle.std.proofs.lemmas.List.Elements.{All-push}
 use Rattle.disk.specs.declared.Disk.{Ghosts}
@@ -27,14 +27,15 @@ ids_more id node old new adds =
 
 -- a node more that was found in its folder
 pub found_more : {R : Type 0} {g : Ghosts (DirDisk R)} (path : List ℕ) (limits : Limits) →
-    (id : ℕ) (node : Node (DirDisk R) g) (old new : List (SimNode (DirDisk R) g)) →
+    (id : ℕ) (node : Node (DirDisk R) g) (old new : List (SimNode (DirDisk R) g)) → path ≢ [] →
     AddsNode id node old new → node_limits node ≡ limits → IsNodeIn path id node →
     All (IsFoundIn path limits) old → All (IsFoundIn path limits) new
-found_more {R} {g} path limits id node old new adds are found each =
+found_more {R} {g} path limits id node old new path_is adds are found each =
     let box = adds.up.0 in
     let IsFound : SimNode (DirDisk R) g → Type 0 = IsFoundIn path limits in
     subst (λ (sims : List (SimNode (DirDisk R) g)). All IsFound sims) (sym adds.more)
     (All-push IsFound old adds.sim each (record {
+      path_is = path_is;
       node = box;
       up = adds.up.1;
       limits_are = ap node_limits adds.up.2 ∙ are;

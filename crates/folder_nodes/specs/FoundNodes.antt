@@ -1,5 +1,5 @@
 -- Nodes that were found in folders.
-use Rattle.std.specs.Prelude.{◌≡◌, ℕ, List, [], ◌∷◌, ◌++◌, string_bytes}
+use Rattle.std.specs.Prelude.{◌≡◌, ◌≢◌, ℕ, List, [], ◌∷◌, ◌++◌, string_bytes}
 use Rattle.std.specs.Global.{Box}
 use Rattle.disk.specs.{KeepsDisk}
 use Rattle.disk.specs.declared.Disk.{Ghosts}
@@ -29,9 +29,11 @@ module _ {R : Type 0} {g : Ghosts (DirDisk R)} where
     pub locked : HasLock disk
     pub kept : KeepsDisk g disk (disk_of node) ⊥ ⊥ IsOwned
 
-  -- a simulated node is up, was found in its folder behind this path, and has these limits
+  -- a simulated node is up, was found in its folder behind this path, which is not empty, and has
+  -- these limits
   pub record IsFoundIn (path : List ℕ) (limits : Limits) (sim : SimNode (DirDisk R) g) : Type 0
     where
+      pub path_is : path ≢ []
       pub node : Box (Node (DirDisk R) g)
       pub up : sim.state ≡ Up node
       pub limits_are : node_limits node.value ≡ limits

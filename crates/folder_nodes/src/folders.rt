@@ -1,8 +1,8 @@
 // The nodes of a list of configurations, each in a folder of its own.
-ghost use Rattle.std.specs.Prelude.{◌≡◌, ◌++◌, ◌∷◌, [], All, Contains, IfErr, IfOk, OnOk};
-ghost use Rattle.std.specs.Prelude.{string_bytes};
+ghost use Rattle.std.specs.Prelude.{◌≡◌, ◌≢◌, ◌++◌, ◌∷◌, [], All, Contains, IfErr, IfOk, OnOk};
+ghost use Rattle.std.specs.Prelude.{string_bytes, true};
 ghost use Rattle.configurations.specs.{at_epoch};
-ghost use Rattle.dir_disk.specs.Disks.{HasLock, disk_folder};
+ghost use Rattle.dir_disk.specs.Disks.{HasLock, disk_folder, may_change};
 ghost use Rattle.dir_disk.specs.Names.{file_path};
 ghost use Rattle.node.specs.{IsReady, node_limits};
 ghost use Rattle.folder_nodes.specs.Finding.{sim_ids};
@@ -38,6 +38,8 @@ fn locked_disk<R: Files<File = File> + Alloc<A = Global> + Clone + Drop>(
     ensures folder { IfOk result (λ disk.
         string_bytes (disk_folder disk) ≡ file_path folder.now id) }
     ensures locked { IfOk result HasLock }
+    ensures writes { IfOk result (λ disk. may_change disk ≡ true) }
+    ensures path { OnOk result (folder.now ≢ []) }
 {
     // An empty path is that of no folder.
     if folder.is_empty() {
@@ -61,6 +63,7 @@ fn node_in<R: Files<File = File> + Alloc<A = Global> + Clone + Drop>(
     ensures works { IfOk result IsReady }
     ensures limits { IfOk result (λ node. node_limits node ≡ limits.now) }
     ensures found { IfOk result (IsNodeIn folder.now id) }
+    ensures path { OnOk result (folder.now ≢ []) }
 {
     let disk = locked_disk(rt, folder, id)?;
     match node_over(rt.alloc(), disk, id, configs, limits) {

@@ -4,31 +4,36 @@ use Rattle.std.proofs.Common.{false, List, [], ◌++◌, ap, append-nil, ◌∙�
 use Rattle.std.specs.Prelude.{Result, Ok, Err, IfErr, IfOk, IfSome, MatchResult, All}
 use Rattle.std.specs.Io.KnownBytes.{Appends}
 use Rattle.disk.specs.declared.disk.Disk.{Ghosts}
+use Rattle.dir_disk.specs.declared.folder.DirDisk.{DirDisk}
 use Rattle.carriers.specs.declared.Carrier.{Ghosts as Carriers}
 use Rattle.lab.specs.declared.Line.{Line}
+use Rattle.lab.specs.declared.SimNode.{SimNode}
 use Rattle.lab.specs.declared.world.World.{World}
 use Rattle.lab.specs.{HasItsNodes, configs_of, lines_so_far}
-use Rattle.lab.specs.NodeLists.{Configurations}
+use Rattle.lab.specs.NodeLists.{Configurations, at_epoch}
 use Rattle.client.specs.declared.run_error.RunError.{RunError}
 use Rattle.client.specs.declared.run_error.RunError.TheVariants as run
 use Rattle.client.specs.PrintedRuns.{AppendsPart, HasEndedEarly}
 use Rattle.client.specs.ReportedRuns.{AreReported, ReportIsBegun, ReportIsPrinted}
 use Rattle.client.specs.ReportedRuns.AreReported.{NoStatement, OneMore}
 use Rattle.dumps.specs.Dumped.{IsSomeBegun}
+use Rattle.folder_nodes.specs.Finding.{sim_ids}
+use Rattle.folder_nodes.specs.FoundNodes.{IsFoundIn}
 use Rattle.script_words.specs.Lines.{script_lines}
 use Rattle.scripts.specs.Faults.{script_fault, start}
 use Rattle.scripts.specs.Scripts.{IsScript, Names}
 use Rattle.scripts.specs.declared.setup.Setup.{Setup}
 use Rattle.scripts.specs.declared.statement.Statement.{Statement}
 use Rattle.program.specs.declared.failure.Failure.{Failure}
-use Rattle.program.specs.declared.failure.Failure.TheVariants.{Memory, Output}
+use Rattle.program.specs.declared.failure.Failure.TheVariants.{Memory, Output, Script, Unreadable}
 use Rattle.program.specs.declared.folder_failure.DumpFailure.{DumpFailure}
 use Rattle.program.specs.declared.folder_failure.LoopFailure.{LoopFailure}
-use Rattle.program.specs.declared.folder_failure.LoopFailure.TheVariants.{Run}
-use Rattle.program.specs.Failures.{IsFailureOf, failure_of}
+use Rattle.program.specs.declared.folder_failure.LoopFailure.TheVariants.{Folder, Network, Run}
+use Rattle.program.specs.Failures.{IsFailureOf, IsOfReading, failure_of}
 use Rattle.program.specs.FolderFailures.{IsLoopFailureOf, dump_failure_line, loop_failure_line}
-use Rattle.program.specs.FolderRuns.{DumpEnds, EndsEarly, IsPrintedReport, LoopEnds, LoopHasFailed}
-use Rattle.program.specs.FolderRuns.{SpellsStatements, has_stop, stopped_status}
+use Rattle.program.specs.FolderRuns.{DumpEnds, EndsEarly, FailsInFolders, HasFoundNodes}
+use Rattle.program.specs.FolderRuns.{IsOfScript, IsPrintedReport, IsRunInFolders, LoopEnds}
+use Rattle.program.specs.FolderRuns.{LoopHasFailed, SpellsStatements, has_stop, stopped_status}
 
 -- ---- a run in a world
 
@@ -102,131 +107,151 @@ begun_in cs has_nodes statements old new has begun = record {
   part = begun.part;
 }
 
--- ---- a run in folders
+-- ---- a run at the nodes of a script
 
 any_text : (text : Option (List ℕ)) (f : LoopFailure) → ((t : List ℕ) → IsLoopFailureOf t f) →
     IfSome text (λ t. IsLoopFailureOf t f)
 any_text None f is = tt
 any_text (Some t) f is = is t
 
--- the script was refused
-pub not_a_script : (text out : Option (List ℕ)) (f : Failure) →
-    IfSome text (λ t. IsFailureOf false t f) → LoopHasFailed text out out (Run f)
-not_a_script text out f cause = record {
-  cause = cause;
-  untouched = λ _. refl;
-  begun = inl refl;
+-- the nodes of these configurations were found, which are those that were set up
+pub found_nodes : {R : Type 0} {g : Ghosts (DirDisk R)} (folder : List ℕ) (setup : Setup)
+    (configs : Configurations) (nodes : List (SimNode (DirDisk R) g)) → configs ≡ setup.configs →
+    sim_ids nodes ≡ at_epoch configs 0 → All (IsFoundIn folder setup.limits) nodes →
+    HasFoundNodes g folder setup
+found_nodes folder setup configs nodes is ids each = record {
+  nodes = nodes;
+  ids = subst (λ (cs : Configurations). sim_ids nodes ≡ at_epoch cs 0) is ids;
+  each = each;
 }
 
--- the run did not begin, for another cause
-pub not_begun : (text out : Option (List ℕ)) (f : LoopFailure) →
-    ((t : List ℕ) → IsLoopFailureOf t f) → LoopHasFailed text out out f
-not_begun text out f is = record {
-  cause = any_text text f is;
-  untouched = λ _. refl;
-  begun = inl refl;
-}
+-- there was no listener
+pub no_carrier : {R : Type 0} {g : Ghosts (DirDisk R)} (folder : List ℕ) (setup : Setup)
+    (statements : List Statement) (out : Option (List ℕ)) (f : LoopFailure) →
+    HasFoundNodes g folder setup → (f ≡ Run Memory) ⊎ (f ≡ Network) →
+    FailsInFolders g folder setup statements out out f
+no_carrier {R} {g} folder setup statements out f found (inl is) =
+    subst (λ (x : LoopFailure). FailsInFolders g folder setup statements out out x) (sym is)
+    (inl refl)
+no_carrier {R} {g} folder setup statements out f found (inr is) =
+    subst (λ (x : LoopFailure). FailsInFolders g folder setup statements out out x) (sym is)
+    (refl, found)
 
 -- the run ended early
-pub cut_short : (text old new : Option (List ℕ)) (f : Failure) (setup : Setup)
-    (statements : List Statement) → (f ≡ Output) ⊎ (f ≡ Memory) →
-    IfSome text (λ t. IsScript 1 (script_lines t) setup statements) →
+pub cut_short : {R : Type 0} {g : Ghosts (DirDisk R)} (folder : List ℕ) (setup : Setup)
+    (statements : List Statement) (old new : Option (List ℕ)) (f : Failure) →
+    HasFoundNodes g folder setup → (f ≡ Output) ⊎ (f ≡ Memory) →
+    ReportIsBegun setup.configs (Unit {0}) statements old new →
+    FailsInFolders g folder setup statements old new (Run f)
+cut_short {R} {g} folder setup statements old new f found (inl is) begun =
+    subst (λ (x : Failure). FailsInFolders g folder setup statements old new (Run x)) (sym is)
+    (record { found = found; begun = begun })
+cut_short {R} {g} folder setup statements old new f found (inr is) begun =
+    subst (λ (x : Failure). FailsInFolders g folder setup statements old new (Run x)) (sym is)
+    (inr (record { found = found; begun = begun }))
+
+-- ---- a run in folders
+
+-- no script was read
+pub not_a_script : {R : Type 0} (g : Ghosts (DirDisk R)) (folder : List ℕ)
+    (text out : Option (List ℕ)) (f : Failure) → IsOfReading f →
+    IfSome text (λ t. IsFailureOf false t f) → LoopHasFailed g folder text out out (Run f)
+not_a_script g folder text out f reading cause =
+    record { cause = cause; did = inl (reading, refl) }
+
+of_a_run : {R : Type 0} (g : Ghosts (DirDisk R)) (folder : List ℕ) (setup : Setup)
+    (statements : List Statement) (text old new : Option (List ℕ)) (f : LoopFailure) →
+    FailsInFolders g folder setup statements old new f → IfSome text (λ t. IsLoopFailureOf t f)
+of_a_run g folder setup statements text old new (Run Unreadable) fails = absurd fails
+of_a_run g folder setup statements text old new (Run (Script fault)) fails = absurd fails
+of_a_run g folder setup statements text old new (Run Output) fails =
+    any_text text (Run Output) (λ t. tt)
+of_a_run g folder setup statements text old new (Run Memory) fails =
+    any_text text (Run Memory) (λ t. tt)
+of_a_run g folder setup statements text old new (Folder fault) fails =
+    any_text text (Folder fault) (λ t. tt)
+of_a_run g folder setup statements text old new Network fails =
+    any_text text Network (λ t. tt)
+
+-- the run of a script failed
+pub failed_loop : {R : Type 0} {g : Ghosts (DirDisk R)} (folder : List ℕ)
+    (text old new : Option (List ℕ)) (setup : Setup) (statements : List Statement)
+    (f : LoopFailure) → IfSome text (λ t. IsScript 1 (script_lines t) setup statements) →
+    IfSome text (λ t. script_fault (start false) 1 (script_lines t) ≡ None) →
     All (λ it. Names setup.configs it.action) statements →
-    ReportIsBegun setup.configs (Unit {0}) statements old new → LoopHasFailed text old new (Run f)
-cut_short text old new f setup statements (inl is) spelled named begun =
-    subst (λ (x : Failure). LoopHasFailed text old new (Run x)) (sym is) (record {
-      cause = any_text text (Run Output) (λ t. tt);
-      untouched = λ before. absurd before;
-      begun = inr (record {
-        setup = setup;
-        statements = statements;
-        spelled = spelled;
-        named = named;
-        so = begun;
-      });
-    })
-cut_short text old new f setup statements (inr is) spelled named begun =
-    subst (λ (x : Failure). LoopHasFailed text old new (Run x)) (sym is) (record {
-      cause = any_text text (Run Memory) (λ t. tt);
-      untouched = λ before. absurd before;
-      begun = inr (record {
-        setup = setup;
-        statements = statements;
-        spelled = spelled;
-        named = named;
-        so = begun;
-      });
-    })
+    FailsInFolders g folder setup statements old new f → LoopHasFailed g folder text old new f
+failed_loop {R} {g} folder text old new setup statements f spelled lawful named fails = record {
+  cause = of_a_run g folder setup statements text old new f fails;
+  did = inr (record {
+    setup = setup;
+    statements = statements;
+    spelled = spelled;
+    lawful = lawful;
+    named = named;
+    so = fails;
+  });
+}
 
 -- ---- the status
 
 -- a run whose status is answered
-pub loop_ended : (ran : Result Bool LoopFailure) (answer : ℕ)
+pub loop_ended : {R : Type 0} {g : Ghosts (DirDisk R)} (folder : List ℕ)
+    (ran : Result Bool LoopFailure) (answer : ℕ)
     (text old_out new_out old_err new_err : Option (List ℕ)) →
     MatchResult ran (λ stopped. (answer ≡ stopped_status stopped) × (new_err ≡ old_err))
     (λ failure. (answer ≡ 1) × AppendsPart old_err new_err (loop_failure_line failure)) →
-    IfOk ran (λ _. IfSome text (λ t. script_fault (start false) 1 (script_lines t) ≡ None)) →
     IfOk ran (λ stopped. SpellsStatements text
-    (λ cs statements. IsPrintedReport cs (Unit {0}) statements old_out new_out stopped)) →
-    IfErr ran (LoopHasFailed text old_out new_out) →
-    LoopEnds text old_out new_out old_err new_err answer
-loop_ended (Ok stopped) answer text old_out new_out old_err new_err is lawful printed failed =
-    inl (record {
-      lawful = lawful;
-      stopped = stopped;
-      printed = printed;
-      status = is.0;
-      quiet = is.1;
-    })
-loop_ended (Err failure) answer text old_out new_out old_err new_err is lawful printed failed =
+    (λ setup statements. IsRunInFolders g folder setup statements old_out new_out stopped)) →
+    IfErr ran (LoopHasFailed g folder text old_out new_out) →
+    LoopEnds g folder text old_out new_out old_err new_err answer
+loop_ended folder (Ok stopped) answer text old_out new_out old_err new_err is printed failed =
+    inl (record { stopped = stopped; printed = printed; status = is.0; quiet = is.1 })
+loop_ended folder (Err failure) answer text old_out new_out old_err new_err is printed failed =
     inr (record { status = is.0; failure = failure; failed = failed; told = is.1 })
 
-unread : (text : Option (List ℕ)) (is_so : Configurations → List Statement → Type 0) →
+unread : (text : Option (List ℕ)) (is_so : Setup → List Statement → Type 0) →
     SpellsStatements text is_so → SpellsStatements None is_so
 unread text is_so spells = record {
   setup = spells.setup;
   statements = spells.statements;
   spelled = tt;
+  lawful = tt;
   named = spells.named;
   so = spells.so;
 }
 
-unread_or_not : {P : Type 0} (text : Option (List ℕ))
-    (is_so : Configurations → List Statement → Type 0) →
+unread_or_not : {P : Type 0} (text : Option (List ℕ)) (is_so : Setup → List Statement → Type 0) →
     P ⊎ SpellsStatements text is_so → P ⊎ SpellsStatements None is_so
 unread_or_not text is_so (inl p) = inl p
 unread_or_not text is_so (inr spells) = inr (unread text is_so spells)
 
 -- whatever was read
-pub of_any_loop : (text old_out new_out old_err new_err : Option (List ℕ)) (answer : ℕ) →
-    LoopEnds text old_out new_out old_err new_err answer →
-    LoopEnds None old_out new_out old_err new_err answer
-of_any_loop text old_out new_out old_err new_err answer (inl ran) = inl (record {
-  lawful = tt;
+pub of_any_loop : {R : Type 0} {g : Ghosts (DirDisk R)} (folder : List ℕ)
+    (text old_out new_out old_err new_err : Option (List ℕ)) (answer : ℕ) →
+    LoopEnds g folder text old_out new_out old_err new_err answer →
+    LoopEnds g folder None old_out new_out old_err new_err answer
+of_any_loop folder text old_out new_out old_err new_err answer (inl ran) = inl (record {
   stopped = ran.stopped;
   printed = unread text _ ran.printed;
   status = ran.status;
   quiet = ran.quiet;
 })
-of_any_loop text old_out new_out old_err new_err answer (inr fails) = inr (record {
+of_any_loop folder text old_out new_out old_err new_err answer (inr fails) = inr (record {
   status = fails.status;
   failure = fails.failure;
-  failed = record {
-    cause = tt;
-    untouched = fails.failed.untouched;
-    begun = unread_or_not text _ fails.failed.begun;
-  };
+  failed = record { cause = tt; did = unread_or_not text _ fails.failed.did };
   told = fails.told;
 })
 
 -- nothing was run
-pub loop_reported : (failure : LoopFailure) (out old_err new_err : Option (List ℕ)) (answer : ℕ) →
-    answer ≡ 1 → AppendsPart old_err new_err (loop_failure_line failure) →
-    LoopEnds None out out old_err new_err answer
-loop_reported failure out old_err new_err answer one told = inr (record {
+pub loop_reported : {R : Type 0} {g : Ghosts (DirDisk R)} (folder : List ℕ) (failure : LoopFailure)
+    (out old_err new_err : Option (List ℕ)) (answer : ℕ) → IsOfScript failure → answer ≡ 1 →
+    AppendsPart old_err new_err (loop_failure_line failure) →
+    LoopEnds g folder None out out old_err new_err answer
+loop_reported folder failure out old_err new_err answer none one told = inr (record {
   status = one;
   failure = failure;
-  failed = record { cause = tt; untouched = λ _. refl; begun = inl refl };
+  failed = record { cause = tt; did = inl (none, refl) };
   told = told;
 })
 

@@ -1,5 +1,5 @@
 -- What is written of the store of a folder: the folder is only read.
-use Rattle.std.specs.Prelude.{◌≡◌, ℕ, List, Ok, Option, false, string_bytes}
+use Rattle.std.specs.Prelude.{◌≡◌, ◌≢◌, ℕ, List, [], Ok, Option, false, string_bytes}
 use Rattle.disk.specs.declared.Disk.{Ghosts}
 use Rattle.dir_disk.specs.declared.folder.DirDisk.{DirDisk}
 use Rattle.dir_disk.specs.declared.unchanged.Unchanged.{Unchanged}
@@ -19,8 +19,10 @@ pub record IsReadOfFolder {R : Type 0} (g : Ghosts (Unchanged (DirDisk R))) (pat
     pub below : IsFolderToRead path (disk_below disk)
     pub left : LeavesDevice {T = Unit {0}} g disk (Ok tt)
 
--- how that ends for the folder at this path: with status 0 its store was read whole
+-- how that ends for the folder at this path: with status 0 its store was read whole, and the path
+-- is not empty
 pub record DumpEndsFor {R : Type 0} (g : Ghosts (Unchanged (DirDisk R))) (path : List ℕ)
     (old_out new_out old_err new_err : Option (List ℕ)) (answer : ℕ) : Type 0 where
   pub ends : DumpEnds old_out new_out old_err new_err answer
   pub from : answer ≡ 0 → IsReadOfFolder g path
+  pub path_is : answer ≡ 0 → path ≢ []

@@ -1,13 +1,15 @@
 -- Runs in folders and what is written of one: how they end.
 use Rattle.std.specs.Prelude.{◌≡◌, ◌≢◌, ◌⊎◌, ℕ, Bool, true, false, List, Option, codes}
-use Rattle.std.specs.Prelude.{Some, None, IfSome, All, if◌then◌else◌}
+use Rattle.std.specs.Prelude.{Some, None, IfSome, All, Contains, if◌then◌else◌}
 use Rattle.std.specs.List.{list_any}
 use Rattle.std.specs.Io.KnownBytes.{Appends}
 use Rattle.disk.specs.declared.disk.Disk.{Ghosts}
+use Rattle.dir_disk.specs.declared.folder.DirDisk.{DirDisk}
 use Rattle.carriers.specs.declared.Carrier.{Ghosts as Carriers}
-use Rattle.lab.specs.NodeLists.{Configurations}
+use Rattle.lab.specs.NodeLists.{Configurations, at_epoch}
 use Rattle.lab.specs.declared.Line.{Line}
 use Rattle.lab.specs.declared.Line.TheVariants as line
+use Rattle.lab.specs.declared.SimNode.{SimNode}
 use Rattle.lab.specs.declared.world.World.{World}
 use Rattle.client.specs.declared.run_error.RunError.{RunError}
 use Rattle.client.specs.declared.run_error.RunError.TheVariants as run
@@ -17,6 +19,8 @@ use Rattle.client.specs.ReportedRuns.{AreReported, ReportIsBegun}
 use Rattle.client.specs.ScriptRuns.{Stretch}
 use Rattle.client.specs.Text.{run_text}
 use Rattle.dumps.specs.Dumped.{IsSomeBegun, IsSomeDump}
+use Rattle.folder_nodes.specs.Finding.{sim_ids}
+use Rattle.folder_nodes.specs.FoundNodes.{IsFoundIn}
 use Rattle.script_words.specs.Lines.{script_lines}
 use Rattle.scripts.specs.Faults.{script_fault, start}
 use Rattle.scripts.specs.Scripts.{IsScript, Names}
@@ -27,6 +31,7 @@ use Rattle.program.specs.declared.failure.Failure.TheVariants.{Memory, Output, S
 use Rattle.program.specs.declared.folder_failure.DumpFailure.{DumpFailure}
 use Rattle.program.specs.declared.folder_failure.LoopFailure.{LoopFailure}
 use Rattle.program.specs.declared.folder_failure.LoopFailure.TheVariants.{Folder, Network, Run}
+use Rattle.program.specs.Failures.{IsOfReading}
 use Rattle.program.specs.FolderFailures.{IsLoopFailureOf, dump_failure_line, loop_failure_line}
 use Rattle.program.specs.Invocations.{is_named}
 use Rattle.program.specs.Runs.{LabOrUsage, UsageIsReported}
@@ -97,66 +102,103 @@ pub record IsPrintedReport (cs : Configurations) (has_nodes : Type 0) (statement
   pub wrote : Appends old new written
   pub stops : stopped ≡ has_stop steps
 
--- what was read, where that is known, spells configurations, and statements that name only nodes of
--- the first one, of which this is so
-pub record SpellsStatements (text : Option (List ℕ))
-    (is_so : Configurations → List Statement → Type 0) : Type 0 where
+-- what was read, where that is known, spells a script without a fault, where no fault of a disk may
+-- be spelled: what it sets up, and statements that name only nodes of the first configuration; and
+-- of these this is so
+pub record SpellsStatements (text : Option (List ℕ)) (is_so : Setup → List Statement → Type 0)
+    : Type 0 where
   pub setup : Setup
   pub statements : List Statement
   pub spelled : IfSome text (λ t. IsScript 1 (script_lines t) setup statements)
+  pub lawful : IfSome text (λ t. script_fault (start false) 1 (script_lines t) ≡ None)
   pub named : All (λ it. Names setup.configs it.action) statements
-  pub so : is_so setup.configs statements
+  pub so : is_so setup statements
 
 -- ---- a run in folders
 
--- the run did not begin
-abbrev pub IsBeforeRun : LoopFailure → Type 0
-IsBeforeRun (Run Unreadable) = Unit {0}
-IsBeforeRun (Run (Script fault)) = Unit {0}
-IsBeforeRun (Run Output) = ⊥
-IsBeforeRun (Run Memory) = ⊥
-IsBeforeRun (Folder fault) = Unit {0}
-IsBeforeRun Network = Unit {0}
+-- of each node of the first configuration, in its order, one was found: in the folder behind this
+-- path that has its id for its name, with the limits that were set up
+pub record HasFoundNodes {R : Type 0} (g : Ghosts (DirDisk R)) (folder : List ℕ) (setup : Setup)
+    : Type 0 where
+  pub nodes : List (SimNode (DirDisk R) g)
+  pub ids : sim_ids nodes ≡ at_epoch setup.configs 0
+  pub each : All (IsFoundIn folder setup.limits) nodes
 
--- Why a run in folders fails: a fault of the script is the one that it has. Where the run did not
--- begin nothing is written, and else nothing or a beginning of the text of some first statements.
-pub record LoopHasFailed (text old new : Option (List ℕ)) (failure : LoopFailure) : Type 0 where
+-- The nodes were found. Exactly the text of the lines that some world had of the statements was
+-- written, one list for each event, and such as the event has: the world has the nodes of its
+-- configurations. It is told whether a node stopped by itself in these.
+pub record IsRunInFolders {R : Type 0} (g : Ghosts (DirDisk R)) (folder : List ℕ) (setup : Setup)
+    (statements : List Statement) (old new : Option (List ℕ)) (stopped : Bool) : Type 0 where
+  pub found : HasFoundNodes g folder setup
+  pub printed : IsPrintedReport setup.configs (Unit {0}) statements old new stopped
+
+-- the nodes were found, and a beginning of the text of some first statements was written
+pub record IsBegunInFolders {R : Type 0} (g : Ghosts (DirDisk R)) (folder : List ℕ) (setup : Setup)
+    (statements : List Statement) (old new : Option (List ℕ)) : Type 0 where
+  pub found : HasFoundNodes g folder setup
+  pub begun : ReportIsBegun setup.configs (Unit {0}) statements old new
+
+-- How a run of a script in folders fails. Where the output took no more, it had begun; where memory
+-- is wanted, maybe. A folder's fault is that of a node of the script, and a listener is wanted only
+-- where the nodes were found; then nothing is written.
+abbrev pub FailsInFolders : {R : Type 0} → Ghosts (DirDisk R) → List ℕ → Setup → List Statement →
+    Option (List ℕ) → Option (List ℕ) → LoopFailure → Type 0
+FailsInFolders g folder setup statements old new (Run Unreadable) = ⊥
+FailsInFolders g folder setup statements old new (Run (Script fault)) = ⊥
+FailsInFolders g folder setup statements old new (Run Output) =
+    IsBegunInFolders g folder setup statements old new
+FailsInFolders g folder setup statements old new (Run Memory) =
+    (new ≡ old) ⊎ IsBegunInFolders g folder setup statements old new
+FailsInFolders g folder setup statements old new (Folder fault) =
+    (new ≡ old) × Contains (at_epoch setup.configs 0) fault.id
+FailsInFolders g folder setup statements old new Network =
+    (new ≡ old) × HasFoundNodes g folder setup
+
+-- no script was read
+abbrev pub IsOfScript : LoopFailure → Type 0
+IsOfScript (Run failure) = IsOfReading failure
+IsOfScript (Folder fault) = ⊥
+IsOfScript Network = ⊥
+
+-- Why a run in folders fails: a fault of the script is the one that it has. Where no script was
+-- read nothing is written, and else its run fails so.
+pub record LoopHasFailed {R : Type 0} (g : Ghosts (DirDisk R)) (folder : List ℕ)
+    (text old new : Option (List ℕ)) (failure : LoopFailure) : Type 0 where
   pub cause : IfSome text (λ t. IsLoopFailureOf t failure)
-  pub untouched : IsBeforeRun failure → new ≡ old
-  pub begun : (new ≡ old)
-      ⊎ SpellsStatements text (λ cs statements. ReportIsBegun cs (Unit {0}) statements old new)
+  pub did : (IsOfScript failure × (new ≡ old))
+      ⊎ SpellsStatements text
+      (λ setup statements. FailsInFolders g folder setup statements old new failure)
 
--- What was read, where that is known, is a script without a fault. Exactly the text of the lines
--- that some world had of its statements was written, one list for each event, and such as the event
--- has: the world has the nodes of its configurations. The status says whether a node stopped by
--- itself in these.
-pub record LoopIsRun (text old_out new_out old_err new_err : Option (List ℕ)) (answer : ℕ) : Type 0
-  where
-    pub lawful : IfSome text (λ t. script_fault (start false) 1 (script_lines t) ≡ None)
-    pub stopped : Bool
-    pub printed : SpellsStatements text
-        (λ cs statements. IsPrintedReport cs (Unit {0}) statements old_out new_out stopped)
-    pub status : answer ≡ stopped_status stopped
-    pub quiet : new_err ≡ old_err
+-- what was read, where that is known, is a script without a fault; it was run at nodes of folders
+-- behind this path, and the status says whether one of them stopped by itself
+pub record LoopIsRun {R : Type 0} (g : Ghosts (DirDisk R)) (folder : List ℕ)
+    (text old_out new_out old_err new_err : Option (List ℕ)) (answer : ℕ) : Type 0 where
+  pub stopped : Bool
+  pub printed : SpellsStatements text
+      (λ setup statements. IsRunInFolders g folder setup statements old_out new_out stopped)
+  pub status : answer ≡ stopped_status stopped
+  pub quiet : new_err ≡ old_err
 
 -- the run failed, and the line that says why was told, or a beginning of it
-pub record LoopIsReported (text old_out new_out old_err new_err : Option (List ℕ)) (answer : ℕ)
-    : Type 0 where
+pub record LoopIsReported {R : Type 0} (g : Ghosts (DirDisk R)) (folder : List ℕ)
+    (text old_out new_out old_err new_err : Option (List ℕ)) (answer : ℕ) : Type 0 where
   pub status : answer ≡ 1
   pub failure : LoopFailure
-  pub failed : LoopHasFailed text old_out new_out failure
+  pub failed : LoopHasFailed g folder text old_out new_out failure
   pub told : AppendsPart old_err new_err (loop_failure_line failure)
 
--- how a run in folders ends
-abbrev pub LoopEnds : (text old_out new_out old_err new_err : Option (List ℕ)) → ℕ → Type 0
-LoopEnds text old_out new_out old_err new_err answer =
-    LoopIsRun text old_out new_out old_err new_err answer
-    ⊎ LoopIsReported text old_out new_out old_err new_err answer
+-- how a run in the folders behind this path ends
+abbrev pub LoopEnds : {R : Type 0} → Ghosts (DirDisk R) → List ℕ →
+    (text old_out new_out old_err new_err : Option (List ℕ)) → ℕ → Type 0
+LoopEnds g folder text old_out new_out old_err new_err answer =
+    LoopIsRun g folder text old_out new_out old_err new_err answer
+    ⊎ LoopIsReported g folder text old_out new_out old_err new_err answer
 
--- how the words `loop ..` end
-abbrev pub LoopOrUsage : (old_out new_out old_err new_err : Option (List ℕ)) → ℕ → Type 0
-LoopOrUsage old_out new_out old_err new_err answer =
-    LoopEnds None old_out new_out old_err new_err answer
+-- how the words `loop ..` end: as a run behind some path, or with the usage
+abbrev pub LoopOrUsage : {R : Type 0} → Ghosts (DirDisk R) →
+    (old_out new_out old_err new_err : Option (List ℕ)) → ℕ → Type 0
+LoopOrUsage g old_out new_out old_err new_err answer =
+    ((folder : List ℕ) × LoopEnds g folder None old_out new_out old_err new_err answer)
     ⊎ UsageIsReported old_out new_out old_err new_err answer
 
 -- ---- what is written of a folder
@@ -192,18 +234,19 @@ DumpOrUsage old_out new_out old_err new_err answer =
 
 -- how the words `loop SCRIPT --dir D` end: of the script `-` standard input is read, and else it is
 -- left as it was
-pub record LoopEndsFor {R : Type 0} (script : List ℕ) (old_input new_input : R)
-    (text old_out new_out old_err new_err : Option (List ℕ)) (answer : ℕ) : Type 0 where
-  pub input : script ≡ codes "-" → LoopEnds text old_out new_out old_err new_err answer
+pub record LoopEndsFor {R I : Type 0} (g : Ghosts (DirDisk R)) (script folder : List ℕ)
+    (old_input new_input : I) (text old_out new_out old_err new_err : Option (List ℕ)) (answer : ℕ)
+    : Type 0 where
+  pub input : script ≡ codes "-" → LoopEnds g folder text old_out new_out old_err new_err answer
   pub path : script ≢ codes "-" → (new_input ≡ old_input)
-      × LoopEnds None old_out new_out old_err new_err answer
+      × LoopEnds g folder None old_out new_out old_err new_err answer
 
 -- how the program ends, whatever it read: as the command does that its words name, or else as words
 -- that ask for nothing
-pub record ProgramEnds (words : List (List ℕ)) (old_out new_out old_err new_err : Option (List ℕ))
-    (answer : ℕ) : Type 0 where
+pub record ProgramEnds {R : Type 0} (g : Ghosts (DirDisk R)) (words : List (List ℕ))
+    (old_out new_out old_err new_err : Option (List ℕ)) (answer : ℕ) : Type 0 where
   pub loop : is_named (codes "loop") words ≡ true →
-      LoopOrUsage old_out new_out old_err new_err answer
+      LoopOrUsage g old_out new_out old_err new_err answer
   pub dump : is_named (codes "dump") words ≡ true →
       DumpOrUsage old_out new_out old_err new_err answer
   pub other : is_named (codes "loop") words ≡ false → is_named (codes "dump") words ≡ false →

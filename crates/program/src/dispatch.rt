@@ -43,17 +43,18 @@ where
     // The words `loop SCRIPT --dir D` and `dump DIR` in their plain forms.
     ensures looped { (script folder : List ℕ) →
         loop_paths (map (λ w. w.now) words.now) ≡ Some (script, folder) →
-        LoopEndsFor script input.old input.new (R.remaining input.old)
-        (O.contents out.old) (O.contents out.new) (E.contents err.old) (E.contents err.new)
-        result }
+        LoopEndsFor ⟦<DirDisk<F> as Disk>⟧ script folder input.old input.new
+        (R.remaining input.old) (O.contents out.old) (O.contents out.new) (E.contents err.old)
+        (E.contents err.new) result }
     ensures dumped { (folder : List ℕ) →
         dump_folder (map (λ w. w.now) words.now) ≡ Some folder → (input.new ≡ input.old)
         × DumpEndsFor ⟦<Unchanged<DirDisk<F>> as Disk>⟧ folder (O.contents out.old)
         (O.contents out.new) (E.contents err.old) (E.contents err.new) result }
 
     // All words, by the command that they name.
-    ensures ends { ProgramEnds (map (λ w. w.now) words.now) (O.contents out.old)
-        (O.contents out.new) (E.contents err.old) (E.contents err.new) result }
+    ensures ends { ProgramEnds ⟦<DirDisk<F> as Disk>⟧ (map (λ w. w.now) words.now)
+        (O.contents out.old) (O.contents out.new) (E.contents err.old) (E.contents err.new)
+        result }
 {
     if is_named("loop", words) {
         return serve_loop(rt, words, input, out, err);

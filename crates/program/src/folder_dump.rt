@@ -1,5 +1,5 @@
 //! What the store of one folder has is written out.
-ghost use Rattle.std.specs.Prelude.{IfOk, MatchResult, OnOk};
+ghost use Rattle.std.specs.Prelude.{◌≢◌, [], IfOk, MatchResult, OnOk};
 ghost use Rattle.dumps.specs.Dumped.{IsSomeBegun, IsSomeDump};
 ghost use Rattle.program.specs.FolderDumps.{IsFolderToRead, IsReadOfFolder};
 
@@ -34,6 +34,7 @@ pub fn dump_folder<F: Files<File = File> + Alloc<A = Global> + Clone + Drop, W: 
         (λ _. IsSomeDump (W.contents out.old) (W.contents out.new))
         (λ _. IsSomeBegun (W.contents out.old) (W.contents out.new)) }
     ensures from { OnOk result (IsReadOfFolder ⟦<Unchanged<DirDisk<F>> as Disk>⟧ folder.now) }
+    ensures path { OnOk result (folder.now ≢ []) }
 {
     // An empty path is that of no folder.
     if folder.is_empty() {

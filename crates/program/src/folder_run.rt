@@ -1,13 +1,12 @@
 //! A script is run at nodes in folders.
-ghost use Rattle.std.specs.Prelude.{◌≡◌, ◌⊎◌, [], false, IfErr, IfOk, IfSome, MatchResult, None};
+ghost use Rattle.std.specs.Prelude.{◌≡◌, ◌⊎◌, [], IfErr, IfOk, MatchResult};
 ghost use Rattle.std.specs.List.{list_any};
-ghost use Rattle.script_words.specs.Lines.{script_lines};
-ghost use Rattle.scripts.specs.Faults.{script_fault, start};
 ghost use Rattle.lab.specs.{HasItsNodes, configs_of, lines_so_far};
 ghost use Rattle.client.specs.PrintedRuns.{IsReadyToRun};
 ghost use Rattle.client.specs.ReportedRuns.{ReportIsBegun};
-ghost use Rattle.program.specs.FolderRuns.{EndsEarly, IsPrintedReport, IsRunThatStops};
-ghost use Rattle.program.specs.FolderRuns.{LoopHasFailed, SpellsStatements, has_stop, is_stop};
+ghost use Rattle.program.specs.FolderRuns.{EndsEarly, FailsInFolders, IsPrintedReport};
+ghost use Rattle.program.specs.FolderRuns.{IsRunInFolders, IsRunThatStops, LoopHasFailed};
+ghost use Rattle.program.specs.FolderRuns.{SpellsStatements, has_stop, is_stop};
 ghost use Rattle.program.specs.declared.failure.Failure.TheVariants.{Memory, Output};
 ghost use Rattle.program.specs.declared.folder_failure.LoopFailure.TheVariants.{Network, Run};
 
@@ -15,7 +14,8 @@ use crate::failure::Failure;
 use crate::folder_failure::LoopFailure;
 use crate::run_input::input_script;
 use client::run_script;
-use disk::Crash;
+use dir_disk::DirDisk;
+use disk::{Crash, Disk};
 use folder_nodes::nodes_in;
 use lab::{Carrier, Line, Lines, World};
 use scripts::Script;
@@ -108,6 +108,32 @@ fn run_world<D: Crash + Drop, C: Carrier + Drop, W: Write>(
     Ok(stopped)
 }
 
+/// Finds the nodes of a script in the folders of this one, runs it at them and writes what happens,
+/// statement by statement. It answers whether a node stopped by itself.
+fn run_at_nodes<F, W: Write>(
+    rt: &F,
+    script: &Script,
+    folder: &str,
+    out: &mut W,
+) -> Result<bool, LoopFailure>
+where
+    F: Files<File = File> + Net<Listener = TcpListener, Stream = TcpStream>,
+    F: Alloc<A = Global> + Clone + Drop,
+    ensures printed { IfOk result (IsRunInFolders ⟦<DirDisk<F> as Disk>⟧ folder.now
+        script.now.setup script.now.statements.items (W.contents out.old) (W.contents out.new)) }
+    ensures failed { IfErr result (FailsInFolders ⟦<DirDisk<F> as Disk>⟧ folder.now
+        script.now.setup script.now.statements.items (W.contents out.old) (W.contents out.new)) }
+{
+    let (alloc, setup) = (rt.alloc(), &script.setup);
+    let Ok(configs) = setup.configs.clone(alloc) else {
+        return Err(LoopFailure::Run(Failure::Memory));
+    };
+    let nodes = nodes_in(rt, folder, &configs, &setup.limits)?;
+    let carrier = carrier(rt)?;
+    let world = World::over(alloc, configs, nodes, carrier, &setup.limits);
+    Ok(run_world(alloc, script, world, out)?)
+}
+
 /// Reads a script whole, finds its nodes in the folders of this one, runs it at them and writes
 /// what happens, statement by statement. It answers whether a node stopped by itself.
 pub fn run_in_folders<F, R: Read, W: Write>(
@@ -119,22 +145,15 @@ pub fn run_in_folders<F, R: Read, W: Write>(
 where
     F: Files<File = File> + Net<Listener = TcpListener, Stream = TcpStream>,
     F: Alloc<A = Global> + Clone + Drop,
-    ensures lawful { IfOk result (λ _. IfSome (R.remaining input.old) (λ text.
-        script_fault (start false) 1 (script_lines text) ≡ None)) }
     ensures printed { IfOk result (λ stopped. SpellsStatements (R.remaining input.old)
-        (λ cs statements. IsPrintedReport cs (Unit {0}) statements (W.contents out.old)
-        (W.contents out.new) stopped)) }
-    ensures failed { IfErr result
-        (LoopHasFailed (R.remaining input.old) (W.contents out.old) (W.contents out.new)) }
+        (λ setup statements. IsRunInFolders ⟦<DirDisk<F> as Disk>⟧ folder.now setup statements
+        (W.contents out.old) (W.contents out.new) stopped)) }
+    ensures failed { IfErr result (LoopHasFailed ⟦<DirDisk<F> as Disk>⟧ folder.now
+        (R.remaining input.old) (W.contents out.old) (W.contents out.new)) }
 {
     let alloc = rt.alloc();
     let script = input_script(alloc, input, false)?;
-    let setup = &script.setup;
-    let Ok(configs) = setup.configs.clone(alloc) else {
-        return Err(LoopFailure::Run(Failure::Memory));
-    };
-    let nodes = nodes_in(rt, folder, &configs, &setup.limits)?;
-    let carrier = carrier(rt)?;
-    let world = World::over(alloc, configs, nodes, carrier, &setup.limits);
-    Ok(run_world(alloc, &script, world, out)?)
+    let ran = run_at_nodes(rt, &script, folder, out);
+    drop(script);
+    ran
 }

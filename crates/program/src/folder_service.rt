@@ -41,12 +41,12 @@ fn run_script_at<F, R: Read, O: Write, E: Write>(
 where
     F: Files<File = File> + Net<Listener = TcpListener, Stream = TcpStream>,
     F: Alloc<A = Global> + Clone + Drop,
-    ensures input { script.now ≡ codes "-" → LoopEnds (R.remaining input.old)
-        (O.contents out.old) (O.contents out.new) (E.contents err.old) (E.contents err.new)
-        result }
+    ensures input { script.now ≡ codes "-" → LoopEnds ⟦<DirDisk<F> as Disk>⟧ folder.now
+        (R.remaining input.old) (O.contents out.old) (O.contents out.new) (E.contents err.old)
+        (E.contents err.new) result }
     ensures path { script.now ≢ codes "-" → input.new ≡ input.old }
-    ensures ends { LoopEnds None (O.contents out.old) (O.contents out.new)
-        (E.contents err.old) (E.contents err.new) result }
+    ensures ends { LoopEnds ⟦<DirDisk<F> as Disk>⟧ folder.now None (O.contents out.old)
+        (O.contents out.new) (E.contents err.old) (E.contents err.new) result }
 {
     if script == "-" {
         return end_loop(run_in_folders(rt, input, folder, out), err);
@@ -137,15 +137,15 @@ where
     F: Alloc<A = Global> + Clone + Drop,
     ensures looped { (script folder : List ℕ) →
         loop_paths (map (λ w. w.now) words.now) ≡ Some (script, folder) →
-        LoopEndsFor script input.old input.new (R.remaining input.old)
-        (O.contents out.old) (O.contents out.new) (E.contents err.old) (E.contents err.new)
-        result }
+        LoopEndsFor ⟦<DirDisk<F> as Disk>⟧ script folder input.old input.new
+        (R.remaining input.old) (O.contents out.old) (O.contents out.new) (E.contents err.old)
+        (E.contents err.new) result }
     ensures unknown { loop_paths (map (λ w. w.now) words.now) ≡ None →
         has_option (codes "loop") (map (λ w. w.now) words.now) ≡ false → (input.new ≡ input.old)
         × UsageIsReported (O.contents out.old) (O.contents out.new) (E.contents err.old)
         (E.contents err.new) result }
-    ensures ends { LoopOrUsage (O.contents out.old) (O.contents out.new)
-        (E.contents err.old) (E.contents err.new) result }
+    ensures ends { LoopOrUsage ⟦<DirDisk<F> as Disk>⟧ (O.contents out.old)
+        (O.contents out.new) (E.contents err.old) (E.contents err.new) result }
 {
     match loop_request(rt.alloc(), words) {
         Ok((script, folder)) => run_script_at(rt, script, folder, input, out, err),

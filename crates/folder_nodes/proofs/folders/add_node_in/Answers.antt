@@ -12,5 +12,5 @@ pub returns-clause-found : goal.returns-clause-found
 returns-clause-found g c =
     on_ok c.add_node.result c.add_node.ensures (λ adds.
     found_more c.args.folder.now c.args.limits.now c.args.id c.in_ok-node.node
-    c.args.nodes.now.items c.add_node.new.nodes.items adds c.in_ok-node.ensures.limits
-    c.in_ok-node.ensures.found)
+    c.args.nodes.now.items c.add_node.new.nodes.items c.in_ok-node.ensures.path adds
+    c.in_ok-node.ensures.limits c.in_ok-node.ensures.found)

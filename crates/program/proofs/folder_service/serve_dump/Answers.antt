@@ -19,4 +19,5 @@ returns-in-Err-Memory-clause-dumped g c = λ folder named.
           (g.E.Write.contents c.report_dump.new.err) c.report_dump.result (nothing_dumped out)
           c.report_dump.ensures.status c.report_dump.ensures.text;
       from = λ whole. absurd (omega (arith, whole, c.report_dump.ensures.status));
+      path_is = λ whole. absurd (omega (arith, whole, c.report_dump.ensures.status));
     }

@@ -7,6 +7,7 @@ pub returns-in-Ok : goal.returns-in-Ok
 returns-in-Ok g c = record {
   ends = inl (record { status = refl; wrote = c.in-Ok.ensures.printed; quiet = refl });
   from = λ whole. c.in-Ok.ensures.from;
+  path_is = λ whole. c.in-Ok.ensures.path;
 }
 
 -- or in part
@@ -17,4 +18,5 @@ returns-in-Err g c = record {
       (g.E.Write.contents c.report_dump.new.err) c.report_dump.result c.in-Err.ensures.printed
       c.report_dump.ensures.status c.report_dump.ensures.text;
   from = λ whole. absurd (omega (arith, whole, c.report_dump.ensures.status));
+  path_is = λ whole. absurd (omega (arith, whole, c.report_dump.ensures.status));
 }
