@@ -239,6 +239,61 @@ a_tick_sends_16 =
     (Tick 1 Answered, forwards_from 2 16) ∷
     []
 
+-- Four nodes. A tick of node 3 sends its batch again and acknowledges again. Node 2 passes a report
+-- on where more is committed, and no other. A tick of the tail acknowledges again.
+abbrev pub only_news_is_passed_on : Run
+only_news_is_passed_on =
+    (Ask 1 1 (Submit 101) Answered, Forwards 1 2 0 1 ∷ []) ∷
+    (Deliver 1 Answered, Forwards 2 3 0 1 ∷ []) ∷
+    (Deliver 2 Answered, Forwards 3 4 0 1 ∷ []) ∷
+    (Tick 3 Answered, Forwards 3 4 0 1 ∷ Acks 3 2 0 0 1 ∷ []) ∷
+    (Deliver 5 Answered, []) ∷
+    (Deliver 3 Answered, Acks 4 3 0 1 1 ∷ []) ∷
+    (Deliver 6 Answered, Acks 3 2 0 1 1 ∷ []) ∷
+    (Deliver 7 Answered, Acks 2 1 0 1 1 ∷ []) ∷
+    (Deliver 7 Answered, []) ∷
+    (Tick 4 Answered, Acks 4 3 0 1 1 ∷ []) ∷
+    (Deliver 8 Answered, Commits 1 1 ∷ []) ∷
+    []
+
+-- Two nodes. The head stops before its batch is committed, and answers nobody after its start.
+abbrev pub a_started_node_answers_nobody : Run
+a_started_node_answers_nobody =
+    (Ask 1 1 (Submit 101) Answered, Forwards 1 2 0 1 ∷ []) ∷
+    (Stop 1, Stops 1 ∷ []) ∷
+    (Start 1 Answered, Starts 1 0 1 0 ∷ []) ∷
+    (Deliver 1 Answered, Acks 2 1 0 1 1 ∷ []) ∷
+    (Deliver 2 Answered, []) ∷
+    []
+
+-- The head becomes the tail too. It commits its list and answers the pending request, once. A
+-- notice of an epoch beyond the list does nothing.
+abbrev pub an_adoption_answers : Run
+an_adoption_answers =
+    (Ask 1 1 (Submit 101) Answered, Forwards 1 2 0 1 ∷ []) ∷
+    (Notice 1 1 Answered, Adopts 1 1 ∷ Commits 1 1 ∷ []) ∷
+    (Notice 1 2 Answered, []) ∷
+    (Ask 1 4 (Submit 104) Answered, Commits 4 2 ∷ []) ∷
+    []
+
+-- Node 1 is removed with one committed batch. Its floor rises all the same.
+abbrev pub a_removed_node_tends : Run
+a_removed_node_tends =
+    (Ask 1 1 (Submit 101) Answered, Forwards 1 2 0 1 ∷ []) ∷
+    (Deliver 1 Answered, Acks 2 1 0 1 1 ∷ []) ∷
+    (Deliver 2 Answered, Commits 1 1 ∷ []) ∷
+    (Notice 1 1 Answered, Adopts 1 1 ∷ []) ∷
+    (Tend 1 true 9 Answered, []) ∷
+    []
+
+-- One node with two batches. A tend trims the first one only.
+abbrev pub a_tend_gives_up_one : Run
+a_tend_gives_up_one =
+    (Ask 1 1 (Submit 101) Answered, Commits 1 1 ∷ []) ∷
+    (Ask 1 2 (Submit 102) Answered, Commits 2 2 ∷ []) ∷
+    (Tend 1 true 1 Answered, []) ∷
+    []
+
 -- the worked runs have the expected lines
 pub record WorkedRuns : Type 0 where
   pub repeated : ShowsThat ((1 ∷ 2 ∷ 3 ∷ []) ∷ []) a_repeated_forward_is_dropped
@@ -260,3 +315,13 @@ pub record WorkedRuns : Type 0 where
       (take 1 a_removed_head_answers_nobody) 1 ≡ (1, 1) ∷ []
   pub forgets : pending_after ((1 ∷ 2 ∷ 3 ∷ []) ∷ (2 ∷ 3 ∷ []) ∷ [])
       (take 2 a_removed_head_answers_nobody) 1 ≡ []
+  pub news : ShowsThat ((1 ∷ 2 ∷ 3 ∷ 4 ∷ []) ∷ []) only_news_is_passed_on
+  pub started : ShowsThat ((1 ∷ 2 ∷ []) ∷ []) a_started_node_answers_nobody
+  pub answered : ShowsThat ((1 ∷ 2 ∷ []) ∷ (1 ∷ []) ∷ []) an_adoption_answers
+  pub tended : ShowsThat ((1 ∷ 2 ∷ []) ∷ (2 ∷ []) ∷ []) a_removed_node_tends
+  pub trimmed : ShowsThat ((1 ∷ []) ∷ []) a_tend_gives_up_one
+  -- the floor of a removed node has risen
+  pub rose : (node_of ((1 ∷ 2 ∷ []) ∷ (2 ∷ []) ∷ []) (events_of a_removed_node_tends) 1).floor ≡ 1
+  -- the floor has risen to both batches, and one of them is trimmed
+  pub floor_of_two : (node_of ((1 ∷ []) ∷ []) (events_of a_tend_gives_up_one) 1).floor ≡ 2
+  pub kept_of_two : (node_of ((1 ∷ []) ∷ []) (events_of a_tend_gives_up_one) 1).kept ≡ 1

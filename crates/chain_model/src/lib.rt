@@ -73,7 +73,7 @@ pub fn commutes_with_maps<A, B>()
         es }
 {}
 
-/// Thirteen small runs show the expected frames, replies and drops, event by event.
+/// Eighteen small runs show the expected frames, replies and drops, event by event.
 pub fn worked_runs()
     ensures { WorkedRuns }
 {}

@@ -18,4 +18,12 @@ returns c = record {
   sends_16 = refl;
   waits = refl;
   forgets = refl;
+  news = refl;
+  started = refl;
+  answered = refl;
+  tended = refl;
+  trimmed = refl;
+  rose = refl;
+  floor_of_two = refl;
+  kept_of_two = refl;
 }
