@@ -1,5 +1,5 @@
-pub mod Looks
 pub mod Refusals
+pub mod Looks
 pub mod Openings
 pub mod StoreReads
 pub mod StoreWrites

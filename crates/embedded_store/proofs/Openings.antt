@@ -1,35 +1,39 @@
 -- The stores of engines that were opened or created.
 use Rattle.std.proofs.Common.{◌≡◌, ap, inl, inr, refl, subst, sym, ℕ, Bool, false, List, true, ◌∙◌}
-use Rattle.std.proofs.Common.{[], ◌∷◌, length}
-use Rattle.std.proofs.Math.Path.{fun_ext}
-use Rattle.std.specs.Prelude.{◌↔◌, Result, Ok, Err, IfOk, IsFalse, IsTrue, MatchResult}
-use Rattle.std.specs.Prelude.{Contains}
+use Rattle.std.proofs.Common.{[], ◌∷◌, ◌<◌, ◌≢◌, arith}
+use Rattle.std.specs.Prelude.{◌⊎◌, ◌↔◌, Result, Ok, Err, IfOk, IsFalse, IsTrue, MatchResult}
+use Rattle.std.specs.Prelude.{All, Contains}
+use Rattle.std.proofs.lemmas.List.Elements.{All-weaker}
 use Rattle.kv_types.specs.declared.Limits.{Limits}
 use Rattle.kv_types.specs.{BatchContent}
 use Rattle.disk.specs.declared.Disk.{Ghosts}
-use Rattle.disk.specs.{AlwaysLeaves, Contents, IsCrashOutcome, IsEnvironmental, KeepsDisk}
-use Rattle.disk.specs.{IsStill, OnlyLeaves, State, contents, seen}
-use Rattle.disk.specs.StillLemmas.{still_more}
+use Rattle.disk.specs.{Contents, IsCrashOutcome, IsEnvironmental, IsStill, KeepsDisk, State}
+use Rattle.disk.specs.{contents, seen}
 use Rattle.engine.specs.EngineError.TheVariants as engine
 use Rattle.engine.specs.EngineError.{EngineError}
 use Rattle.engine.specs.declared.Engine.{Engine}
 use Rattle.engine.specs.KeepingLemmas.{kept_as, neither}
 use Rattle.engine.specs.{EngineHolds, ExplainsRefusal, Facts, FilesRepresent, HasFirstFiles}
-use Rattle.engine.specs.{HasOnlyFiles, IsEngineOf, IsJustOpened, IsNewEngine, IsNotCreated, IsOneOf}
+use Rattle.engine.specs.{HasOnlyFiles, IsEngineOf, IsJustOpened, IsNewEngine, IsNotCreated}
 use Rattle.engine.specs.{IsOpened, IsOwned, LookUps, OpensAs, engine_disk, engine_files, facts_of}
-use Rattle.engine.specs.{AreAlone, AreReadAlike, TendedStore, first_facts, kept_files, look_ups}
-use Rattle.engine.specs.{IsMeantEngineOf, WereMeant, tended_version}
+use Rattle.engine.specs.{AreAlone, HasOpened, StillLeavesOneOf, TendedStore, first_facts}
+use Rattle.engine.specs.{IsMeantEngineOf, WereMeant, engine_version, kept_files, known_version}
+use Rattle.engine.specs.{look_ups}
 use Rattle.embedded_store.specs.declared.error.OpenError.{OpenError}
 use Rattle.embedded_store.specs.declared.error.OpenError.TheVariants.{Store}
 use Rattle.embedded_store.specs.declared.store.EmbeddedStore.{EmbeddedStore}
-use Rattle.manifest.specs.{HasOnlyCreationFiles, OnlyLooks, WasCutShort}
+use Rattle.manifest.specs.declared.TableLine.{TableLine}
+use Rattle.manifest.specs.{HasOnlyCreationFiles, ManifestRepresents, NodeVersion}
+use Rattle.manifest.specs.{VersionIsOne, VersionsAreLawful, WasCutShort}
+use Rattle.manifest.specs.Laws.{VersionsAreCreated}
+use Rattle.manifest.specs.Lawful.{IsAllocated}
+use Rattle.manifest.specs.Slots.{IsClosedOrAbsent}
 use Rattle.embedded_store.specs.Alone.{IsAloneAs}
-use Rattle.embedded_store.specs.Openings.{CreatesStore, ExplainsOpening, IsFirstStore}
-use Rattle.embedded_store.specs.Openings.{IsOfEnvironment, IsOpenedAs, IsOpenedFrom, IsOwnStore}
+use Rattle.embedded_store.specs.Openings.{CreatesStore, ExplainsOpening, IsFirstStore, IsOfChain}
+use Rattle.embedded_store.specs.Openings.{IsOpenedAs, IsOpenedFrom, IsOwnStore}
 use Rattle.embedded_store.specs.Openings.{IsStoreOver, KeepsOpenedDisk, KeepsRefusedFiles}
-use Rattle.embedded_store.specs.Openings.{OpensContents, StandsAlone, disk_of_opening}
+use Rattle.embedded_store.specs.Openings.{OpensContents, StandsAlone}
 use Rattle.embedded_store.specs.Stores.{IsFreshStore, store_disk, store_engine}
-use Rattle.embedded_store.proofs.Looks.{leaves_behind, look_leaves}
 use Rattle.embedded_store.proofs.Refusals.{chain_is_store, explained, external_explains}
 use Rattle.embedded_store.proofs.Refusals.{external_is_store, files_not_external, not_external}
 use Rattle.embedded_store.proofs.Refusals.{refused_externally, store_external}
@@ -63,24 +67,32 @@ module _ {D : Type 0} (g : Ghosts D) where
       (subst (λ (f : Facts). OpensAs left f (look_ups engine).count)
       (sym (same_facts engine store is)) opens)
 
-  -- its tends work on the same
+  -- it knows the same version
+  same_version : (engine : Engine D g) (store : EmbeddedStore D g) → IsStoreOver engine store →
+      engine_version (store_engine store) ≡ engine_version engine
+  same_version engine store is = ap (λ (it : TendedStore D). known_version it.store) is.stays.work
+
+  -- which names the same files
   same_store : (engine : Engine D g) (store : EmbeddedStore D g) → IsStoreOver engine store →
       engine_files (store_engine store) ≡ engine_files engine
   same_store engine store is =
-      ap (λ (it : TendedStore D). kept_files (tended_version it)) is.stays.work
+      ap (λ (named : NodeVersion). kept_files named.version) (same_version engine store is)
 
   -- and the files that the engine has are its own
   pub opened_as : (disk : D) (engine : Engine D g) (store : EmbeddedStore D g) →
       IsStoreOver engine store → StandsAlone (facts_of engine) →
       IsOpened (contents (g.state disk)) engine →
-      AreReadAlike (engine_files engine) (g.state disk) (g.state (engine_disk engine)) →
-      HasOnlyFiles g engine (engine_files engine) → IsOpenedAs (contents (g.state disk)) store
-  opened_as disk engine store is alone opens alike swept = record {
+      HasOpened g (g.state disk) engine → HasOnlyFiles g engine (engine_files engine) →
+      IsOpenedAs (contents (g.state disk)) store
+  opened_as disk engine store is alone opens has_opened swept = record {
     opened = opened_from (contents (g.state disk)) engine store is opens;
+    version = subst (λ (named : NodeVersion). ManifestRepresents named (contents (g.state disk)))
+        (sym (same_version engine store is)) has_opened.version;
     alone = subst StandsAlone (sym (same_facts engine store is)) alone;
     alike = λ file has.
         ap (λ (d : D). seen (g.state d file)) is.disk
-        ∙ alike file (subst (λ (l : List ℕ). Contains l file) (same_store engine store is) has);
+        ∙ has_opened.alike file
+        (subst (λ (l : List ℕ). Contains l file) (same_store engine store is) has);
     swept = λ honest.
         subst (λ (l : List ℕ). AreAlone l (g.state (store_disk store)))
         (sym (same_store engine store is))
@@ -104,62 +116,80 @@ module _ {D : Type 0} (g : Ghosts D) where
         (new.files honest)));
   }
 
+  -- an engine that does not stand alone is of a chain, and has the files of its version
+  of_chain : VersionIsOne → (disk : D) (engine : Engine D g) →
+      IsOpened (contents (g.state disk)) engine → HasOpened g (g.state disk) engine →
+      AreAlone (engine_files engine) (g.state (engine_disk engine)) →
+      (StandsAlone (facts_of engine) → ⊥) →
+      IsOfChain (contents (g.state disk)) (g.state (engine_disk engine))
+  of_chain one disk engine opens has_opened alone other =
+      let same = one (engine_version engine) _ (contents (g.state disk)) has_opened.version
+      opens.manifest in
+      let files : engine_files engine ≡ kept_files opens.version =
+      ap (λ (named : NodeVersion). kept_files named.version) same in
+      record {
+        facts = facts_of engine;
+        count = (look_ups engine).count;
+        opens = opens;
+        other = other;
+        alike = λ file has.
+            has_opened.alike file (subst (λ (l : List ℕ). Contains l file) (sym files) has);
+        swept = subst (λ (l : List ℕ). AreAlone l (g.state (engine_disk engine))) files alone;
+      }
+
   -- what an engine that was opened promises, its store or the refusal does
-  pub own_opens : (disk : D) (engine : Engine D g)
+  pub own_opens : VersionIsOne → (disk : D) (engine : Engine D g)
       (result : Result (EmbeddedStore D g) (OpenError × D)) →
       ((facts : Facts) (list : List BatchContent) →
       FilesRepresent facts list (contents (g.state disk)) → IsEngineOf g facts list engine) →
       ((facts : Facts) (list : List BatchContent) → WereMeant facts list (contents (g.state disk)) →
       IsMeantEngineOf g facts list engine) →
       IsOpened (contents (g.state disk)) engine →
-      AreReadAlike (engine_files engine) (g.state disk) (g.state (engine_disk engine)) →
-      HasOnlyFiles g engine (engine_files engine) →
-      (IsNotCreated (contents (g.state disk)) → ⊥) →
+      HasOpened g (g.state disk) engine → HasOnlyFiles g engine (engine_files engine) →
+      g.is_honest (engine_disk engine) → (IsNotCreated (contents (g.state disk)) → ⊥) →
       ((facts : Facts) (list : List BatchContent) (facts' : Facts) (list' : List BatchContent) →
-      OnlyLeaves (IsOneOf facts list facts' list') (g.state disk) →
-      AlwaysLeaves g disk (engine_disk engine) (IsOneOf facts list facts' list')) →
+      StillLeavesOneOf g disk (engine_disk engine) facts list facts' list') →
       IsOwnStore engine result → OpensContents g disk (contents (g.state disk)) result
-  own_opens disk engine (Ok store) found meant opens alike swept created leaves is = record {
-    opened = λ facts list files.
-        let it = found facts list files in (
-          subst StandsAlone it.facts is.0,
-          record {
-            facts = same_facts engine store is.1 ∙ it.facts;
-            holds = is.1.stays.holds list it.holds;
-          },
-        );
-    meant = λ facts list files same.
-        let it = meant facts list files in
-        record {
-          alone = subst StandsAlone it.facts is.0;
-          facts = same_facts engine store is.1 ∙ it.facts;
-          was = is.1.stays.meant list it.meant;
-        };
-    created = λ cut. absurd (created cut.0);
-    told = inl (opened_as disk engine store is.1 is.0 opens alike swept);
-    any_moment = λ facts list facts' list' only.
-        subst (λ (d : D). AlwaysLeaves g disk d (IsOneOf facts list facts' list'))
-        (sym is.1.disk) (leaves facts list facts' list' only);
-  }
-  own_opens disk engine (Err refused) found meant opens alike swept created leaves is = record {
-    opened = λ facts list files.
-        inr (
-          is.0,
-          λ alone.
-              is.1 (subst StandsAlone (sym (found facts list files).facts) alone),
-        );
-    meant = λ facts list files same. tt;
-    created = λ cut. absurd (created cut.0);
-    told = subst (ExplainsOpening (contents (g.state disk))) (sym is.0) (record {
-      facts = facts_of engine;
-      count = (look_ups engine).count;
-      opens = opens;
-      other = is.1;
-    });
-    any_moment = λ facts list facts' list' only.
-        subst (λ (d : D). AlwaysLeaves g disk d (IsOneOf facts list facts' list'))
-        (sym is.2) (leaves facts list facts' list' only);
-  }
+  own_opens one disk engine (Ok store) found meant opens has_opened swept honest created leaves is =
+      record {
+        opened = λ facts list files.
+            let it = found facts list files in (
+              subst StandsAlone it.facts is.0,
+              record {
+                facts = same_facts engine store is.1 ∙ it.facts;
+                holds = is.1.stays.holds list it.holds;
+              },
+            );
+        meant = λ facts list files.
+            let it = meant facts list files in
+            record {
+              alone = subst StandsAlone it.facts is.0;
+              facts = same_facts engine store is.1 ∙ it.facts;
+              was = is.1.stays.meant list it.meant;
+            };
+        created = λ cut. absurd (created cut.0);
+        told = inl (opened_as disk engine store is.1 is.0 opens has_opened swept);
+        any_moment = λ facts list facts' list'.
+            subst (λ (d : D). StillLeavesOneOf g disk d facts list facts' list') (sym is.1.disk)
+            (leaves facts list facts' list');
+      }
+  own_opens one disk engine (Err refused) found meant opens has_opened swept honest created leaves
+      is = record {
+        opened = λ facts list files.
+            inr (
+              is.0,
+              λ alone.
+                  is.1 (subst StandsAlone (sym (found facts list files).facts) alone),
+            );
+        meant = λ facts list files. tt;
+        created = λ cut. absurd (created cut.0);
+        told = subst (ExplainsOpening (contents (g.state disk)) (g.state refused.1)) (sym is.0)
+            (subst (λ (d : D). IsOfChain (contents (g.state disk)) (g.state d)) (sym is.2)
+            (of_chain one disk engine opens has_opened (swept honest) is.1));
+        any_moment = λ facts list facts' list'.
+            subst (λ (d : D). StillLeavesOneOf g disk d facts list facts' list') (sym is.2)
+            (leaves facts list facts' list');
+      }
 
   -- the store of an engine that was just opened is fresh
   pub own_fresh : (given : Limits) (engine : Engine D g)
@@ -183,18 +213,38 @@ module _ {D : Type 0} (g : Ghosts D) where
       not_external e is (refuses facts list files)
 
   -- nor is it one of two
-  none_of_two : (left : Contents) → ((facts : Facts) (list : List BatchContent) →
-      FilesRepresent facts list left → ⊥) → (facts : Facts) (list : List BatchContent)
-      (facts' : Facts) (list' : List BatchContent) → IsOneOf facts list facts' list' left → ⊥
-  none_of_two left none facts list facts' list' (inl files) = none facts list files
-  none_of_two left none facts list facts' list' (inr files) = none facts' list' files
+  none_of_two : (P : Facts → List BatchContent → Type 0) →
+      ((facts : Facts) (list : List BatchContent) → P facts list → ⊥) → (facts : Facts)
+      (list : List BatchContent) (facts' : Facts) (list' : List BatchContent) →
+      P facts list ⊎ P facts' list' → ⊥
+  none_of_two P none facts list facts' list' (inl files) = none facts list files
+  none_of_two P none facts list facts' list' (inr files) = none facts' list' files
+
+  -- and files that were meant to represent a list are of a store that was created
+  none_was_meant : VersionsAreLawful → VersionsAreCreated → (left : Contents) →
+      IsNotCreated left → (facts : Facts) (list : List BatchContent) → WereMeant facts list left → ⊥
+  none_was_meant lawful created left none facts list were =
+      let named : NodeVersion = record { id = facts.id; version = were.represents.version } in
+      let lines = (lawful named were.meant were.represents.manifest).lines.table_files in
+      let beside : (slot : ℕ) → slot < 3 →
+      All (λ line. line.file ≢ slot) were.represents.version.tables =
+      λ slot low. All-weaker (λ (line : TableLine). IsAllocated were.represents.version line.file)
+      (λ (line : TableLine). line.file ≢ slot)
+      (λ line given same. let late = given.0 in omega (arith, late, low, same))
+      were.represents.version.tables lines in
+      created named were.meant were.represents.manifest (record {
+        first = subst IsClosedOrAbsent (were.others 1 (beside 1 (omega arith))) none.first;
+        second = subst IsClosedOrAbsent (were.others 2 (beside 2 (omega arith))) none.second;
+      })
 
   -- what was created there, where a creation may have been cut short
   created_from : (left : Contents) (result : Result (EmbeddedStore D g) (OpenError × D)) →
       WasCutShort left → CreatesStore result →
-      MatchResult result (IsOpenedFrom left) (λ refused. ExplainsOpening left refused.0)
+      MatchResult result (IsOpenedFrom left)
+      (λ refused. ExplainsOpening left (g.state refused.1) refused.0)
   created_from left (Ok store) cut holds = inr (cut, holds)
-  created_from left (Err refused) cut external = external_explains left refused.0 external
+  created_from left (Err refused) cut external =
+      external_explains left (g.state refused.1) refused.0 external
 
   -- a creation, where no store was created and the disk is free
   creates_opens : (disk : D) (e : EngineError)
@@ -202,21 +252,24 @@ module _ {D : Type 0} (g : Ghosts D) where
       ((facts : Facts) (list : List BatchContent) →
       FilesRepresent facts list (contents (g.state disk)) →
       IsEnvironmental engine.Disk engine.Memory e) → IsNotCreated (contents (g.state disk)) →
-      ((facts : Facts) (count : ℕ) → OpensAs (contents (g.state disk)) facts count → ⊥) →
-      HasOnlyCreationFiles (contents (g.state disk)) →
+      VersionsAreLawful → VersionsAreCreated → HasOnlyCreationFiles (contents (g.state disk)) →
       ((at : State) → IsCrashOutcome at (contents at)) → CreatesStore result →
       OpensContents g disk (contents (g.state disk)) result
-  creates_opens disk e result is refuses free shut only reads made =
+  creates_opens disk e result is refuses free lawful created only reads made =
       let left = contents (g.state disk) in
       let none = none_there left e is refuses in
+      let unmeant = none_was_meant lawful created left free in
       record {
         opened = λ facts list files. absurd (none facts list files);
-        meant = λ facts list files opens. absurd (shut facts (length list) opens);
+        meant = λ facts list were. absurd (unmeant facts list were);
         created = λ cut. made;
         told = created_from left result (free, only) made;
-        any_moment = λ facts list facts' list' leaves.
-            absurd (none_of_two left none facts list facts' list'
-            (leaves left (reads (g.state disk))));
+        any_moment = λ facts list facts' list'. record {
+          whole = λ leaves. absurd (none_of_two (λ f l. FilesRepresent f l left) none facts list
+              facts' list' (leaves left (reads (g.state disk))));
+          meant = λ leaves. absurd (none_of_two (λ f l. WereMeant f l left) unmeant facts list
+              facts' list' (leaves left (reads (g.state disk))));
+        };
       }
 
   -- a refusal, where nothing is created
@@ -225,14 +278,14 @@ module _ {D : Type 0} (g : Ghosts D) where
       IsEnvironmental engine.Disk engine.Memory e) → ExplainsRefusal e left →
       (e ≡ engine.NotCreated → HasOnlyCreationFiles left → ⊥) →
       ((facts : Facts) (list : List BatchContent) (facts' : Facts) (list' : List BatchContent) →
-      OnlyLeaves (IsOneOf facts list facts' list') (g.state disk) →
-      AlwaysLeaves g disk after (IsOneOf facts list facts' list')) →
+      StillLeavesOneOf g disk after facts list facts' list') →
       OpensContents g disk left (Err (s, after))
   refused_opens disk after left e s is refuses why taken leaves = record {
     opened = λ facts list files. inl (store_external e s is (refuses facts list files));
-    meant = λ facts list files opens. tt;
+    meant = λ facts list files. tt;
     created = λ cut. store_external e s is (refused_externally left e why taken cut);
-    told = subst (ExplainsOpening left) (sym is) (explained left e why taken);
+    told = subst (ExplainsOpening left (g.state after)) (sym is)
+        (explained left (g.state after) e why taken);
     any_moment = leaves;
   }
 
@@ -243,18 +296,18 @@ module _ {D : Type 0} (g : Ghosts D) where
       ((facts : Facts) (list : List BatchContent) →
       FilesRepresent facts list (contents (g.state disk)) →
       IsEnvironmental engine.Disk engine.Memory e) → IsNotCreated (contents (g.state disk)) →
-      ((facts : Facts) (count : ℕ) → OpensAs (contents (g.state disk)) facts count → ⊥) →
+      VersionsAreLawful → VersionsAreCreated →
       ((at : State) → IsCrashOutcome at (contents at)) →
       ((facts : Facts) (list : List BatchContent) (facts' : Facts) (list' : List BatchContent) →
-      OnlyLeaves (IsOneOf facts list facts' list') (g.state disk) →
-      AlwaysLeaves g disk after (IsOneOf facts list facts' list')) →
+      StillLeavesOneOf g disk after facts list facts' list') →
       (IsTrue is_free → CreatesStore result) →
       (IsFalse is_free → result ≡ Err (Store engine.NotCreated, after)) →
       OpensContents g disk (contents (g.state disk)) result
-  free_opens disk after true e result is found refuses none shut reads leaves made refused =
-      creates_opens disk e result is refuses none shut (found.0 refl) reads (made refl)
-  free_opens disk after false e result is found refuses none shut reads leaves made refused =
-      subst (OpensContents g disk (contents (g.state disk))) (sym (refused refl))
+  free_opens disk after true e result is found refuses none lawful created reads leaves made
+      refused = creates_opens disk e result is refuses none lawful created (found.0 refl) reads
+      (made refl)
+  free_opens disk after false e result is found refuses none lawful created reads leaves made
+      refused = subst (OpensContents g disk (contents (g.state disk))) (sym (refused refl))
       (refused_opens disk after (contents (g.state disk)) engine.NotCreated
       (Store engine.NotCreated) refl
       (λ facts list files. subst (IsEnvironmental engine.Disk engine.Memory) is
@@ -295,53 +348,3 @@ module _ {D : Type 0} (g : Ghosts D) where
       ((IsEnvironmental engine.Disk engine.Memory e → ⊥) → IsStill g disk after) →
       KeepsRefusedFiles g disk (Err (s, after))
   refused_still disk after e s is left = λ none. left (files_not_external e s is none)
-
-  -- behind a look
-  pub look_still : {failed : Type 0} (old mid : D)
-      (result : Result (EmbeddedStore D g) (OpenError × D)) → OnlyLooks g old mid failed →
-      KeepsRefusedFiles g mid result → KeepsRefusedFiles g old result
-  look_still old mid (Ok store) looks left = tt
-  look_still old mid (Err refused) looks left = λ none honest.
-      still_more (looks.still honest) (left none (looks.kept.honest.1 honest))
-
-  -- ---- an opening behind a look
-
-  -- what the look found is so behind it
-  pub look_free : {failed : Type 0} (old mid : D) (is_free : Bool) → OnlyLooks g old mid failed →
-      g.is_honest old → (IsTrue is_free ↔ HasOnlyCreationFiles (contents (g.state old))) →
-      IsTrue is_free ↔ HasOnlyCreationFiles (contents (g.state mid))
-  look_free old mid is_free looks honest found =
-      let states : g.state mid ≡ g.state old = fun_ext (λ file. looks.kept.files honest file) in
-      subst (λ (s : State). IsTrue is_free ↔ HasOnlyCreationFiles (contents s)) (sym states) found
-
-  -- what an opening promises behind a look, both do
-  pub look_opens : {failed : Type 0} (old mid : D)
-      (result : Result (EmbeddedStore D g) (OpenError × D)) → OnlyLooks g old mid failed →
-      g.is_honest old → OpensContents g mid (contents (g.state mid)) result →
-      OpensContents g old (contents (g.state old)) result
-  look_opens old mid result looks honest opens =
-      let states : g.state mid ≡ g.state old = fun_ext (λ file. looks.kept.files honest file) in
-      let same : OpensContents g mid (contents (g.state old)) result =
-      subst (λ (s : State). OpensContents g mid (contents s) result) states opens in
-      record {
-        opened = same.opened;
-        meant = same.meant;
-        created = same.created;
-        told = same.told;
-        any_moment = λ facts list facts' list' only.
-            leaves_behind g (IsOneOf facts list facts' list') old mid (disk_of_opening result) looks
-            honest only (λ left. opens.any_moment facts list facts' list' left);
-      }
-
-  -- a look that is refused
-  pub look_refused : {failed : Type 0} (old after : D) (s : OpenError) →
-      OnlyLooks g old after failed → g.is_honest old → IsOfEnvironment s →
-      OpensContents g old (contents (g.state old)) (Err (s, after))
-  look_refused old after s looks honest external = record {
-    opened = λ facts list files. inl external;
-    meant = λ facts list files opens. tt;
-    created = λ cut. external;
-    told = external_explains (contents (g.state old)) s external;
-    any_moment = λ facts list facts' list' only.
-        look_leaves g (IsOneOf facts list facts' list') old after looks honest only;
-  }

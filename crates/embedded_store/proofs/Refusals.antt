@@ -3,7 +3,7 @@ use Rattle.std.proofs.Common.{◌≡◌, ap, inl, inr, refl, subst, sym, ◌∙�
 use Rattle.std.specs.Prelude.{◌↔◌}
 use Rattle.disk.specs.declared.error.DiskError.{DiskError}
 use Rattle.disk.specs.declared.error.DiskError.TheVariants as device
-use Rattle.disk.specs.{Contents, IsEnvironmental}
+use Rattle.disk.specs.{Contents, IsEnvironmental, State}
 use Rattle.engine.specs.EngineError.{EngineError}
 use Rattle.engine.specs.EngineError.TheVariants as engine
 use Rattle.engine.specs.{ExplainsRefusal}
@@ -39,19 +39,19 @@ look_external e s is (inl failed) = inl (is ∙ ap disk_refusal failed)
 look_external e s is (inr memory) = inr (is ∙ ap disk_refusal memory)
 
 -- an external refusal says nothing of the files
-pub external_explains : (left : Contents) (s : OpenError) → IsOfEnvironment s →
-    ExplainsOpening left s
-external_explains left s (inl device) = subst (ExplainsOpening left) (sym device) tt
-external_explains left s (inr memory) = subst (ExplainsOpening left) (sym memory) tt
+pub external_explains : (left : Contents) (now : State) (s : OpenError) → IsOfEnvironment s →
+    ExplainsOpening left now s
+external_explains left now s (inl device) = subst (ExplainsOpening left now) (sym device) tt
+external_explains left now s (inr memory) = subst (ExplainsOpening left now) (sym memory) tt
 
 -- what the engine explains, the opening does, where nothing is created
-pub explained : (left : Contents) (e : EngineError) → ExplainsRefusal e left →
-    (e ≡ engine.NotCreated → HasOnlyCreationFiles left → ⊥) → ExplainsOpening left (Store e)
-explained left engine.Disk why taken = tt
-explained left engine.Damaged why taken = why
-explained left engine.Memory why taken = tt
-explained left engine.NotCreated why taken = (why, taken refl)
-explained left _ why taken = absurd why
+pub explained : (left : Contents) (now : State) (e : EngineError) → ExplainsRefusal e left →
+    (e ≡ engine.NotCreated → HasOnlyCreationFiles left → ⊥) → ExplainsOpening left now (Store e)
+explained left now engine.Disk why taken = tt
+explained left now engine.Damaged why taken = why
+explained left now engine.Memory why taken = tt
+explained left now engine.NotCreated why taken = (why, taken refl)
+explained left now _ why taken = absurd why
 
 -- and where a creation was cut short, it is refused for the environment alone
 pub refused_externally : (left : Contents) (e : EngineError) → ExplainsRefusal e left →

@@ -1,17 +1,16 @@
 -- What an opening finds on a disk: a store that stands alone, nothing, or files that are none.
 use Rattle.std.specs.Prelude.{◌≡◌, ◌⊎◌, ℕ, List, [], ◌∷◌, Contains}
-use Rattle.std.specs.Prelude.{Result, Ok, Err, IfErr, IfOk, IsErrAnd, MatchResult, length}
+use Rattle.std.specs.Prelude.{Result, Ok, Err, IfErr, IfOk, IsErrAnd, MatchResult}
 use Rattle.kv_types.specs.{BatchContent}
-use Rattle.disk.specs.{AlwaysLeaves, Contents, IsEnvironmental, IsStill, KeepsDisk, OnlyLeaves}
-use Rattle.disk.specs.{contents}
+use Rattle.disk.specs.{Contents, IsEnvironmental, IsStill, KeepsDisk, State, contents, seen}
 use Rattle.disk.specs.declared.Disk.{Ghosts}
-use Rattle.manifest.specs.{HasOnlyCreationFiles, WasCutShort}
+use Rattle.manifest.specs.{HasOnlyCreationFiles, ManifestRepresents, WasCutShort}
 use Rattle.engine.specs.EngineError.TheVariants as engine
 use Rattle.engine.specs.declared.Engine.{Engine}
-use Rattle.engine.specs.{Facts, FilesRepresent, HasFirstFiles, HasOnlyFiles, IsDamaged}
-use Rattle.engine.specs.{IsNotCreated, IsOneOf, IsOpened, IsOwned, OpensAs, StaysAsItWas}
-use Rattle.engine.specs.{engine_disk, engine_files, facts_of, first_facts, look_ups}
-use Rattle.engine.specs.{WereMeant, with_committed}
+use Rattle.engine.specs.{AreAlone, Facts, FilesRepresent, HasFirstFiles, HasOnlyFiles, IsDamaged}
+use Rattle.engine.specs.{IsNotCreated, IsOpened, IsOwned, OpensAs, StaysAsItWas, StillLeavesOneOf}
+use Rattle.engine.specs.{engine_disk, engine_files, engine_version, facts_of, first_facts}
+use Rattle.engine.specs.{WereMeant, kept_files, look_ups, with_committed}
 use Rattle.embedded_store.specs.declared.error.OpenError.{OpenError}
 use Rattle.embedded_store.specs.declared.error.OpenError.TheVariants.{InUse, OfChain, Store}
 use Rattle.embedded_store.specs.declared.store.EmbeddedStore.{EmbeddedStore}
@@ -30,28 +29,31 @@ IsOfEnvironment = IsEnvironmental (Store engine.Disk) (Store engine.Memory)
 abbrev pub IsOfNoStore : OpenError → Type 0
 IsOfNoStore e = (e ≡ Store engine.Damaged) ⊎ (e ≡ Store engine.NotCreated)
 
--- the files open as a store that does not stand alone
-pub record IsOfChain (left : Contents) : Type 0 where
+-- The files open as a store that does not stand alone. Those of its version read as before on the
+-- disk that is returned, which has no other.
+pub record IsOfChain (left : Contents) (now : State) : Type 0 where
   pub facts : Facts
   pub count : ℕ
   pub opens : OpensAs left facts count
   pub other : StandsAlone facts → ⊥
+  pub alike : (file : ℕ) → Contains (kept_files opens.version) file → seen (now file) ≡ left file
+  pub swept : AreAlone (kept_files opens.version) now
 
--- why a disk with this content has no store for those who embed it
-abbrev pub ExplainsOpening : Contents → OpenError → Type 0
-ExplainsOpening left InUse = ⊥
-ExplainsOpening left OfChain = IsOfChain left
-ExplainsOpening left (Store engine.Disk) = Unit {0}
-ExplainsOpening left (Store engine.Memory) = Unit {0}
-ExplainsOpening left (Store engine.Damaged) = IsDamaged left
-ExplainsOpening left (Store engine.NotCreated) =
+-- why a disk with this content, and then this state, has no store for those who embed it
+abbrev pub ExplainsOpening : Contents → State → OpenError → Type 0
+ExplainsOpening left now InUse = ⊥
+ExplainsOpening left now OfChain = IsOfChain left now
+ExplainsOpening left now (Store engine.Disk) = Unit {0}
+ExplainsOpening left now (Store engine.Memory) = Unit {0}
+ExplainsOpening left now (Store engine.Damaged) = IsDamaged left
+ExplainsOpening left now (Store engine.NotCreated) =
     IsNotCreated left × (HasOnlyCreationFiles left → ⊥)
-ExplainsOpening left (Store engine.Failed) = ⊥
-ExplainsOpening left (Store engine.TooOld) = ⊥
-ExplainsOpening left (Store engine.NotCommitted) = ⊥
-ExplainsOpening left (Store engine.NoSuchSnapshot) = ⊥
-ExplainsOpening left (Store engine.TooManySnapshots) = ⊥
-ExplainsOpening left (Store engine.Exhausted) = ⊥
+ExplainsOpening left now (Store engine.Failed) = ⊥
+ExplainsOpening left now (Store engine.TooOld) = ⊥
+ExplainsOpening left now (Store engine.NotCommitted) = ⊥
+ExplainsOpening left now (Store engine.NoSuchSnapshot) = ⊥
+ExplainsOpening left now (Store engine.TooManySnapshots) = ⊥
+ExplainsOpening left now (Store engine.Exhausted) = ⊥
 
 module _ {D : Type 0} {g : Ghosts D} where
   -- the disk that an opening received: the store has it, or the refusal returns it
@@ -93,10 +95,11 @@ module _ {D : Type 0} {g : Ghosts D} where
   CreatesStore result =
       MatchResult result IsFirstStore (λ refused. IsOfEnvironment refused.0)
 
-  -- the content opens as the store, which stands alone; its files read as before, and its disk has
-  -- no other
+  -- the content opens as the store, which stands alone and knows the version of the slots; its
+  -- files read as before, and its disk has no other
   pub record IsOpenedAs (left : Contents) (store : EmbeddedStore D g) : Type 0 where
     pub opened : IsOpened left (store_engine store)
+    pub version : ManifestRepresents (engine_version (store_engine store)) left
     pub alone : StandsAlone (facts_of (store_engine store))
     pub alike : (file : ℕ) → Contains (engine_files (store_engine store)) file →
         contents (g.state (store_disk store)) file ≡ left file
@@ -132,14 +135,6 @@ module _ {D : Type 0} (g : Ghosts D) where
   KeepsRefusedFiles disk result =
       IfErr result (λ refused. IsOfNoStore refused.0 → IsStill g disk refused.1)
 
-  -- Where a crash before the opening leaves only files of one of two stores, so does one at each
-  -- moment since it began.
-  abbrev pub OpeningLeavesOneOf : D → Result (EmbeddedStore D g) (OpenError × D) → Facts →
-      List BatchContent → Facts → List BatchContent → Type 0
-  OpeningLeavesOneOf disk result facts list facts' list' =
-      OnlyLeaves (IsOneOf facts list facts' list') (g.state disk) →
-      AlwaysLeaves g disk (disk_of_opening result) (IsOneOf facts list facts' list')
-
   -- what an opening promises of an honest disk with this content
   pub record OpensContents (disk : D) (left : Contents)
       (result : Result (EmbeddedStore D g) (OpenError × D)) : Type 0 where
@@ -148,11 +143,13 @@ module _ {D : Type 0} (g : Ghosts D) where
         OpensAsStore facts list result
     -- so is one of whose tables blocks alone are damaged, and it is none that was created anew
     pub meant : (facts : Facts) (list : List BatchContent) → WereMeant facts list left →
-        OpensAs left facts (length list) → IfOk result (IsMeantStoreOf facts list)
+        IfOk result (IsMeantStoreOf facts list)
     -- what a creation left that was cut short is created anew
     pub created : WasCutShort left → CreatesStore result
     -- a store says what it was made of, and a refusal why it is none
-    pub told : MatchResult result (IsOpenedFrom left) (λ refused. ExplainsOpening left refused.0)
-    -- no store that was created is created again
+    pub told : MatchResult result (IsOpenedFrom left)
+        (λ refused. ExplainsOpening left (g.state refused.1) refused.0)
+    -- no store that was created is created again, also where blocks of its tables are damaged
     pub any_moment : (facts : Facts) (list : List BatchContent) (facts' : Facts)
-        (list' : List BatchContent) → OpeningLeavesOneOf disk result facts list facts' list'
+        (list' : List BatchContent) →
+        StillLeavesOneOf g disk (disk_of_opening result) facts list facts' list'

@@ -10,8 +10,8 @@ use engine::EngineError;
 use std::alloc::AllocError;
 use thiserror::Error;
 
-/// Why a store was not opened. What is in the folder or on the disk stays, but for what a creation
-/// wrote that was refused.
+/// Why a store was not opened. A store that is there stays, also one of a chain, but for files that
+/// it does not name; behind `Damaged` and `NotCreated` every file does.
 #[derive(Clone, Copy, Debug, PartialEq, Eq, Error)]
 pub enum OpenError {
     /// Another user has locked the folder.

@@ -28,7 +28,7 @@ impl<D: Disk + Drop> EmbeddedStore<D> {
     ghost use Rattle.disk.specs.{IsEnvironmental};
     ghost use Rattle.engine.specs.{AreOrdered, ChangesList, ChangesSnapshots, IsAdrift};
     ghost use Rattle.engine.specs.{IsCloseAnswer, IsNearlyFull, IsReadableAnswer, IsTendFile};
-    ghost use Rattle.engine.specs.{RaisesFactsAtMost, ReadsEngine, raised_facts};
+    ghost use Rattle.engine.specs.{IsTendOf, RaisesFactsAtMost, ReadsEngine, raised_facts};
     ghost use Rattle.disk.specs.{MakesCalls};
     ghost use Rattle.engine.specs.{look_ups, with_opened, with_closed};
     ghost use Rattle.engine.specs.Calls.{TendsAsDue};
@@ -154,6 +154,7 @@ impl<D: Disk + Drop> EmbeddedStore<D> {
             (raised_facts (store_engine self.old)) (λ list. list) }
         ensures told { RaisesFactsAtMost (store_engine self.old) (store_engine self.new) }
         ensures work { TendsAsDue D.Disk (store_engine self.old) (store_engine self.new) result }
+        ensures did { IfOk result (IsTendOf (store_engine self.old) (store_engine self.new)) }
         ensures rests { IfOk result (λ done. done ≡ Idle →
             store_disk self.new ≡ store_disk self.old) }
     {

@@ -24,7 +24,8 @@ use Rattle.store_files.specs.declared.store_files.StoreFiles.{StoreFiles}
 use Rattle.store_files.specs.Apart.{OpenFilesAreApart}
 use Rattle.store_files.specs.OpenFiles.{AreUsableFiles, FilesAreRead, FilesHold, WereMeantToHold}
 use Rattle.store_files.specs.OpenFiles.{known_version}
-use Rattle.store_files.specs.Raising.{RaisesFloor}
+use Rattle.store_files.specs.Raising.{RaisesFloor, obsolete_files}
+use Rattle.store_files.specs.Removing.{AreAbsent}
 use Rattle.table_files.specs.{inner_disk}
 use Rattle.table_files.specs.declared.cached_disk.CachedDisk.{CachedDisk}
 use Rattle.engine.specs.BeginParts.{BeginsMerge, BeginsOver}
@@ -191,13 +192,21 @@ module _ {D : Type 0} (g : Ghosts D) where
         let was = (raises.meant list honest w).list in
         is_begun plan m b new list was.meant was.hold.known result (begins_meant list honest was)
 
-    pub begun_did : IfOk result (λ it. begun_number it ≡ new.free_file) →
+    pub begun_did : (g.is_honest (inner_disk a) →
+        AreAbsent (obsolete_files old floor) (g.state (inner_disk m))) →
+        IfOk result (λ it. begun_number it ≡ new.free_file) →
         IfOk result (IsBegunBy g plan floor a b old new)
-    begun_did first = each result first begun_behind
+    begun_did absent first = each result first begun_behind
       where
         each : (r : Result (Merge D) EngineError) → IfOk r (λ it. begun_number it ≡ new.free_file) →
             ((list : List BatchContent) → g.is_honest (inner_disk a) →
             WereMeantToHold (g.state (inner_disk a)) old list → IfOk r (IsNewMerge g plan b new)) →
             IfOk r (IsBegunBy g plan floor a b old new)
-        each (Ok it) first begun = record { raised = raises.did; first = first; begun = begun }
+        each (Ok it) first begun = record {
+          raised = raises.did;
+          first = first;
+          begun = begun;
+          gone = λ honest. subst (λ (s : State). AreAbsent (obsolete_files old floor) s)
+              (same_state honest) (absent honest);
+        }
         each (Err e) first begun = tt

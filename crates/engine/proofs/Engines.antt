@@ -349,15 +349,6 @@ module _ {D : Type 0} (g : Ghosts D) (laws : HeldFilesAreLeft) where
       none_yet (FilesRepresent (facts_of engine) list) (g.state (engine_disk engine)) past
       (holds_of engine list r).crash
 
--- an engine that works has no next number only at the greatest
-pub only_exhausted : {T : Type 0} {M : Type 0} (result : Result T EngineError) (e : EngineError) →
-    IsErrAnd result (λ s. s ≡ e) → (e ≡ engine.Failed → ⊥) →
-    (e ≡ engine.Failed) ⊎ ((e ≡ engine.Exhausted) × M) →
-    IfErr result (λ s. IsEnvironmental engine.Disk engine.Memory s ⊎ ((s ≡ engine.Exhausted) × M))
-only_exhausted (Ok x) e told works only = absurd told
-only_exhausted (Err s) e told works (inl failed) = absurd (works failed)
-only_exhausted (Err s) e told works (inr last) = inr (told ∙ last.0, last.1)
-
 -- a refusal that returns the disk as it was leaves what it left
 pub still_refused : {D : Type 0} (g : Ghosts D) (P : Contents → Type 0) (disk : D)
     (result : Result (Engine D g) (EngineError × D)) (e told : EngineError × D) → result ≡ Err e →

@@ -61,7 +61,7 @@ module _ {D : Type 0} (g : Ghosts D) (limits : Limits) (floor : ℕ) (a b : Cach
           first = began.first;
           target = subst (λ r. IfOk r (λ it. target_of it ≡ limits.table)) is aims;
         }) refl;
-        planned = λ list honest w. began.begun list honest w.was;
+        planned = λ list honest w. (began.begun list honest w.was, began.gone honest);
       }
 
 module _ {D : Type 0} (g : Ghosts D) (limits : Limits) (floor : ℕ) (a b : CachedDisk D g)

@@ -1,7 +1,7 @@
 -- What a merge did that went on, and ended or was given up behind that.
 use Rattle.std.proofs.Common.{◌≡◌, ◌∙◌, ◌≤◌, ℕ, List, Option, Some, None, Result, Ok, Err, ap, inl}
 use Rattle.std.proofs.Common.{inr, refl, subst, sym}
-use Rattle.std.specs.Prelude.{IfOk, MatchResult, OnOk}
+use Rattle.std.specs.Prelude.{IfOk, IfSome, MatchResult, OnOk}
 use Rattle.std.specs.Result.{result_and}
 use Rattle.disk.specs.declared.Disk.{Ghosts}
 use Rattle.manifest.specs.{Change, NodeVersion}
@@ -15,8 +15,9 @@ use Rattle.store_files.specs.declared.store_files.StoreFiles.{StoreFiles}
 use Rattle.store_files.specs.declared.tended.Tended.{Tended}
 use Rattle.store_files.specs.declared.tended.Tended.TheVariants as tended
 use Rattle.store_files.specs.BesideFiles.{with_free}
-use Rattle.store_files.specs.Merging.{IsMergedBy}
+use Rattle.store_files.specs.Merging.{IsMergedBy, replaced_files}
 use Rattle.store_files.specs.OpenFiles.{known_version}
+use Rattle.store_files.specs.Removing.{AreAbsent}
 use Rattle.table_files.specs.{inner_disk}
 use Rattle.table_files.specs.declared.cached_disk.CachedDisk.{CachedDisk}
 use Rattle.engine.specs.declared.merging.Progress.{Progress}
@@ -76,8 +77,10 @@ module _ {D : Type 0} (g : Ghosts D) (a b c : CachedDisk D g) (old mid new : Sto
         ((tables : List LevelTable) (plan : MergePlan) → IsMergeOf g b mid tables now plan →
         IsEditOf mid plan made) →
         (g.is_honest (inner_disk b) → made ≡ None → HasNoLeftovers g (begun_number now) mid c) →
+        (g.is_honest (inner_disk b) →
+        IfSome made (λ it. AreAbsent (replaced_files it) (g.state (inner_disk c)))) →
         ContinuesAsPlanned g a c old new was left answer
-    of_made is answer None told ended edit gone = record {
+    of_made is answer None told ended edit gone inputs = record {
       did = continues.IsGivenUp mid.free_file (abandoned_store old mid was now on new ended) none
           told;
       planned = λ tables plan before. record {
@@ -87,17 +90,21 @@ module _ {D : Type 0} (g : Ghosts D) (a b c : CachedDisk D g) (old mid new : Sto
             (leftover_on old mid was now on file it);
       };
     }
-    of_made is answer (Some made) told ended edit gone = record {
+    of_made is answer (Some made) told ended edit gone inputs = record {
       did = continues.EndsByEdit made mid.free_file
           (subst (λ (s : StoreFiles). IsMergedBy made s new) on.store ended) none told;
-      planned = λ tables plan before. subst (λ (s : StoreFiles). IsEditOf s plan (Some made))
-          on.store (edit tables plan (ahead progress.Done is tables plan before).0);
+      planned = λ tables plan before. (
+        subst (λ (s : StoreFiles). IsEditOf s plan (Some made)) on.store
+            (edit tables plan (ahead progress.Done is tables plan before).0),
+        inputs (honest before.merging.walk.honest),
+      );
     }
 
     pub ended : called ≡ Ok progress.Done → (result : Result Tended EngineError) →
         IfOk result (MergeHasEnded g b c mid new now) →
         IfOk result (ContinuesAsPlanned g a c old new was left)
-    ended is (Ok answer) it = of_made is answer it.made it.told it.ended it.edit it.removed
+    ended is (Ok answer) it =
+        of_made is answer it.made it.told it.ended it.edit it.removed it.inputs_gone
     ended is (Err e) it = tt
 
     -- it had no room, and was given up
@@ -131,15 +138,18 @@ module _ {D : Type 0} (g : Ghosts D) (a c : CachedDisk D g) (old new : StoreFile
   pub merged_here : (made : Change) → called ≡ Ok (Some made) →
       (result : Result (Unit {0}) EngineError) →
       MatchResult result (λ _. IsMergedBy made old new) IsEnd →
+      (g.is_honest (inner_disk a) →
+      OnOk result (AreAbsent (replaced_files made) (g.state (inner_disk c)))) →
       IfOk (result_and result (Ok tended.Worked)) (MergeHasEnded g a c old new was)
-  merged_here made is (Ok x) did = record {
+  merged_here made is (Ok x) did gone = record {
     made = Some made;
     told = refl;
     ended = did;
     edit = edit_is (Some made) is;
     removed = λ honest none. absurd cc;
+    inputs_gone = gone;
   }
-  merged_here made is (Err e) did = tt
+  merged_here made is (Err e) did gone = tt
 
   -- there was none, and the merge was given up
   pub given_up_here : (b : CachedDisk D g) (now : Merge D) → begun_number now ≡ begun_number was →
@@ -154,5 +164,6 @@ module _ {D : Type 0} (g : Ghosts D) (a c : CachedDisk D g) (old new : StoreFile
     ended = subst (λ (n : ℕ). new ≡ with_free old (free_behind n old)) first freed;
     edit = edit_is None is;
     removed = λ kept none. subst (λ (n : ℕ). HasNoLeftovers g n old c) first (gone (honest kept));
+    inputs_gone = λ kept. tt;
   }
   given_up_here b now first honest is (Err e) freed gone = tt

@@ -3,7 +3,6 @@ use Rattle.std.proofs.Common.{◌≡◌, ◌∙◌, Result, Ok, Err, inl, inr, r
 use Rattle.std.proofs.Common.{Bool, false, true}
 use Rattle.std.specs.Prelude.{◌⊎◌, ◌↔◌, IfErr, IfOk, IsErrAnd, IsErrOf, IsTrue, MatchResult, OnOk}
 use Rattle.std.specs.Prelude.{is_err}
-use Rattle.disk.specs.{IsEnvironmental}
 use Rattle.store_tables.specs.declared.error.EngineError.{EngineError}
 use Rattle.store_tables.specs.declared.error.EngineError.TheVariants as engine
 use Rattle.store_tables.specs.Errors.{EndsEngine, IsEnd}
@@ -69,11 +68,10 @@ is_refused (Ok x) e told = absurd told
 is_refused (Err s) e told = refl
 
 -- an answer and a refusal
-pub match_of : {T : Type 0} (result : Result T EngineError) (P : T → Type 0) →
-    IfOk result P → IfErr result (IsEnvironmental engine.Disk engine.Memory) →
-    MatchResult result P (IsEnvironmental engine.Disk engine.Memory)
-match_of (Ok x) P answer why = answer
-match_of (Err e) P answer why = why
+pub match_of : {T : Type 0} (result : Result T EngineError) (P : T → Type 0)
+    (Q : EngineError → Type 0) → IfOk result P → IfErr result Q → MatchResult result P Q
+match_of (Ok x) P Q answer why = answer
+match_of (Err e) P Q answer why = why
 
 -- an answer has both that it has and that no refusal is told of
 pub answers_with : {T : Type 0} (P Q : Type 0) (E : EngineError → Type 0)

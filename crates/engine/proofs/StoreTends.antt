@@ -1,7 +1,7 @@
 -- A tend of an engine's store, which leaves a merge under way.
 use Rattle.std.proofs.Common.{◌≡◌, ◌≢◌, ◌+◌, ◌≤◌, ℕ, List, [], ◌∷◌, Option, Result, Ok, Err, arith}
 use Rattle.std.proofs.Common.{inl, inr, refl, subst, sym}
-use Rattle.std.specs.Prelude.{Contains, IfOk, MatchResult}
+use Rattle.std.specs.Prelude.{Contains, IfErr, IfOk, MatchResult}
 use Rattle.kv_types.specs.{BatchContent}
 use Rattle.kv_types.specs.declared.Limits.{Limits}
 use Rattle.disk.specs.declared.Disk.{Ghosts}
@@ -11,6 +11,7 @@ use Rattle.compaction.specs.declared.Merge.{Merge}
 use Rattle.compaction.specs.declared.Turn.{Turn}
 use Rattle.store_model.specs.PlacesLemmas.{contains_cases}
 use Rattle.store_tables.specs.declared.error.EngineError.{EngineError}
+use Rattle.store_tables.specs.declared.error.EngineError.TheVariants as error
 use Rattle.store_tables.specs.Errors.{IsEnd}
 use Rattle.store_tables.specs.KeepingLemmas.{kept_but}
 use Rattle.store_files.specs.declared.store_files.StoreFiles.{StoreFiles}
@@ -30,7 +31,8 @@ use Rattle.table_files.specs.{inner_disk}
 use Rattle.table_files.specs.declared.cached_disk.CachedDisk.{CachedDisk}
 use Rattle.engine.specs.LentFiles.{files_ghosts}
 use Rattle.engine.specs.MergeParts.{IsMergeFile as own, IsTendedFile as tended, IsTendedFile}
-use Rattle.engine.specs.Tends.{KeepsTended, MergesByPlan, TendedStore, TendsByPlan}
+use Rattle.engine.specs.Tends.{IsTendRefusal, KeepsTended, MergesByPlan, TendedStore}
+use Rattle.engine.specs.Tends.{TendsByPlan}
 use Rattle.engine.specs.Tends.{TendsStore as tends, tended_store}
 use Rattle.engine.specs.UnderWay.{MergesOfEngineLast, MergesOfEngineStayBeside}
 use Rattle.engine.proofs.Results.{answers_so, answers_with, of_refusal, on_answer}
@@ -170,3 +172,19 @@ module _ {D : Type 0} (g : Ghosts D) (limits : Limits) (floor : ℕ) (a b : Cach
     planned = by.planned;
   }
   merge_did later end called is work (Err e) by = tt
+
+  -- a refusal that ends an engine is of a merge, where that rested
+  refused_at_rest : (e : EngineError) → IsEnd e →
+      (RewriteIsDue old → ⊥) × (FlushIsDue limits.log old → ⊥) → IsTendRefusal limits.log old e
+  refused_at_rest error.Disk end rests = inl (inl refl)
+  refused_at_rest error.Memory end rests = inl (inr refl)
+  refused_at_rest error.Damaged end rests = inr (refl, rests.0, rests.1)
+  refused_at_rest _ end rests = absurd end
+
+  pub merge_refused : (called : Result Tended EngineError) → called ≡ Ok answer.Idle →
+      IfOk called (IsWorkAnswer limits.log old new) → (result : Result Tended EngineError) →
+      IfErr result IsEnd → IfErr result (IsTendRefusal limits.log old)
+  merge_refused called is work (Ok told) end = tt
+  merge_refused called is work (Err e) end =
+      refused_at_rest e end (next_at_rest answer.Idle refl
+      (subst (λ r. IfOk r (IsWorkAnswer limits.log old new)) is work))

@@ -1,6 +1,6 @@
 -- Calls of an engine that do nothing, and calls that only read.
 use Rattle.std.proofs.Common.{◌≡◌, ◌∙◌, List, Result, Ok, Err, ap, inl, inr, refl, subst, sym}
-use Rattle.std.specs.Prelude.{◌⊎◌, ◌↔◌, IsErrAnd, IsErrOf, MatchResult, is_err}
+use Rattle.std.specs.Prelude.{◌↔◌, IsErrAnd, IsErrOf, MatchResult, is_err}
 use Rattle.kv_types.specs.{BatchContent}
 use Rattle.disk.specs.declared.Disk.{Ghosts}
 use Rattle.disk.specs.{IsSame, KeepsDisk, State}
@@ -27,19 +27,6 @@ use Rattle.engine.proofs.Engines.{goes_on, kept_inside, none_since}
 use Rattle.engine.proofs.Results.{closed_by, ends_by, no_refusal, off_of, works_on_ok}
 
 -- ---- calls that do nothing
-
--- a refusal of a call that may not read does not end the engine
-pub read_is_none : {e : EngineError} →
-    (e ≡ error.Failed) ⊎ ((e ≡ error.TooOld) ⊎ (e ≡ error.NotCommitted)) → IsEnd e → ⊥
-read_is_none (inl failed) end = subst IsEnd failed end
-read_is_none (inr (inl old)) end = subst IsEnd old end
-read_is_none (inr (inr above)) end = subst IsEnd above end
-
--- nor does one of a call that wants one number more
-pub number_is_none : {e : EngineError} {M : Type 0} →
-    (e ≡ error.Failed) ⊎ ((e ≡ error.Exhausted) × M) → IsEnd e → ⊥
-number_is_none (inl failed) end = subst IsEnd failed end
-number_is_none (inr last) end = subst IsEnd last.0 end
 
 -- it is `Failed` where its call is
 pub failed_as : {T P : Type 0} {e : EngineError} → (IsErrOf {T = T} (Err e) error.Failed ↔ P) →

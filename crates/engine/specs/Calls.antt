@@ -6,21 +6,23 @@ use Rattle.kv_types.specs.declared.Limits.{Limits}
 use Rattle.kv_types.specs.{BatchContent}
 use Rattle.disk.specs.declared.Disk.{Ghosts}
 use Rattle.disk.specs.{AlwaysLeaves, Contents, IsEnvironmental, IsSame, IsStill, KeepsDisk, State}
+use Rattle.disk.specs.{contents}
 use Rattle.compaction.specs.{turn_key}
 use Rattle.engine.specs.declared.engine.Engine.{Engine}
 use Rattle.store_tables.specs.declared.error.EngineError.{EngineError}
 use Rattle.store_tables.specs.declared.error.EngineError.TheVariants as engine
 use Rattle.engine.specs.Engines.{EngineHolds, EngineReads, EngineWasMeant, HasEnded, HasOnlyFiles}
 use Rattle.engine.specs.Snapshots.{IsReadable}
-use Rattle.engine.specs.Engines.{LookUps, engine_disk, engine_files, facts_of}
+use Rattle.engine.specs.Engines.{LookUps, engine_disk, engine_files, engine_version, facts_of}
 use Rattle.engine.specs.Engines.{least_read, look_ups}
 use Rattle.engine.specs.Tends.{TendsStore, TendedStore, TendsAsPlanned, TendsInOrder}
-use Rattle.engine.specs.Tends.{tended_store}
+use Rattle.engine.specs.Tends.{IsTendRefusal, tended_store}
 use Rattle.engine.specs.declared.snapshots.TheConstants.{MAX_SNAPSHOTS}
 use Rattle.store_files.specs.declared.tended.Tended.{Tended}
 use Rattle.store_tables.specs.Errors.{EndsEngine, IsEnd}
-use Rattle.manifest.specs.{IsNotCreated}
+use Rattle.manifest.specs.{IsNotCreated, ManifestRepresents}
 use Rattle.store_files.specs.Files.{Facts, IsOwned, first_facts}
+use Rattle.store_files.specs.Settling.{AreReadAlike}
 use Rattle.store_files.specs.StoreFiles.{FilesRepresent, HasFirstFiles, IsDamaged, IsOneOf, OpensAs}
 use Rattle.store_files.specs.StoreFiles.{WereMeant, WereOneOf}
 
@@ -189,13 +191,14 @@ IsTendAnswer old new =
     TendsInOrder (look_ups old).limits (least_read old) (tended_of old) (tended_of new)
 
 -- A tend does what is due: of files that hold a list, or else it is refused for the environment;
--- and of files that were meant to, where it answers. Of both a merge goes as it was planned.
+-- and of files that were meant to, or else a merge may have met damage too, where neither a rewrite
+-- nor a flush is due. Of both a merge goes as it was planned.
 pub record TendsAsDue {D : Type 0} (g : Ghosts D) (old new : Engine D g)
     (result : Result Tended EngineError) : Type 0 where
   pub reads : (list : List BatchContent) → EngineReads g old list →
       MatchResult result (IsTendAnswer old new) (IsEnvironmental engine.Disk engine.Memory)
   pub meant : (list : List BatchContent) → EngineWasMeant g old list →
-      IfOk result (IsTendAnswer old new)
+      MatchResult result (IsTendAnswer old new) (IsTendRefusal (look_ups old).limits.log old.store)
   pub planned : OfEachList g old (λ list. IfOk result (TendsAsPlanned g (look_ups old).limits
       (least_read old) old.files new.files (tended_of old) (tended_of new)))
 
@@ -270,6 +273,11 @@ pub record OpensEngineFor {D : Type 0} (g : Ghosts D) (facts : Facts) (list : Li
 -- the files open as what the engine tells
 abbrev pub IsOpened : {D : Type 0} {g : Ghosts D} → Contents → Engine D g → Type 0
 IsOpened left engine = OpensAs left (facts_of engine) (look_ups engine).count
+
+-- the slots represented the version that the engine knows, and its files read as before
+pub record HasOpened {D : Type 0} (g : Ghosts D) (old : State) (engine : Engine D g) : Type 0 where
+  pub version : ManifestRepresents (engine_version engine) (contents old)
+  pub alike : AreReadAlike (engine_files engine) old (g.state (engine_disk engine))
 
 -- why a store was not opened, by its files
 abbrev pub ExplainsRefusal : EngineError → Contents → Type 0

@@ -10,7 +10,7 @@ use Rattle.table_files.specs.{inner_disk}
 use Rattle.kv_types.specs.Snapshots.{least, without}
 use Rattle.engine.specs.declared.engine.Engine.{Engine}
 use Rattle.store_files.specs.Files.{Facts}
-use Rattle.manifest.specs.{HasFullSlot, counting_file}
+use Rattle.manifest.specs.{HasFullSlot, NodeVersion, counting_file}
 use Rattle.batch_logs.specs.BatchLogs.{HasFullLog, newest_file}
 use Rattle.store_tables.specs.LevelTables.{level_count}
 use Rattle.store_files.specs.OpenFiles.{batch_count, known_facts, known_version}
@@ -73,9 +73,13 @@ module _ {D : Type 0} {g : Ghosts D} where
   abbrev pub counting_slot_file : Engine D g → ℕ
   counting_slot_file engine = counting_file engine.store.manifest
 
+  -- the version that it knows, and its node
+  abbrev pub engine_version : Engine D g → NodeVersion
+  engine_version engine = known_version engine.store
+
   -- the slots, and the files that its version names as logs and tables
   abbrev pub engine_files : Engine D g → List ℕ
-  engine_files engine = kept_files (known_version engine.store).version
+  engine_files engine = kept_files (engine_version engine).version
 
   -- the files that a tend of it may change
   abbrev pub IsTendFile : Engine D g → ℕ → Type 0

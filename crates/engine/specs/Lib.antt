@@ -9,7 +9,7 @@ pub mod Calls
 -- What crates above name.
 pub use Rattle.engine.specs.Calls.{IsNewEngine, IsEngineOf, IsJustOpened, IsOldOrNewSince, IsOpened}
 pub use Rattle.engine.specs.Calls.{IsMeantEngineOf, KeepsEngine, ListFollows, ExplainsRefusal}
-pub use Rattle.engine.specs.Calls.{IsTendOf, OpensEngineFor}
+pub use Rattle.engine.specs.Calls.{HasOpened, IsTendOf, OpensEngineFor}
 pub use Rattle.engine.specs.Calls.{IsAdrift, IsReadableAnswer, IsTendAnswer, TendsAlike, disk_after}
 pub use Rattle.engine.specs.Calls.{IsCloseAnswer, IsOpenAnswer, MayOpen}
 pub use Rattle.engine.specs.Calls.{ChangesList, ChangesSnapshots, OfEachList, ReadsEngine}
@@ -21,7 +21,7 @@ pub use Rattle.engine.specs.Engines.{HasNearlyFullLog, HasNearlyFullSlot, IsNear
 pub use Rattle.engine.specs.Engines.{counting_slot_file}
 pub use Rattle.engine.specs.Snapshots.{AreReadable, IsReadable}
 pub use Rattle.engine.specs.Engines.{EngineWasMeant, LookUps, EngineReads, engine_disk}
-pub use Rattle.engine.specs.Engines.{engine_files, facts_of}
+pub use Rattle.engine.specs.Engines.{engine_files, engine_version, facts_of}
 pub use Rattle.engine.specs.Engines.{FactsRise, RaisesFactsAtMost, least_read, with_facts}
 pub use Rattle.engine.specs.Engines.{IsTendFile, look_ups, newest_log_file, raised_facts}
 pub use Rattle.engine.specs.Engines.{table_count, with_one_more, with_committed}
@@ -36,6 +36,7 @@ pub use Rattle.store_files.specs.Files.{Facts, IsOwned, first_facts}
 pub use Rattle.store_files.specs.StoreFiles.{FilesRepresent, HasFirstFiles, IsDamaged, IsOneOf}
 pub use Rattle.store_files.specs.StoreFiles.{OpensAs}
 pub use Rattle.store_files.specs.StoreFiles.{StillLeavesOneOf, WereMeant, WereOneOf}
+pub use Rattle.store_files.specs.OpenFiles.{known_version}
 pub use Rattle.store_files.specs.Openings.{kept_files}
 pub use Rattle.store_files.specs.Settling.{AreAlone, AreReadAlike}
 pub use Rattle.store_files.specs.Tending.{IsSameBeside}

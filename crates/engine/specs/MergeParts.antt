@@ -1,8 +1,8 @@
 -- The parts of a merge as an engine does them: what each keeps of the open files, and what it made
 -- of the merge.
 use Rattle.std.specs.Prelude.{◌≡◌, ◌⊎◌, ℕ, ◌+◌, ◌≤◌, List, [], IsErrOf, IfErr, IfOk, MatchResult}
-use Rattle.std.specs.Prelude.{Contains, IsNone, IsSomeAnd, OnOk, Option, Some, None, Result, length}
-use Rattle.std.specs.Prelude.{Bool, Err, Ok, false, map, max, min, true}
+use Rattle.std.specs.Prelude.{Contains, IfSome, IsNone, IsSomeAnd, OnOk, Option, Some, None, Result}
+use Rattle.std.specs.Prelude.{Bool, Err, Ok, false, length, map, max, min, true}
 use Rattle.std.specs.List.{AllZip}
 use Rattle.disk.specs.declared.Disk.{Ghosts}
 use Rattle.disk.specs.{AlwaysLeaves, IsEnvironmental, KeepsDisk, seen}
@@ -28,10 +28,11 @@ use Rattle.store_files.specs.declared.tended.Tended.{Tended}
 use Rattle.store_files.specs.declared.tended.Tended.TheVariants as tended
 use Rattle.store_files.specs.Files.{Facts, IsOwned}
 use Rattle.store_files.specs.BesideFiles.{with_free}
-use Rattle.store_files.specs.Merging.{HeldWithOutputs, IsMergedBy, MeantWithOutputs}
+use Rattle.store_files.specs.Merging.{HeldWithOutputs, IsMergedBy, MeantWithOutputs, replaced_files}
 use Rattle.store_files.specs.OpenFiles.{AreUsableFiles, FilesHold, WereMeantToHold, batch_count}
 use Rattle.store_files.specs.OpenFiles.{known_facts, known_version}
 use Rattle.store_files.specs.Raising.{IsRaisedBy, facts_with_floor, obsolete_files, raised_files}
+use Rattle.store_files.specs.Removing.{AreAbsent}
 use Rattle.store_files.specs.StoreFiles.{FilesRepresent, WereMeant}
 use Rattle.store_files.specs.TendKeeps.{OfEitherFacts}
 use Rattle.table_files.specs.{inner_disk}
@@ -166,13 +167,15 @@ pub record IsNewMerge {D : Type 0} (g : Ghosts D) (plan : Plan) (files : CachedD
   pub none : under_way.merging.walk.met ≡ []
 
 -- A merge began behind a rise of the floor to this number: that of the plan, where the files were
--- meant to hold a list.
+-- meant to hold a list. The logs that were given up are gone.
 pub record IsBegunBy {D : Type 0} (g : Ghosts D) (plan : Plan) (floor : ℕ) (a b : CachedDisk D g)
     (old new : StoreFiles) (merge : Merge D) : Type 0 where
   pub raised : IsRaisedBy floor old new
   pub first : begun_number merge ≡ new.free_file
   pub begun : (list : List BatchContent) → g.is_honest (inner_disk a) →
       WereMeantToHold (g.state (inner_disk a)) old list → IsNewMerge g plan b new merge
+  pub gone : g.is_honest (inner_disk a) →
+      AreAbsent (obsolete_files old floor) (g.state (inner_disk b))
 
 -- ---- a merge goes on
 
@@ -327,3 +330,5 @@ pub record MergeHasEnded {D : Type 0} (g : Ghosts D) (a b : CachedDisk D g) (old
       IsEditOf old plan made
   pub removed : g.is_honest (inner_disk a) → made ≡ None →
       HasNoLeftovers g (begun_number was) old b
+  pub inputs_gone : g.is_honest (inner_disk a) →
+      IfSome made (λ it. AreAbsent (replaced_files it) (g.state (inner_disk b)))

@@ -1,9 +1,10 @@
 -- A tend of an engine's files: what is due, and what it did.
 use Rattle.std.specs.Prelude.{◌≡◌, ◌≢◌, ◌⊎◌, ◌==◌, ◌&&◌, ℕ, List, length, if◌then◌else◌}
-use Rattle.std.specs.Prelude.{Option, Result, Some, None, option_map}
+use Rattle.std.specs.Prelude.{IfErr, Option, Result, Some, None, option_map}
 use Rattle.std.specs.List.{find}
 use Rattle.std.specs.Option.{option_and_then, option_or}
 use Rattle.disk.specs.declared.Disk.{Ghosts}
+use Rattle.disk.specs.{IsEnvironmental}
 use Rattle.kv_types.specs.{BatchContent, StoredKey}
 use Rattle.kv_types.specs.declared.Limits.{Limits}
 use Rattle.version_edits.specs.declared.TableLine.{TableLine}
@@ -17,13 +18,15 @@ use Rattle.compaction.specs.{picked, turn_key}
 use Rattle.compaction.specs.Merges.{begun_number, target_of}
 use Rattle.compaction.specs.Walks.{FindsNoRoom}
 use Rattle.store_tables.specs.declared.error.EngineError.{EngineError}
+use Rattle.store_tables.specs.declared.error.EngineError.TheVariants as engine
 use Rattle.store_files.specs.declared.store_files.StoreFiles.{StoreFiles}
 use Rattle.store_files.specs.declared.tended.Tended.{Tended}
 use Rattle.store_files.specs.declared.tended.Tended.TheVariants as tended
 use Rattle.store_files.specs.BesideFiles.{with_free}
-use Rattle.store_files.specs.Merging.{IsMergedBy}
+use Rattle.store_files.specs.Merging.{IsMergedBy, replaced_files}
 use Rattle.store_files.specs.OpenFiles.{WereMeantToHold, known_facts, known_version}
-use Rattle.store_files.specs.Raising.{IsRaisedBy, facts_with_floor}
+use Rattle.store_files.specs.Raising.{IsRaisedBy, facts_with_floor, obsolete_files}
+use Rattle.store_files.specs.Removing.{AreAbsent}
 use Rattle.store_files.specs.TendKeeps.{OfEitherFacts}
 use Rattle.store_files.specs.Tending.{FlushIsDue, IsTend, IsWorkAnswer, RewriteIsDue}
 use Rattle.table_files.specs.{inner_disk}
@@ -135,6 +138,13 @@ module _ {D : Type 0} where
   TendsInOrder limits floor old new answer =
       (it : TendsStore limits floor old new answer) × WasDue it
 
+-- why a tend of files with damaged blocks is refused: for the environment; or for damage that a
+-- merge met, where neither a rewrite nor a flush is due
+abbrev pub IsTendRefusal : ℕ → StoreFiles → EngineError → Type 0
+IsTendRefusal limit old e =
+    IsEnvironmental engine.Disk engine.Memory e
+    ⊎ ((e ≡ engine.Damaged) × (RewriteIsDue old → ⊥) × (FlushIsDue limit old → ⊥))
+
 module _ {D : Type 0} (g : Ghosts D) where
   -- ---- what it keeps
 
@@ -161,7 +171,8 @@ module _ {D : Type 0} (g : Ghosts D) where
     pub removed : HasNoLeftovers g (begun_number was) (with_free old used) b
 
   -- How a merge of this plan went on: by so many entries, others of which are left; by all that
-  -- were left, so that the version has the outputs in the places of the inputs; or it was given up.
+  -- were left, so that the version has the outputs in the places of the inputs, whose files are
+  -- gone; or it was given up.
   abbrev pub ContinuesByPlan : (a b : CachedDisk D g) {old new : StoreFiles} {was : Merge D}
       {left : Option (Merge D)} {answer : Tended} → ContinuesMerge old new was left answer →
       (tables : List LevelTable) (plan : MergePlan) → IsMergeOf g a old tables was plan → Type 0
@@ -169,6 +180,7 @@ module _ {D : Type 0} (g : Ghosts D) where
       before = StepsOn g a b old new was now tables plan before
   ContinuesByPlan a b {old = old} (EndsByEdit edit used merged left is) tables plan before =
       IsEditOf (with_free old used) plan (Some edit)
+      × AreAbsent (replaced_files edit) (g.state (inner_disk b))
   ContinuesByPlan a b {old = old} {was = was} (IsGivenUp used freed left is) tables plan before =
       AbandonsFull b old was used plan
 
@@ -179,13 +191,15 @@ module _ {D : Type 0} (g : Ghosts D) where
     pub planned : (tables : List LevelTable) (plan : MergePlan)
         (before : IsMergeOf g a old tables was plan) → ContinuesByPlan a b did tables plan before
 
-  -- Where a tend did part of a merge, it is of the plan that is due, and none of its inputs'
-  -- entries is merged yet; or it is of the plan that is under way.
+  -- Where a tend did part of a merge, it is of the plan that is due, none of its inputs' entries is
+  -- merged yet, and the logs that were given up are gone; or it is of the plan that is under way.
   abbrev pub IsAsPlanned : {limits : Limits} {floor : ℕ} {old new : TendedStore D}
       {answer : Tended} → (a b : CachedDisk D g) → TendsStore limits floor old new answer → Type 0
   IsAsPlanned a b (OfStore did) = Unit {0}
-  IsAsPlanned {new = new} a b (OfMerge (HasBegun plan merge begins is)) =
+  IsAsPlanned {floor = floor} {old = old} {new = new} a b
+      (OfMerge (HasBegun plan merge begins is)) =
       IsNewMerge g plan b new.store merge
+      × AreAbsent (obsolete_files old.store floor) (g.state (inner_disk b))
   IsAsPlanned {old = old} a b (OfMerge (HasContinued was some turn on)) =
       (tables : List LevelTable) × (plan : MergePlan)
       × (before : IsMergeOf g a old.store tables was plan)
@@ -197,6 +211,13 @@ module _ {D : Type 0} (g : Ghosts D) where
       Tended → Type 0
   TendsAsPlanned limits floor a b old new answer =
       (it : TendsStore limits floor old new answer) × IsAsPlanned a b it
+
+  -- files that were meant to hold a list refuse a tend so
+  abbrev pub RefusesTend : Limits → CachedDisk D g → StoreFiles → Result Tended EngineError →
+      Type 0
+  RefusesTend limits a old result = (list : List BatchContent) → g.is_honest (inner_disk a) →
+      WereMeantToHold (g.state (inner_disk a)) old list →
+      IfErr result (IsTendRefusal limits.log old)
 
   -- ---- both
 

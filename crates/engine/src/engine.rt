@@ -60,24 +60,23 @@ fn files_over<D: Disk + Drop>(
 }
 
 impl<D: Disk + Drop> Engine<D> {
-    ghost use Rattle.std.specs.Prelude.{◌≡◌, ◌⊎◌, ◌↔◌, ℕ, ◌<◌, ◌≤◌, [], ◌∷◌, ◌++◌, List};
-    ghost use Rattle.std.specs.Prelude.{IfOk, IfErr, IsErrOf, OnOk, MatchResult, slice_index, Some};
+    ghost use Rattle.std.specs.Prelude.{◌≡◌, ◌⊎◌, ℕ, ◌<◌, ◌≤◌, [], ◌∷◌, ◌++◌, List};
+    ghost use Rattle.std.specs.Prelude.{IfOk, IfErr, MatchResult, slice_index, Some};
     ghost use Rattle.kv_types.specs.declared.bounds.TheConstants.{MAX_NUMBER};
     ghost use Rattle.kv_types.specs.{BatchContent, place};
     ghost use Rattle.disk.specs.{contents, IsEnvironmental, IsSameBut, IsStill};
     ghost use Rattle.disk.specs.{MakesCalls};
-    ghost use Rattle.engine.specs.Calls.{ChangesList, ExplainsRefusal, IsAdrift, IsJustOpened};
-    ghost use Rattle.engine.specs.Calls.{IsNewEngine, IsOpened, IsTendOf, TendsAsDue};
+    ghost use Rattle.engine.specs.Calls.{ChangesList, ExplainsRefusal, HasOpened, IsAdrift};
+    ghost use Rattle.engine.specs.Calls.{IsJustOpened, IsNewEngine, IsOpened, IsTendOf, TendsAsDue};
     ghost use Rattle.engine.specs.Calls.{KeepsOwnedDisk, OfEachList, OpensEngineFor, ReadsEngine};
     ghost use Rattle.engine.specs.Calls.{MergeStays, StaysAsItWas, disk_after};
-    ghost use Rattle.engine.specs.Engines.{AreOrdered, EngineHolds, FactsRise, HasEnded};
+    ghost use Rattle.engine.specs.Engines.{AreOrdered, EngineHolds, FactsRise};
     ghost use Rattle.engine.specs.Engines.{RaisesFactsAtMost};
     ghost use Rattle.engine.specs.Engines.{HasNearlyFullLog, IsNearlyFull};
-    ghost use Rattle.engine.specs.Engines.{engine_disk, engine_files, facts_of, IsTendFile};
+    ghost use Rattle.engine.specs.Engines.{engine_disk, facts_of, IsTendFile};
     ghost use Rattle.engine.specs.Engines.{look_ups, newest_log_file, raised_facts};
     ghost use Rattle.engine.specs.Engines.{table_count, with_one_more, with_committed};
     ghost use Rattle.store_files.specs.Files.{Facts};
-    ghost use Rattle.store_files.specs.Settling.{AreReadAlike};
     ghost use Rattle.store_files.specs.StoreFiles.{StillLeavesOneOf};
     ghost use Rattle.store_files.specs.declared.tended.Tended.TheVariants.{Idle};
     ghost use Rattle.compaction.specs.Outputs.{IsSameBeyond};
@@ -132,8 +131,7 @@ impl<D: Disk + Drop> Engine<D> {
             (list' : List BatchContent) → D.is_honest disk →
             StillLeavesOneOf D.Disk disk (disk_after result) facts list facts' list' }
 
-        ensures alike { D.is_honest disk → IfOk result (λ engine. AreReadAlike (engine_files engine)
-            (D.state disk) (D.state (engine_disk engine))) }
+        ensures alike { D.is_honest disk → IfOk result (HasOpened D.Disk (D.state disk)) }
 
         // What is refused for its files is left as it was.
         ensures still { IfErr result (λ refused. (IsEnvironmental Disk Memory refused.0 → ⊥) →
@@ -159,20 +157,6 @@ impl<D: Disk + Drop> Engine<D> {
         }
     }
 
-    // The number of the next batch.
-    fn next_number(&self) -> Result<Number, EngineError>
-        ensures next { IfOk result (λ n. n ≡ (with_one_more (look_ups self.now)).count) }
-        ensures closed { IsErrOf result EngineError.Failed ↔ HasEnded self.now }
-        ensures usable { OnOk result (AreUsableFiles self.now.store) }
-        ensures only { IfErr result (λ e. (e ≡ EngineError.Failed)
-            ⊎ ((e ≡ EngineError.Exhausted) × (MAX_NUMBER ≤ (look_ups self.now).count))) }
-    {
-        if self.has_ended {
-            return Err(EngineError::Failed);
-        }
-        self.count().next().ok_or(EngineError::Exhausted)
-    }
-
     /// Appends a batch, and returns its number. It needs four device calls: after them the batch is
     /// durable.
     pub fn append(&mut self, batch: &Batch) -> Result<Number, EngineError>
@@ -192,7 +176,12 @@ impl<D: Disk + Drop> Engine<D> {
         held_files_are_left(); // law: what the disk of open files reads as, and leaves
         merges_outlive_calls::<D>(); // law: a merge outlives calls that leave its files
         open_files_are_apart(); // law: which files an append changes
-        let number = self.next_number()?;
+        if self.has_ended {
+            return Err(EngineError::Failed);
+        }
+        let Some(number) = self.count().next() else {
+            return Err(EngineError::Exhausted);
+        };
         self.has_ended = true;
         self.store.append(&mut self.files, number, batch)?;
         self.has_ended = false;

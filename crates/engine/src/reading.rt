@@ -1,5 +1,6 @@
 //! Reads of an engine, and the snapshots that keep numbers readable.
-ghost use Rattle.std.specs.Prelude.{◌≡◌, IfErr, IfOk};
+ghost use Rattle.std.specs.Prelude.{◌≡◌, IfOk, MatchResult};
+ghost use Rattle.store_tables.specs.Errors.{IsEnd};
 ghost use Rattle.store_files.specs.OpenFiles.{AreUsableFiles};
 
 use crate::Engine;
@@ -11,8 +12,8 @@ use store_files::EngineError;
 use store_files::laws::held_files_are_left;
 
 impl<D: Disk + Drop> Engine<D> {
-    ghost use Rattle.std.specs.Prelude.{◌≡◌, ◌⊎◌, ◌↔◌, List, take};
-    ghost use Rattle.std.specs.Prelude.{IfErr, IfOk, IsErrOf, OnOk};
+    ghost use Rattle.std.specs.Prelude.{◌≡◌, ◌↔◌, List, take};
+    ghost use Rattle.std.specs.Prelude.{IfOk, IsErrOf, MatchResult};
     ghost use Rattle.kv_types.specs.{BatchContent, map_of};
     ghost use Rattle.kv_types.specs.Pages.{page_of};
     ghost use Rattle.engine.specs.Calls.{ChangesSnapshots, IsCloseAnswer, IsNoDamage};
@@ -24,9 +25,8 @@ impl<D: Disk + Drop> Engine<D> {
     fn may_read(&self, at: Number) -> Result<(), EngineError>
         ensures readable { IsReadableAnswer (look_ups self.now) at result }
         ensures closed { IsErrOf result EngineError.Failed ↔ HasEnded self.now }
-        ensures only { IfErr result (λ e. (e ≡ EngineError.Failed)
-            ⊎ (e ≡ EngineError.TooOld) ⊎ (e ≡ EngineError.NotCommitted)) }
-        ensures usable { OnOk result (AreUsableFiles self.now.store) }
+        ensures lives { MatchResult result (λ _. AreUsableFiles self.now.store)
+            (λ e. IsEnd e → ⊥) }
     {
         if self.has_ended {
             return Err(EngineError::Failed);

@@ -4,8 +4,8 @@ ghost use Rattle.std.specs.Option.{option_or};
 ghost use Rattle.compaction.specs.{turn_key};
 ghost use Rattle.store_files.specs.Raising.{MayRise};
 ghost use Rattle.store_files.specs.declared.tended.Tended.TheVariants.{Idle};
-ghost use Rattle.engine.specs.Tends.{KeepsTended, MergesByPlan, TendsByPlan, key_of_plan};
-ghost use Rattle.engine.specs.Tends.{tended_store};
+ghost use Rattle.engine.specs.Tends.{KeepsTended, MergesByPlan, RefusesTend, TendsByPlan};
+ghost use Rattle.engine.specs.Tends.{key_of_plan, tended_store};
 
 use crate::merging::{begin, continue_merge};
 use compaction::laws::{merges_outlive_calls, merges_stay_beside};
@@ -97,6 +97,7 @@ pub(crate) fn tend_store<D: Disk + Drop>(
         result }
     ensures did { IfOk result (TendsByPlan D.Disk limits.now floor files.old files.new
         (tended_store store.old merge.old turn.old) (tended_store store.new merge.new turn.new)) }
+    ensures refused { RefusesTend D.Disk limits.now files.old store.old result }
     ensures rests { IfOk result (λ done. done ≡ Idle → files.new ≡ files.old) }
 {
     held_files_are_left(); // law: what the disk of open files reads as, and leaves

@@ -17,13 +17,13 @@ returns-in-Ok-clause-kept g c =
 pub returns-in-Ok-clause-opens : goal.returns-in-Ok-clause-opens
 returns-in-Ok-clause-opens g c = λ honest.
     let opens = c.in-Ok.ensures.told honest in
-    own_opens g.D.Disk c.args.disk c.in-Ok.engine c.own.result
+    own_opens g.D.Disk c.version_is_one.ensures.one c.args.disk c.in-Ok.engine c.own.result
     (λ facts list files. (c.in-Ok.ensures.opened facts list honest).whole files)
     (λ facts list files. (c.in-Ok.ensures.opened facts list honest).meant files)
     opens (c.in-Ok.ensures.alike honest) c.in-Ok.ensures.fresh.swept
-    (c.version_is_one.ensures.created _ _ opens.manifest)
-    (λ facts list facts' list' only.
-    (c.in-Ok.ensures.any_moment facts list facts' list' honest).whole only) c.own.ensures
+    (c.in-Ok.ensures.kept.honest.1 honest) (c.version_is_one.ensures.created _ _ opens.manifest)
+    (λ facts list facts' list'. c.in-Ok.ensures.any_moment facts list facts' list' honest)
+    c.own.ensures
 
 pub returns-in-Ok-clause-fresh : goal.returns-in-Ok-clause-fresh
 returns-in-Ok-clause-fresh g c =
@@ -50,10 +50,9 @@ returns-in-NotCreated-clause-opens g c = λ honest.
     free_opens g.D.Disk c.args.disk c.in-Err.disk c.args.is_free c.in-Err.e
     c.created_if_free.result c.in-NotCreated.is (c.requires honest)
     (λ facts list files. (c.in-Err.ensures.opened facts list honest).whole files)
-    none (λ facts count opens. c.version_is_one.ensures.created _ _ opens.manifest none)
+    none c.version_is_one.ensures.lawful c.version_is_one.ensures.created
     c.reads_are_outcomes.ensures
-    (λ facts list facts' list' only.
-    (c.in-Err.ensures.any_moment facts list facts' list' honest).whole only)
+    (λ facts list facts' list'. c.in-Err.ensures.any_moment facts list facts' list' honest)
     (c.created_if_free.ensures.created (c.in-Err.ensures.kept.honest.1 honest))
     c.created_if_free.ensures.refused
 
@@ -67,8 +66,7 @@ returns-in_default g c = record {
       (contents (g.D.Disk.state c.args.disk)) c.in-Err.e c.from.result c.from.ensures
       (λ facts list files. (c.in-Err.ensures.opened facts list honest).whole files)
       (c.in-Err.ensures.told honest) (λ same only. c.in_default.not-NotCreated same)
-      (λ facts list facts' list' only.
-      (c.in-Err.ensures.any_moment facts list facts' list' honest).whole only);
+      (λ facts list facts' list'. c.in-Err.ensures.any_moment facts list facts' list' honest);
   still = refused_still g.D.Disk c.args.disk c.in-Err.disk c.in-Err.e c.from.result c.from.ensures
       c.in-Err.ensures.still;
   fresh = tt;

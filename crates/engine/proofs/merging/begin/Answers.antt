@@ -28,4 +28,5 @@ returns-clause-did g c =
     begun_did g.D.Disk c.open_files_are_apart.ensures c.args.floor c.args.plan c.args.files.now
     c.raise_floor.new.disk c.begin_raised.new.files c.args.store.now c.raise_floor.new.self
     c.in_ok-raise_floor.field-0 c.in_ok-raise_floor.ensures.raises c.begin_raised.result
-    c.begin_raised.ensures.writes c.begin_raised.ensures.begins c.begin_raised.ensures.first
+    c.begin_raised.ensures.writes c.begin_raised.ensures.begins c.in_ok-raise_floor.ensures.gone
+    c.begin_raised.ensures.first

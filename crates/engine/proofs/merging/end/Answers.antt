@@ -35,7 +35,9 @@ returns-in-Ok-Some-clause-did g c =
     (merged_here g.D.Disk c.args.files.now c.install_merge-installed.new.disk c.args.store.now
     c.install_merge-installed.new.self c.args.merge c.complete.result c.complete.ensures.ends
     c.in-Ok-Some.edit is c.install_merge-installed.result
-    c.install_merge-installed.ensures.merges.did)
+    c.install_merge-installed.ensures.merges.did
+    (λ honest. c.install_merge-installed.ensures.gone
+    (c.complete.ensures.kept.kept.honest.1 honest)))
 
 -- ---- it is given up
 

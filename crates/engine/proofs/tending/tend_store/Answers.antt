@@ -1,4 +1,4 @@
-use Rattle.std.proofs.Common.{◌≡◌, ◌≢◌, ◌∙◌, Ok, ap, rules, subst}
+use Rattle.std.proofs.Common.{◌≡◌, ◌≢◌, ◌∙◌, Ok, ap, inl, rules, subst}
 use Rattle.std.specs.Prelude.{IfOk}
 use Rattle.disk.specs.declared.Disk.{Ghosts}
 use Rattle.store_files.specs.declared.store_files.StoreFiles.{StoreFiles}
@@ -6,7 +6,9 @@ use Rattle.store_files.specs.declared.tended.Tended.TheVariants as tended
 use Rattle.table_files.specs.declared.cached_disk.CachedDisk.{CachedDisk}
 use Rattle.engine.specs.Tends.{KeepsTended, MergesByPlan, tended_store}
 use Rattle.engine.proofs.Parts.{part_answers, part_refused}
-use Rattle.engine.proofs.StoreTends.{behind_rest, merge_did, part_of_tend, store_did}
+use Rattle.store_tables.specs.RefusalLemmas.{if_refuses}
+use Rattle.engine.proofs.StoreTends.{behind_rest, merge_did, merge_refused, part_of_tend}
+use Rattle.engine.proofs.StoreTends.{store_did}
 use Rattle.engine.proofs.tending.tend_store.Goals as goal
 
 -- ---- it is refused
@@ -72,6 +74,21 @@ returns-clause-did g c =
     (λ f s. IfOk c.tend_merge.result (MergesByPlan g.D.Disk c.args.limits.now c.args.floor f
     c.tend_merge.new.files (tended_store s c.args.merge.now c.args.turn.now) later)) rests
     c.tend_merge.ensures.did)
+
+-- ---- why it is refused
+
+pub returns-in_err-done-clause-refused : goal.returns-in_err-done-clause-refused
+returns-in_err-done-clause-refused g c = λ list honest w.
+    if_refuses c.from_residual.result _ c.from_residual.ensures.1
+    (inl (c.in_err-done.ensures.tends.meant list honest w).list)
+
+pub returns-clause-refused : goal.returns-clause-refused
+returns-clause-refused g c = λ list honest w.
+    let idle : c.in_ok-done.done ≡ tended.Idle = search rules in
+    merge_refused g.D.Disk c.args.limits.now c.args.floor c.args.files.now c.tend.new.disk
+    c.args.store.now c.tend.new.self c.args.merge.now c.args.turn.now c.tend.result
+    (c.in_ok-done.was ∙ ap (λ d. Ok d) idle) (c.tend.ensures.work list honest w)
+    c.tend_merge.result c.tend_merge.ensures.kept.refused
 
 -- ---- what was at rest
 

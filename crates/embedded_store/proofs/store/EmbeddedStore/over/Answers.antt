@@ -1,7 +1,7 @@
 use Rattle.std.proofs.Common.{◌≡◌, Err, ap}
 use Rattle.disk.specs.declared.error.DiskError.TheVariants.{Failed}
 use Rattle.engine.specs.KeepingLemmas.{kept_as, kept_behind}
-use Rattle.embedded_store.proofs.Openings.{look_free, look_opens, look_refused, look_still}
+use Rattle.embedded_store.proofs.Looks.{look_free, look_opens, look_refused, look_still}
 use Rattle.embedded_store.proofs.Refusals.{look_external, look_told}
 use Rattle.embedded_store.proofs.store.EmbeddedStore.over.Goals as goal
 

@@ -1,50 +1,49 @@
-use Rattle.std.proofs.Common.{◌∷◌, [], ◌++◌, Err, List, Ok, ap, inl, refl}
+use Rattle.std.proofs.Common.{◌∷◌, [], ◌++◌, Err, List, Ok, inl, refl, rules}
 use Rattle.kv_types.specs.{BatchContent}
+use Rattle.store_tables.specs.declared.error.EngineError.TheVariants as error
 use Rattle.store_tables.specs.RefusalLemmas.{refuses}
 use Rattle.table_files.specs.{inner_disk}
 use Rattle.engine.proofs.Merges.{goes_with_merge, log_leaves, meant_with_merge}
 use Rattle.engine.specs.Engines.{engine_disk, facts_of}
 use Rattle.engine.proofs.Engines.{answered_keeps, goes_to, held_of}
-use Rattle.engine.proofs.Engines.{only_exhausted, refused_keeps, were_meant}
+use Rattle.engine.proofs.Engines.{refused_keeps, were_meant}
 use Rattle.engine.proofs.Results.{not_true}
-use Rattle.engine.proofs.Unchanged.{changes_none, failed_as, follows_none, none_keeps}
-use Rattle.engine.proofs.Unchanged.{number_is_none}
+use Rattle.engine.proofs.Unchanged.{changes_none, follows_none, none_keeps}
 use Rattle.engine.proofs.engine.Engine.append.Goals as goal
 
--- nothing was written
-pub returns-in_err-number-clause-changes : goal.returns-in_err-number-clause-changes
-returns-in_err-number-clause-changes g c =
-    let it = c.args.self.now in
-    let e = c.in_err-number.field-0.0 in
-    let told = c.from_residual.ensures.1 in
-    changes_none g.D.Disk it e c.from_residual.result told c.held_files_are_left.ensures
-    (none_keeps g.D.Disk it e c.from_residual.result told
-    (number_is_none c.in_err-number.ensures.only) (failed_as c.in_err-number.ensures.closed)
-    (λ s file other. refl)) (facts_of it) (λ list. list ++ c.args.batch.now ∷ [])
+-- the number is the next one
+pub append-requires : goal.append-requires
+append-requires g c =
+    record { usable = c.args.self.now.usable c.if-self.false; next = search rules }
 
--- an engine that works has no next number
-pub returns-in_err-number-clause-met : goal.returns-in_err-number-clause-met
-returns-in_err-number-clause-met g c =
-    let refused = only_exhausted c.from_residual.result c.in_err-number.field-0.0
-    c.from_residual.ensures.1 in
-    record {
-      reads = λ list r. refused
-          (λ failed. r.works (c.in_err-number.ensures.closed.0 (ap (λ d. Err d) failed)))
-          c.in_err-number.ensures.only;
-      meant = λ list m. refused
-          (λ failed. m.works (c.in_err-number.ensures.closed.0 (ap (λ d. Err d) failed)))
-          c.in_err-number.ensures.only;
-    }
+-- one that has ended does nothing
+pub returns-then-self-clause-changes : goal.returns-then-self-clause-changes
+returns-then-self-clause-changes g c =
+    let it = c.args.self.now in
+    changes_none g.D.Disk it error.Failed (Err error.Failed) refl c.held_files_are_left.ensures
+    (none_keeps g.D.Disk it error.Failed (Err error.Failed) refl (λ end. end)
+    (λ _. c.if-self.true, λ _. refl) (λ s file other. refl)) (facts_of it)
+    (λ list. list ++ c.args.batch.now ∷ [])
+
+-- nor does one that has no next number
+pub returns-in_default-clause-changes : goal.returns-in_default-clause-changes
+returns-in_default-clause-changes g c =
+    let it = c.args.self.now in
+    let e = error.Exhausted in
+    changes_none g.D.Disk it e (Err e) refl c.held_files_are_left.ensures
+    (none_keeps g.D.Disk it e (Err e) refl (λ end. end)
+    (λ is. cc, λ h. let off = c.if-self.false in absurd cc) (λ s file other. refl)) (facts_of it)
+    (λ list. list ++ c.args.batch.now ∷ [])
 
 -- a device that works refuses none
 pub returns-in_err-append-clause-met : goal.returns-in_err-append-clause-met
 returns-in_err-append-clause-met g c = record {
   reads = λ list r.
-      refuses c.from_residual-in_err-append.result _ _ c.from_residual-in_err-append.ensures.1
+      refuses c.from_residual.result _ _ c.from_residual.ensures.1
       (inl (c.in_err-append.ensures.appended list r.honest
       (held_of g.D.Disk c.args.self.now list r)).list);
   meant = λ list m.
-      refuses c.from_residual-in_err-append.result _ _ c.from_residual-in_err-append.ensures.1
+      refuses c.from_residual.result _ _ c.from_residual.ensures.1
       (inl (c.in_err-append.ensures.meant list m.honest
       (were_meant g.D.Disk c.args.self.now list m)).list);
 }
@@ -53,12 +52,12 @@ returns-in_err-append-clause-met g c = record {
 pub returns-in_err-append-clause-changes : goal.returns-in_err-append-clause-changes
 returns-in_err-append-clause-changes g c = record {
   keeps = refused_keeps g.D.Disk c.args.self.now _ c.append.result c.in_err-append.field-0.0
-      c.from_residual-in_err-append.result c.in_err-append.was
-      c.from_residual-in_err-append.ensures.1 c.in_err-append.ensures.counts.1
-      (λ h. let failed = c.in_ok-number.ensures.closed.1 h in absurd cc) refl
+      c.from_residual.result c.in_err-append.was
+      c.from_residual.ensures.1 c.in_err-append.ensures.counts.1
+      (λ h. let off = c.if-self.false in absurd cc) refl
       c.append.ensures.kept;
   list = λ list. follows_none g.D.Disk c.args.self.now c.in_err-append.field-0.0
-      c.from_residual-in_err-append.result c.from_residual-in_err-append.ensures.1 _ _ list _;
+      c.from_residual.result c.from_residual.ensures.1 _ _ list _;
   any_moment = λ list h.
       (c.append.ensures.appended list h.reads.honest
       (held_of g.D.Disk c.args.self.now list h.reads)).any_moment;
@@ -82,7 +81,7 @@ returns-clause-changes g c =
     let plans = c.in_ok-append.ensures.plans in
     record {
       keeps = answered_keeps d old _ c.append.result tt _ c.in_ok-append.was
-          (λ h. let failed = c.in_ok-number.ensures.closed.1 h in absurd cc) not_true
+          (λ h. let off = c.if-self.false in absurd cc) not_true
           c.append.ensures.kept;
       list = λ list.
           goes_to d c.held_files_are_left.ensures old _ list (more list) _

@@ -1,7 +1,8 @@
 use Rattle.std.proofs.Common.{◌∙◌, Err, ap, refl, subst, sym}
 use Rattle.std.proofs.lemmas.Result.{err_from_is_err_and}
 use Rattle.disk.specs.{contents, seen}
-use Rattle.store_files.specs.OpenFiles.{OpeningRefusal}
+use Rattle.manifest.specs.{ManifestRepresents}
+use Rattle.store_files.specs.OpenFiles.{OpeningRefusal, known_version}
 use Rattle.store_files.specs.StoreFiles.{FilesRepresent, IsOneOf, StillLeavesOneOf, WereMeant}
 use Rattle.store_files.specs.StoreFiles.{WereOneOf}
 use Rattle.store_tables.specs.KeepingLemmas.{answered, neither}
@@ -62,12 +63,18 @@ returns-in-Ok-clause-fresh g c = record {
   rests = record { none = refl; turns = c.in_ok-files.ensures.turns };
 }
 
--- and those that it names read as before
+-- that is the version of the slots, and the files that it names read as before
 pub returns-in-Ok-clause-alike : goal.returns-in-Ok-clause-alike
-returns-in-Ok-clause-alike g c = λ honest file has.
+returns-in-Ok-clause-alike g c = λ honest.
     let same = c.in_ok-files.ensures.files in
     let honest' = subst g.D.Disk.is_honest (sym same) honest in
-    (c.in-Ok.ensures.swept honest').alike file has ∙ ap (λ d. seen (g.D.Disk.state d file)) same
+    record {
+      version = subst (λ d. ManifestRepresents (known_version c.in-Ok.store)
+          (contents (g.D.Disk.state d))) same (c.in-Ok.ensures.opens.told honest').version;
+      alike = λ file has.
+          (c.in-Ok.ensures.swept honest').alike file has
+          ∙ ap (λ d. seen (g.D.Disk.state d file)) same;
+    }
 
 -- each moment leaves files of the store
 pub returns-in-Ok-clause-any_moment : goal.returns-in-Ok-clause-any_moment

@@ -3,7 +3,7 @@ use Rattle.store_tables.specs.declared.error.EngineError.TheVariants as error
 use Rattle.store_tables.specs.KeepingLemmas.{same_files}
 use Rattle.engine.specs.Engines.{HasEnded, with_opened}
 use Rattle.engine.proofs.Engines.{goes_on}
-use Rattle.engine.proofs.Unchanged.{failed_as, keeps_on, none_keeps, read_is_none, snapshots_none}
+use Rattle.engine.proofs.Unchanged.{failed_as, keeps_on, none_keeps, snapshots_none}
 use Rattle.engine.proofs.engine.Engine.open_snapshot.Goals as goal
 
 -- the number may not be read
@@ -14,7 +14,7 @@ returns-in_err-may_read-clause-changes g c =
     let told = c.from_residual.ensures.1 in
     snapshots_none g.D.Disk it e (λ told. with_opened told c.args.at) c.from_residual.result told
     (none_keeps g.D.Disk it e c.from_residual.result told
-    (read_is_none c.in_err-may_read.ensures.only) (failed_as c.in_err-may_read.ensures.closed)
+    c.in_err-may_read.ensures.lives (failed_as c.in_err-may_read.ensures.closed)
     same_files)
 
 -- too many are open

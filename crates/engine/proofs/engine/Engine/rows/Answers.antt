@@ -2,7 +2,7 @@ use Rattle.std.proofs.Common.{◌≤◌, arith, refl}
 use Rattle.store_tables.specs.KeepingLemmas.{same_files}
 use Rattle.store_files.specs.OpenFiles.{batch_count}
 use Rattle.engine.proofs.Engines.{held_of, meant_as_held, no_damage, were_meant}
-use Rattle.engine.proofs.Unchanged.{failed_as, none_keeps, read_is_none, reads_none, reads_so}
+use Rattle.engine.proofs.Unchanged.{failed_as, none_keeps, reads_none, reads_so}
 use Rattle.engine.proofs.engine.Engine.rows.Goals as goal
 
 -- no call of the disk is made
@@ -12,7 +12,7 @@ returns-in_err-may_read-clause-reads g c =
     let e = c.in_err-may_read.field-0.0 in
     let told = c.from_residual.ensures.1 in
     reads_none g.D.Disk it e c.from_residual.result told (none_keeps g.D.Disk it e
-    c.from_residual.result told (read_is_none c.in_err-may_read.ensures.only)
+    c.from_residual.result told c.in_err-may_read.ensures.lives
     (failed_as c.in_err-may_read.ensures.closed) same_files)
 
 -- the rows of memory and tables are those of the list

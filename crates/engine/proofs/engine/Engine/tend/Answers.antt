@@ -124,12 +124,14 @@ returns-clause-work g c =
     c.tend_store-answer.ensures.did in
     record {
       reads = λ list r.
-          match_of answer _ (if_ok answer (λ told by.
+          match_of answer _ _ (if_ok answer (λ told by.
           (by.did, by.in_order list r.honest (meant_as_held d laws old list r))) did)
           (of_refusal answer _ _
           (c.tend_store-answer.ensures.kept.held list r.honest (merged_of d old list r)));
-      meant = λ list m. if_ok answer
-          (λ told by. (by.did, by.in_order list m.honest (were_meant d old list m))) did;
+      meant = λ list m.
+          match_of answer _ _ (if_ok answer
+          (λ told by. (by.did, by.in_order list m.honest (were_meant d old list m))) did)
+          (c.tend_store-answer.ensures.refused list m.honest (were_meant d old list m));
       planned = record {
         reads = λ list r. if_ok answer (λ told by.
             (by.did, by.planned list r.honest (meant_merge_as_held d laws old list r))) did;
