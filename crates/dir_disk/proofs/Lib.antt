@@ -1,1 +1,2 @@
 mod NamesLemmas
+mod ShownFiles

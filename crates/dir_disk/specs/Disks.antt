@@ -1,14 +1,19 @@
 -- Disks over a folder and over another disk, as callers see them.
 use Rattle.std.specs.Prelude.{◌≡◌, ◌==◌, ◌⊎◌, ℕ, List, Bool, IsSome, None, cond, false, true}
-use Rattle.std.specs.Prelude.{Result, MatchResult}
+use Rattle.std.specs.Prelude.{[], ◌∷◌, is_some, string_bytes}
+use Rattle.std.specs.Prelude.{Result, IsErrOf, MatchResult, ◌-◌, ◌^◌, ◌≤◌}
 use Rattle.std.specs.List.{list_any}
 use Rattle.std.specs.declared.alloc.Global.{Global}
 use Rattle.std.specs.declared.string.String.{String}
-use Rattle.disk.specs.{Absent, State, seen}
+use Rattle.disk.specs.{Absent, IsSame, Marks, RisesByOne, State, seen}
 use Rattle.disk.specs.Calls.{IsRefusalOf}
+use Rattle.disk.specs.declared.Disk.{Ghosts}
 use Rattle.disk.specs.declared.error.DiskError.{DiskError}
 use Rattle.disk.specs.declared.error.DiskError.TheVariants.{Failed, NoFile}
+use Rattle.disk.specs.declared.Junk.TheVariants.{Bytes}
+use Rattle.disk.specs.declared.Mark.TheVariants.{Crashed}
 use Rattle.dir_disk.specs.declared.folder.DirDisk.{DirDisk}
+use Rattle.dir_disk.specs.declared.open_files.OpenFiles.{OpenFiles}
 use Rattle.dir_disk.specs.declared.unchanged.Unchanged.{Unchanged}
 
 -- the path of the folder
@@ -19,13 +24,49 @@ disk_folder disk = disk.folder
 abbrev pub may_change : {R : Type 0} → DirDisk R → Bool
 may_change disk = disk.writes
 
+-- a disk of the folder at this path
+abbrev pub IsFolderAt : {R : Type 0} → List ℕ → DirDisk R → Type 0
+IsFolderAt path disk = string_bytes (disk_folder disk) ≡ path
+
+-- how often the device of the folder has failed
+abbrev pub folder_failures : {R : Type 0} → DirDisk R → ℕ
+folder_failures disk = disk.failures.count
+
+-- the files of the folder that are open
+abbrev pub open_files : {R : Type 0} → DirDisk R → OpenFiles
+open_files disk = disk.files
+
 -- the disk has a lock on its folder
 abbrev pub HasLock : {R : Type 0} → DirDisk R → Type 0
 HasLock disk = IsSome disk.lock
 
+-- a disk of the folder at this path, with its lock, that may change its files and has not failed
+pub record IsLockedFolder {R : Type 0} (path : List ℕ) (disk : DirDisk R) : Type 0 where
+  pub folder : IsFolderAt path disk
+  pub locked : HasLock disk
+  pub writes : may_change disk ≡ true
+  pub works : folder_failures disk ≡ 0
+
+-- a test as a byte
+abbrev pub test_byte : Bool → ℕ
+test_byte test = cond test 1 0
+
+-- What is noted of a folder. It claims no honesty, so these are no faults and no crashes: they tell
+-- of its lock, of its path and whether its files may be changed, and no call changes them.
+abbrev pub folder_marks : {R : Type 0} → DirDisk R → Marks
+folder_marks disk = (
+  0,
+  Crashed (Bytes (test_byte (is_some disk.lock) ∷ test_byte disk.writes
+      ∷ string_bytes (disk_folder disk))),
+) ∷ []
+
 -- the disk of which nothing is changed
 abbrev pub disk_below : {D : Type 0} → Unchanged D → D
 disk_below disk = disk.inner.disk
+
+-- how often a call of the disk that changes nothing has failed
+abbrev pub failures_above : {D : Type 0} → Unchanged D → ℕ
+failures_above disk = disk.failures.count
 
 -- the files of it that were removed
 abbrev pub files_left_out : {D : Type 0} → Unchanged D → List ℕ
@@ -49,3 +90,14 @@ MayLook removed file result =
 abbrev pub FindsFile : State → ℕ → Result (Unit {0}) DiskError → Type 0
 FindsFile state file result =
     MatchResult result (λ _. IsSome (seen (state file))) (λ e. IsRefusalOf e state file 0)
+
+-- The count is one more where this answer reports a failure, and else the same. At its last value
+-- each answer reports one.
+pub record CountsFailure {T : Type 0} (result : Result T DiskError) (before now : ℕ) : Type 0 where
+  pub failed : IsErrOf result Failed → RisesByOne before now
+  pub count : (IsErrOf result Failed → ⊥) → now ≡ before
+  pub last : 2 ^ 64 - 1 ≤ before → IsErrOf result Failed
+
+-- a disk that was honest still is, and its files are the same
+abbrev pub LeavesFiles : {D : Type 0} → Ghosts D → (old new : D) → Type 0
+LeavesFiles g old new = g.is_honest old → g.is_honest new × IsSame (g.state old) (g.state new)

@@ -2,6 +2,7 @@
 // neither that it is honest nor that it is reliable.
 ghost use Rattle.std.specs.Prelude.{◌≡◌, ◌≤◌, ◌<◌, ◌^◌, ◌-◌, [], None, IfErr, IfOk, IsErrOf, OnOk};
 ghost use Rattle.std.specs.Prelude.{IsSome, false, length, string_bytes, true};
+ghost use Rattle.std.specs.List.Sorted.{IsNonDecreasing};
 ghost use Rattle.disk.specs.{Absent};
 ghost use Rattle.disk.specs.Calls.{EndsOutOfRange};
 
@@ -28,13 +29,13 @@ pub struct DirDisk<R> {
 }
 
 impl<R: Files<File = File> + Alloc<A = Global> + Clone + Drop> DirDisk<R> {
-    ghost use Rattle.dir_disk.specs.Disks.{HasLock, disk_folder, may_change};
-    ghost use Rattle.dir_disk.specs.Open.{IsLatest, IsSetUpAs};
+    ghost use Rattle.dir_disk.specs.Disks.{HasLock, IsFolderAt, disk_folder, may_change};
+    ghost use Rattle.dir_disk.specs.Open.{IsLatest, IsNotOpen, IsSetUpAs};
 
     /// The folder at this path. It need not be there, and is not made.
     pub fn new(rt: R, folder: &str) -> Result<DirDisk<R>, AllocError>
         ensures count { IfOk result (λ disk. ⟦<DirDisk<R> as Disk>⟧.failures disk ≡ 0) }
-        ensures folder { IfOk result (λ disk. string_bytes (disk_folder disk) ≡ folder.now) }
+        ensures folder { IfOk result (IsFolderAt folder.now) }
         ensures writes { IfOk result (λ disk. may_change disk ≡ true) }
     {
         DirDisk::over(rt, folder, true)
@@ -44,7 +45,7 @@ impl<R: Files<File = File> + Alloc<A = Global> + Clone + Drop> DirDisk<R> {
     /// fails, before the system is called.
     pub fn to_read(rt: R, folder: &str) -> Result<DirDisk<R>, AllocError>
         ensures count { IfOk result (λ disk. ⟦<DirDisk<R> as Disk>⟧.failures disk ≡ 0) }
-        ensures folder { IfOk result (λ disk. string_bytes (disk_folder disk) ≡ folder.now) }
+        ensures folder { IfOk result (IsFolderAt folder.now) }
         ensures reads { IfOk result (λ disk. may_change disk ≡ false) }
     {
         DirDisk::over(rt, folder, false)
@@ -120,10 +121,13 @@ impl<R: Files<File = File> + Alloc<A = Global> + Clone + Drop> DirDisk<R> {
     }
 
     fn list(&self) -> Result<Vec<u64>, DiskError>
-        ensures { 2 ^ 64 - 1 ≤ self.now.failures.count → IsErrOf result DiskError.Failed }
+        ensures last { 2 ^ 64 - 1 ≤ self.now.failures.count → IsErrOf result DiskError.Failed }
+        ensures rising { IfOk result (λ numbers. IsNonDecreasing numbers.items) }
     {
         self.failures.works()?;
-        numbers_in(&self.rt, self.folder.as_str())
+        let mut numbers = numbers_in(&self.rt, self.folder.as_str())?;
+        numbers.sort()?;
+        Ok(numbers)
     }
 
     fn write_in(&mut self, file: u64, at: u64, bytes: &[u8]) -> Result<(), DiskError>
@@ -157,6 +161,7 @@ impl<R: Files<File = File> + Alloc<A = Global> + Clone + Drop> DirDisk<R> {
         ensures same { IsSetUpAs self.old self.new }
         ensures last { 2 ^ 64 - 1 ≤ self.old.failures.count → IsErrOf result DiskError.Failed }
         ensures reads { self.old.writes ≡ false → IsErrOf result DiskError.Failed }
+        ensures closed { OnOk result (IsNotOpen file self.new.files) }
     {
         self.may_write()?;
         let path = path_of(self.rt.alloc(), self.folder.as_str(), file)?;
@@ -166,6 +171,10 @@ impl<R: Files<File = File> + Alloc<A = Global> + Clone + Drop> DirDisk<R> {
 }
 
 impl<R: Files<File = File> + Alloc<A = Global> + Clone + Drop> Disk for DirDisk<R> {
+    ghost use Rattle.dir_disk.specs.Disks.{CountsFailure, folder_failures, folder_marks};
+    ghost use Rattle.dir_disk.specs.Disks.{may_change, open_files};
+    ghost use Rattle.dir_disk.specs.Open.{IsNotOpen, IsSetUpAs};
+
     ghost is_honest = { λ disk. ⊥ };
 
     ghost state = { λ disk file. Absent None };
@@ -176,16 +185,25 @@ impl<R: Files<File = File> + Alloc<A = Global> + Clone + Drop> Disk for DirDisk<
 
     ghost past = { λ disk. [] };
 
-    ghost marks = { λ disk. [] };
+    ghost marks = { folder_marks };
 
     ghost allocates = { Unit {0} };
 
-    fn files(&mut self) -> Result<Vec<u64>, DiskError> {
+    fn files(&mut self) -> Result<Vec<u64>, DiskError>
+        ensures counts { CountsFailure result (folder_failures self.old)
+            (folder_failures self.new) }
+        ensures same { IsSetUpAs self.old self.new }
+        ensures rising { IfOk result (λ numbers. IsNonDecreasing numbers.items) }
+    {
         let answer = self.list();
         self.failures.end(answer)
     }
 
-    fn length(&mut self, file: u64) -> Result<u64, DiskError> {
+    fn length(&mut self, file: u64) -> Result<u64, DiskError>
+        ensures counts { CountsFailure result (folder_failures self.old)
+            (folder_failures self.new) }
+        ensures same { IsSetUpAs self.old self.new }
+    {
         let answer = match self.reach(file, false) {
             Ok(()) => self.files.latest().length(),
             Err(e) => Err(e),
@@ -193,7 +211,11 @@ impl<R: Files<File = File> + Alloc<A = Global> + Clone + Drop> Disk for DirDisk<
         self.failures.end(answer)
     }
 
-    fn read(&mut self, file: u64, at: u64, into: &mut [u8]) -> Result<(), DiskError> {
+    fn read(&mut self, file: u64, at: u64, into: &mut [u8]) -> Result<(), DiskError>
+        ensures counts { CountsFailure result (folder_failures self.old)
+            (folder_failures self.new) }
+        ensures same { IsSetUpAs self.old self.new }
+    {
         let answer = match self.reach(file, false) {
             Ok(()) => self.files.latest().read(at, into),
             Err(e) => Err(e),
@@ -201,17 +223,32 @@ impl<R: Files<File = File> + Alloc<A = Global> + Clone + Drop> Disk for DirDisk<
         self.failures.end(answer)
     }
 
-    fn write_at(&mut self, file: u64, at: u64, bytes: &[u8]) -> Result<(), DiskError> {
+    fn write_at(&mut self, file: u64, at: u64, bytes: &[u8]) -> Result<(), DiskError>
+        ensures counts { CountsFailure result (folder_failures self.old)
+            (folder_failures self.new) }
+        ensures same { IsSetUpAs self.old self.new }
+        ensures reads { may_change self.old ≡ false → IsErrOf result DiskError.Failed }
+        ensures range { EndsOutOfRange at (length bytes.now) → IsErrOf result DiskError.Failed }
+    {
         let answer = self.write_in(file, at, bytes);
         self.failures.end(answer)
     }
 
-    fn cut(&mut self, file: u64, length: u64) -> Result<(), DiskError> {
+    fn cut(&mut self, file: u64, length: u64) -> Result<(), DiskError>
+        ensures counts { CountsFailure result (folder_failures self.old)
+            (folder_failures self.new) }
+        ensures same { IsSetUpAs self.old self.new }
+        ensures reads { may_change self.old ≡ false → IsErrOf result DiskError.Failed }
+    {
         let answer = self.cut_in(file, length);
         self.failures.end(answer)
     }
 
-    fn sync(&mut self, file: u64) -> Result<(), DiskError> {
+    fn sync(&mut self, file: u64) -> Result<(), DiskError>
+        ensures counts { CountsFailure result (folder_failures self.old)
+            (folder_failures self.new) }
+        ensures same { IsSetUpAs self.old self.new }
+    {
         let answer = match self.reach(file, false) {
             Ok(()) => self.files.latest().sync(),
             Err(e) => Err(e),
@@ -219,7 +256,13 @@ impl<R: Files<File = File> + Alloc<A = Global> + Clone + Drop> Disk for DirDisk<
         self.failures.end(answer)
     }
 
-    fn remove(&mut self, file: u64) -> Result<(), DiskError> {
+    fn remove(&mut self, file: u64) -> Result<(), DiskError>
+        ensures counts { CountsFailure result (folder_failures self.old)
+            (folder_failures self.new) }
+        ensures same { IsSetUpAs self.old self.new }
+        ensures reads { may_change self.old ≡ false → IsErrOf result DiskError.Failed }
+        ensures closed { OnOk result (IsNotOpen file (open_files self.new)) }
+    {
         let answer = self.remove_in(file);
         self.failures.end(answer)
     }
@@ -227,13 +270,19 @@ impl<R: Files<File = File> + Alloc<A = Global> + Clone + Drop> Disk for DirDisk<
 
 /// A folder can neither be made to fail nor to crash: these calls leave it as it is.
 impl<R: Files<File = File> + Alloc<A = Global> + Clone + Drop> Crash for DirDisk<R> {
-    fn arm(&mut self, _fault: &Fault) {}
+    fn arm(&mut self, _fault: &Fault)
+        ensures { self.new ≡ self.old }
+    {}
 
-    fn has_struck(&self) -> bool {
+    fn has_struck(&self) -> bool
+        ensures { result ≡ false }
+    {
         false
     }
 
-    fn crash(&mut self, junk: Junk) {
+    fn crash(&mut self, junk: Junk)
+        ensures { self.new ≡ self.old }
+    {
         drop(junk);
     }
 }

@@ -1,5 +1,5 @@
 // The lock on a folder.
-ghost use Rattle.std.specs.Prelude.{◌≡◌};
+ghost use Rattle.std.specs.Prelude.{◌≡◌, IsErr, IsErrOf};
 ghost use Rattle.dir_disk.specs.declared.lock.LockError.TheVariants.{Memory};
 
 use std::alloc::AllocError;
@@ -31,7 +31,9 @@ impl From<AllocError> for LockError {
 
 /// Locks a folder that was opened. The lock is free again once the file is closed, so at the latest
 /// when the process has ended.
-pub fn locked(opened: io::Result<File>) -> Result<File, LockError> {
+pub fn locked(opened: io::Result<File>) -> Result<File, LockError>
+    ensures { IsErr opened → IsErrOf result LockError.Failed }
+{
     let Ok(folder) = opened else {
         return Err(LockError::Failed);
     };

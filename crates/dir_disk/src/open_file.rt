@@ -1,6 +1,7 @@
 // One file that is open. No call here makes more than two system calls, as long as the system
 // reads and writes at once what it is asked for.
-ghost use Rattle.std.specs.Prelude.{◌≡◌, ◌↔◌, IsTrue};
+ghost use Rattle.std.specs.Prelude.{◌≡◌, ◌↔◌, ◌+◌, ◌<◌, ◌≤◌, ◌^◌, IsErrOf, IsOk};
+ghost use Rattle.std.specs.Prelude.{IsSomeAnd, IsTrue, MatchResult, None, OnOk, Some, length};
 ghost use Rattle.disk.specs.Calls.{EndsOutOfRange};
 
 use disk::DiskError;
@@ -26,7 +27,10 @@ pub struct OpenFile {
     len: Option<u64>,
 }
 
-fn done(answer: io::Result<()>) -> Result<(), DiskError> {
+// What the system answered, as an answer of the disk.
+fn done(answer: io::Result<()>) -> Result<(), DiskError>
+    ensures { MatchResult answer (λ _. IsOk result) (λ _. IsErrOf result DiskError.Failed) }
+{
     match answer {
         Ok(()) => Ok(()),
         Err(_) => Err(DiskError::Failed),
@@ -51,7 +55,11 @@ impl OpenFile {
     }
 
     /// How long the file is, as the system says now.
-    pub fn length(&mut self) -> Result<u64, DiskError> {
+    pub fn length(&mut self) -> Result<u64, DiskError>
+        ensures same { self.new.number ≡ self.old.number }
+        ensures known { MatchResult result (λ len. self.new.len ≡ Some len)
+            (λ e. (e ≡ DiskError.Failed) × (self.new.len ≡ self.old.len)) }
+    {
         match self.file.metadata() {
             Ok(metadata) => {
                 self.len = Some(metadata.len());
@@ -62,7 +70,11 @@ impl OpenFile {
     }
 
     // The length that is known, or else what the system says.
-    fn known_length(&mut self) -> Result<u64, DiskError> {
+    fn known_length(&mut self) -> Result<u64, DiskError>
+        ensures same { self.new.number ≡ self.old.number }
+        ensures known { MatchResult result (λ len. self.new.len ≡ Some len)
+            (λ e. (e ≡ DiskError.Failed) × (self.new.len ≡ None)) }
+    {
         match self.len {
             Some(len) => Ok(len),
             None => self.length(),
@@ -70,7 +82,10 @@ impl OpenFile {
     }
 
     /// Fills the buffer with the bytes from a place on.
-    pub fn read(&mut self, at: u64, into: &mut [u8]) -> Result<(), DiskError> {
+    pub fn read(&mut self, at: u64, into: &mut [u8]) -> Result<(), DiskError>
+        ensures same { self.new.number ≡ self.old.number }
+        ensures short { EndsOutOfRange at (length into.old) → IsErrOf result DiskError.Short }
+    {
         if ends_out_of_range(at, into.len()) {
             return Err(DiskError::Short);
         }
@@ -85,7 +100,12 @@ impl OpenFile {
     }
 
     /// Writes bytes from a place on, which is not behind the end.
-    pub fn write(&mut self, at: u64, bytes: &[u8]) -> Result<(), DiskError> {
+    pub fn write(&mut self, at: u64, bytes: &[u8]) -> Result<(), DiskError>
+        ensures same { self.new.number ≡ self.old.number }
+        ensures known { at + length bytes.now < 2 ^ 64 →
+            OnOk result (IsSomeAnd self.new.len (λ len. at + length bytes.now ≤ len)) }
+        ensures failed { IsErrOf result DiskError.Failed → self.new.len ≡ None }
+    {
         let len = self.known_length()?;
         if at > len {
             return Err(DiskError::Short);
@@ -98,7 +118,11 @@ impl OpenFile {
     }
 
     /// Cuts the file to a length, which is not behind the end.
-    pub fn cut(&mut self, length: u64) -> Result<(), DiskError> {
+    pub fn cut(&mut self, length: u64) -> Result<(), DiskError>
+        ensures same { self.new.number ≡ self.old.number }
+        ensures known { OnOk result (self.new.len ≡ Some length) }
+        ensures failed { IsErrOf result DiskError.Failed → self.new.len ≡ None }
+    {
         if length > self.known_length()? {
             return Err(DiskError::Short);
         }

@@ -1,7 +1,7 @@
 // A disk that is only read.
 ghost use Rattle.std.specs.Prelude.{◌≡◌, length};
-ghost use Rattle.disk.specs.{IsSame};
 ghost use Rattle.disk.specs.Calls.{FilesAnswer, LengthAnswer, ReadAnswer};
+ghost use Rattle.dir_disk.specs.Disks.{LeavesFiles};
 
 use disk::{Disk, DiskError};
 
@@ -27,16 +27,14 @@ impl<D: Disk + Drop> ReadOnly<D> {
     }
 
     pub fn files(&mut self) -> Result<Vec<u64>, DiskError>
-        ensures same { D.is_honest self.old.disk →
-            IsSame (D.state self.old.disk) (D.state self.new.disk) }
+        ensures same { LeavesFiles D.Disk self.old.disk self.new.disk }
         ensures files { D.is_honest self.old.disk → FilesAnswer (D.state self.old.disk) result }
     {
         self.disk.files()
     }
 
     pub fn length(&mut self, file: u64) -> Result<u64, DiskError>
-        ensures same { D.is_honest self.old.disk →
-            IsSame (D.state self.old.disk) (D.state self.new.disk) }
+        ensures same { LeavesFiles D.Disk self.old.disk self.new.disk }
         ensures length { D.is_honest self.old.disk →
             LengthAnswer (D.state self.old.disk) file result }
     {
@@ -44,8 +42,7 @@ impl<D: Disk + Drop> ReadOnly<D> {
     }
 
     pub fn read(&mut self, file: u64, at: u64, into: &mut [u8]) -> Result<(), DiskError>
-        ensures same { D.is_honest self.old.disk →
-            IsSame (D.state self.old.disk) (D.state self.new.disk) }
+        ensures same { LeavesFiles D.Disk self.old.disk self.new.disk }
         ensures read { D.is_honest self.old.disk →
             ReadAnswer (D.state self.old.disk) file at (length into.old) result into.new }
     {

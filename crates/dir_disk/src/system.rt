@@ -73,7 +73,7 @@ fn file_of<R: Files>(rt: &R, entry: &fs::DirEntry<R>) -> Result<Option<u64>, Dis
     }
 }
 
-/// The numbers of the files in this folder, in ascending order.
+/// The numbers of the files in this folder.
 pub fn numbers_in<R: Files + Alloc<A = Global> + Clone + Drop>(
     rt: &R,
     folder: &str,
@@ -91,6 +91,5 @@ pub fn numbers_in<R: Files + Alloc<A = Global> + Clone + Drop>(
             Err(e) => return Err(cause(e)),
         }
     }
-    numbers.sort()?;
     Ok(numbers)
 }

@@ -1,8 +1,8 @@
 // A disk over another one, of which it changes nothing.
-ghost use Rattle.std.specs.Prelude.{◌≡◌, ◌≤◌, ◌^◌, ◌-◌, ◌++◌, ◌∷◌, [], None, IsErrOf, MatchResult};
-ghost use Rattle.std.specs.Prelude.{length};
-ghost use Rattle.disk.specs.{Absent, IsSame};
-ghost use Rattle.disk.specs.Calls.{LengthAnswer, ReadAnswer};
+ghost use Rattle.std.specs.Prelude.{◌≡◌, ◌≤◌, ◌^◌, ◌-◌, ◌++◌, ◌∷◌, [], Err, None, IsErrOf};
+ghost use Rattle.std.specs.Prelude.{MatchResult, length};
+ghost use Rattle.disk.specs.{Absent};
+ghost use Rattle.disk.specs.Calls.{FilesAnswer, LengthAnswer, ReadAnswer};
 
 use crate::failure_count::FailureCount;
 use crate::read_only::ReadOnly;
@@ -20,8 +20,8 @@ pub struct Unchanged<D: Disk> {
 }
 
 impl<D: Disk + Drop> Unchanged<D> {
-    ghost use Rattle.dir_disk.specs.Disks.{FindsFile, MayLook, disk_below, files_left_out};
-    ghost use Rattle.dir_disk.specs.Disks.{shown_state};
+    ghost use Rattle.dir_disk.specs.Disks.{FindsFile, LeavesFiles, MayLook, disk_below};
+    ghost use Rattle.dir_disk.specs.Disks.{files_left_out, shown_state};
 
     /// A disk over this one, none of whose files is left out.
     pub fn new(alloc: Global, disk: D) -> Unchanged<D>
@@ -56,11 +56,12 @@ impl<D: Disk + Drop> Unchanged<D> {
     }
 
     fn numbers(&mut self) -> Result<Vec<u64>, DiskError>
-        ensures same { D.is_honest self.old.inner.disk →
-            IsSame (D.state self.old.inner.disk) (D.state self.new.inner.disk) }
+        ensures same { LeavesFiles D.Disk self.old.inner.disk self.new.inner.disk }
         ensures count { self.new.failures.count ≡ self.old.failures.count }
         ensures last { 2 ^ 64 - 1 ≤ self.old.failures.count → IsErrOf result DiskError.Failed }
         ensures left_out { self.new.removed.items ≡ self.old.removed.items }
+        ensures files { D.is_honest self.old.inner.disk → FilesAnswer
+            (shown_state self.old.removed.items (D.state self.old.inner.disk)) result }
     {
         self.failures.works()?;
         let mut numbers = self.inner.files()?;
@@ -70,8 +71,7 @@ impl<D: Disk + Drop> Unchanged<D> {
     }
 
     fn measure(&mut self, file: u64) -> Result<u64, DiskError>
-        ensures same { D.is_honest self.old.inner.disk →
-            IsSame (D.state self.old.inner.disk) (D.state self.new.inner.disk) }
+        ensures same { LeavesFiles D.Disk self.old.inner.disk self.new.inner.disk }
         ensures count { self.new.failures.count ≡ self.old.failures.count }
         ensures last { 2 ^ 64 - 1 ≤ self.old.failures.count → IsErrOf result DiskError.Failed }
         ensures left_out { self.new.removed.items ≡ self.old.removed.items }
@@ -83,8 +83,7 @@ impl<D: Disk + Drop> Unchanged<D> {
     }
 
     fn fill(&mut self, file: u64, at: u64, into: &mut [u8]) -> Result<(), DiskError>
-        ensures same { D.is_honest self.old.inner.disk →
-            IsSame (D.state self.old.inner.disk) (D.state self.new.inner.disk) }
+        ensures same { LeavesFiles D.Disk self.old.inner.disk self.new.inner.disk }
         ensures count { self.new.failures.count ≡ self.old.failures.count }
         ensures last { 2 ^ 64 - 1 ≤ self.old.failures.count → IsErrOf result DiskError.Failed }
         ensures left_out { self.new.removed.items ≡ self.old.removed.items }
@@ -97,8 +96,7 @@ impl<D: Disk + Drop> Unchanged<D> {
     }
 
     fn look_for(&mut self, file: u64) -> Result<(), DiskError>
-        ensures same { D.is_honest self.old.inner.disk →
-            IsSame (D.state self.old.inner.disk) (D.state self.new.inner.disk) }
+        ensures same { LeavesFiles D.Disk self.old.inner.disk self.new.inner.disk }
         ensures count { self.new.failures.count ≡ self.old.failures.count }
         ensures last { 2 ^ 64 - 1 ≤ self.old.failures.count → IsErrOf result DiskError.Failed }
         ensures left_out { self.new.removed.items ≡ self.old.removed.items }
@@ -111,13 +109,14 @@ impl<D: Disk + Drop> Unchanged<D> {
     }
 
     fn leave_out(&mut self, file: u64) -> Result<(), DiskError>
-        ensures same { D.is_honest self.old.inner.disk →
-            IsSame (D.state self.old.inner.disk) (D.state self.new.inner.disk) }
+        ensures same { LeavesFiles D.Disk self.old.inner.disk self.new.inner.disk }
         ensures count { self.new.failures.count ≡ self.old.failures.count }
         ensures last { 2 ^ 64 - 1 ≤ self.old.failures.count → IsErrOf result DiskError.Failed }
         ensures left_out { MatchResult result
             (λ _. self.new.removed.items ≡ self.old.removed.items ++ file ∷ [])
             (λ _. self.new.removed.items ≡ self.old.removed.items) }
+        ensures found { D.is_honest self.old.inner.disk → FindsFile
+            (shown_state self.old.removed.items (D.state self.old.inner.disk)) file result }
     {
         self.look_for(file)?;
         self.removed.push(file)?;
@@ -126,6 +125,9 @@ impl<D: Disk + Drop> Unchanged<D> {
 }
 
 impl<D: Disk + Drop> Disk for Unchanged<D> {
+    ghost use Rattle.dir_disk.specs.Disks.{CountsFailure, FindsFile, LeavesFiles, disk_below};
+    ghost use Rattle.dir_disk.specs.Disks.{failures_above, files_left_out, shown_state};
+
     ghost is_honest = { λ disk. ⊥ };
 
     ghost state = { λ disk file. Absent None };
@@ -140,35 +142,90 @@ impl<D: Disk + Drop> Disk for Unchanged<D> {
 
     ghost allocates = { Unit {0} };
 
-    fn files(&mut self) -> Result<Vec<u64>, DiskError> {
+    fn files(&mut self) -> Result<Vec<u64>, DiskError>
+        ensures counts { CountsFailure result (failures_above self.old)
+            (failures_above self.new) }
+        ensures same { LeavesFiles D.Disk (disk_below self.old) (disk_below self.new) }
+        ensures left_out { files_left_out self.new ≡ files_left_out self.old }
+        ensures files { D.is_honest (disk_below self.old) → FilesAnswer
+            (shown_state (files_left_out self.old) (D.state (disk_below self.old)))
+            result }
+    {
         let answer = self.numbers();
         self.failures.end(answer)
     }
 
-    fn length(&mut self, file: u64) -> Result<u64, DiskError> {
+    fn length(&mut self, file: u64) -> Result<u64, DiskError>
+        ensures counts { CountsFailure result (failures_above self.old)
+            (failures_above self.new) }
+        ensures same { LeavesFiles D.Disk (disk_below self.old) (disk_below self.new) }
+        ensures left_out { files_left_out self.new ≡ files_left_out self.old }
+        ensures length { D.is_honest (disk_below self.old) → LengthAnswer
+            (shown_state (files_left_out self.old) (D.state (disk_below self.old)))
+            file result }
+    {
         let answer = self.measure(file);
         self.failures.end(answer)
     }
 
-    fn read(&mut self, file: u64, at: u64, into: &mut [u8]) -> Result<(), DiskError> {
+    fn read(&mut self, file: u64, at: u64, into: &mut [u8]) -> Result<(), DiskError>
+        ensures counts { CountsFailure result (failures_above self.old)
+            (failures_above self.new) }
+        ensures same { LeavesFiles D.Disk (disk_below self.old) (disk_below self.new) }
+        ensures left_out { files_left_out self.new ≡ files_left_out self.old }
+        ensures read { D.is_honest (disk_below self.old) → ReadAnswer
+            (shown_state (files_left_out self.old) (D.state (disk_below self.old)))
+            file at (length into.old) result into.new }
+    {
         let answer = self.fill(file, at, into);
         self.failures.end(answer)
     }
 
-    fn write_at(&mut self, _file: u64, _at: u64, _bytes: &[u8]) -> Result<(), DiskError> {
+    fn write_at(&mut self, _file: u64, _at: u64, _bytes: &[u8]) -> Result<(), DiskError>
+        ensures counts { CountsFailure result (failures_above self.old)
+            (failures_above self.new) }
+        ensures same { LeavesFiles D.Disk (disk_below self.old) (disk_below self.new) }
+        ensures left_out { files_left_out self.new ≡ files_left_out self.old }
+        ensures fails { result ≡ Err DiskError.Failed }
+    {
         self.failures.end(Err(DiskError::Failed))
     }
 
-    fn cut(&mut self, _file: u64, _length: u64) -> Result<(), DiskError> {
-        self.failures.end(Err(DiskError::Failed))
+    fn cut(&mut self, _file: u64, _length: u64) -> Result<(), DiskError>
+        ensures counts { CountsFailure result (failures_above self.old)
+            (failures_above self.new) }
+        ensures same { LeavesFiles D.Disk (disk_below self.old) (disk_below self.new) }
+        ensures left_out { files_left_out self.new ≡ files_left_out self.old }
+        ensures fails { result ≡ Err DiskError.Failed }
+    {
+        let answer = Err(DiskError::Failed);
+        self.failures.end(answer)
     }
 
-    fn sync(&mut self, file: u64) -> Result<(), DiskError> {
+    fn sync(&mut self, file: u64) -> Result<(), DiskError>
+        ensures counts { CountsFailure result (failures_above self.old)
+            (failures_above self.new) }
+        ensures same { LeavesFiles D.Disk (disk_below self.old) (disk_below self.new) }
+        ensures left_out { files_left_out self.new ≡ files_left_out self.old }
+        ensures found { D.is_honest (disk_below self.old) → FindsFile
+            (shown_state (files_left_out self.old) (D.state (disk_below self.old)))
+            file result }
+    {
         let answer = self.look_for(file);
         self.failures.end(answer)
     }
 
-    fn remove(&mut self, file: u64) -> Result<(), DiskError> {
+    fn remove(&mut self, file: u64) -> Result<(), DiskError>
+        ensures counts { CountsFailure result (failures_above self.old)
+            (failures_above self.new) }
+        ensures same { LeavesFiles D.Disk (disk_below self.old) (disk_below self.new) }
+        ensures left_out { MatchResult result
+            (λ _. files_left_out self.new ≡ files_left_out self.old ++ file ∷ [])
+            (λ _. files_left_out self.new ≡ files_left_out self.old) }
+        ensures found { D.is_honest (disk_below self.old) → FindsFile
+            (shown_state (files_left_out self.old) (D.state (disk_below self.old)))
+            file result }
+    {
         let answer = self.leave_out(file);
         self.failures.end(answer)
     }

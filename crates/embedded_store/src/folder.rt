@@ -1,6 +1,6 @@
 // The store of a folder. No contract says what a system keeps in a file.
-ghost use Rattle.std.specs.Prelude.{◌≡◌, IfOk, string_bytes};
-ghost use Rattle.dir_disk.specs.Disks.{HasLock, disk_folder};
+ghost use Rattle.std.specs.Prelude.{IfOk};
+ghost use Rattle.dir_disk.specs.Disks.{IsLockedFolder};
 
 use crate::{EmbeddedStore, OpenError};
 use dir_disk::DirDisk;
@@ -24,8 +24,7 @@ fn locked_folder<R: Files<File = File> + Alloc<A = Global> + Clone + Drop>(
     rt: &R,
     path: &str,
 ) -> Result<DirDisk<R>, OpenError>
-    ensures folder { IfOk result (λ disk. string_bytes (disk_folder disk) ≡ path.now) }
-    ensures locked { IfOk result HasLock }
+    ensures { IfOk result (IsLockedFolder path.now) }
 {
     fs::create_dir_all(rt, path).map_err(refusal_of)?;
     let mut disk = DirDisk::new(rt.clone()?, path)?;

@@ -1,14 +1,13 @@
 -- Nodes that were found in folders.
-use Rattle.std.specs.Prelude.{◌≡◌, ◌≢◌, ℕ, List, [], ◌∷◌, ◌++◌, string_bytes}
+use Rattle.std.specs.Prelude.{◌≡◌, ◌≢◌, ℕ, List, [], ◌∷◌, ◌++◌}
 use Rattle.std.specs.Global.{Box}
-use Rattle.disk.specs.{KeepsDisk}
 use Rattle.disk.specs.declared.Disk.{Ghosts}
 use Rattle.dir_disk.specs.declared.folder.DirDisk.{DirDisk}
-use Rattle.dir_disk.specs.Disks.{HasLock, disk_folder}
+use Rattle.dir_disk.specs.Disks.{IsLockedFolder}
 use Rattle.dir_disk.specs.Names.{file_path}
 use Rattle.kv_types.specs.declared.Limits.{Limits}
 use Rattle.node.specs.declared.node.Node.{Node}
-use Rattle.node.specs.{IsOwned, disk_of, node_limits}
+use Rattle.node.specs.{disk_of, node_limits}
 use Rattle.lab.specs.declared.SimNode.{SimNode}
 use Rattle.lab.specs.declared.node_state.NodeState.TheVariants.{Up}
 
@@ -21,13 +20,9 @@ pub record AddsNode {D : Type 0} {g : Ghosts D} (id : ℕ) (node : Node D g)
   pub up : (box : Box (Node D g)) × (sim.state ≡ Up box) × (box.value ≡ node)
 
 module _ {R : Type 0} {g : Ghosts (DirDisk R)} where
-  -- the node was found on a disk of the folder behind this path that has the id for its name, with
-  -- its lock, whose device has not failed since
-  pub record IsNodeIn (path : List ℕ) (id : ℕ) (node : Node (DirDisk R) g) : Type 0 where
-    pub disk : DirDisk R
-    pub folder : string_bytes (disk_folder disk) ≡ file_path path id
-    pub locked : HasLock disk
-    pub kept : KeepsDisk g disk (disk_of node) ⊥ ⊥ IsOwned
+  -- the node's disk is the folder behind this path that has the id for its name, with its lock
+  abbrev pub IsNodeIn : List ℕ → ℕ → Node (DirDisk R) g → Type 0
+  IsNodeIn path id node = IsLockedFolder (file_path path id) (disk_of node)
 
   -- a simulated node is up, was found in its folder behind this path, which is not empty, and has
   -- these limits

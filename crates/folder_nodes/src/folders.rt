@@ -1,8 +1,7 @@
 // The nodes of a list of configurations, each in a folder of its own.
 ghost use Rattle.std.specs.Prelude.{◌≡◌, ◌≢◌, ◌++◌, ◌∷◌, [], All, Contains, IfErr, IfOk, OnOk};
-ghost use Rattle.std.specs.Prelude.{string_bytes, true};
 ghost use Rattle.configurations.specs.{at_epoch};
-ghost use Rattle.dir_disk.specs.Disks.{HasLock, disk_folder, may_change};
+ghost use Rattle.dir_disk.specs.Disks.{IsLockedFolder};
 ghost use Rattle.dir_disk.specs.Names.{file_path};
 ghost use Rattle.node.specs.{IsReady, node_limits};
 ghost use Rattle.folder_nodes.specs.Finding.{sim_ids};
@@ -35,10 +34,7 @@ fn locked_disk<R: Files<File = File> + Alloc<A = Global> + Clone + Drop>(
     folder: &str,
     id: NodeId,
 ) -> Result<DirDisk<R>, FolderError>
-    ensures folder { IfOk result (λ disk.
-        string_bytes (disk_folder disk) ≡ file_path folder.now id) }
-    ensures locked { IfOk result HasLock }
-    ensures writes { IfOk result (λ disk. may_change disk ≡ true) }
+    ensures folder { IfOk result (IsLockedFolder (file_path folder.now id)) }
     ensures path { OnOk result (folder.now ≢ []) }
 {
     // An empty path is that of no folder.

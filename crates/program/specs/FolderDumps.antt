@@ -1,15 +1,15 @@
 -- What is written of the store of a folder: the folder is only read.
-use Rattle.std.specs.Prelude.{◌≡◌, ◌≢◌, ℕ, List, [], Ok, Option, false, string_bytes}
+use Rattle.std.specs.Prelude.{◌≡◌, ◌≢◌, ℕ, List, [], Ok, Option, false}
 use Rattle.disk.specs.declared.Disk.{Ghosts}
 use Rattle.dir_disk.specs.declared.folder.DirDisk.{DirDisk}
 use Rattle.dir_disk.specs.declared.unchanged.Unchanged.{Unchanged}
-use Rattle.dir_disk.specs.Disks.{disk_below, disk_folder, may_change}
+use Rattle.dir_disk.specs.Disks.{IsFolderAt, disk_below, may_change}
 use Rattle.dumps.specs.Dumped.{LeavesDevice}
 use Rattle.program.specs.FolderRuns.{DumpEnds}
 
 -- a disk of the folder at this path, whose files may only be read
 pub record IsFolderToRead {R : Type 0} (path : List ℕ) (disk : DirDisk R) : Type 0 where
-  pub folder : string_bytes (disk_folder disk) ≡ path
+  pub folder : IsFolderAt path disk
   pub reads : may_change disk ≡ false
 
 -- a store was read whole from a disk that changes nothing, over the folder at this path
