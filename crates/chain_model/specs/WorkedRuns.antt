@@ -287,8 +287,8 @@ a_removed_node_tends =
     []
 
 -- One node with two batches. A tend trims the first one only.
-abbrev pub a_tend_gives_up_one : Run
-a_tend_gives_up_one =
+abbrev pub a_tend_trims_the_first : Run
+a_tend_trims_the_first =
     (Ask 1 1 (Submit 101) Answered, Commits 1 1 ∷ []) ∷
     (Ask 1 2 (Submit 102) Answered, Commits 2 2 ∷ []) ∷
     (Tend 1 true 1 Answered, []) ∷
@@ -319,9 +319,9 @@ pub record WorkedRuns : Type 0 where
   pub started : ShowsThat ((1 ∷ 2 ∷ []) ∷ []) a_started_node_answers_nobody
   pub answered : ShowsThat ((1 ∷ 2 ∷ []) ∷ (1 ∷ []) ∷ []) an_adoption_answers
   pub tended : ShowsThat ((1 ∷ 2 ∷ []) ∷ (2 ∷ []) ∷ []) a_removed_node_tends
-  pub trimmed : ShowsThat ((1 ∷ []) ∷ []) a_tend_gives_up_one
+  pub trimmed : ShowsThat ((1 ∷ []) ∷ []) a_tend_trims_the_first
   -- the floor of a removed node has risen
   pub rose : (node_of ((1 ∷ 2 ∷ []) ∷ (2 ∷ []) ∷ []) (events_of a_removed_node_tends) 1).floor ≡ 1
   -- the floor has risen to both batches, and one of them is trimmed
-  pub floor_of_two : (node_of ((1 ∷ []) ∷ []) (events_of a_tend_gives_up_one) 1).floor ≡ 2
-  pub kept_of_two : (node_of ((1 ∷ []) ∷ []) (events_of a_tend_gives_up_one) 1).kept ≡ 1
+  pub floor_of_two : (node_of ((1 ∷ []) ∷ []) (events_of a_tend_trims_the_first) 1).floor ≡ 2
+  pub kept_of_two : (node_of ((1 ∷ []) ∷ []) (events_of a_tend_trims_the_first) 1).kept ≡ 1
