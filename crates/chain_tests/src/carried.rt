@@ -60,8 +60,8 @@ impl<C: Carrier + Drop> Chain<C> {
     // Puts the places of the events that were lost.
     fn put_lost(&self, rt: &impl Abort, text: &mut String) {
         text.push_str("lost").expect(rt, "memory");
-        for (index, record) in self.world.events().iter().enumerate() {
-            if record.lost {
+        for (index, lost) in self.world.lost().iter().enumerate() {
+            if *lost {
                 let place = (index as u64).saturating_add(1);
                 write!(text, " {place}").expect(rt, "memory");
             }

@@ -5,6 +5,7 @@ use Rattle.std.specs.Prelude.{MatchResult, OnErr, OnOk}
 use Rattle.std.specs.Result.{IsErrAnd}
 use Rattle.disk.specs.declared.disk.Disk.{Ghosts}
 use Rattle.std.proofs.lemmas.Bool.{false≢true}
+use Rattle.std.proofs.lemmas.List.{map-append}
 use Rattle.std.proofs.lemmas.List.Elements.{All-push, All-weaker}
 use Rattle.kv_types.specs.declared.bounds.TheConstants.{MAX_NUMBER}
 use Rattle.kv_types.specs.declared.Limits.{Limits}
@@ -18,7 +19,6 @@ use Rattle.carriers.specs.{DeliveryWasLost, HasCarriedMore, delivery_lost}
 use Rattle.lab.specs.declared.delivery.Posted.{Posted}
 use Rattle.events.specs.declared.EventContent.{EventContent}
 use Rattle.events.specs.declared.EventKind.{EventKind}
-use Rattle.lab.specs.declared.event.EventRecord.{EventRecord}
 use Rattle.carriers.specs.declared.NodeInput.{NodeInput}
 use Rattle.lab.specs.declared.report.Line.{Line}
 use Rattle.lab.specs.declared.report.Line.TheVariants as line
@@ -33,7 +33,7 @@ use Rattle.lab.specs.Transmissions.{frame_sent, replies_sent}
 use Rattle.lab.specs.Worlds.{FollowRun, HasApplied, HasBegunEvent, HasFollowed, HasKept, HasNoNode}
 use Rattle.lab.specs.Worlds.{HasRun, HaveLimits, NodesRefine, RunRefines}
 use Rattle.lab.specs.Worlds.{SimNodeRefines, WorldHasEnded, WorldKeepsLimits, WorldRun}
-use Rattle.lab.specs.Worlds.{asked_after, event_record, event_records, extended, outcome_after}
+use Rattle.lab.specs.Worlds.{asked_after, extended, outcome_after}
 use Rattle.lab.proofs.Growing.{follow_limited, length-steps, nodes-push, run-push}
 use Rattle.lab.proofs.Moves.{HasStepped, limited}
 use Rattle.lab.proofs.Transmissions.{carried_both}
@@ -55,19 +55,6 @@ place_of h world past run n i long fits is = record {
   );
   fits = subst (λ (k : ℕ). k ≤ MAX_NUMBER) (sym is) fits;
 }
-
--- events as a world keeps them, and one more
-records-push : (events : List EventContent) (choices : List Choice) (event : EventContent)
-    (choice : Choice) →
-    length choices ≡ length events →
-    event_records (events ++ event ∷ []) (choices ++ choice ∷ [])
-    ≡ event_records events choices ++ event_record event choice.lost ∷ []
-records-push [] [] event choice same = refl
-records-push [] (c ∷ choices) event choice same = absurd (omega arith)
-records-push (e ∷ events) [] event choice same = absurd (omega arith)
-records-push (e ∷ events) (c ∷ choices) event choice same =
-    ap (λ (l : List EventRecord). event_record e c.lost ∷ l)
-    (records-push events choices event choice (omega arith))
 
 -- A world began an event, which changed its nodes, its frames and its carrier, and then it kept the
 -- lines of that.
@@ -96,14 +83,15 @@ module _ {D C : Type 0} {g : Ghosts D} (h : Carriers C) (old begun mid new : Wor
     nodes = mid.nodes;
     frames = mid.frames;
     carrier = mid.carrier;
-    events = new.events;
+    events = begun.events;
+    lost = new.lost;
     steps = new.steps;
     ended = false;
   }
 
   so : new ≡ now
   so = keeps.others ∙ ap (λ (w : World D C g). record w {
-    events = new.events;
+    lost = new.lost;
     steps = new.steps;
     ended = false;
   }) delivers
@@ -139,11 +127,10 @@ module _ {D C : Type 0} {g : Ghosts D} (h : Carriers C) (old begun mid new : Wor
           configs = run.configs;
           kept = keeps.kept ∙ ap (λ (w : World D C g). w.steps.items ++ lines ∷ []) delivers
               ∙ ap (λ (l : List (List Line)). l ++ lines ∷ []) run.kept;
-          taken = keeps.taken old.events.items event
-              (ap (λ (w : World D C g). w.events.items) delivers ∙ begins.taken)
-              ∙ ap₂ (λ (l : List EventRecord) (b : Bool). l ++ event_record event b ∷ []) run.taken
-              (sym lost_so)
-              ∙ sym (records-push past.events past.choices event choice run.made.trace.one_each);
+          taken = begins.taken ∙ ap (λ (l : List EventContent). l ++ event ∷ []) run.taken;
+          lost = keeps.marked ∙ ap (λ (w : World D C g). w.lost.items ++ lost ∷ []) delivers
+              ∙ ap₂ (λ (l : List Bool) (b : Bool). l ++ b ∷ []) run.lost (sym lost_so)
+              ∙ sym (map-append (λ (c : Choice). c.lost) past.choices (choice ∷ []));
           carrier = faithful;
           arrives = λ loses_not. All-push HasArrived past.choices choice (run.arrives loses_not)
               (arrives loses_not);

@@ -24,7 +24,6 @@ use Rattle.carriers.specs.{HasCarriedMore, Transmission}
 use Rattle.carriers.specs.declared.NodeInput.{NodeInput}
 use Rattle.lab.specs.declared.input.StepOutcome.{StepOutcome}
 use Rattle.events.specs.declared.EventContent.{EventContent}
-use Rattle.lab.specs.declared.event.EventRecord.{EventRecord}
 use Rattle.events.specs.declared.EventKind.TheVariants.{Stop, Tend}
 use Rattle.lab.specs.declared.node_state.NodeState.{NodeState}
 use Rattle.lab.specs.declared.node_state.NodeState.TheVariants.{Up, Down}
@@ -60,7 +59,7 @@ frames_in (line.Replied reply) = 0
 frames_in (line.Stopped node cause) = 0
 frames_in (line.Tended did) = 0
 
--- how many frames the lines of a step show, and those of all steps
+-- how many frames the lines of a step show
 abbrev pub frames_of_step : List Line → ℕ
 frames_of_step [] = 0
 frames_of_step (line ∷ lines) = frames_in line + frames_of_step lines
@@ -77,15 +76,9 @@ pub record PostedRefines (posted : Posted) (frame : model_frame.Message BatchCon
   pub lawful : IsFrame it
   pub bytes : posted.bytes.items ≡ frame_bytes it
 
--- an event as a world keeps it, lost or not
-abbrev pub event_record : EventContent → Bool → EventRecord
-event_record event lost = record { event = event; lost = lost }
-
--- events as a world keeps them, by what was chosen in each
-abbrev pub event_records : List EventContent → List Choice → List EventRecord
-event_records (event ∷ events) (choice ∷ choices) =
-    event_record event choice.lost ∷ event_records events choices
-event_records _ _ = []
+-- whether each event was lost, by what was chosen in it
+abbrev pub losses_of : List Choice → List Bool
+losses_of choices = map (λ choice. choice.lost) choices
 
 -- a run of a world: its configurations, its events, what was chosen in each, and the lines of each
 pub record WorldRun : Type 0 where
@@ -273,25 +266,24 @@ module _ {D C : Type 0} {g : Ghosts D} where
   pub record HasRun (h : Carriers C) (world : World D C g) (run : WorldRun) : Type 0 where
     pub configs : world.configs ≡ run.configs
     pub kept : world.steps.items ≡ run.steps
-    pub taken : world.events.items ≡ event_records run.events run.choices
+    pub taken : world.events.items ≡ run.events
+    pub lost : world.lost.items ≡ losses_of run.choices
     pub made : RunRefines world.nodes.items world.frames.items run
     pub came : AreNodesAfter run.configs world.limits run.events run.choices world.nodes.items
     pub carrier : h.is_faithful world.carrier
     pub arrives : Arrives h.loses run.choices
 
-  -- the world has begun an event, which is not known to be lost; it is as it was otherwise
+  -- the world has begun an event, and is as it was otherwise
   pub record HasBegunEvent (old new : World D C g) (event : EventContent) : Type 0 where
-    pub taken : new.events.items ≡ old.events.items ++ event_record event false ∷ []
+    pub taken : new.events.items ≡ old.events.items ++ event ∷ []
     pub others : new ≡ record old { events = new.events; ended = true }
 
   -- The world kept the lines of the event that it had begun, which was lost or not, and goes on. It
   -- is as it was otherwise.
   pub record HasKept (old new : World D C g) (lost : Bool) (lines : List Line) : Type 0 where
     pub kept : new.steps.items ≡ old.steps.items ++ lines ∷ []
-    pub taken : (before : List EventRecord) (event : EventContent) →
-        old.events.items ≡ before ++ event_record event false ∷ [] →
-        new.events.items ≡ before ++ event_record event lost ∷ []
-    pub others : new ≡ record old { events = new.events; steps = new.steps; ended = false }
+    pub marked : new.lost.items ≡ old.lost.items ++ lost ∷ []
+    pub others : new ≡ record old { lost = new.lost; steps = new.steps; ended = false }
 
   -- the world starts nodes with these limits, and each of its nodes that is up has them
   pub record WorldHasLimits (world : World D C g) (limits : Limits) : Type 0 where

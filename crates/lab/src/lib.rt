@@ -2,7 +2,6 @@
 #![tactic(auto)]
 
 mod delivery;
-mod event;
 mod input;
 pub mod laws;
 mod leaving;
@@ -21,7 +20,6 @@ pub use configurations::laws::test_decides_config;
 pub use configurations::{Config, ConfigError, Configs, Epoch, NodeId};
 pub use disk::{Fault, Junk, JunkBytes, MemDisk};
 pub use engine::Tended;
-pub use event::EventRecord;
 pub use events::{Event, EventContent, EventKind, names_nodes};
 pub use kv_types::{Batch, Key, Limits, Number, Page, Range, Row, Value};
 pub use link_messages::Refusal;

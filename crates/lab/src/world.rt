@@ -11,20 +11,19 @@ ghost use Rattle.lab.specs.Worlds.{AreCreated, HasApplied, HasBegunEvent, HasHis
 ghost use Rattle.lab.specs.Worlds.{HasMoved, HasNoNode, HasRun, HaveLimits, IsCreated, IsIndexOf};
 ghost use Rattle.lab.specs.Worlds.{IsDownAmong, IsReportOf, IsRunSoFar, ShowsTables, WorldHasEnded};
 ghost use Rattle.lab.specs.Worlds.{WorldHasLimits, WorldKeepsLimits, WorldRun, direct_carrier};
-ghost use Rattle.lab.specs.Worlds.{empty_run, event_records, frames_in_steps};
+ghost use Rattle.lab.specs.Worlds.{empty_run, frames_in_steps, losses_of};
 ghost use Rattle.lab.specs.LinesSoFar.{EventAddsLines, HasItsNodes, configs_of, lines_so_far};
 ghost use Rattle.lab.specs.LinesSoFar.{sim_node_ids};
 ghost use Rattle.lab.specs.Transmissions.{carrier_of};
 
 use crate::delivery::{Posted, delivery_of};
-use crate::event::mark;
 use crate::input::StepOutcome;
 use crate::leaving::left_of_all;
 use crate::node_state::NodeState;
 use crate::report::{Line, Lines, Report};
 use crate::sim_node::SimNode;
 use crate::trace::trace_of;
-use crate::{Carrier, Direct, Event, EventRecord, LabError};
+use crate::{Carrier, Direct, Event, LabError};
 use carriers::{Delivery, NodeInput};
 use chain_model::{in_order, keeps_enough, one_history, reads_fresh, run_is_outcomes};
 use configurations::{Config, Configs, NodeId};
@@ -42,7 +41,9 @@ pub struct World<D: Disk + Drop, C: Carrier + Drop> {
     nodes: Vec<SimNode<D>>,
     carrier: C,
     frames: Vec<Posted>,
-    events: Vec<EventRecord>,
+    events: Vec<Event>,
+    // Whether the request or frame of each event was lost on its way, and its lines.
+    lost: Vec<bool>,
     steps: Vec<Lines>,
     // A step was refused.
     ended: bool,
@@ -185,6 +186,7 @@ impl<C: Carrier + Drop> World<MemDisk, C> {
             carrier: _carrier,
             frames: _frames,
             events: _events,
+            lost: _lost,
             ended,
         } = self;
         if ended {
@@ -231,6 +233,7 @@ impl<D: Disk + Drop, C: Carrier + Drop> World<D, C> {
             carrier,
             frames: Vec::new(alloc),
             events: Vec::new(alloc),
+            lost: Vec::new(alloc),
             steps: Vec::new(alloc),
             ended: false,
         }
@@ -242,8 +245,7 @@ impl<D: Disk + Drop, C: Carrier + Drop> World<D, C> {
         ensures ends { OnErr result (WorldHasEnded self.new) }
     {
         self.ended = true;
-        let (event, lost) = (event.clone()?, false);
-        self.events.push(EventRecord { event, lost })?;
+        self.events.push(event.clone()?)?;
         Ok(())
     }
 
@@ -253,7 +255,7 @@ impl<D: Disk + Drop, C: Carrier + Drop> World<D, C> {
         ensures ends { OnErr result (self.new.ended ≡ self.old.ended) }
     {
         self.steps.push(lines)?;
-        mark(&mut self.events, lost);
+        self.lost.push(lost)?;
         self.ended = false;
         Ok(())
     }
@@ -303,13 +305,19 @@ impl<D: Disk + Drop, C: Carrier + Drop> World<D, C> {
         &self.steps
     }
 
-    /// The events that were begun so far, and which of them were lost. A step that is refused may
-    /// have begun one more.
-    pub fn events(&self) -> &[EventRecord]
-        ensures { (run : WorldRun) → HasRun C.Carrier self.now run →
-            result.now ≡ event_records run.events run.choices }
+    /// The events that were begun so far. A step that is refused may have begun one more.
+    pub fn events(&self) -> &[Event]
+        ensures { (run : WorldRun) → HasRun C.Carrier self.now run → result.now ≡ run.events }
     {
         &self.events
+    }
+
+    /// Of each event whether its request or frame was lost on its way.
+    pub fn lost(&self) -> &[bool]
+        ensures { (run : WorldRun) → HasRun C.Carrier self.now run →
+            result.now ≡ losses_of run.choices }
+    {
+        &self.lost
     }
 
     /// Lets the world go, without a report. Who calls it need not prove the drop of what it holds.
@@ -321,7 +329,8 @@ impl<D: Disk + Drop, C: Carrier + Drop> World<D, C> {
 impl<D: Crash + Drop, C: Carrier + Drop> World<D, C> {
     /// Applies an event to the node that it is for, or loses it. One that names a node which the
     /// world does not have does nothing. After an error the world is at its end: every later step
-    /// is refused, and what `sent`, `numbers`, `report` and `events` say of it is left open.
+    /// is refused, and what `sent`, `numbers`, `report`, `events` and `lost` say of it is left
+    /// open.
     pub fn step(&mut self, alloc: Global, event: &Event) -> Result<(), LabError>
         ensures ran { (run : WorldRun) → HasRun C.Carrier self.old run →
             OnOk result (HasApplied C.Carrier self.old self.new run event.now) }

@@ -13,8 +13,9 @@ returns-clause-ran g c = λ lawful faithful are.
     let sims = c.args.nodes.items in
     record {
       configs = refl;
-      kept = c.new-3.ensures.items;
+      kept = c.new-4.ensures.items;
       taken = c.new-2.ensures.items;
+      lost = c.new-3.ensures.items;
       made = subst (λ (l : List Posted). RunRefines sims l (empty_run cs))
           (sym c.new.ensures.items) (begun cs c.args.limits.now sims lawful are);
       came = record { first = sims; created = are; follow = refl };
