@@ -5,6 +5,7 @@ pub mod Written
 pub mod Leaving
 pub mod Flowing
 pub mod Settling
+pub mod Tends
 pub mod StatementResults
 pub mod StatementRuns
 pub mod PrintedRuns

@@ -28,6 +28,7 @@ use Rattle.client.specs.ReportedRuns.{IsReportedIn, ReportIsBegun, ReportIsPrint
 use Rattle.client.specs.ReportedRuns.AreReported.{NoStatement, OneMore}
 use Rattle.client.specs.Text.{result_text}
 use Rattle.client.proofs.Printed.{appends_more, appends_none}
+use Rattle.client.proofs.Tends.{HasTendedOn, TellsWhetherWorked, ends_own, same_more, shows_last}
 
 -- ---- lines
 
@@ -76,9 +77,11 @@ no_more first (step ∷ more) is =
 
 -- ---- a statement
 
-busy_or_not : (left : List ℕ) → (busy left ≡ note.Nothing) ⊎ (busy left ≡ note.Busy)
-busy_or_not [] = inl refl
-busy_or_not (place ∷ left) = inr refl
+busy_or_not : (left : List ℕ) (count : ℕ) → (left ≡ []) ⊎ (count ≡ most) →
+    (busy left ≡ note.Nothing) ⊎ ((busy left ≡ note.Busy) × (count ≡ most))
+busy_or_not [] count ends = inl refl
+busy_or_not (place ∷ left) count (inl none) = absurd (omega (arith, ap length none))
+busy_or_not (place ∷ left) count (inr all) = inr (refl, all)
 
 module _ {D C : Type 0} {g : Ghosts D} (old new : World D C g) (it : Statement)
     (turn : StatementResult) where
@@ -88,14 +91,17 @@ module _ {D C : Type 0} {g : Ghosts D} (old new : World D C g) (it : Statement)
   reported_event event is made adds = rw made (record {
     answered = record { line = refl; did = rw is (refl, refl, refl) };
     adds = rw is adds;
+    ends = rw is (λ named. (adds.more, adds.added, tt));
   })
 
   pub reported_flow : (count : ℕ) (left : List ℕ) → it.action ≡ Flow →
       turn ≡ record { line = it.line; events = count; silent = 0; note = busy left } →
-      count ≤ most → ActionAddsLines Flow count old new → IsReportedIn old new it turn
-  reported_flow count left is made few adds = rw made (record {
-    answered = record { line = refl; did = rw is (few, refl, busy_or_not left) };
+      count ≤ most → ActionAddsLines Flow count old new → (left ≡ []) ⊎ (count ≡ most) →
+      IsReportedIn old new it turn
+  reported_flow count left is made few adds ends = rw made (record {
+    answered = record { line = refl; did = rw is (few, refl, busy_or_not left count ends) };
     adds = rw is adds;
+    ends = rw is (λ named. (adds.more, adds.added, tt));
   })
 
   pub reported_settle : (node count : ℕ) (more : Bool) → it.action ≡ Settle node →
@@ -104,10 +110,23 @@ module _ {D C : Type 0} {g : Ghosts D} (old new : World D C g) (it : Statement)
         events = count;
         silent = (if more then count else count - 1);
         note = (if more then note.Busy else note.Nothing);
-      } → count ≤ most → ActionAddsLines (Settle node) count old new → IsReportedIn old new it turn
-  reported_settle node count more is made few adds = rw made (record {
+      } → count ≤ most → ActionAddsLines (Settle node) count old new →
+      (Names (configs_of old) (Settle node) → HasTendedOn (lines_so_far old) (lines_so_far new)) →
+      TellsWhetherWorked (lines_so_far new) more → IsReportedIn old new it turn
+  reported_settle node count more is made few adds tends told = rw made (record {
     answered = record { line = refl; did = rw is (few, (more, refl, refl)) };
     adds = rw is adds;
+    ends = rw is (λ named.
+        let t = tends named in
+        let own = same_more (lines_so_far old) adds.more t.0 (sym adds.added ∙ t.1) in (
+          t.0,
+          t.1,
+          (
+            t.2,
+            shows_last (lines_so_far old) (lines_so_far new) t.0 count more t.1 t.2
+                (sym (adds.each named) ∙ ap length own) told,
+          ),
+        ));
   })
 
 module _ {D C : Type 0} {g : Ghosts D} (world : World D C g) (it : Statement)
@@ -118,6 +137,7 @@ module _ {D C : Type 0} {g : Ghosts D} (world : World D C g) (it : Statement)
   reported_invalid e is made = rw made (record {
     answered = record { line = refl; did = rw is (refl, refl, refl) };
     adds = adds_nothing it.action world;
+    ends = rw is (λ named. ([], sym (append-nil (lines_so_far world)), tt));
   })
 
   pub reported_show : (node : ℕ) (numbers : Option Numbers) → it.action ≡ Show node →
@@ -126,6 +146,7 @@ module _ {D C : Type 0} {g : Ghosts D} (world : World D C g) (it : Statement)
   reported_show node numbers is made = rw made (record {
     answered = record { line = refl; did = rw is (refl, refl, (numbers, refl)) };
     adds = adds_nothing it.action world;
+    ends = rw is (λ named. ([], sym (append-nil (lines_so_far world)), tt));
   })
 
 -- ---- texts
@@ -232,6 +253,8 @@ module _ {D C : Type 0} {g : Ghosts D} (first world now : World D C g)
   own_lines_are = subst (λ (cs : Configurations).
       AreLinesOf cs (HasItsNodes first) it turn is.adds.more) r.configs (record {
         each = is.adds.each;
+        ends = λ named. ends_own it.action turn (lines_so_far world) (lines_so_far now)
+            is.adds.more is.adds.added (is.ends named);
         are = λ its. is.adds.are (r.nodes its);
         unknown = λ other. no_more (lines_so_far world) is.adds.more
             (sym (ap lines_so_far (is.adds.unknown other)) ∙ is.adds.added);

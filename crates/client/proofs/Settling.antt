@@ -148,7 +148,7 @@ All-before P steps before last is all =
     front_all P before last (subst (λ (l : List (List Line)). All P l) is all)
 
 -- the steps of a settle that reached its bound
-all_worked : (steps : List (List Line)) → length steps ≡ most →
+pub all_worked : (steps : List (List Line)) → length steps ≡ most →
     All (λ step. has_worked step ≡ true) steps → HasSettled steps
 all_worked steps many worked = record {
   before = (front_of steps (omega (arith, many))).0;

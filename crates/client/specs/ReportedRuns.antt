@@ -19,7 +19,7 @@ use Rattle.client.specs.declared.statement_result.StatementResult.{StatementResu
 use Rattle.client.specs.declared.statement_result.Note.{Note}
 use Rattle.client.specs.declared.statement_result.Note.TheVariants as note
 use Rattle.client.specs.PrintedRuns.{AppendsPart}
-use Rattle.client.specs.ScriptRuns.{most, shown}
+use Rattle.client.specs.ScriptRuns.{HasSettled, ShowsLast, most, shown}
 use Rattle.client.specs.Text.{result_text}
 
 -- how a statement is answered in any world: so many events, of which so many are silent, and what
@@ -30,7 +30,8 @@ IsAnswerTo (Event event) events silent said =
 IsAnswerTo (Invalid e) events silent said =
     (events ≡ 0) × (silent ≡ 0) × (said ≡ note.Invalid e)
 IsAnswerTo Flow events silent said =
-    (events ≤ most) × (silent ≡ 0) × ((said ≡ note.Nothing) ⊎ (said ≡ note.Busy))
+    (events ≤ most) × (silent ≡ 0)
+    × ((said ≡ note.Nothing) ⊎ ((said ≡ note.Busy) × (events ≡ most)))
 IsAnswerTo (Settle node) events silent said =
     (events ≤ most) × ((more : Bool) × (silent ≡ (if more then events else events - 1))
     × (said ≡ (if more then note.Busy else note.Nothing)))
@@ -48,6 +49,17 @@ AreActionLines (Event event) lines = AreEventLines event.kind lines
 AreActionLines (Settle node) lines = AreEventLines (Tend node) lines
 AreActionLines action lines = Unit {0}
 
+-- these lines of a settle are of tends up to the first that did not work, or to the bound, and it
+-- prints the last of them, or that there is more to do
+abbrev pub EndsSo : Action → StatementResult → List (List Line) → Type 0
+EndsSo (Settle node) turn own =
+    (settled : HasSettled own) × ShowsLast settled.last turn.silent (length own) turn.note
+EndsSo action turn own = Unit {0}
+
+-- .. which stand behind those that a world had
+abbrev pub EndsIn : Action → StatementResult → (old new : List (List Line)) → Type 0
+EndsIn action turn old new = (own : List (List Line)) × (new ≡ old ++ own) × EndsSo action turn own
+
 module _ {D C : Type 0} {g : Ghosts D} where
   -- so many events of a statement were run in a world: it has a list of lines of each behind those
   -- that it had, if the statement names a node of the first configuration, or none
@@ -60,13 +72,16 @@ module _ {D C : Type 0} {g : Ghosts D} where
     where
       pub answered : IsAnswered it turn
       pub adds : ActionAddsLines it.action turn.events old new
+      pub ends : Names (configs_of old) it.action →
+          EndsIn it.action turn (lines_so_far old) (lines_so_far new)
 
 -- These are the lines of a statement's events: of each one list, if it names a node of the first of
 -- these configurations, or none; and nothing, if it names another. Each list is such as its event
--- has, if the world has the nodes of these configurations.
+-- has, if the world has the nodes of these configurations. A settle ends as its lines say.
 pub record AreLinesOf (cs : Configurations) (has_nodes : Type 0) (it : Statement)
     (turn : StatementResult) (own : List (List Line)) : Type 0 where
   pub each : Names cs it.action → length own ≡ turn.events
+  pub ends : Names cs it.action → EndsSo it.action turn own
   pub are : has_nodes → All (AreActionLines it.action) own
   pub unknown : (Names cs it.action → ⊥) → own ≡ []
 

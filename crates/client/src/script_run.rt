@@ -1,14 +1,14 @@
 //! Statements are run in a world: the events of each, one after another.
 ghost use Rattle.std.specs.Prelude.{◌≡◌, ℕ, List, [], ◌∷◌, ◌++◌, length, map, take, drop};
 ghost use Rattle.std.specs.Prelude.{OnOk, IfOk, ◌+◌, ◌-◌, if◌then◌else◌, Some, None, replicate};
-ghost use Rattle.std.specs.Prelude.{◌≤◌};
+ghost use Rattle.std.specs.Prelude.{◌≤◌, ◌⊎◌};
 ghost use Rattle.std.specs.Prelude.{true};
 ghost use Rattle.kv_types.specs.{has};
 ghost use Rattle.lab.specs.NodeLists.{at_epoch};
 ghost use Rattle.kv_types.specs.Snapshots.{without};
 ghost use Rattle.lab.specs.declared.Line.{Line};
 ghost use Rattle.lab.specs.{Choice, EventAddsLines, NamesNode, frames_in_steps, frames_of_step};
-ghost use Rattle.lab.specs.{faultless};
+ghost use Rattle.lab.specs.{configs_of, faultless, lines_so_far};
 ghost use Rattle.client.specs.ReportedRuns.{ActionAddsLines, IsReportedIn};
 ghost use Rattle.client.specs.ScriptRuns.{HasRunTo, HasSettled, HasTurned, IsRising};
 ghost use Rattle.client.specs.ScriptRuns.{Stretch, busy, deliveries, delivery, followed_by};
@@ -168,8 +168,9 @@ fn flow<D: Crash + Drop, C: Carrier + Drop>(
         × (count ≡ length own.steps) × (count ≡ length own.events)
         × (left.new.items ≡ drop most (left.old.items
         ++ places_after (frames_in_steps past.steps) (frames_in_steps own.steps)))) }
-    ensures adds { IfOk result
-        (λ count. (count ≤ most) × ActionAddsLines Action.Flow count world.old world.new) }
+    ensures adds { IfOk result (λ count. (count ≤ most)
+        × ActionAddsLines Action.Flow count world.old world.new
+        × ((left.new.items ≡ []) ⊎ (count ≡ most))) }
 {
     let mut count = 0;
     while count < MOST {
@@ -184,9 +185,8 @@ fn flow<D: Crash + Drop, C: Carrier + Drop>(
 
 // Whether the last event was a tend that worked.
 fn tend_has_worked<D: Disk + Drop, C: Carrier + Drop>(world: &World<D, C>) -> bool
-    ensures { (setup : Setup) (past : Stretch) (before : List (List Line))
-        (last : List Line) → HasRunTo C.Carrier world.now setup past →
-        past.steps ≡ before ++ last ∷ [] → result ≡ has_worked last }
+    ensures { (before : List (List Line)) (last : List Line) →
+        lines_so_far world.now ≡ before ++ last ∷ [] → result ≡ has_worked last }
 {
     match world.report().last() {
         Some(lines) => is_work(lines.as_slice()),
@@ -211,6 +211,9 @@ fn settle<D: Crash + Drop, C: Carrier + Drop>(
         ++ places_after (frames_in_steps past.steps) (frames_in_steps own.steps))) }
     ensures adds { IfOk result (λ count. (count ≤ most)
         × ActionAddsLines (Action.Settle node) count world.old world.new) }
+    ensures tends { IfOk result (λ _. Names (configs_of world.old) (Action.Settle node) →
+        (own : List (List Line)) × (lines_so_far world.new ≡ lines_so_far world.old ++ own)
+        × HasSettled own) }
 {
     let mut count = 0;
     while count < MOST {

@@ -78,6 +78,7 @@ are_lines has NoStatement = NoStatement
 are_lines has (OneMore done places steps text are it turn own answered lines) =
     OneMore done places steps text (are_lines has are) it turn own answered (record {
       each = lines.each;
+      ends = lines.ends;
       are = λ _. lines.are has;
       unknown = lines.unknown;
     })

@@ -1,4 +1,4 @@
-use Rattle.std.proofs.Common.{ℕ, List, subst, add-one, arith}
+use Rattle.std.proofs.Common.{ℕ, List, subst, add-one, arith, inl, inr}
 use Rattle.client.specs.ScriptRuns.{followed_by}
 use Rattle.client.proofs.Flowing.{Flows, flows_none, flows_on, flowed_all, flowed_most, emptied}
 use Rattle.client.proofs.ReportedLemmas.{adds_more, adds_nothing}
@@ -47,7 +47,16 @@ returns-clause-ran g c = λ setup past run.
     (omega (arith, c.loop-count-test.false))
 
 pub returns-in_default-clause-adds : goal.returns-in_default-clause-adds
-returns-in_default-clause-adds g c = c.loop-count.invariant.1
+returns-in_default-clause-adds g c = (
+  c.loop-count.invariant.1.0,
+  c.loop-count.invariant.1.1,
+  inl (emptied c.loop-count.left.items c.pop_front.new.self.items c.in_default.ensures.items
+      c.in_default.ensures.rest),
+)
 
 pub returns-clause-adds : goal.returns-clause-adds
-returns-clause-adds g c = c.loop-count.invariant.1
+returns-clause-adds g c = (
+  c.loop-count.invariant.1.0,
+  c.loop-count.invariant.1.1,
+  inr (omega (arith, c.loop-count.invariant.1.0, c.loop-count-test.false)),
+)

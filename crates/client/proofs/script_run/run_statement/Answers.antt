@@ -1,7 +1,7 @@
 use Rattle.std.proofs.Common.{List, ◌+◌, ◌++◌, refl, ap, sym, ◌∙◌, append_assoc}
 use Rattle.lab.specs.declared.Line.{Line}
 use Rattle.lab.specs.{frames_in_steps, frames_of_step}
-use Rattle.client.specs.ScriptRuns.{followed_by, run_of}
+use Rattle.client.specs.ScriptRuns.{run_of}
 use Rattle.client.specs.declared.statement_result.Note.TheVariants as note
 use Rattle.client.proofs.Leaving.{all_rise}
 use Rattle.client.proofs.StatementResults.{turned_by_event, turned_by_flow, turned_by_settle}
@@ -44,10 +44,9 @@ returns-in_ok-tends-in-Settle-clause-ran g c = λ setup past run named up.
     turned_by_settle setup past c.args.statement.now c.args.world.now c.settle.new.world
     c.args.left.now.items c.settle.new.left.items node c.in_ok-tends-in-Settle.tends _
     c.tend_has_worked.result c.in-Settle.is went
-    (c.tend_has_worked.ensures setup (followed_by past went.0)
-    (past.steps ++ last.before) last.last went.1
-    (ap (λ (l : List (List Line)). past.steps ++ l) last.all
-    ∙ sym (append_assoc past.steps last.before _))) c.settled_result.ensures
+    (c.tend_has_worked.ensures (past.steps ++ last.before) last.last (went.1.run.kept
+    ∙ (ap (λ (l : List (List Line)). past.steps ++ l) last.all
+    ∙ sym (append_assoc past.steps last.before _)))) c.settled_result.ensures
 
 pub returns-in-Show-clause-ran : goal.returns-in-Show-clause-ran
 returns-in-Show-clause-ran g c = λ setup past run named up.
@@ -74,7 +73,7 @@ returns-in_ok-events-in-Flow-clause-reported g c =
     let went = c.in_ok-events-in-Flow.ensures.adds in
     reported_flow c.args.world.now c.flow.new.world c.args.statement.now c.result_of-in-Flow.result
     c.in_ok-events-in-Flow.events c.flow.new.left.items c.in-Flow.is (rw c.busy.ensures at
-    c.result_of-in-Flow.ensures) went.0 went.1
+    c.result_of-in-Flow.ensures) went.0 went.1 went.2
 
 pub returns-in_ok-tends-in-Settle-clause-reported
     : goal.returns-in_ok-tends-in-Settle-clause-reported
@@ -83,6 +82,7 @@ returns-in_ok-tends-in-Settle-clause-reported g c =
     reported_settle c.args.world.now c.settle.new.world c.args.statement.now
     c.settled_result.result c.in-Settle.node c.in_ok-tends-in-Settle.tends c.tend_has_worked.result
     c.in-Settle.is c.settled_result.ensures went.0 went.1
+    c.in_ok-tends-in-Settle.ensures.tends c.tend_has_worked.ensures
 
 pub returns-in-Show-clause-reported : goal.returns-in-Show-clause-reported
 returns-in-Show-clause-reported g c =

@@ -1,6 +1,10 @@
-use Rattle.std.proofs.Common.{◌++◌, ◌∙◌, add-one, arith, refl, sym}
-use Rattle.client.specs.ScriptRuns.{followed_by, one_step, tending}
+use Rattle.std.proofs.Common.{◌++◌, ◌∙◌, add-one, arith, subst, sym}
+use Rattle.lab.specs.NodeLists.{Configurations}
+use Rattle.lab.specs.{lines_so_far}
+use Rattle.scripts.specs.Scripts.{Names}
+use Rattle.client.specs.ScriptRuns.{followed_by}
 use Rattle.client.proofs.Settling.{settles_none, settles_on, settled, settled_most}
+use Rattle.client.proofs.Tends.{none_worked, settled_at_bound, settled_now, worked_more}
 use Rattle.client.proofs.ReportedLemmas.{adds_more, adds_nothing}
 use Rattle.scripts.specs.declared.statement.Action.TheVariants.{Settle}
 use Rattle.client.proofs.script_run.settle.Goals as goal
@@ -11,6 +15,7 @@ loop-count-init g c = (
   λ setup past run named.
       settles_none c.args.world.now setup past c.args.node c.args.left.now.items run,
   (omega arith, adds_nothing (Settle c.args.node) c.args.world.now),
+  λ named. none_worked (lines_so_far c.args.world.now),
 )
 
 -- a tend did not work
@@ -21,8 +26,7 @@ returns-then-not-tend_has_worked-clause-ran g c = λ setup past run named.
     rw add-one (settled setup past c.args.node c.args.left.now.items c.loop-count.world
     c.happen.new.world c.loop-count.left.items c.happen.new.left.items
     c.loop-count.count s (omega (arith, c.loop-count-test.true)) gave.0 gave.1 gave.2 gave.3
-    (sym (c.tend_has_worked.ensures setup (followed_by (followed_by past s.own)
-    (one_step (tending c.args.node) gave.0 gave.1)) (past.steps ++ s.own.steps) gave.1 gave.2 refl)
+    (sym (c.tend_has_worked.ensures (past.steps ++ s.own.steps) gave.1 gave.2.run.kept)
     ∙ c.if-not-tend_has_worked.true))
 
 pub loop-count-preserved : goal.loop-count-preserved
@@ -33,14 +37,22 @@ loop-count-preserved g c = (
       rw add-one (settles_on setup past c.args.node c.args.left.now.items c.loop-count.world
       c.happen.new.world c.loop-count.left.items c.happen.new.left.items
       c.loop-count.count s (omega (arith, c.loop-count-test.true)) gave.0 gave.1 gave.2 gave.3
-      (sym (c.tend_has_worked.ensures setup (followed_by (followed_by past s.own)
-      (one_step (tending c.args.node) gave.0 gave.1)) (past.steps ++ s.own.steps) gave.1 gave.2
-      refl) ∙ c.if-not-tend_has_worked.false)),
+      (sym (c.tend_has_worked.ensures (past.steps ++ s.own.steps) gave.1 gave.2.run.kept)
+      ∙ c.if-not-tend_has_worked.false)),
   (
     omega (arith, c.loop-count-test.true),
     adds_more (Settle c.args.node) c.args.world.now c.loop-count.world c.happen.new.world
         c.loop-count.count c.loop-count.invariant.1.1 c.in_ok-happen.ensures.adds,
   ),
+  λ named.
+      let adds = c.in_ok-happen.ensures.adds in
+      let here = subst (λ (cs : Configurations). Names cs (Settle c.args.node))
+      (sym c.loop-count.invariant.1.1.configs) named in
+      worked_more (lines_so_far c.args.world.now) (lines_so_far c.loop-count.world)
+      (lines_so_far c.happen.new.world) adds.more c.loop-count.count
+      (c.loop-count.invariant.2 named) adds.added (adds.each here)
+      (omega (arith, c.loop-count-test.true)) c.tend_has_worked.result c.tend_has_worked.ensures
+      c.if-not-tend_has_worked.false,
 )
 
 -- the bound is reached
@@ -59,3 +71,23 @@ returns-then-not-tend_has_worked-clause-adds g c = (
 
 pub returns-clause-adds : goal.returns-clause-adds
 returns-clause-adds g c = c.loop-count.invariant.1
+
+-- ---- its lines in any world
+
+pub returns-then-not-tend_has_worked-clause-tends
+    : goal.returns-then-not-tend_has_worked-clause-tends
+returns-then-not-tend_has_worked-clause-tends g c = λ named.
+    let adds = c.in_ok-happen.ensures.adds in
+    let here = subst (λ (cs : Configurations). Names cs (Settle c.args.node))
+    (sym c.loop-count.invariant.1.1.configs) named in
+    settled_now (lines_so_far c.args.world.now) (lines_so_far c.loop-count.world)
+    (lines_so_far c.happen.new.world) adds.more c.loop-count.count
+    (c.loop-count.invariant.2 named) adds.added (adds.each here)
+    (omega (arith, c.loop-count-test.true)) c.tend_has_worked.result c.tend_has_worked.ensures
+    c.if-not-tend_has_worked.true
+
+pub returns-clause-tends : goal.returns-clause-tends
+returns-clause-tends g c = λ named.
+    settled_at_bound (lines_so_far c.args.world.now) (lines_so_far c.loop-count.world)
+    c.loop-count.count (c.loop-count.invariant.2 named) c.loop-count.invariant.1.0
+    (omega (arith, c.loop-count-test.false))

@@ -1,11 +1,14 @@
 use Rattle.std.proofs.Common.{◌≡◌, ◌-◌, ◌≤◌, true}
 use Rattle.kv_types.specs.{has}
 use Rattle.lab.specs.NodeLists.{at_epoch}
+use Rattle.lab.specs.{configs_of, lines_so_far}
+use Rattle.scripts.specs.Scripts.{Names}
 use Rattle.scripts.specs.declared.setup.Setup.{Setup}
 use Rattle.scripts.specs.declared.statement.Action.TheVariants.{Settle}
 use Rattle.client.specs.ReportedRuns.{ActionAddsLines}
 use Rattle.client.specs.ScriptRuns.{HasRunTo, Stretch, most}
 use Rattle.client.proofs.Settling.{Settles}
+use Rattle.client.proofs.Tends.{HaveWorked}
 use Rattle.client.proofs.script_run.settle.Given as goal
 
 -- so many tends worked, and the world has a list of lines of each, if it has the node
@@ -14,6 +17,8 @@ invariant-loop-count g l = ((setup : Setup) (past : Stretch) →
     HasRunTo g.C.Carrier l.fn.world setup past → has (at_epoch setup.configs 0) l.fn.node ≡ true →
     Settles g.C.Carrier l.world setup past l.fn.node l.fn.left.items l.left.items l.count)
     × ((l.count ≤ most) × ActionAddsLines (Settle l.fn.node) l.count l.fn.world l.world)
+    × (Names (configs_of l.fn.world) (Settle l.fn.node) →
+    HaveWorked (lines_so_far l.fn.world) (lines_so_far l.world) l.count)
 
 abbrev pub decreases-loop-count : goal.decreases-loop-count
 decreases-loop-count g l = most - l.count
