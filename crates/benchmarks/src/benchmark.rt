@@ -1,6 +1,8 @@
 // The benchmarks, and their names.
-ghost use Rattle.std.specs.Prelude.{◌≡◌, ◌≢◌, MatchOption};
-ghost use Rattle.benchmarks.specs.Benchmarks.{is_fresh, name_of};
+ghost use Rattle.std.specs.Prelude.{◌≡◌, ◌≢◌, ◌==◌, IfOk, List, MatchOption, map};
+ghost use Rattle.std.specs.List.{slice_split};
+ghost use Rattle.benchmarks.specs.declared.benchmark.Benchmark.{Benchmark};
+ghost use Rattle.benchmarks.specs.Benchmarks.{is_fresh, name_of, operations_of, puts_of};
 
 use std::alloc::{AllocError, Global};
 
@@ -74,7 +76,9 @@ impl Benchmark {
     }
 
     /// Puts of a batch with values of this length: 256, or as many as have a place in it.
-    pub fn puts(self, length: u64) -> u64 {
+    pub fn puts(self, length: u64) -> u64
+        ensures { result ≡ puts_of self length }
+    {
         match self {
             Benchmark::FillSync | Benchmark::ChainSubmit => 1,
             _ => (60_000 / length.saturating_add(32)).clamp(1, 256),
@@ -83,23 +87,37 @@ impl Benchmark {
 
     /// How often its operation is done where a run is of so many: once at least; `compact` until
     /// nothing is due.
-    pub fn operations(self, number: u64) -> u64 {
-        let part = match self {
-            Benchmark::Compact => return u64::MAX,
-            Benchmark::FillSync => 1_000,
-            Benchmark::Open => 10_000,
-            Benchmark::ChainSubmit => 10,
-            _ => 1,
-        };
-        (number / part).max(1)
+    pub fn operations(self, number: u64) -> u64
+        ensures { result ≡ operations_of self number }
+    {
+        match self {
+            Benchmark::Compact => u64::MAX,
+            Benchmark::FillSync => (number / 1_000).max(1),
+            Benchmark::Open => (number / 10_000).max(1),
+            Benchmark::ChainSubmit => (number / 10).max(1),
+            _ => number.max(1),
+        }
     }
 }
 
+/// The parts of a text between its commas.
+fn parts_of(alloc: Global, text: &str) -> Result<Vec<&str>, AllocError>
+    ensures { IfOk result (λ parts.
+        map (λ part. part.now) parts.items ≡ slice_split (λ b. b == 44) text.now) }
+{
+    text.split(',').collect(alloc)
+}
+
 /// The benchmarks that a text names, with commas between. `None` where one is none.
-pub fn benchmarks_in(alloc: Global, text: &str) -> Result<Option<Vec<Benchmark>>, AllocError> {
+pub fn benchmarks_in(alloc: Global, text: &str) -> Result<Option<Vec<Benchmark>>, AllocError>
+    ensures { IfOk result (λ found. MatchOption found
+        ((list : List Benchmark) → map name_of list ≢ slice_split (λ b. b == 44) text.now)
+        (λ list. map name_of list.items ≡ slice_split (λ b. b == 44) text.now)) }
+{
+    let parts = parts_of(alloc, text)?;
     let mut found = Vec::new(alloc);
-    for name in text.split(',') {
-        match Benchmark::named(name) {
+    for part in &parts {
+        match Benchmark::named(part) {
             Some(it) => found.push(it)?,
             None => return Ok(None),
         }

@@ -1,5 +1,5 @@
 // Pseudo-random numbers, the same ones in each run.
-ghost use Rattle.std.specs.Prelude.{◌≡◌, ◌<◌, ◌%◌};
+ghost use Rattle.std.specs.Prelude.{◌≡◌, ◌<◌, ◌%◌, max};
 ghost use Rattle.benchmarks.specs.Keys.{next_seed};
 
 use std::marker::Model;
@@ -52,7 +52,7 @@ impl Random {
 
     /// The next number's remainder below this bound, which counts as 1 where it is 0.
     pub fn below(&mut self, bound: u64) -> u64
-        ensures number { 0 < bound → result ≡ next_seed self.old % bound }
+        ensures number { result ≡ next_seed self.old % max bound 1 }
         ensures limit { 0 < bound → result < bound }
         ensures seed { self.new ≡ next_seed self.old }
     {

@@ -1,4 +1,9 @@
 // A walk over all rows, page after page.
+ghost use Rattle.std.specs.Prelude.{◌≡◌, ◌==◌, ◌⊎◌, IfErr, IfOk, IsOk, OnErr, OnOk, length};
+ghost use Rattle.kv_types.specs.declared.bounds.TheConstants.{MAX_KEY};
+ghost use Rattle.benchmarks.specs.Walks.{NoneFits, first_range, range_behind, range_left};
+ghost use Rattle.benchmarks.specs.Walks.{range_passed, seek_range, with_passed};
+
 use crate::Count;
 use kv_types::{Key, KvError, Page, Range, Row};
 use std::alloc::Global;
@@ -13,7 +18,11 @@ pub struct Walk {
 }
 
 /// The rows in front of this one in a walk backward, or behind it.
-fn range_behind(alloc: Global, row: &Row, is_backward: bool) -> Result<Range, KvError> {
+fn range_behind(alloc: Global, row: &Row, is_backward: bool) -> Result<Range, KvError>
+    ensures range { IfOk result (λ range. range ≡ range_behind is_backward row.now.key) }
+    ensures refused { IfErr result (λ e. (e ≡ KvError.Memory)
+        ⊎ ((e ≡ KvError.KeyTooLong) × (length row.now.key ≡ MAX_KEY))) }
+{
     let mut bytes = row.key.as_bytes().to_vec(alloc)?;
     if is_backward {
         let bound = Key::new(bytes)?;
@@ -25,42 +34,74 @@ fn range_behind(alloc: Global, row: &Row, is_backward: bool) -> Result<Range, Kv
 
 impl Walk {
     /// A walk that has not begun.
-    pub fn new(alloc: Global, is_backward: bool) -> Result<Walk, KvError> {
+    pub fn new(alloc: Global, is_backward: bool) -> Result<Walk, KvError>
+        ensures range { IfOk result (λ walk. walk.range ≡ first_range is_backward) }
+        ensures refused { IfErr result (λ e. e ≡ KvError.Memory) }
+    {
         let range = Range::new(Key::new(Vec::new(alloc))?, None, is_backward, ROWS)?;
         Ok(Walk { range })
     }
 
     /// Begins again at this key, for one row.
-    pub fn seek(&mut self, key: Key) -> Result<(), KvError> {
+    pub fn seek(&mut self, key: Key) -> Result<(), KvError>
+        ensures done { IsOk result }
+        ensures range { self.new.range ≡ seek_range key }
+    {
         self.range = Range::new(key, None, false, 1)?;
         Ok(())
     }
 
     /// The range of its next page.
-    pub fn range(&self) -> &Range {
+    pub fn range(&self) -> &Range
+        ensures { result.now ≡ self.now.range }
+    {
         &self.range
     }
 
     /// Whether it seeks one key.
-    fn seeks(&self) -> bool {
+    fn seeks(&self) -> bool
+        ensures { result ≡ (self.now.range.limit == 1) }
+    {
         self.range.limit() == 1
     }
 
+    /// Moves behind the last of the rows, if there is one.
+    fn move_behind(&mut self, alloc: Global, rows: &[Row]) -> Result<(), KvError>
+        ensures range { OnOk result (self.new.range ≡ range_left self.old.range rows.now) }
+        ensures err { OnErr result (self.new ≡ self.old) }
+        ensures refused { IfErr result
+            (λ e. (e ≡ KvError.Memory) ⊎ ((e ≡ KvError.KeyTooLong) × NoneFits rows.now)) }
+    {
+        match rows.last() {
+            Some(row) => {
+                self.range = range_behind(alloc, row, self.range.is_backward())?;
+                Ok(())
+            }
+            None => Ok(()),
+        }
+    }
+
     /// Counts the rows of the next page, and goes on behind it. Of a seek it counts the row that
-    /// has the key, if there is one.
-    pub fn pass(&mut self, alloc: Global, page: Page, count: &mut Count) -> Result<(), KvError> {
+    /// has the key, if there is one. After an `Err` nothing has changed. But for memory it is
+    /// refused only where the last row's key and a byte more are no key.
+    pub fn pass(&mut self, alloc: Global, page: Page, count: &mut Count) -> Result<(), KvError>
+        ensures range { OnOk result (self.new.range ≡ range_passed self.old.range page) }
+        ensures count { OnOk result (count.new ≡ with_passed count.old self.old.range page) }
+        ensures err { OnErr result ((self.new ≡ self.old) × (count.new ≡ count.old)) }
+        ensures refused { IfErr result
+            (λ e. (e ≡ KvError.Memory) ⊎ ((e ≡ KvError.KeyTooLong) × NoneFits page.rows)) }
+    {
         if self.seeks() {
             count.add_operations(1);
             count.add_found(page, self.range.from());
             return Ok(());
         }
-        if !page.has_more() {
+        let is_last = !page.has_more();
+        self.move_behind(alloc, page.rows())?;
+        count.add_page(page);
+        if is_last {
             count.end();
         }
-        if let Some(row) = page.rows().last() {
-            self.range = range_behind(alloc, row, self.range.is_backward())?;
-        }
-        count.add_page(page);
         Ok(())
     }
 }

@@ -1,4 +1,6 @@
 // What the program's words ask for.
+ghost use Rattle.std.specs.Prelude.{◌<◌, ◌≤◌, IfSome, length};
+ghost use Rattle.benchmarks.specs.Words.{AreInRange};
 
 /// The benchmarks of words that name none.
 pub const ALL_NAMES: &str = "fillseq,fillsync,fillrandom,overwrite,readrandom,readmissing,\
@@ -25,7 +27,9 @@ pub struct Words<'a> {
 }
 
 /// The number that a word is, up to this one.
-fn number(word: &str, most: u64) -> Option<u64> {
+fn number(word: &str, most: u64) -> Option<u64>
+    ensures { IfSome result (λ number. number ≤ most) }
+{
     match word.parse::<u64>() {
         Ok(number) if number <= most => Some(number),
         _ => None,
@@ -33,7 +37,10 @@ fn number(word: &str, most: u64) -> Option<u64> {
 }
 
 /// What the words ask for, with this option.
-fn with<'a>(words: Words<'a>, option: &str, word: &'a str) -> Option<Words<'a>> {
+fn with<'a>(words: Words<'a>, option: &str, word: &'a str) -> Option<Words<'a>>
+    ensures { AreInRange words.entry.keys words.entry.value → IfSome result
+        (λ it. AreInRange it.keys it.value) }
+{
     let mut words = words;
     match option {
         "--dir" => words.folder = word,
@@ -47,8 +54,11 @@ fn with<'a>(words: Words<'a>, option: &str, word: &'a str) -> Option<Words<'a>> 
 }
 
 /// What these words ask for, behind the program's name: options, each with its word, and a folder
-/// among them.
-pub fn read_words(words: &[String]) -> Option<Words<'_>> {
+/// among them. There are at most 10^9 keys, and a value has at most 16,384 bytes.
+pub fn read_words(words: &[String]) -> Option<Words<'_>>
+    ensures folder { IfSome result (λ it. 0 < length it.folder.now) }
+    ensures numbers { IfSome result (λ it. AreInRange it.keys it.value) }
+{
     let mut read = Words {
         folder: "",
         keys: 100_000,

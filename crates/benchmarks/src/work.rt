@@ -1,4 +1,10 @@
 // The numbers of keys that a benchmark uses, batches of puts to them, and its walk.
+ghost use Rattle.std.specs.Prelude.{◌≡◌, ◌<◌, ◌⊎◌, IfErr, IfOk, OnOk, OnErr, max};
+ghost use Rattle.kv_types.specs.Content.{edits_of};
+ghost use Rattle.benchmarks.specs.Walks.{first_range};
+ghost use Rattle.benchmarks.specs.Works.{behind_number, behind_puts, is_backward, key_read};
+ghost use Rattle.benchmarks.specs.Works.{drawn_number, next_puts, range_walked};
+
 use crate::{Benchmark, Random, Values, Walk, key, missing_key};
 use kv_types::{Batch, Edit, Key, KvError};
 use std::alloc::Global;
@@ -14,9 +20,23 @@ pub struct Work {
     random: Random,
 }
 
+/// Whether a benchmark walks from the greatest key to the least.
+fn is_backward(benchmark: Benchmark) -> bool
+    ensures { result ≡ is_backward benchmark }
+{
+    match benchmark {
+        Benchmark::ReadReverse => true,
+        _ => false,
+    }
+}
+
 impl Work {
     /// Values of this length, for so many keys.
-    pub fn new(alloc: Global, length: usize, keys: u64) -> Result<Work, KvError> {
+    pub fn new(alloc: Global, length: usize, keys: u64) -> Result<Work, KvError>
+        ensures made { IfOk result (λ work. (work.values.size ≡ length) × (work.keys ≡ keys)) }
+        ensures refused { IfErr result (λ e. (e ≡ KvError.Memory)
+            ⊎ ((e ≡ KvError.ValueTooLong) × (1048600 < length))) }
+    {
         Ok(Work {
             benchmark: Benchmark::FillSeq,
             values: Values::new(alloc, length)?,
@@ -27,17 +47,30 @@ impl Work {
         })
     }
 
-    /// Begins a benchmark: with the first number, or with those that this seed gives.
-    pub fn begin(&mut self, alloc: Global, benchmark: Benchmark, seed: u32) -> Result<(), KvError> {
+    /// Begins a benchmark: with the first number, or with those that this seed gives. It is refused
+    /// for memory alone, and then nothing has changed.
+    pub fn begin(&mut self, alloc: Global, benchmark: Benchmark, seed: u32) -> Result<(), KvError>
+        ensures begun { OnOk result (self.new ≡ record self.old {
+          benchmark = benchmark;
+          walk = record { range = first_range (is_backward benchmark) };
+          next = 0;
+          random = max seed 1;
+        }) }
+        ensures err { OnErr result (self.new ≡ self.old) }
+        ensures refused { IfErr result (λ e. e ≡ KvError.Memory) }
+    {
+        self.walk = Walk::new(alloc, is_backward(benchmark))?;
         self.benchmark = benchmark;
-        self.walk = Walk::new(alloc, benchmark == Benchmark::ReadReverse)?;
         self.next = 0;
         self.random = Random::new(seed);
         Ok(())
     }
 
     /// The next number: in order, or at random below the number of keys.
-    pub fn next_number(&mut self) -> u64 {
+    pub fn next_number(&mut self) -> u64
+        ensures number { result ≡ drawn_number self.old }
+        ensures behind { self.new ≡ behind_number self.old }
+    {
         match self.benchmark {
             Benchmark::FillSeq | Benchmark::ChainSubmit => {
                 let number = self.next;
@@ -49,16 +82,24 @@ impl Work {
     }
 
     /// The next number's key, or in `readmissing` one that no number has.
-    pub fn next_key(&mut self, alloc: Global) -> Result<Key, KvError> {
+    pub fn next_key(&mut self, alloc: Global) -> Result<Key, KvError>
+        ensures key { IfOk result
+            (λ key. key ≡ key_read self.old.benchmark (drawn_number self.old)) }
+        ensures behind { self.new ≡ behind_number self.old }
+        ensures refused { IfErr result (λ e. e ≡ KvError.Memory) }
+    {
         let number = self.next_number();
-        if self.benchmark == Benchmark::ReadMissing {
-            return missing_key(alloc, number);
+        match self.benchmark {
+            Benchmark::ReadMissing => missing_key(alloc, number),
+            _ => key(alloc, number),
         }
-        key(alloc, number)
     }
 
     /// A batch of so many puts, to the next numbers' keys.
-    pub fn next_batch(&mut self, alloc: Global, puts: u64) -> Result<Batch, KvError> {
+    pub fn next_batch(&mut self, alloc: Global, puts: u64) -> Result<Batch, KvError>
+        ensures edits { IfOk result (λ batch. edits_of batch ≡ next_puts puts self.old) }
+        ensures behind { OnOk result (self.new ≡ behind_puts puts self.old) }
+    {
         let mut edits = Vec::new(alloc);
         for _ in 0..puts {
             let key = key(alloc, self.next_number())?;
@@ -68,12 +109,18 @@ impl Work {
     }
 
     /// The walk. In `seekrandom` it begins again, at the next number's key.
-    pub fn walk(&mut self, alloc: Global) -> Result<&mut Walk, KvError> {
-        if self.benchmark == Benchmark::SeekRandom {
-            let key = key(alloc, self.next_number())?;
-            self.walk.seek(key)?;
+    pub fn walk(&mut self, alloc: Global) -> Result<&mut Walk, KvError>
+        ensures range { IfOk result (λ walk. walk.now.range ≡ range_walked self.old) }
+        ensures refused { IfErr result (λ e. e ≡ KvError.Memory) }
+    {
+        match self.benchmark {
+            Benchmark::SeekRandom => {
+                let key = key(alloc, self.next_number())?;
+                self.walk.seek(key)?;
+                Ok(&mut self.walk)
+            }
+            _ => Ok(&mut self.walk),
         }
-        Ok(&mut self.walk)
     }
 
     /// Lets the values go. A crate that ends them by this call need not prove their drop; so it is
