@@ -64,12 +64,14 @@ module _ {U F : Type 0} (u : CursorGhosts U F) (d : Ghosts F) (tables : ℕ) whe
         (λ _. (now : IsWalking u d meant c p z q inputs)
         × (length now.met ≡ length (first.walks meant inputs was).0.met + more)
         × (IsIntactOn u d (table_files inputs) y b → IsIntactOn u d (table_files inputs) z c))
-        (StepRefusal (IsIntactOn u d (table_files inputs) y b) tables v inputs)
+        (StepRefusal (IsIntactOn u d (table_files inputs) y b) tables p
+        (length (first.walks meant inputs was).0.met) more v inputs)
         → MatchResult result
         (λ _. (now : IsWalking u d meant c p z q inputs)
         × (length now.met ≡ length was.met + (some + more))
         × (IsIntactOn u d (table_files inputs) x a → IsIntactOn u d (table_files inputs) z c))
-        (StepRefusal (IsIntactOn u d (table_files inputs) x a) tables w inputs)
+        (StepRefusal (IsIntactOn u d (table_files inputs) x a) tables p (length was.met)
+        (some + more) w inputs)
     walks_then meant inputs was (Ok it) then =
         let before = first.walks meant inputs was in
         let low = before.1 in
@@ -77,8 +79,9 @@ module _ {U F : Type 0} (u : CursorGhosts U F) (d : Ghosts F) (tables : ℕ) whe
         (then.0, omega (arith, low, high), λ intact. then.2 (before.2 intact))
     walks_then meant inputs was (Err e) then =
         refusal_same w v first.rules (IsIntactOn u d (table_files inputs) x a)
-        (IsIntactOn u d (table_files inputs) y b) (first.walks meant inputs was).2 tables inputs e
-        then
+        (IsIntactOn u d (table_files inputs) y b) (first.walks meant inputs was).2 tables p
+        (length was.met) (length (first.walks meant inputs was).0.met) some more
+        (first.walks meant inputs was).1 inputs e then
 
     -- steps, and others behind them
     pub advances_then : (result : Result (Unit {0}) MergeError)
@@ -90,7 +93,7 @@ module _ {U F : Type 0} (u : CursorGhosts U F) (d : Ghosts F) (tables : ℕ) whe
           first.writes
           (writes_wider d (IsOwnFile w n) (IsOwnFile v m) first.numbers.own next.writes);
       rules = rules_through w v q first.rules next.rules;
-      numbers = uses_then w v q n m p first.numbers next.numbers;
+      numbers = uses_then w v q n m p first.numbers next.numbers refl;
       unused = λ meant inputs walk.
           next.unused meant inputs (first.walks meant inputs walk).0;
       walks = λ meant inputs walk. walks_then meant inputs walk result

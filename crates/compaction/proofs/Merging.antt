@@ -29,7 +29,7 @@ use Rattle.version_edits.specs.declared.TableName.{TableName}
 use Rattle.version_edits.specs.declared.line.TheConstants.{MAX_LINES}
 use Rattle.version_edits.specs.{Change}
 use Rattle.compaction.specs.Walks.{written_by}
-use Rattle.compaction.specs.WrittenTables.{WrittenAreMerged, written_of}
+use Rattle.compaction.specs.WrittenTables.{AreWrittenTables, WrittenAreMerged, written_of}
 use Rattle.compaction.specs.Survivors.{IsSortedUnion}
 use Rattle.merge_iter.specs.declared.Direction.TheVariants.{Forward}
 use Rattle.merge_iter.specs.{AreCursorLaws, AtEnd, IsAlike, MoveFinds, Moved, reports}
@@ -47,7 +47,8 @@ use Rattle.compaction.specs.Outputs.{AreUnused, HaveOwnNumbers, IsOutput}
 use Rattle.compaction.specs.Outputs.{WriterHolds, open_file}
 use Rattle.compaction.specs.Plans.{IsLineOf, is_input, is_line_input, model_plan}
 use Rattle.compaction.specs.Survivors.{AreDeeperLines, key_range}
-use Rattle.compaction.specs.Walks.{IsIntactOn, IsWalking, ReadsOnly, table_files}
+use Rattle.compaction.specs.Walks.{IsIntactOn, IsWalking, MeetsMore, ReadsOnly, StepRefusal}
+use Rattle.compaction.specs.Walks.{table_files}
 use Rattle.compaction.specs.WrittenTables.{IsTableOver, Written, nothing_written, tables_of}
 use Rattle.compaction.proofs.Lists.{among_filter, filter_among, zip_back, zip_there}
 use Rattle.compaction.proofs.Once.{map_among}
@@ -296,8 +297,8 @@ module _ {D F : Type 0} (u : CursorGhosts (Merged (TableCursor D)) F) (d : Ghost
       → (IsOn (u.position it.union) → ⊥) → (slots : State) (level : ℕ) (lines : List TableLine)
       → level ≡ it.writer.level → WrittenAreMerged
       → AllZip (IsOutput slots level) lines (tables_of (written_by it.writer m.walk.met))
-      → (outputs : List LevelTable) × IsMerged floor plan outputs
-      × AllZip (IsOutputTable slots (suc plan.level)) lines outputs
+      → (outputs : List LevelTable) × AreWrittenTables floor it.writer.target plan outputs
+      × IsMerged floor plan outputs × AllZip (IsOutputTable slots (suc plan.level)) lines outputs
       × (length outputs ≡ length lines)
   merge_done meant files next_file it plan floor m off slots level lines same law zip =
       let level_is : level ≡ suc plan.level = same ∙ m.level in
@@ -308,10 +309,17 @@ module _ {D F : Type 0} (u : CursorGhosts (Merged (TableCursor D)) F) (d : Ghost
       let union = walk_done u d meant plan.inputs files next_file it.union it.writer m.walk off in
       let tables = subst (λ f. AllZip (IsTableOver (suc plan.level)) out.0
       (tables_of (written_of f it.writer.deeper.items it.writer.target m.walk.met)))
-      m.same_floor out.2 in (
+      m.same_floor out.2 in
+      let written : AreWrittenTables floor it.writer.target plan out.0 = record {
+        deeper = it.writer.deeper.items;
+        entries = m.walk.met;
+        lines = m.deeper;
+        union = union;
+        tables = tables;
+      } in (
         out.0,
-        law floor plan it.writer.deeper.items it.writer.target m.walk.met out.0 m.deeper
-            union tables,
+        written,
+        law floor it.writer.target plan out.0 written,
         out.1,
         out.3,
       )
@@ -323,10 +331,47 @@ not_below m n none = elim (cases_lt n m) [
 ]
 
 -- how many entries a step met
-pub step_count : (was now steps count : ℕ) (off : Type 0) → now ≡ was + steps
+step_count : (was now steps count : ℕ) (off : Type 0) → now ≡ was + steps
     → (steps ≡ count) ⊎ off → (now ≡ was + count) ⊎ off
 step_count was now steps count off met (inl is) = inl (omega (arith, met, is))
 step_count was now steps count off met (inr end) = inr end
+
+-- it met so many more, or all
+pub step_meets : {U F : Type 0} (u : CursorGhosts U F) (d : Ghosts F) (meant : u.Meant)
+    (inputs : List LevelTable) (files : F) (next_file : ℕ) (union : U) (writer : OutputWriter)
+    (was : List Entry) (w : IsWalking u d meant files next_file union writer inputs)
+    (steps count : ℕ) → steps ≤ count → length w.met ≡ length was + steps
+    → (steps ≡ count) ⊎ (IsOn (u.position union) → ⊥)
+    → MeetsMore inputs was w.met count (IsOn (u.position union))
+step_meets u d meant inputs files next_file union writer was w steps count le met all = record {
+  most = omega (arith, le, met);
+  all = step_count (length was) (length w.met) steps count (IsOn (u.position union) → ⊥) met all;
+  union = walk_done u d meant inputs files next_file union writer w;
+}
+
+-- what was refused within few entries was refused within more
+pub refusal_few : (intact : Type 0) (tables next_file before few most : ℕ) (writer : OutputWriter)
+    (inputs : List LevelTable) → few ≤ most → (e : MergeError)
+    → StepRefusal intact tables next_file before few writer inputs e
+    → StepRefusal intact tables next_file before most writer inputs e
+refusal_few intact tables next_file before few most writer inputs le e (inl external) =
+    inl external
+refusal_few intact tables next_file before few most writer inputs le e (inr (inl damaged)) =
+    inr (inl damaged)
+refusal_few intact tables next_file before few most writer inputs le e (inr (inr full)) =
+    let within = full.1.within in
+    inr (inr (
+      full.0,
+      record {
+        met = full.1.met;
+        entry = full.1.entry;
+        walked = full.1.walked;
+        rising = full.1.rising;
+        behind = full.1.behind;
+        within = omega (arith, within, le);
+        full = full.1.full;
+      },
+    ))
 
 -- once the writer's last table is complete, all tables are
 pub closed_all : {F : Type 0} (d : Ghosts F) (old new : F) (next_file : ℕ)
@@ -349,6 +394,7 @@ closed_all {F} d old new next_file was now it result w some none =
 module _ (slots : State) (version : StoreVersion) (first next_file : ℕ) (writer : OutputWriter)
     (plan : MergePlan) (floor : ℕ)
     (gone : List TableName) (added : List TableLine) (outputs : List LevelTable)
+    (written : AreWrittenTables floor writer.target plan outputs)
     (merged : IsMerged floor plan outputs)
     (holds : AllZip (IsOutputTable slots (suc plan.level)) added outputs)
     (many : length outputs ≡ length added) (names : gone ≡ map table_name plan.inputs) where
@@ -368,6 +414,7 @@ module _ (slots : State) (version : StoreVersion) (first next_file : ℕ) (write
       let n = inputs_many in
       record {
         outputs = outputs;
+        written = written;
         merged = merged;
         holds = subst (λ (l : List TableLine). AllZip (IsOutputTable slots (suc plan.level)) l
             outputs) (sym added_is) holds;
@@ -383,9 +430,9 @@ module _ (slots : State) (version : StoreVersion) (first next_file : ℕ) (write
 
   -- or there is no room for the outputs
   pub too_many : MAX_LINES + length gone < length version.tables + length added
-      → HasTooManyTables version plan floor
+      → HasTooManyTables version plan floor writer.target
   too_many lt = let n = inputs_many in record {
     outputs = outputs;
-    merged = merged;
+    written = written;
     many = omega (arith, lt, n, many);
   }

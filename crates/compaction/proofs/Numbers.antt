@@ -178,8 +178,9 @@ late_beside version is file late = (
 
 -- a version that names no output names none of those that steps of the merge begin
 pub steps_beside : (version : StoreVersion) (old new : OutputWriter) (next_old next_new : ℕ)
-    → IsVersion version → version.next_file ≤ next_old → UsesNumbers old next_old new next_new
-    → OutputsAreBeside old version → OutputsAreBeside new version
+    {most : ℕ} → IsVersion version → version.next_file ≤ next_old
+    → UsesNumbers most old next_old new next_new → OutputsAreBeside old version
+    → OutputsAreBeside new version
 steps_beside version old new next_old next_new is le used beside file output =
     elim (used.outputs file output) [
       | inl before ↦ beside file before

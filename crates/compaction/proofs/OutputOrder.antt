@@ -123,7 +123,12 @@ module _ (level : ℕ) where
 
 -- tables that have what is written of the sorted union of the inputs are the outputs
 pub written_are_merged : SurvivorsAreLeft → WrittenHaveRanges → WrittenAreMerged
-written_are_merged left own floor plan deeper target entries outputs lines union zip =
+written_are_merged left own floor target plan outputs written =
+    let deeper = written.deeper in
+    let entries = written.entries in
+    let lines = written.lines in
+    let union = written.union in
+    let zip = written.tables in
     let it = written_of floor deeper target entries in
     let tables = tables_of it in
     let rises = rises_from_AllPairs (EntryPrecedes Forward) entries union.rising in

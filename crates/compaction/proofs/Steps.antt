@@ -1,5 +1,5 @@
 -- One step of a merge: an entry comes to the writer, and the union moves on.
-use Rattle.std.proofs.Common.{◌+◌, length, length-append}
+use Rattle.std.proofs.Common.{◌+◌, arith, length, length-append}
 use Rattle.std.proofs.Common.{◌≡◌, ◌↔◌, inl, inr, ℕ, List, [], ◌∷◌, ◌++◌}
 use Rattle.std.proofs.Common.{IsTrue}
 use Rattle.std.proofs.Common.{Result, Ok, Err, refl, sym, ap, subst, ◌∙◌}
@@ -134,25 +134,34 @@ rules_through a b c k m = record {
 
 -- writers of the same rules refuse for the same cause
 pub refusal_same : (old new : OutputWriter) → KeepsRules old new → (before now : Type 0)
-    → (before → now) → (tables : ℕ) (inputs : List LevelTable) (e : MergeError)
-    → StepRefusal now tables new inputs e → StepRefusal before tables old inputs e
-refusal_same old new k before now stays tables inputs e (inl external) = inl external
-refusal_same old new k before now stays tables inputs e (inr (inl damaged)) =
-    inr (inl (damaged.0, λ intact. damaged.1 (stays intact)))
-refusal_same old new k before now stays tables inputs e (inr (inr full)) = inr (inr (
-  full.0,
-  record {
-    met = full.1.met;
-    entry = full.1.entry;
-    next_file = full.1.next_file;
-    walked = full.1.walked;
-    full = subst (λ (target : ℕ). LacksRoom tables full.1.next_file
-        (cut_before target (written_by old full.1.met) full.1.entry) full.1.entry) k.target
-        (subst (λ (it : Written). LacksRoom tables full.1.next_file
-        (cut_before new.target it full.1.entry) full.1.entry) (rules_same old new k full.1.met)
-        full.1.full);
-  },
-))
+    → (before → now) → (tables next_file first met some more : ℕ) → met ≡ first + some
+    → (inputs : List LevelTable) (e : MergeError)
+    → StepRefusal now tables next_file met more new inputs e
+    → StepRefusal before tables next_file first (some + more) old inputs e
+refusal_same old new k before now stays tables next_file first met some more is inputs e
+    (inl external) = inl external
+refusal_same old new k before now stays tables next_file first met some more is inputs e
+    (inr (inl damaged)) = inr (inl (damaged.0, λ intact. damaged.1 (stays intact)))
+refusal_same old new k before now stays tables next_file first met some more is inputs e
+    (inr (inr full)) =
+    let behind = full.1.behind in
+    let within = full.1.within in
+    inr (inr (
+      full.0,
+      record {
+        met = full.1.met;
+        entry = full.1.entry;
+        walked = full.1.walked;
+        rising = full.1.rising;
+        behind = omega (arith, behind, is);
+        within = omega (arith, within, is);
+        full = subst (λ (target : ℕ). LacksRoom tables next_file
+            (cut_before target (written_by old full.1.met) full.1.entry) full.1.entry) k.target
+            (subst (λ (it : Written). LacksRoom tables next_file
+            (cut_before new.target it full.1.entry) full.1.entry) (rules_same old new k full.1.met)
+            full.1.full);
+      },
+    ))
 
 -- ---- the step
 
@@ -266,32 +275,34 @@ module _ {U F : Type 0} (u : CursorGhosts U F) (d : Ghosts F)
         )
 
     -- why the union did not move on once the entry was put
-    pub step_stops : (mid : F) {told cause : Type 0} (tables : ℕ) {R : Type 0}
+    pub step_stops : (mid : F) {told cause : Type 0} (tables later : ℕ) {R : Type 0}
         {allocates : Type 0} (before now : ℕ) (result : Result R CursorError) (e : CursorError)
         → WritesOnly d (IsOwnFile writer next_file) old mid told cause
         → ErrorCauses ((meant : u.Meant) × u.is_sound meant union mid × u.is_intact meant mid)
         (IsBroken (u.position union)) allocates before now result → result ≡ Err e
-        → StepRefusal (IsIntactOn u d (table_files inputs) union old) tables writer inputs
-        (merge_error_of_cursor e)
-    step_stops mid tables before now result cursor.Disk c causes stops = inl (inl refl)
-    step_stops mid tables before now result cursor.Damaged c causes stops =
+        → StepRefusal (IsIntactOn u d (table_files inputs) union old) tables later (length w.met) 1
+        writer inputs (merge_error_of_cursor e)
+    step_stops mid tables later before now result cursor.Disk c causes stops = inl (inl refl)
+    step_stops mid tables later before now result cursor.Damaged c causes stops =
         inr (inl (refl, λ intact. causes.damaged stops (intact mid (put_same mid c))))
-    step_stops mid tables before now result cursor.Memory c causes stops = inl (inr refl)
-    step_stops mid tables before now result cursor.Failed c causes stops =
+    step_stops mid tables later before now result cursor.Memory c causes stops = inl (inr refl)
+    step_stops mid tables later before now result cursor.Failed c causes stops =
         absurd (on_unbroken (u.position union) on (causes.failed.0 stops))
 
     -- why the entry was not put
-    pub step_refused : {intact : Type 0} (tables : ℕ) (e : MergeError)
-        → PutRefusal tables next_file (cut_before writer.target (written_by writer w.met) entry)
-        entry e → StepRefusal intact tables writer inputs e
-    step_refused tables e (inl external) = inl external
-    step_refused tables e (inr full) = inr (inr (
+    pub step_refused : {intact : Type 0} (tables later : ℕ) (e : MergeError)
+        → PutRefusal tables later (cut_before writer.target (written_by writer w.met) entry)
+        entry e → StepRefusal intact tables later (length w.met) 1 writer inputs e
+    step_refused tables later e (inl external) = inl external
+    step_refused tables later e (inr full) = inr (inr (
       full.0,
       record {
         met = w.met;
         entry = entry;
-        next_file = next_file;
         walked = step_here.2;
+        rising = w.rising;
+        behind = omega arith;
+        within = omega arith;
         full = full.1;
       },
     ))

@@ -205,9 +205,10 @@ line_file line = line.file
 pub uses_none : (old new : OutputWriter) (next_file : ℕ)
     → ((file : ℕ) → IsOpenFile new file → IsOpenFile old file)
     → ((file : ℕ) → IsOutputFile new file → IsOutputFile old file)
-    → UsesNumbers old next_file new next_file
-uses_none old new next_file opened outputs = record {
+    → {most : ℕ} → UsesNumbers most old next_file new next_file
+uses_none old new next_file opened outputs {most = most} = record {
   rises = omega arith;
+  within = omega arith;
   few = λ few. few;
   own = λ file mine. elim mine [ inl is ↦ inl (opened file is) | inr late ↦ inr late ];
   outputs = λ file output. inl (outputs file output);
@@ -215,8 +216,9 @@ uses_none old new next_file opened outputs = record {
 
 -- the writer has the same tables
 pub uses_same : (old new : OutputWriter) (next_file : ℕ) → new.current ≡ old.current
-    → new.closed ≡ old.closed → UsesNumbers old next_file new next_file
-uses_same old new next_file current closed = uses_none old new next_file opened outputs
+    → new.closed ≡ old.closed → {most : ℕ} → UsesNumbers most old next_file new next_file
+uses_same old new next_file current closed {most = most} =
+    uses_none old new next_file opened outputs {most = most}
   where
     opened : (file : ℕ) → IsOpenFile new file → IsOpenFile old file
     opened file is = sym (ap (option_map (λ (it : OpenOutput). it.file)) current) ∙ is
@@ -226,15 +228,30 @@ uses_same old new next_file current closed = uses_none old new next_file opened 
     outputs file (inr there) =
         inr (subst (λ (v : Vec TableLine). Contains (map line_file v.items) file) closed there)
 
+-- so many numbers are used at most, where fewer are
+pub uses_few : (old new : OutputWriter) (first next : ℕ) {few most : ℕ} → few ≤ most
+    → UsesNumbers few old first new next → UsesNumbers most old first new next
+uses_few old new first next le it =
+    let within = it.within in record {
+      rises = it.rises;
+      within = omega (arith, within, le);
+      few = it.few;
+      own = it.own;
+      outputs = it.outputs;
+    }
+
 -- one call behind another
-pub uses_then : (old mid new : OutputWriter) (first next last : ℕ)
-    → UsesNumbers old first mid next → UsesNumbers mid next new last
-    → UsesNumbers old first new last
-uses_then old mid new first next last one two =
+pub uses_then : (old mid new : OutputWriter) (first next last : ℕ) {some more : ℕ}
+    → UsesNumbers some old first mid next → UsesNumbers more mid next new last
+    → {most : ℕ} → most ≡ some + more → UsesNumbers most old first new last
+uses_then old mid new first next last {some = some} {more = more} one two {most = most} is =
     let low = one.rises in
     let high = two.rises in
+    let early = one.within in
+    let late = two.within in
     record {
       rises = omega (arith, low, high);
+      within = omega (arith, early, late, is);
       few = λ few. two.few (one.few few);
       own = λ file mine. one.own file (two.own file mine);
       outputs = λ file output. elim (two.outputs file output) [

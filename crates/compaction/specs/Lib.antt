@@ -26,5 +26,6 @@ pub use Rattle.compaction.specs.Plans.{model_plan, range_of}
 pub use Rattle.compaction.specs.Survivors.{AreDeeperLines, AreSurvivors, IsSortedUnion, key_range}
 pub use Rattle.compaction.specs.Survivors.{SurvivorsAreLeft, survivors}
 pub use Rattle.compaction.specs.Turns.{turn_key}
-pub use Rattle.compaction.specs.WrittenTables.{IsTableOver, Written, WrittenAreMerged}
+pub use Rattle.compaction.specs.WrittenTables.{AreWrittenTables, IsTableOver, Written}
+pub use Rattle.compaction.specs.WrittenTables.{WrittenAreMerged}
 pub use Rattle.compaction.specs.WrittenTables.{WrittenAreSurvivors, tables_of, written_of}

@@ -25,8 +25,9 @@ use Rattle.compaction.specs.Outputs.{IsOpenFile, IsOutput, IsOutputFile, IsOwnFi
 use Rattle.compaction.specs.Outputs.{AreUnused, WritesOnly}
 use Rattle.compaction.specs.Plans.{IsLineOf}
 use Rattle.compaction.specs.Survivors.{AreDeeperLines}
-use Rattle.compaction.specs.Walks.{HasSameFiles, IsIntactOn, IsWalking, LeavesWalk, StepRefusal}
-use Rattle.compaction.specs.Walks.{table_files}
+use Rattle.compaction.specs.Walks.{HasSameFiles, IsIntactOn, IsWalking, LeavesWalk, MeetsMore}
+use Rattle.compaction.specs.Walks.{StepRefusal, table_files}
+use Rattle.compaction.specs.WrittenTables.{AreWrittenTables}
 
 -- ---- the cursors that a merge begins with
 
@@ -87,6 +88,7 @@ pub record HaveNewFiles (first next_file : ℕ) (writer : OutputWriter) (added :
 pub record IsMergeEdit (disk : State) (version : StoreVersion) (first next_file : ℕ)
     (writer : OutputWriter) (plan : MergePlan) (floor : ℕ) (edit : Change) : Type 0 where
   pub outputs : List LevelTable
+  pub written : AreWrittenTables floor writer.target plan outputs
   pub merged : IsMerged floor plan outputs
   pub holds : AllZip (IsOutputTable disk (suc plan.level)) edit.tables_added outputs
   pub is : edit ≡ merge_change version next_file (map table_name plan.inputs) edit.tables_added
@@ -102,10 +104,12 @@ pub record IsFitMergeEdit (disk : State) (version : StoreVersion) (first next_fi
   pub fit : AcceptsMerge version next_file plan writer →
       IsFit version edit × IsChange edit
 
--- with the outputs in the place of the inputs, the version has more tables than it may have
-pub record HasTooManyTables (version : StoreVersion) (plan : MergePlan) (floor : ℕ) : Type 0 where
+-- with the tables that the merge writes in the place of its inputs, the version has more tables
+-- than it may have
+pub record HasTooManyTables (version : StoreVersion) (plan : MergePlan) (floor target : ℕ)
+    : Type 0 where
   pub outputs : List LevelTable
-  pub merged : IsMerged floor plan outputs
+  pub written : AreWrittenTables floor target plan outputs
   pub many : MAX_LINES + length plan.inputs < length version.tables + length outputs
 
 -- ---- a merge under way
@@ -185,7 +189,7 @@ module _ {D F : Type 0} (u : CursorGhosts (Merged (TableCursor D)) F) (d : Ghost
     -- the call writes to the file of the open output, and to files from the next number on
     pub writes : WritesOnly d (IsOwnFile was.writer next_old) old new (IsErrOf result merge.Disk)
         (IsNoMerge old next_old was)
-    pub numbers : UsesNumbers was.writer next_old now.writer next_new
+    pub numbers : UsesNumbers count was.writer next_old now.writer next_new
     pub first : begun_number now ≡ begun_number was
     pub gone : now.gone ≡ was.gone
     pub target : target_of now ≡ target_of was
@@ -196,9 +200,10 @@ module _ {D F : Type 0} (u : CursorGhosts (Merged (TableCursor D)) F) (d : Ghost
     pub steps : (meant : u.Meant) (plan : MergePlan) (floor : ℕ)
         (before : IsMerging meant old next_old was plan floor) → MatchResult result
         (λ more. (after : IsMerging meant new next_new now plan floor)
-        × ((length after.walk.met ≡ length before.walk.met + count) ⊎ (HasEntriesLeft now → ⊥))
+        × MeetsMore plan.inputs before.walk.met after.walk.met count (HasEntriesLeft now)
         × (IsIntactMerge old was plan → IsIntactMerge new now plan))
-        (StepRefusal (IsIntactMerge old was plan) tables was.writer plan.inputs)
+        (StepRefusal (IsIntactMerge old was plan) tables next_new (length before.walk.met) count
+        was.writer plan.inputs)
     -- Of a merge under way, no file exists with a number from the next one on, whatever the answer
     -- is.
     pub unused : (meant : u.Meant) (plan : MergePlan) (floor : ℕ) →
@@ -223,7 +228,7 @@ module _ {D F : Type 0} (u : CursorGhosts (Merged (TableCursor D)) F) (d : Ghost
         MatchResult result
         (IsFitMergeEdit (d.state new) version (begun_number was) next_file was.writer plan floor)
         (λ e. IsEnvironmental merge.Disk merge.Memory e
-        ⊎ ((e ≡ merge.Full) × HasTooManyTables version plan floor))
+        ⊎ ((e ≡ merge.Full) × HasTooManyTables version plan floor (target_of was)))
     -- Of a merge under way, no file exists with a number from the next one on, whatever the answer
     -- is.
     pub unused : (meant : u.Meant) (plan : MergePlan) (floor : ℕ) →

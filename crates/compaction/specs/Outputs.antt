@@ -105,11 +105,12 @@ IsOpenFile writer file = open_file writer ≡ Some file
 abbrev pub IsOwnFile : OutputWriter → ℕ → ℕ → Type 0
 IsOwnFile writer next_file file = IsOpenFile writer file ⊎ (next_file ≤ file)
 
--- The writer used file numbers from the first of these on, up to the second, within their limit.
--- Its files are those of before, or have such numbers.
-pub record UsesNumbers (old : OutputWriter) (next_old : ℕ) (new : OutputWriter) (next_new : ℕ)
-    : Type 0 where
+-- The writer used file numbers from the first of these on, up to the second, at most so many and
+-- within their limit. Its files are those of before, or have such numbers.
+pub record UsesNumbers (most : ℕ) (old : OutputWriter) (next_old : ℕ) (new : OutputWriter)
+    (next_new : ℕ) : Type 0 where
   pub rises : next_old ≤ next_new
+  pub within : next_new ≤ next_old + most
   pub few : next_old ≤ MAX_NEXT → next_new ≤ MAX_NEXT
   pub own : (file : ℕ) → IsOwnFile new next_new file → IsOwnFile old next_old file
   pub outputs : (file : ℕ) → IsOutputFile new file → IsOutputFile old file ⊎ (next_old ≤ file)

@@ -1,5 +1,5 @@
 -- A merge under way: the union of its inputs is walked, and what it has shown is written.
-use Rattle.std.specs.Prelude.{◌≡◌, ◌⊎◌, ◌≤◌, ◌+◌, ℕ, List, length, map, All, Contains, Result}
+use Rattle.std.specs.Prelude.{◌≡◌, ◌⊎◌, ◌≤◌, ◌<◌, ◌+◌, ℕ, List, length, map, All, Contains, Result}
 use Rattle.std.specs.Prelude.{IsErrOf, MatchResult}
 use Rattle.disk.specs.{IsEnvironmental}
 use Rattle.disk.specs.declared.Disk.{Ghosts}
@@ -14,6 +14,7 @@ use Rattle.compaction.specs.declared.error.MergeError.TheVariants as merge
 use Rattle.compaction.specs.declared.writer.OutputWriter.{OutputWriter}
 use Rattle.compaction.specs.Outputs.{AreUnused, IsOpenFile, IsOwnFile, KeepsRules, LacksRoom}
 use Rattle.compaction.specs.Outputs.{UsesNumbers, WriterHolds, WritesOnly}
+use Rattle.compaction.specs.Survivors.{IsSortedUnion}
 use Rattle.compaction.specs.WrittenTables.{Written, cut_before, written_of}
 
 -- ---- walks
@@ -92,21 +93,32 @@ pub record LeavesWalk {F : Type 0} (d : Ghosts F) (old new : F) (next_file later
 
 -- ---- refusals
 
--- these entries of the inputs were met, and the next one wants a place that there is not
-pub record FindsNoRoom (tables : ℕ) (writer : OutputWriter) (inputs : List LevelTable)
-    : Type 0 where
+-- Behind the entries of the inputs that were met before, at most so many are met, and one of them
+-- wants a place that there is not, where this is the next file.
+pub record FindsNoRoom (tables next_file before count : ℕ) (writer : OutputWriter)
+    (inputs : List LevelTable) : Type 0 where
   pub met : List Entry
   pub entry : Entry
-  pub next_file : ℕ
   pub walked : HasWalked (tables_entries inputs) met (On entry)
+  pub rising : AreRising met
+  pub behind : before ≤ length met
+  pub within : length met < before + count
   pub full : LacksRoom tables next_file
       (cut_before writer.target (written_by writer met) entry) entry
 
--- why a merge did not go on, where its inputs are intact or not
-abbrev pub StepRefusal : Type 0 → ℕ → OutputWriter → List LevelTable → MergeError → Type 0
-StepRefusal intact tables writer inputs e =
+-- why a merge did not go on by so many entries, where its inputs are intact or not
+abbrev pub StepRefusal : Type 0 → (tables next_file before count : ℕ) → OutputWriter →
+    List LevelTable → MergeError → Type 0
+StepRefusal intact tables next_file before count writer inputs e =
     IsEnvironmental merge.Disk merge.Memory e ⊎ (((e ≡ merge.Damaged) × (intact → ⊥))
-    ⊎ ((e ≡ merge.Full) × FindsNoRoom tables writer inputs))
+    ⊎ ((e ≡ merge.Full) × FindsNoRoom tables next_file before count writer inputs))
+
+-- A step met so many entries more of these inputs, or all that were left.
+pub record MeetsMore (inputs : List LevelTable) (before after : List Entry) (count : ℕ)
+    (left : Type 0) : Type 0 where
+  pub most : length after ≤ length before + count
+  pub all : (length after ≡ length before + count) ⊎ (left → ⊥)
+  pub union : (left → ⊥) → IsSortedUnion inputs after
 
 -- ---- the calls
 
@@ -120,7 +132,7 @@ module _ {U F : Type 0} (u : CursorGhosts U F) (d : Ghosts F) where
     pub writes : WritesOnly d (IsOwnFile writer_old next_old) old new (IsErrOf result merge.Disk)
         (IsNoWalk u d old next_old union_old writer_old)
     pub rules : KeepsRules writer_old writer_new
-    pub numbers : UsesNumbers writer_old next_old writer_new next_new
+    pub numbers : UsesNumbers steps writer_old next_old writer_new next_new
     -- Where a merge was under way, no file exists with a number from the next one on, whatever the
     -- answer is.
     pub unused : (meant : u.Meant) (inputs : List LevelTable) →
@@ -133,4 +145,5 @@ module _ {U F : Type 0} (u : CursorGhosts U F) (d : Ghosts F) where
         × (length now.met ≡ length was.met + steps)
         × (IsIntactOn u d (table_files inputs) union_old old →
         IsIntactOn u d (table_files inputs) union_new new))
-        (StepRefusal (IsIntactOn u d (table_files inputs) union_old old) tables writer_old inputs)
+        (StepRefusal (IsIntactOn u d (table_files inputs) union_old old) tables next_new
+        (length was.met) steps writer_old inputs)

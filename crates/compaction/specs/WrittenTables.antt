@@ -80,10 +80,19 @@ pub record IsTableOver (level : ℕ) (table : LevelTable) (entries : List Entry)
   pub least : IfSome (first_entry entries) (λ entry. table.range.least ≡ entry.key)
   pub greatest : IfSome (last_entry entries) (λ entry. table.range.greatest ≡ entry.key)
 
--- tables that have what is written of the sorted union of the inputs are the outputs of the merge
+-- The tables have what a merge of the plan writes at this floor of the sorted union of its inputs,
+-- where so many bytes of data complete a table.
+pub record AreWrittenTables (floor target : ℕ) (plan : MergePlan) (outputs : List LevelTable)
+    : Type 0 where
+  pub deeper : List TableLine
+  pub entries : List Entry
+  pub lines : AreDeeperLines plan deeper
+  pub union : IsSortedUnion plan.inputs entries
+  pub tables : AllZip (IsTableOver (suc plan.level)) outputs
+      (tables_of (written_of floor deeper target entries))
+
+-- the tables that a merge writes are its outputs
 abbrev pub WrittenAreMerged : Type 0
 WrittenAreMerged =
-    (floor : ℕ) (plan : MergePlan) (deeper : List TableLine) (target : ℕ) (entries : List Entry)
-    (outputs : List LevelTable) → AreDeeperLines plan deeper → IsSortedUnion plan.inputs entries →
-    AllZip (IsTableOver (suc plan.level)) outputs
-    (tables_of (written_of floor deeper target entries)) → IsMerged floor plan outputs
+    (floor target : ℕ) (plan : MergePlan) (outputs : List LevelTable) →
+    AreWrittenTables floor target plan outputs → IsMerged floor plan outputs

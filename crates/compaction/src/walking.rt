@@ -75,7 +75,7 @@ pub(crate) fn write_some<D: Disk + Drop>(
     next_file: &mut u64,
 ) -> Result<(), MergeError>
     requires { tables ≤ MAX_LINES }
-    ensures { (steps : ℕ) × AdvancesWalk ⟦<Merged<TableCursor<D>> as Cursor>⟧
+    ensures { (steps : ℕ) × (steps ≤ count) × AdvancesWalk ⟦<Merged<TableCursor<D>> as Cursor>⟧
         ⟦<CachedDisk<D> as Disk>⟧ tables steps files.old next_file.old union.old writer.old
         files.new next_file.new union.new writer.new result × OnOk result ((steps ≡ count)
         ⊎ (IsOn (⟦<Merged<TableCursor<D>> as Cursor>⟧.position union.new) → ⊥)) }

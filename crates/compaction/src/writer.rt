@@ -191,7 +191,7 @@ impl OutputWriter {
         requires { tables ≤ MAX_LINES }
         ensures rules { KeepsRules self.old self.new }
         ensures some { OnOk result (IsSome (open_file self.new)) }
-        ensures numbers { UsesNumbers self.old next_file.old self.new next_file.new }
+        ensures numbers { UsesNumbers 1 self.old next_file.old self.new next_file.new }
         ensures begun { (disk : State) (it : Written) → WriterHolds disk next_file.old self.old it →
             AreUnused disk next_file.old →
             OnOk result (WriterHolds disk next_file.new self.new it
@@ -257,7 +257,7 @@ impl OutputWriter {
         ensures writes { WritesOnly D.Disk (IsOwnFile self.old next_file.old) disk.old disk.new
             (IsErrOf result Disk) (IsAstray D.Disk disk.old next_file.old self.old) }
         ensures rules { KeepsRules self.old self.new }
-        ensures numbers { UsesNumbers self.old next_file.old self.new next_file.new }
+        ensures numbers { UsesNumbers 1 self.old next_file.old self.new next_file.new }
         ensures unused { (it : Written) → D.is_honest disk.old →
             WriterHolds (D.state disk.old) next_file.old self.old it →
             AreUnused (D.state disk.old) next_file.old →
@@ -269,7 +269,7 @@ impl OutputWriter {
             (λ _. WriterHolds (D.state disk.new) next_file.new self.new
             (with_written (cut_before self.old.target it (lent_entry entry.entry))
             (lent_entry entry.entry)))
-            (PutRefusal tables next_file.old (cut_before self.old.target it
+            (PutRefusal tables next_file.new (cut_before self.old.target it
             (lent_entry entry.entry)) (lent_entry entry.entry)) }
     {
         self.cut(alloc, disk, entry.key)?;
@@ -292,7 +292,7 @@ impl OutputWriter {
         ensures writes { WritesOnly D.Disk (IsOwnFile self.old next_file.old) disk.old disk.new
             (IsErrOf result Disk) (IsAstray D.Disk disk.old next_file.old self.old) }
         ensures rules { KeepsRules self.old self.new }
-        ensures numbers { UsesNumbers self.old next_file.old self.new next_file.new }
+        ensures numbers { UsesNumbers 1 self.old next_file.old self.new next_file.new }
         ensures unused { (it : Written) → D.is_honest disk.old →
             WriterHolds (D.state disk.old) next_file.old self.old it →
             AreUnused (D.state disk.old) next_file.old →
@@ -304,7 +304,7 @@ impl OutputWriter {
             (λ _. WriterHolds (D.state disk.new) next_file.new self.new
             (with_next self.old.floor self.old.deeper.items self.old.target it
             (lent_entry entry.entry)))
-            (PutRefusal tables next_file.old (cut_before self.old.target it
+            (PutRefusal tables next_file.new (cut_before self.old.target it
             (lent_entry entry.entry)) (lent_entry entry.entry)) }
     {
         if self.drops(entry) {

@@ -65,13 +65,12 @@ refused (Err merging.Failed) = tt
 refused (Err merging.Full) = tt
 
 -- a merge over intact inputs that has room is refused by the environment alone
-only_environment : (e : MergeError) (intact : Type 0) (tables : ℕ) (writer : OutputWriter)
-    (inputs : List LevelTable) → (e ≡ merging.Full → ⊥) → intact →
-    StepRefusal intact tables writer inputs e → IsEnvironmental merging.Disk merging.Memory e
-only_environment e intact tables writer inputs room is (inl outside) = outside
-only_environment e intact tables writer inputs room is (inr (inl damaged)) =
-    absurd (damaged.1 is)
-only_environment e intact tables writer inputs room is (inr (inr full)) = absurd (room full.0)
+only_environment : (e : MergeError) (intact no_room : Type 0) → (e ≡ merging.Full → ⊥) → intact →
+    IsEnvironmental merging.Disk merging.Memory e ⊎ (((e ≡ merging.Damaged) × (intact → ⊥))
+    ⊎ ((e ≡ merging.Full) × no_room)) → IsEnvironmental merging.Disk merging.Memory e
+only_environment e intact no_room room is (inl outside) = outside
+only_environment e intact no_room room is (inr (inl damaged)) = absurd (damaged.1 is)
+only_environment e intact no_room room is (inr (inr full)) = absurd (room full.0)
 
 module _ {D : Type 0} (g : Ghosts D) (old : StoreFiles) (u : AreUsableFiles old)
     (a : CachedDisk D g) (was : Merge D) where
@@ -176,8 +175,7 @@ module _ {D : Type 0} (g : Ghosts D) (old : StoreFiles) (u : AreUsableFiles old)
         IsEnvironmental engine.Disk engine.Memory (error_of_merge e)
     outside e room did list h =
         let m = h.merges.under_way in
-        environment e (only_environment e _ count was.writer h.merges.plan.inputs room
-        h.merges.intact (did.steps m.meant h.merges.plan (known_facts old).floor m.merging))
+        environment e (only_environment e _ _ room h.merges.intact (did.steps m.meant h.merges.plan (known_facts old).floor m.merging))
 
     held : (answer : Result Bool MergeError) → Did answer →
         (list : List BatchContent) → HoldsWithMerge g a old (Some was) list →
@@ -270,12 +268,13 @@ module _ {D : Type 0} (g : Ghosts D) (old : StoreFiles) (u : AreUsableFiles old)
     so_many (inr none) there = absurd (none there)
 
     -- there was no room
-    no_room : (e : MergeError) (intact : Type 0) (inputs : List LevelTable) → e ≡ merging.Full →
-        StepRefusal intact count was.writer inputs e → FindsNoRoom count was.writer inputs
-    no_room e intact inputs is (inl (inl disk)) = absurd cc
-    no_room e intact inputs is (inl (inr memory)) = absurd cc
-    no_room e intact inputs is (inr (inl damaged)) = let so = damaged.0 in absurd cc
-    no_room e intact inputs is (inr (inr full)) = full.1
+    no_room : (e : MergeError) (intact : Type 0) (before : ℕ) (inputs : List LevelTable) →
+        e ≡ merging.Full → StepRefusal intact count next before step_length was.writer inputs e →
+        FindsNoRoom count next before step_length was.writer inputs
+    no_room e intact before inputs is (inl (inl disk)) = absurd cc
+    no_room e intact before inputs is (inl (inr memory)) = absurd cc
+    no_room e intact before inputs is (inr (inl damaged)) = let so = damaged.0 in absurd cc
+    no_room e intact before inputs is (inr (inr full)) = full.1
 
     pub planned : (answer : Result Bool MergeError) → Did answer →
         count ≡ length version.tables →
@@ -286,21 +285,28 @@ module _ {D : Type 0} (g : Ghosts D) (old : StoreFiles) (u : AreUsableFiles old)
         let left = did.status.2.0 refl in
         record {
           after = after_of (Ok true) did tables plan m step.0;
-          met = so_many step.1 left;
+          met = so_many step.1.all left;
           left = left;
         }
     planned (Ok false) did counted tables plan m =
-        let step = did.steps m.meant plan (known_facts old).floor m.merging in (
+        let step = did.steps m.meant plan (known_facts old).floor m.merging in
+        let none : HasEntriesLeft (union_ghosts g) (files_ghosts g) now → ⊥ =
+        λ left. let is = did.status.2.1 left in cc in (
           after_of (Ok false) did tables plan m step.0,
-          λ left. let is = did.status.2.1 left in cc,
+          none,
+          record {
+            entries = step.0.walk.met;
+            all = step.1.union none;
+            few = step.1.most;
+          },
         )
     planned (Err merging.Disk) did counted tables plan m = tt
     planned (Err merging.Damaged) did counted tables plan m = tt
     planned (Err merging.Memory) did counted tables plan m = tt
     planned (Err merging.Failed) did counted tables plan m = tt
     planned (Err merging.Full) did counted tables plan m =
-        subst (λ (n : ℕ). FindsNoRoom n was.writer plan.inputs) counted
-        (no_room merging.Full _ plan.inputs refl
+        subst (λ (n : ℕ). FindsNoRoom n next (length m.merging.walk.met) step_length was.writer
+        plan.inputs) counted (no_room merging.Full _ (length m.merging.walk.met) plan.inputs refl
         (did.steps m.meant plan (known_facts old).floor m.merging))
 
   -- ---- as the call was told

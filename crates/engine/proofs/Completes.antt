@@ -17,7 +17,7 @@ use Rattle.compaction.specs.declared.error.MergeError.{MergeError}
 use Rattle.compaction.specs.declared.error.MergeError.TheVariants as merging
 use Rattle.compaction.specs.{AcceptsMerge, IsFitMergeEdit, IsLineOf, IsMergeEdit, MergeEditsKeep}
 use Rattle.compaction.specs.Merges.{EndsMerge, HasEntriesLeft, HasTooManyTables, IsOutputTable}
-use Rattle.compaction.specs.Merges.{begun_number, merge_change}
+use Rattle.compaction.specs.Merges.{begun_number, merge_change, target_of}
 use Rattle.compaction.specs.Outputs.{IsOpenFile}
 use Rattle.store_model.specs.{LevelTable, MergePlan}
 use Rattle.store_tables.specs.declared.error.EngineError.{EngineError}
@@ -129,10 +129,11 @@ module _ {D : Type 0} (g : Ghosts D) (old : StoreFiles) (u : AreUsableFiles old)
     fit_of edit did tables plan m = did.ends m.meant plan floor m.merging done
 
     edit_of : (edit : Change) → Did (Ok edit) → (tables : List LevelTable) (plan : MergePlan) →
-        IsMergeOf g a old tables was plan → IsEditOf old plan (Some edit)
+        IsMergeOf g a old tables was plan → IsEditOf old plan (target_of was) (Some edit)
     edit_of edit did tables plan m =
         let it = (fit_of edit did tables plan m).merges in (
           it.outputs,
+          it.written,
           it.merged,
           zip_weaker (IsOutputTable (g.state (inner_disk b)) (suc plan.level)) IsLineOf
               (λ line table o. o.line_of) edit.tables_added it.outputs it.holds,
@@ -140,8 +141,9 @@ module _ {D : Type 0} (g : Ghosts D) (old : StoreFiles) (u : AreUsableFiles old)
         )
 
     too_many : Did (Err merging.Full) → (tables : List LevelTable) (plan : MergePlan) →
-        IsMergeOf g a old tables was plan → IsEditOf old plan None
-    too_many did tables plan m = of_full merging.Full (HasTooManyTables version plan floor) refl
+        IsMergeOf g a old tables was plan → IsEditOf old plan (target_of was) None
+    too_many did tables plan m = of_full merging.Full
+        (HasTooManyTables version plan floor (target_of was)) refl
         (did.ends m.meant plan floor m.merging done)
 
     -- what is kept where this is the answer
@@ -300,12 +302,12 @@ module _ {D : Type 0} (g : Ghosts D) (old : StoreFiles) (u : AreUsableFiles old)
     edits : (answer : Result Change MergeError) → Did answer →
         (result : Result (Option Change) EngineError) → IsCheckedEdit version answer result →
         (tables : List LevelTable) (plan : MergePlan) → IsMergeOf g a old tables was plan →
-        IfOk result (IsEditOf old plan)
+        IfOk result (IsEditOf old plan (target_of was))
     edits (Ok edit) did (Ok made) checked tables plan m =
-        subst (IsEditOf old plan) (sym checked.0) (edit_of edit did tables plan m)
+        subst (IsEditOf old plan (target_of was)) (sym checked.0) (edit_of edit did tables plan m)
     edits (Ok edit) did (Err e) checked tables plan m = tt
     edits (Err why) did (Ok made) checked tables plan m =
-        subst (IsEditOf old plan) (sym checked.0)
+        subst (IsEditOf old plan (target_of was)) (sym checked.0)
         (too_many (subst (λ (e : MergeError). Did (Err e)) checked.1 did) tables plan m)
     edits (Err why) did (Err e) checked tables plan m = tt
 
@@ -332,5 +334,5 @@ module _ {D : Type 0} (g : Ghosts D) (old : StoreFiles) (u : AreUsableFiles old)
       fit_told = fits answer did_so result checked_so
 
       pub edit_told : (tables : List LevelTable) (plan : MergePlan) →
-          IsMergeOf g a old tables was plan → IfOk result (IsEditOf old plan)
+          IsMergeOf g a old tables was plan → IfOk result (IsEditOf old plan (target_of was))
       edit_told = edits answer did_so result checked_so

@@ -103,6 +103,6 @@ never_idle g a b old new it left P (Ok answer) on = λ idle. no on.did idle
   where
     no : ContinuesMerge old new it left answer → answer ≡ tended.Idle → P
     no (going.HasStepped now went is worked) idle = absurd cc
-    no (going.EndsByEdit edit used merged is worked) idle = absurd cc
-    no (going.IsGivenUp used freed is full) idle = absurd cc
+    no (going.EndsByEdit edit used few merged is worked) idle = absurd cc
+    no (going.IsGivenUp used few freed is full) idle = absurd cc
 never_idle g a b old new it left P (Err e) on = tt

@@ -8,7 +8,7 @@ use Rattle.manifest.specs.{Change, NodeVersion}
 use Rattle.store_model.specs.{LevelTable, MergePlan}
 use Rattle.compaction.specs.declared.Merge.{Merge}
 use Rattle.compaction.specs.Leftovers.{IsBesideVersion, IsLeftover}
-use Rattle.compaction.specs.Merges.{begun_number}
+use Rattle.compaction.specs.Merges.{begun_number, target_of}
 use Rattle.store_tables.specs.declared.error.EngineError.{EngineError}
 use Rattle.store_tables.specs.Errors.{IsEnd}
 use Rattle.store_files.specs.declared.store_files.StoreFiles.{StoreFiles}
@@ -71,31 +71,43 @@ module _ {D : Type 0} (g : Ghosts D) (a b c : CachedDisk D g) (old mid new : Sto
 
   module _ (left : Option (Merge D)) (none : left ≡ None)
       (honest : g.is_honest (inner_disk a) → g.is_honest (inner_disk b)) where
+    -- the edit, told of the files and the merge as they were before
+    edit_on : (made : Option Change) →
+        ((tables : List LevelTable) (plan : MergePlan) → IsMergeOf g b mid tables now plan →
+        IsEditOf mid plan (target_of now) made) → (tables : List LevelTable) (plan : MergePlan) →
+        IsMergeOf g b mid tables now plan →
+        IsEditOf (with_free old mid.free_file) plan (target_of was) made
+    edit_on made edit tables plan m =
+        subst (λ (n : ℕ). IsEditOf (with_free old mid.free_file) plan n made) on.target
+        (subst (λ (s : StoreFiles). IsEditOf s plan (target_of now) made) on.store
+        (edit tables plan m))
+
     -- it ended by this edit, or was given up where there is none
     of_made : called ≡ Ok progress.Done → (answer : Tended) (made : Option Change) →
         answer ≡ ended_answer made → IsEndedBy (begun_number now) mid new made →
         ((tables : List LevelTable) (plan : MergePlan) → IsMergeOf g b mid tables now plan →
-        IsEditOf mid plan made) →
+        IsEditOf mid plan (target_of now) made) →
         (g.is_honest (inner_disk b) → made ≡ None → HasNoLeftovers g (begun_number now) mid c) →
         (g.is_honest (inner_disk b) →
         IfSome made (λ it. AreAbsent (replaced_files it) (g.state (inner_disk c)))) →
         ContinuesAsPlanned g a c old new was left answer
     of_made is answer None told ended edit gone inputs = record {
-      did = continues.IsGivenUp mid.free_file (abandoned_store old mid was now on new ended) none
-          told;
-      planned = λ tables plan before. record {
-        why = inr (subst (λ (s : StoreFiles). IsEditOf s plan None) on.store
-            (edit tables plan (ahead progress.Done is tables plan before).0));
+      did = continues.IsGivenUp mid.free_file (on.numbers.rises, on.numbers.within)
+          (abandoned_store old mid was now on new ended) none told;
+      planned = λ tables plan before.
+          let done = ahead progress.Done is tables plan before in record {
+        why = inr (done.2, edit_on None edit tables plan done.0);
         removed = λ file it. gone (honest before.merging.walk.honest) refl file
             (leftover_on old mid was now on file it);
       };
     }
     of_made is answer (Some made) told ended edit gone inputs = record {
-      did = continues.EndsByEdit made mid.free_file
+      did = continues.EndsByEdit made mid.free_file (on.numbers.rises, on.numbers.within)
           (subst (λ (s : StoreFiles). IsMergedBy made s new) on.store ended) none told;
-      planned = λ tables plan before. (
-        subst (λ (s : StoreFiles). IsEditOf s plan (Some made)) on.store
-            (edit tables plan (ahead progress.Done is tables plan before).0),
+      planned = λ tables plan before.
+          let done = ahead progress.Done is tables plan before in (
+        edit_on (Some made) edit tables plan done.0,
+        done.2,
         inputs (honest before.merging.walk.honest),
       );
     }
@@ -113,8 +125,8 @@ module _ {D : Type 0} (g : Ghosts D) (a b c : CachedDisk D g) (old mid new : Sto
         (g.is_honest (inner_disk b) → OnOk result (HasNoLeftovers g (begun_number now) mid c)) →
         IfOk (result_and result (Ok tended.Full)) (ContinuesAsPlanned g a c old new was left)
     had_no_room is (Ok x) freed gone = record {
-      did = continues.IsGivenUp mid.free_file (abandoned_store old mid was now on new freed) none
-          refl;
+      did = continues.IsGivenUp mid.free_file (on.numbers.rises, on.numbers.within)
+          (abandoned_store old mid was now on new freed) none refl;
       planned = λ tables plan before. record {
         why = inl (ahead progress.Full is tables plan before);
         removed = λ file it. gone (honest before.merging.walk.honest) file
@@ -128,11 +140,13 @@ module _ {D : Type 0} (g : Ghosts D) (a b c : CachedDisk D g) (old mid new : Sto
 module _ {D : Type 0} (g : Ghosts D) (a c : CachedDisk D g) (old new : StoreFiles) (was : Merge D)
     (called : Result (Option Change) EngineError)
     (edit : (tables : List LevelTable) (plan : MergePlan) → IsMergeOf g a old tables was plan →
-    IfOk called (IsEditOf old plan)) where
+    IfOk called (IsEditOf old plan (target_of was))) where
   -- the edit is that of the plan
   edit_is : (made : Option Change) → called ≡ Ok made → (tables : List LevelTable)
-      (plan : MergePlan) → IsMergeOf g a old tables was plan → IsEditOf old plan made
-  edit_is made is tables plan m = subst (λ r. IfOk r (IsEditOf old plan)) is (edit tables plan m)
+      (plan : MergePlan) → IsMergeOf g a old tables was plan →
+      IsEditOf old plan (target_of was) made
+  edit_is made is tables plan m = subst (λ r. IfOk r (IsEditOf old plan (target_of was))) is
+      (edit tables plan m)
 
   -- it was recorded
   pub merged_here : (made : Change) → called ≡ Ok (Some made) →

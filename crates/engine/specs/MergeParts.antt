@@ -6,7 +6,7 @@ use Rattle.std.specs.Prelude.{Bool, Err, Ok, false, length, map, max, min, true}
 use Rattle.std.specs.List.{AllZip}
 use Rattle.disk.specs.declared.Disk.{Ghosts}
 use Rattle.disk.specs.{AlwaysLeaves, IsEnvironmental, KeepsDisk, seen}
-use Rattle.kv_types.specs.{BatchContent, StoredKey}
+use Rattle.kv_types.specs.{BatchContent, Entry, StoredKey}
 use Rattle.version_edits.specs.{IsFit, StoreVersion}
 use Rattle.manifest.specs.{Change, HasFullSlot, counting_file, spare_file}
 use Rattle.store_model.specs.{IsMerged, LevelTable, MergePlan}
@@ -14,7 +14,8 @@ use Rattle.compaction.specs.declared.error.MergeError.{MergeError}
 use Rattle.compaction.specs.declared.error.MergeError.TheVariants as merging
 use Rattle.compaction.specs.declared.Merge.{Merge}
 use Rattle.compaction.specs.declared.Plan.{Plan}
-use Rattle.compaction.specs.{IsLineOf, model_plan, picked, range_of}
+use Rattle.compaction.specs.{AreWrittenTables, IsLineOf, IsSortedUnion, model_plan, picked}
+use Rattle.compaction.specs.{range_of}
 use Rattle.compaction.specs.Leftovers.{IsLeftover}
 use Rattle.compaction.specs.Merges.{HasEntriesLeft, HasTooManyTables, begun_number, merge_change}
 use Rattle.compaction.specs.Merges.{table_name, target_of}
@@ -199,7 +200,7 @@ merge_after now progress.Full = None
 -- did, and completes its outputs as it did
 pub record IsAdvanced {D : Type 0} (old new : StoreFiles) (was now : Merge D) : Type 0 where
   pub store : new ≡ with_free old new.free_file
-  pub numbers : UsesNumbers was.writer old.free_file now.writer new.free_file
+  pub numbers : UsesNumbers step_length was.writer old.free_file now.writer new.free_file
   pub first : begun_number now ≡ begun_number was
   pub gone : now.gone ≡ was.gone
   pub target : target_of now ≡ target_of was
@@ -212,9 +213,24 @@ pub record StepsOn {D : Type 0} (g : Ghosts D) (a b : CachedDisk D g) (old new :
   pub met : length after.merging.walk.met ≡ length before.merging.walk.met + step_length
   pub left : HasEntriesLeft (union_ghosts g) (files_ghosts g) now
 
+-- The inputs have no more entries than so many behind those that are merged.
+pub record CanEndNow {D : Type 0} (g : Ghosts D) (a : CachedDisk D g) (old : StoreFiles)
+    (was : Merge D) (tables : List LevelTable) (plan : MergePlan)
+    (before : IsMergeOf g a old tables was plan) : Type 0 where
+  pub entries : List Entry
+  pub all : IsSortedUnion plan.inputs entries
+  pub few : length entries ≤ length before.merging.walk.met + step_length
+
 module _ {D : Type 0} (g : Ghosts D) where
+  -- one of the next entries wants a place that there is not, with this free file
+  abbrev pub LacksPlace : (a : CachedDisk D g) → (old : StoreFiles) (was : Merge D)
+      (tables : List LevelTable) (plan : MergePlan) → IsMergeOf g a old tables was plan → ℕ → Type 0
+  LacksPlace a old was tables plan before free =
+      FindsNoRoom (length (known_version old).version.tables) free
+      (length before.merging.walk.met) step_length was.writer plan.inputs
+
   -- How a merge of this plan went on: so many entries more are merged and others are left, or all
-  -- are merged, or the next one wants a place that there is not.
+  -- are merged, or one of the next wants a place that there is not.
   abbrev pub HasProgress : (a b : CachedDisk D g) → (old new : StoreFiles) → (was now : Merge D) →
       (tables : List LevelTable) (plan : MergePlan) → IsMergeOf g a old tables was plan →
       Progress → Type 0
@@ -223,8 +239,9 @@ module _ {D : Type 0} (g : Ghosts D) where
   HasProgress a b old new was now tables plan before progress.Done =
       IsMergeOf g b new tables now plan
       × (HasEntriesLeft (union_ghosts g) (files_ghosts g) now → ⊥)
+      × CanEndNow g a old was tables plan before
   HasProgress a b old new was now tables plan before progress.Full =
-      FindsNoRoom (length (known_version old).version.tables) was.writer plan.inputs
+      LacksPlace a old was tables plan before new.free_file
 
   -- so it went on, where it was under way by any plan
   abbrev pub AdvancesPlanned : (a b : CachedDisk D g) → (old new : StoreFiles) →
@@ -270,12 +287,14 @@ KeepsCompleted g a b store was result =
     (WasMeantWithMerge g a store (Some was)) (HoldEdit g b store) (WereMeantEdit g b store)
     a b store store result
 
--- the edit is that of a merge of this plan, or the version would have too many tables
-abbrev pub IsEditOf : StoreFiles → MergePlan → Option Change → Type 0
-IsEditOf store plan None =
-    HasTooManyTables (known_version store).version plan (known_facts store).floor
-IsEditOf store plan (Some edit) =
-    (outputs : List LevelTable) × IsMerged (known_facts store).floor plan outputs
+-- the edit is that of a merge of this plan, or with its outputs, which so many bytes of data
+-- complete, the version would have too many tables
+abbrev pub IsEditOf : StoreFiles → MergePlan → ℕ → Option Change → Type 0
+IsEditOf store plan target None =
+    HasTooManyTables (known_version store).version plan (known_facts store).floor target
+IsEditOf store plan target (Some edit) =
+    (outputs : List LevelTable) × AreWrittenTables (known_facts store).floor target plan outputs
+    × IsMerged (known_facts store).floor plan outputs
     × AllZip IsLineOf edit.tables_added outputs
     × (edit ≡ merge_change (known_version store).version store.free_file
     (map table_name plan.inputs) edit.tables_added)
@@ -327,7 +346,7 @@ pub record MergeHasEnded {D : Type 0} (g : Ghosts D) (a b : CachedDisk D g) (old
   pub told : answer ≡ ended_answer made
   pub ended : IsEndedBy (begun_number was) old new made
   pub edit : (tables : List LevelTable) (plan : MergePlan) → IsMergeOf g a old tables was plan →
-      IsEditOf old plan made
+      IsEditOf old plan (target_of was) made
   pub removed : g.is_honest (inner_disk a) → made ≡ None →
       HasNoLeftovers g (begun_number was) old b
   pub inputs_gone : g.is_honest (inner_disk a) →

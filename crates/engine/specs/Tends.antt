@@ -1,5 +1,5 @@
 -- A tend of an engine's files: what is due, and what it did.
-use Rattle.std.specs.Prelude.{◌≡◌, ◌≢◌, ◌⊎◌, ◌==◌, ◌&&◌, ℕ, List, length, if◌then◌else◌}
+use Rattle.std.specs.Prelude.{◌≡◌, ◌≢◌, ◌⊎◌, ◌==◌, ◌&&◌, ◌+◌, ◌≤◌, ℕ, List, if◌then◌else◌}
 use Rattle.std.specs.Prelude.{IfErr, Option, Result, Some, None, option_map}
 use Rattle.std.specs.List.{find}
 use Rattle.std.specs.Option.{option_and_then, option_or}
@@ -16,7 +16,6 @@ use Rattle.compaction.specs.declared.Plan.{Plan}
 use Rattle.compaction.specs.declared.Turn.{Turn}
 use Rattle.compaction.specs.{picked, turn_key}
 use Rattle.compaction.specs.Merges.{begun_number, target_of}
-use Rattle.compaction.specs.Walks.{FindsNoRoom}
 use Rattle.store_tables.specs.declared.error.EngineError.{EngineError}
 use Rattle.store_tables.specs.declared.error.EngineError.TheVariants as engine
 use Rattle.store_files.specs.declared.store_files.StoreFiles.{StoreFiles}
@@ -31,8 +30,9 @@ use Rattle.store_files.specs.TendKeeps.{OfEitherFacts}
 use Rattle.store_files.specs.Tending.{FlushIsDue, IsTend, IsWorkAnswer, RewriteIsDue}
 use Rattle.table_files.specs.{inner_disk}
 use Rattle.table_files.specs.declared.cached_disk.CachedDisk.{CachedDisk}
-use Rattle.engine.specs.MergeParts.{HasNoLeftovers, IsAdvanced, IsEditOf, IsNewMerge, IsTendedFile}
-use Rattle.engine.specs.MergeParts.{KeepsPart, PartMayFail, StepsOn, free_behind}
+use Rattle.engine.specs.MergeParts.{CanEndNow, HasNoLeftovers, IsAdvanced, IsEditOf, IsNewMerge}
+use Rattle.engine.specs.MergeParts.{IsTendedFile, KeepsPart, LacksPlace, PartMayFail, StepsOn}
+use Rattle.engine.specs.MergeParts.{free_behind, step_length}
 use Rattle.engine.specs.UnderWay.{HoldsWithMerge, IsMergeOf, WasMeantWithMerge}
 
 -- ---- whose turn it is
@@ -84,6 +84,10 @@ module _ {D : Type 0} where
     pub first : begun_number merge ≡ new.store.free_file
     pub target : target_of merge ≡ limits.table
 
+  -- file numbers were used from the first of these on, up to the second, by one step of a merge
+  abbrev pub UsesUpTo : (free used : ℕ) → Type 0
+  UsesUpTo free used = (free ≤ used) × (used ≤ free + step_length)
+
   -- What the next part of a merge under way did of any files, and what is left of the merge. Only
   -- numbers of files were used; or its edit is recorded; or it is given up, and the files are as
   -- before it began, but for the floor, which rose then, and for what was flushed since.
@@ -91,9 +95,9 @@ module _ {D : Type 0} where
       (answer : Tended) : Type 0 where
     HasStepped : (now : Merge D) → IsAdvanced old new was now → left ≡ Some now →
         answer ≡ tended.Worked → ContinuesMerge old new was left answer
-    EndsByEdit : (edit : Change) (used : ℕ) → IsMergedBy edit (with_free old used) new →
-        left ≡ None → answer ≡ tended.Worked → ContinuesMerge old new was left answer
-    IsGivenUp : (used : ℕ) →
+    EndsByEdit : (edit : Change) (used : ℕ) → UsesUpTo old.free_file used →
+        IsMergedBy edit (with_free old used) new → left ≡ None → answer ≡ tended.Worked → ContinuesMerge old new was left answer
+    IsGivenUp : (used : ℕ) → UsesUpTo old.free_file used →
         new ≡ with_free old (free_behind (begun_number was) (with_free old used)) →
         left ≡ None → answer ≡ tended.Full → ContinuesMerge old new was left answer
 
@@ -162,12 +166,13 @@ module _ {D : Type 0} (g : Ghosts D) where
 
   -- ---- what it did of files that hold a list, or were meant to
 
-  -- One output more has no place, or the version would have too many tables. No file is left that
-  -- the merge wrote.
-  pub record AbandonsFull (b : CachedDisk D g) (old : StoreFiles) (was : Merge D) (used : ℕ)
-      (plan : MergePlan) : Type 0 where
-    pub why : FindsNoRoom (length (known_version old).version.tables) was.writer plan.inputs
-        ⊎ IsEditOf old plan None
+  -- One of the next entries has no place, or all are merged and the version would have too many
+  -- tables. No file is left that the merge wrote.
+  pub record AbandonsFull (a b : CachedDisk D g) (old : StoreFiles) (was : Merge D) (used : ℕ)
+      (tables : List LevelTable) (plan : MergePlan) (before : IsMergeOf g a old tables was plan)
+      : Type 0 where
+    pub why : LacksPlace g a old was tables plan before used
+        ⊎ (CanEndNow g a old was tables plan before × IsEditOf old plan (target_of was) None)
     pub removed : HasNoLeftovers g (begun_number was) (with_free old used) b
 
   -- How a merge of this plan went on: by so many entries, others of which are left; by all that
@@ -178,11 +183,13 @@ module _ {D : Type 0} (g : Ghosts D) where
       (tables : List LevelTable) (plan : MergePlan) → IsMergeOf g a old tables was plan → Type 0
   ContinuesByPlan a b {old = old} {new = new} {was = was} (HasStepped now on left is) tables plan
       before = StepsOn g a b old new was now tables plan before
-  ContinuesByPlan a b {old = old} (EndsByEdit edit used merged left is) tables plan before =
-      IsEditOf (with_free old used) plan (Some edit)
+  ContinuesByPlan a b {old = old} {was = was} (EndsByEdit edit used few merged left is) tables plan
+      before =
+      IsEditOf (with_free old used) plan (target_of was) (Some edit)
+      × CanEndNow g a old was tables plan before
       × AreAbsent (replaced_files edit) (g.state (inner_disk b))
-  ContinuesByPlan a b {old = old} {was = was} (IsGivenUp used freed left is) tables plan before =
-      AbandonsFull b old was used plan
+  ContinuesByPlan a b {old = old} {was = was} (IsGivenUp used few freed left is) tables plan
+      before = AbandonsFull a b old was used tables plan before
 
   -- What the next part of a merge did of any files, and of those over which it was under way.
   pub record ContinuesAsPlanned (a b : CachedDisk D g) (old new : StoreFiles) (was : Merge D)

@@ -198,7 +198,7 @@ fn complete<D: Disk + Drop>(
     ensures first { begun_number merge.new ≡ begun_number merge.old }
     ensures ends { (tables : List LevelTable) (plan : MergePlan) →
         IsMergeOf D.Disk files.old store.now tables merge.old plan →
-        IfOk result (IsEditOf store.now plan) }
+        IfOk result (IsEditOf store.now plan (target_of merge.old)) }
 {
     // laws: what open files hold does not depend on others; and a merge keeps the list
     other_files_are_free();

@@ -26,7 +26,7 @@ returns-in_err-put g c =
       walks = λ meant inputs w. refuses c.from_residual.result _ _ c.from_residual.ensures.1
           (step_refused _ _ c.are_lawful.ensures meant inputs c.args.files.now
           c.args.next_file.now c.args.union.now c.args.writer.now entry w c.requires.on
-          c.entry_at.ensures.is c.args.tables c.in_err-put.field-0.0
+          c.entry_at.ensures.is c.args.tables c.put.new.next_file c.in_err-put.field-0.0
           (c.in_err-put.ensures.put (written_by c.args.writer.now w.met) w.honest w.writes
           w.unused (step_follows _ _ c.are_lawful.ensures meant inputs c.args.files.now
           c.args.next_file.now c.args.union.now c.args.writer.now entry w c.requires.on
@@ -56,7 +56,8 @@ returns-in_err-next g c =
           c.from_residual-in_err-next.ensures.1
           (step_stops _ _ c.are_lawful.ensures meant inputs c.args.files.now
           c.args.next_file.now c.args.union.now c.args.writer.now entry w c.requires.on
-          c.entry_at.ensures.is c.put.new.disk c.args.tables _ _ c.next.result
+          c.entry_at.ensures.is c.put.new.disk c.args.tables c.put.new.next_file _ _
+          c.next.result
           c.in_err-next.field-0.0 c.put.ensures.writes c.next.ensures.causes c.in_err-next.was);
     }
 

@@ -15,6 +15,9 @@ loop-left-init g c = record {
 pub returns-in_err-write_next : goal.returns-in_err-write_next
 returns-in_err-write_next g c = (
   (c.args.count - c.loop-left.left) + 1,
+  let few = c.loop-left.invariant.few in
+      let some = c.loop-left-test.true in
+      omega (arith, few, some),
   advances_then _ _ c.args.tables c.args.files.now c.args.next_file.now c.args.union.now
       c.args.writer.now c.loop-left.files c.loop-left.next_file c.loop-left.union
       c.loop-left.writer c.write_next.new.files c.write_next.new.next_file c.write_next.new.union
@@ -46,6 +49,7 @@ loop-left-preserved g c =
 pub returns-else-valid : goal.returns-else-valid
 returns-else-valid g c = (
   c.args.count - c.loop-left.left,
+  omega arith,
   c.loop-left.invariant.advances,
   inr (λ on. both_ways _ c.if-valid.false (c.valid.ensures.1 on)),
 )
@@ -54,6 +58,7 @@ pub returns-after-loop-left : goal.returns-after-loop-left
 returns-after-loop-left g c =
     let last = c.loop-left-test.false in (
       c.args.count - c.loop-left.left,
+      omega arith,
       c.loop-left.invariant.advances,
       inl (omega (arith, last)),
     )

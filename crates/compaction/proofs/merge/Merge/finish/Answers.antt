@@ -80,9 +80,9 @@ returns-then-len g c = record {
       let holds = subst (λ (l : List TableLine).
       AllZip (IsOutputTable (g.D.Disk.state c.close.new.disk.disk)
       (suc plan.level)) l out.0)
-      (sym added) out.2 in
+      (sym added) out.3 in
       let many : length out.0 ≡ length c.drain-added.result.items =
-      out.3 ∙ ap length (sym added) in
+      out.4 ∙ ap length (sym added) in
       let gone : c.replace-gone.result.items ≡ map table_name plan.inputs =
       ap (λ (v : Vec TableName). v.items) c.replace-gone.ensures.value ∙ m.gone in
       let a = c.len.ensures in
@@ -94,7 +94,7 @@ returns-then-len g c = record {
         refl,
         too_many _ c.args.version.now.version c.args.self.now.first c.args.next_file
             c.args.self.now.writer plan floor
-            c.replace-gone.result.items c.drain-added.result.items out.0 out.1 holds many gone
+            c.replace-gone.result.items c.drain-added.result.items out.0 out.1 out.2 holds many gone
             (omega (arith, a, b, k, t, over)),
       );
   unused = λ meant plan floor m. unused_kept _ _ c.args.self.now.writer c.args.next_file
@@ -163,9 +163,9 @@ returns g c = record {
       let holds = subst (λ (l : List TableLine).
       AllZip (IsOutputTable (g.D.Disk.state c.close.new.disk.disk)
       (suc plan.level)) l out.0)
-      (sym added) out.2 in
+      (sym added) out.3 in
       let many : length out.0 ≡ length c.drain-added.result.items =
-      out.3 ∙ ap length (sym added) in
+      out.4 ∙ ap length (sym added) in
       let gone : c.replace-gone.result.items ≡ map table_name plan.inputs =
       ap (λ (v : Vec TableName). v.items) c.replace-gone.ensures.value ∙ m.gone in
       let a = c.len.ensures in
@@ -177,7 +177,7 @@ returns g c = record {
       c.version.invariant in
       let edit = merge_edit _ c.args.version.now.version c.args.self.now.first c.args.next_file
       c.args.self.now.writer plan floor
-      c.replace-gone.result.items c.drain-added.result.items out.0 out.1 holds many gone
+      c.replace-gone.result.items c.drain-added.result.items out.0 out.1 out.2 holds many gone
       c.in_ok-edit_of.field-0 c.in_ok-edit_of.ensures
       (λ over. omega (arith, a, b, k, t, room, over)) m.numbers
       (subst (λ (l : List TableLine). HaveNewFiles c.args.self.now.first c.args.next_file

@@ -4,9 +4,9 @@ use Rattle.compaction.specs.Outputs.{IsOwnFile}
 use Rattle.compaction.specs.Survivors.{AreDeeperLines}
 use Rattle.compaction.proofs.Calls.{done, ok_fails, passed_on, refused, writes_as}
 use Rattle.compaction.proofs.Calls.{writes_nothing}
-use Rattle.compaction.proofs.Merging.{step_count}
+use Rattle.compaction.proofs.Merging.{refusal_few, step_meets}
 use Rattle.compaction.proofs.Numbers.{begun_more, steps_beside}
-use Rattle.compaction.proofs.Writing.{refuses, uses_none}
+use Rattle.compaction.proofs.Writing.{refuses, uses_few, uses_none}
 use Rattle.compaction.proofs.merge.Merge.step.Goals as goal
 
 pub returns-then-self : goal.returns-then-self
@@ -29,19 +29,20 @@ returns-in_err-write_some g c = record {
   writes = writes_as _ (IsOwnFile c.args.self.now.writer c.args.next_file.now)
       (passed_on c.write_some.result c.in_err-write_some.field-0.0 c.from_residual.result
       c.in_err-write_some.was c.from_residual.ensures.1)
-      (λ lost meant plan floor m. lost meant plan.inputs m.walk) c.write_some.ensures.1.writes;
-  numbers = c.write_some.ensures.1.numbers;
+      (λ lost meant plan floor m. lost meant plan.inputs m.walk) c.write_some.ensures.2.writes;
+  numbers = uses_few _ _ _ _ c.write_some.ensures.1 c.write_some.ensures.2.numbers;
   first = refl;
   gone = refl;
-  target = c.write_some.ensures.1.rules.target;
+  target = c.write_some.ensures.2.rules.target;
   beside = λ version is le. steps_beside version _ _ _ _ is le
-      c.write_some.ensures.1.numbers;
+      c.write_some.ensures.2.numbers;
   status = refuses c.from_residual.result _ _ c.from_residual.ensures.1
       (refl, λ failed. absurd (both_ways _ c.if-self.false failed));
   steps = λ meant plan floor m. refuses c.from_residual.result _ _ c.from_residual.ensures.1
-      (c.in_err-write_some.ensures.1.walks meant plan.inputs m.walk);
+      (refusal_few _ _ _ _ _ _ _ _ c.in_err-write_some.ensures.1 _
+      (c.in_err-write_some.ensures.2.walks meant plan.inputs m.walk));
   unused = λ meant plan floor m.
-      c.write_some.ensures.1.unused meant plan.inputs m.walk;
+      c.write_some.ensures.2.unused meant plan.inputs m.walk;
 }
 
 pub returns : goal.returns
@@ -52,17 +53,17 @@ returns g c =
         λ f. absurd (done f),
       )
           (λ lost meant plan floor m. lost meant plan.inputs m.walk)
-          c.write_some.ensures.1.writes;
-      numbers = c.write_some.ensures.1.numbers;
+          c.write_some.ensures.2.writes;
+      numbers = uses_few _ _ _ _ c.write_some.ensures.1 c.write_some.ensures.2.numbers;
       first = refl;
       gone = refl;
-      target = c.write_some.ensures.1.rules.target;
+      target = c.write_some.ensures.2.rules.target;
       beside = λ version is le. steps_beside version _ _ _ _ is le
-          c.write_some.ensures.1.numbers;
+          c.write_some.ensures.2.numbers;
       status = (both_ways _ c.if-self.false, λ f. cc, c.valid.ensures);
       steps = λ meant plan floor m.
-          let went = c.in_ok-write_some.ensures.1.walks meant plan.inputs m.walk in
-          let rules = c.write_some.ensures.1.rules in (
+          let went = c.in_ok-write_some.ensures.2.walks meant plan.inputs m.walk in
+          let rules = c.write_some.ensures.2.rules in (
             record {
               works = λ f. cc;
               walk = went.0;
@@ -71,12 +72,14 @@ returns g c =
               same_floor = rules.floor ∙ m.same_floor;
               gone = m.gone;
               numbers = begun_more _ _ _ _ _ plan.inputs
-                  c.write_some.ensures.1.numbers.rises c.write_some.ensures.1.numbers.outputs
+                  c.write_some.ensures.2.numbers.rises c.write_some.ensures.2.numbers.outputs
                   went.0.writes.numbered m.numbers;
             },
-            step_count _ _ _ _ _ went.1 c.in_ok-write_some.ensures.2,
+            step_meets _ _ meant plan.inputs _ _ _ _ m.walk.met went.0 _ _
+                c.in_ok-write_some.ensures.1
+                went.1 c.in_ok-write_some.ensures.3,
             went.2,
           );
       unused = λ meant plan floor m.
-          c.write_some.ensures.1.unused meant plan.inputs m.walk;
+          c.write_some.ensures.2.unused meant plan.inputs m.walk;
     }

@@ -1,3 +1,4 @@
+use Rattle.std.proofs.Common.{refl}
 use Rattle.compaction.specs.Outputs.{IsOwnFile}
 use Rattle.compaction.proofs.Calls.{done, memory_told, writes_nothing}
 use Rattle.compaction.proofs.Writing.{uses_same, uses_then}
@@ -24,10 +25,11 @@ pub returns-in_err-remember-2-clause-numbers : goal.returns-in_err-remember-2-cl
 returns-in_err-remember-2-clause-numbers g c = uses_then c.args.self.now c.write.new.self
     c.remember-2.new.self c.args.next_file.now c.write.new.next_file c.write.new.next_file
     c.write.ensures.numbers (uses_same c.write.new.self c.remember-2.new.self
-    c.write.new.next_file c.remember-2.ensures.outputs.1 c.remember-2.ensures.outputs.0)
+    c.write.new.next_file c.remember-2.ensures.outputs.1 c.remember-2.ensures.outputs.0 {most = 0})
+    refl
 
 pub returns-clause-numbers : goal.returns-clause-numbers
 returns-clause-numbers g c = uses_then c.args.self.now c.write.new.self c.remember-2.new.self
     c.args.next_file.now c.write.new.next_file c.write.new.next_file c.write.ensures.numbers
     (uses_same c.write.new.self c.remember-2.new.self c.write.new.next_file
-    c.remember-2.ensures.outputs.1 c.remember-2.ensures.outputs.0)
+    c.remember-2.ensures.outputs.1 c.remember-2.ensures.outputs.0 {most = 0}) refl

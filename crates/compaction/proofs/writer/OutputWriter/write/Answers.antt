@@ -1,4 +1,4 @@
-use Rattle.std.proofs.Common.{inl, inr, ℕ, refl, subst, sym}
+use Rattle.std.proofs.Common.{inl, inr, length, ℕ, refl, subst, sym}
 use Rattle.compaction.specs.Outputs.{HasNoPlace, IsOpenFile, IsOutput, IsOwnFile, AreUnused}
 use Rattle.compaction.specs.Outputs.{PutRefusal, WriterHolds}
 use Rattle.compaction.specs.WrittenTables.{cut_before, with_written}
@@ -50,10 +50,12 @@ returns-in_err-begin-clause-written g c = λ it honest w unused follows.
     let w1 = c.in_ok-cut.ensures.cut next it entry honest w refl in
     let full = c.in_err-begin.ensures.full in
     let empty = none_open mid c.cut.new.self cut.opened full.1 w1.current in
-    let place = subst (λ (n : ℕ). HasNoPlace c.args.tables next n)
+    let place = subst (λ (n : ℕ). HasNoPlace c.args.tables c.begin.new.next_file n)
     (zip_length (IsOutput mid c.cut.new.self.level) c.cut.new.self.closed.items cut.closed
-    w1.closed) full.2 in
-    refuses c.from_residual-in_err-begin.result _ (PutRefusal c.args.tables next cut entry)
+    w1.closed) (subst (λ (n : ℕ). HasNoPlace c.args.tables n
+    (length c.cut.new.self.closed.items)) (sym full.4) full.2) in
+    refuses c.from_residual-in_err-begin.result _
+    (PutRefusal c.args.tables c.begin.new.next_file cut entry)
     c.from_residual-in_err-begin.ensures.1 (inr (full.0, inl (empty, place)))
 
 -- ---- the entry is added
@@ -98,7 +100,7 @@ returns-clause-written g c = λ it honest w unused follows.
     let w2 = c.in_ok-begin.ensures.begun mid cut w1 unused1 in
     told_more (λ _. WriterHolds new later c.add.new.self (with_written cut entry))
     (λ _. WriterHolds new later c.add.new.self (with_written cut entry))
-    _ (PutRefusal c.args.tables next cut entry) c.add.result (λ x h. h)
+    _ (PutRefusal c.args.tables later cut entry) c.add.result (λ x h. h)
     (λ e h. elim h [
       | inl external ↦ inl external
       | inr full ↦ inr (full.0, inr full.1)
@@ -148,13 +150,14 @@ pub returns-in_err-begin-clause-numbers : goal.returns-in_err-begin-clause-numbe
 returns-in_err-begin-clause-numbers g c = uses_then c.args.self.now c.cut.new.self
     c.begin.new.self c.args.next_file.now c.args.next_file.now c.begin.new.next_file
     (uses_none c.args.self.now c.cut.new.self c.args.next_file.now c.cut.ensures.open
-    c.cut.ensures.outputs) c.begin.ensures.numbers
+    c.cut.ensures.outputs {most = 0}) c.begin.ensures.numbers refl
 
 pub returns-clause-numbers : goal.returns-clause-numbers
 returns-clause-numbers g c =
     let begun = uses_then c.args.self.now c.cut.new.self c.begin.new.self c.args.next_file.now
     c.args.next_file.now c.begin.new.next_file (uses_none c.args.self.now c.cut.new.self
-    c.args.next_file.now c.cut.ensures.open c.cut.ensures.outputs) c.begin.ensures.numbers in
+    c.args.next_file.now c.cut.ensures.open c.cut.ensures.outputs {most = 0})
+    c.begin.ensures.numbers {most = 1} refl in
     uses_then c.args.self.now c.begin.new.self c.add.new.self c.args.next_file.now
     c.begin.new.next_file c.begin.new.next_file begun (uses_none c.begin.new.self c.add.new.self
-    c.begin.new.next_file c.add.ensures.open c.add.ensures.outputs)
+    c.begin.new.next_file c.add.ensures.open c.add.ensures.outputs {most = 0}) refl
