@@ -1,16 +1,20 @@
 -- Steps of a merge, one behind another.
 use Rattle.std.proofs.Common.{◌≡◌, ◌+◌, ℕ, List, length, Result, Ok, Err, refl, sym, ap, subst, ◌∙◌}
-use Rattle.std.proofs.Common.{arith}
+use Rattle.std.proofs.Common.{◌⊎◌, ◌≤◌, arith, inl, inr}
 use Rattle.std.specs.Prelude.{IsErrAnd, MatchResult, OnOk}
 use Rattle.disk.specs.declared.Disk.{Ghosts}
+use Rattle.kv_types.specs.{Entry}
+use Rattle.merge_iter.specs.{IsOn}
 use Rattle.merge_iter.specs.declared.Cursor.{Ghosts as CursorGhosts}
 use Rattle.store_model.specs.{LevelTable}
 use Rattle.compaction.specs.declared.error.MergeError.{MergeError}
 use Rattle.compaction.specs.declared.writer.OutputWriter.{OutputWriter}
 use Rattle.compaction.specs.Outputs.{IsOwnFile}
-use Rattle.compaction.specs.Walks.{AdvancesWalk, IsIntactOn, IsWalking, StepRefusal, table_files}
+use Rattle.compaction.specs.Walks.{AdvancesWalk, IsIntactOn, IsWalking, MeetsMore, StepRefusal}
+use Rattle.compaction.specs.Walks.{table_files}
 use Rattle.compaction.proofs.Calls.{done, writes_behind, writes_nothing, writes_wider}
 use Rattle.compaction.proofs.Steps.{refusal_same, rules_through}
+use Rattle.compaction.proofs.Walks.{walk_done}
 use Rattle.compaction.proofs.Writing.{uses_none, uses_then}
 
 -- a refusal that is passed on is the same
@@ -25,6 +29,49 @@ pub answers_nothing : {T E : Type 0} (P : E → Type 0) (Q : Type 0) (result : R
     → IsErrAnd result P → OnOk result Q
 answers_nothing P Q (Ok x) told = absurd told
 answers_nothing P Q (Err e) told = tt
+
+-- how many entries a step met
+step_count : (was now steps count : ℕ) (off : Type 0) → now ≡ was + steps
+    → (steps ≡ count) ⊎ off → (now ≡ was + count) ⊎ off
+step_count was now steps count off met (inl is) = inl (omega (arith, met, is))
+step_count was now steps count off met (inr end) = inr end
+
+-- it met so many more, or all
+pub step_meets : {U F : Type 0} (u : CursorGhosts U F) (d : Ghosts F) (meant : u.Meant)
+    (inputs : List LevelTable) (files : F) (next_file : ℕ) (union : U) (writer : OutputWriter)
+    (was : List Entry) (w : IsWalking u d meant files next_file union writer inputs)
+    (steps count : ℕ) → steps ≤ count → length w.met ≡ length was + steps
+    → (steps ≡ count) ⊎ (IsOn (u.position union) → ⊥)
+    → MeetsMore inputs was w.met count (IsOn (u.position union))
+step_meets u d meant inputs files next_file union writer was w steps count le met all = record {
+  most = omega (arith, le, met);
+  all = step_count (length was) (length w.met) steps count (IsOn (u.position union) → ⊥) met all;
+  union = walk_done u d meant inputs files next_file union writer w;
+}
+
+-- what was refused within few entries was refused within more
+pub refusal_few : (intact : Type 0) (tables next_file before few most : ℕ) (writer : OutputWriter)
+    (inputs : List LevelTable) → few ≤ most → (e : MergeError)
+    → StepRefusal intact tables next_file before few writer inputs e
+    → StepRefusal intact tables next_file before most writer inputs e
+refusal_few intact tables next_file before few most writer inputs le e (inl external) =
+    inl external
+refusal_few intact tables next_file before few most writer inputs le e (inr (inl damaged)) =
+    inr (inl damaged)
+refusal_few intact tables next_file before few most writer inputs le e (inr (inr full)) =
+    let within = full.1.within in
+    inr (inr (
+      full.0,
+      record {
+        met = full.1.met;
+        entry = full.1.entry;
+        walked = full.1.walked;
+        rising = full.1.rising;
+        behind = full.1.behind;
+        within = omega (arith, within, le);
+        full = full.1.full;
+      },
+    ))
 
 module _ {U F : Type 0} (u : CursorGhosts U F) (d : Ghosts F) (tables : ℕ) where
   -- steps with the same answer

@@ -11,7 +11,7 @@ use Rattle.disk.specs.{IsEnvironmental, IsSame, State}
 use Rattle.kv_types.specs.{Entry}
 use Rattle.kv_types.specs.OrderLemmas.{AllPairs-rises}
 use Rattle.merge_iter.specs.{EntryPrecedes, IsOn, ErrorCauses}
-use Rattle.kv_types.specs.OrderLemmas.{Among, Contains-among, among_from_Contains, among_of_All}
+use Rattle.kv_types.specs.OrderLemmas.{Contains-among, among_from_Contains, among_of_All}
 use Rattle.merge_iter.specs.declared.Cursor.{Ghosts as CursorGhosts}
 use Rattle.merge_iter.specs.declared.CursorError.{CursorError}
 use Rattle.merge_iter.specs.declared.CursorError.TheVariants as cursor
@@ -30,7 +30,6 @@ use Rattle.version_edits.specs.declared.line.TheConstants.{MAX_LINES}
 use Rattle.version_edits.specs.{Change}
 use Rattle.compaction.specs.Walks.{written_by}
 use Rattle.compaction.specs.WrittenTables.{AreWrittenTables, WrittenAreMerged, written_of}
-use Rattle.compaction.specs.Survivors.{IsSortedUnion}
 use Rattle.merge_iter.specs.declared.Direction.TheVariants.{Forward}
 use Rattle.merge_iter.specs.{AreCursorLaws, AtEnd, IsAlike, MoveFinds, Moved, reports}
 use Rattle.sorted_table.specs.MovedFiles.{MovesFiles}
@@ -47,15 +46,14 @@ use Rattle.compaction.specs.Outputs.{AreUnused, HaveOwnNumbers, IsOutput}
 use Rattle.compaction.specs.Outputs.{WriterHolds, open_file}
 use Rattle.compaction.specs.Plans.{IsLineOf, is_input, is_line_input, model_plan}
 use Rattle.compaction.specs.Survivors.{AreDeeperLines, key_range}
-use Rattle.compaction.specs.Walks.{IsIntactOn, IsWalking, MeetsMore, ReadsOnly, StepRefusal}
-use Rattle.compaction.specs.Walks.{table_files}
+use Rattle.compaction.specs.Walks.{IsIntactOn, IsWalking, ReadsOnly, table_files}
 use Rattle.compaction.specs.WrittenTables.{IsTableOver, Written, nothing_written, tables_of}
 use Rattle.compaction.proofs.Lists.{among_filter, filter_among, zip_back, zip_there}
 use Rattle.compaction.proofs.Once.{map_among}
 use Rattle.compaction.proofs.Steps.{intact_moved}
-use Rattle.compaction.proofs.Walks.{alike_through, walk_begins, walk_ends}
+use Rattle.compaction.proofs.Walks.{alike_through, walk_begins, walk_done}
 use Rattle.compaction.proofs.Writing.{same_unused}
-use Rattle.std.proofs.Common.{All, ◌⊎◌}
+use Rattle.std.proofs.Common.{◌⊎◌}
 
 -- ---- lines and tables
 
@@ -273,23 +271,6 @@ begin_stops I S A before now result cursor.Memory so causes stops = inl (inr ref
 begin_stops I S A before now result cursor.Failed so causes stops =
     absurd (causes.failed.0 stops)
 
-each_among : (P : Entry → Type 0) (xs : List Entry) → All P xs → (z : Entry) → Among z xs → P z
-each_among P xs all z a = among_of_All P xs z all a
-
--- the walk is at its end: the entries that were met are those of the inputs, in order
-walk_done : {U F : Type 0} (u : CursorGhosts U F) (d : Ghosts F) (meant : u.Meant)
-    (inputs : List LevelTable) (files : F) (next_file : ℕ) (union : U) (writer : OutputWriter)
-    (w : IsWalking u d meant files next_file union writer inputs) → (IsOn (u.position union) → ⊥)
-    → IsSortedUnion inputs w.met
-walk_done u d meant inputs files next_file union writer w off = record {
-  rising = w.rising;
-  alike = λ entry. (
-    λ there. each_among (tables_entries inputs) w.met w.walked.each entry
-        (among_from_Contains w.met entry there),
-    walk_ends (tables_entries inputs) w.met (u.position union) off w.walked entry,
-  );
-}
-
 module _ {D F : Type 0} (u : CursorGhosts (Merged (TableCursor D)) F) (d : Ghosts F) where
   -- complete outputs with what is written of all entries are the outputs of the merge
   pub merge_done : (meant : u.Meant) (files : F) (next_file : ℕ) (it : Merge D) (plan : MergePlan)
@@ -329,49 +310,6 @@ not_below m n none = elim (cases_lt n m) [
   | inl lt ↦ absurd (none lt)
   | inr le ↦ le
 ]
-
--- how many entries a step met
-step_count : (was now steps count : ℕ) (off : Type 0) → now ≡ was + steps
-    → (steps ≡ count) ⊎ off → (now ≡ was + count) ⊎ off
-step_count was now steps count off met (inl is) = inl (omega (arith, met, is))
-step_count was now steps count off met (inr end) = inr end
-
--- it met so many more, or all
-pub step_meets : {U F : Type 0} (u : CursorGhosts U F) (d : Ghosts F) (meant : u.Meant)
-    (inputs : List LevelTable) (files : F) (next_file : ℕ) (union : U) (writer : OutputWriter)
-    (was : List Entry) (w : IsWalking u d meant files next_file union writer inputs)
-    (steps count : ℕ) → steps ≤ count → length w.met ≡ length was + steps
-    → (steps ≡ count) ⊎ (IsOn (u.position union) → ⊥)
-    → MeetsMore inputs was w.met count (IsOn (u.position union))
-step_meets u d meant inputs files next_file union writer was w steps count le met all = record {
-  most = omega (arith, le, met);
-  all = step_count (length was) (length w.met) steps count (IsOn (u.position union) → ⊥) met all;
-  union = walk_done u d meant inputs files next_file union writer w;
-}
-
--- what was refused within few entries was refused within more
-pub refusal_few : (intact : Type 0) (tables next_file before few most : ℕ) (writer : OutputWriter)
-    (inputs : List LevelTable) → few ≤ most → (e : MergeError)
-    → StepRefusal intact tables next_file before few writer inputs e
-    → StepRefusal intact tables next_file before most writer inputs e
-refusal_few intact tables next_file before few most writer inputs le e (inl external) =
-    inl external
-refusal_few intact tables next_file before few most writer inputs le e (inr (inl damaged)) =
-    inr (inl damaged)
-refusal_few intact tables next_file before few most writer inputs le e (inr (inr full)) =
-    let within = full.1.within in
-    inr (inr (
-      full.0,
-      record {
-        met = full.1.met;
-        entry = full.1.entry;
-        walked = full.1.walked;
-        rising = full.1.rising;
-        behind = full.1.behind;
-        within = omega (arith, within, le);
-        full = full.1.full;
-      },
-    ))
 
 -- once the writer's last table is complete, all tables are
 pub closed_all : {F : Type 0} (d : Ghosts F) (old new : F) (next_file : ℕ)

@@ -1,10 +1,12 @@
 -- A walk over a set of entries, and what is written of the entries that it has met.
-use Rattle.std.proofs.Common.{◌≡◌, ℕ, List, [], ◌∷◌, ◌++◌, Contains, Option, Some, None, IfSome}
+use Rattle.std.proofs.Common.{◌≡◌, ℕ, All, List, [], ◌∷◌, ◌++◌, Contains, Option, Some, None}
+use Rattle.std.proofs.Common.{IfSome}
 use Rattle.std.proofs.Common.{inl, inr, Result, Ok, Err, refl, sym, ◌∙◌, subst}
 use Rattle.std.specs.List.{fold}
 use Rattle.std.proofs.lemmas.List.Elements.{All-push, Contains-append_left, Contains-push}
 use Rattle.kv_types.specs.{Entry}
-use Rattle.kv_types.specs.OrderLemmas.{Among, rises_from_AllPairs}
+use Rattle.kv_types.specs.OrderLemmas.{Among, among_from_Contains, among_of_All}
+use Rattle.kv_types.specs.OrderLemmas.{rises_from_AllPairs}
 use Rattle.version_edits.specs.declared.TableLine.{TableLine}
 use Rattle.merge_iter.specs.declared.CursorError.{CursorError}
 use Rattle.merge_iter.specs.declared.Direction.TheVariants.{Forward}
@@ -15,7 +17,12 @@ use Rattle.merge_iter.specs.{After, Broken, EntryPrecedes, IfOn, IsAlike, IsApar
 use Rattle.merge_iter.specs.{MoveFinds, Off, On, Position, WalkMeets, WalkStart}
 use Rattle.table_format.specs.RisingLemmas.{last_among, last_push}
 use Rattle.table_format.specs.{AreRising, CanFollow, last_entry}
-use Rattle.compaction.specs.Walks.{AreMetBefore, HasWalked}
+use Rattle.disk.specs.declared.Disk.{Ghosts}
+use Rattle.merge_iter.specs.declared.Cursor.{Ghosts as CursorGhosts}
+use Rattle.store_model.specs.{LevelTable, tables_entries}
+use Rattle.compaction.specs.declared.writer.OutputWriter.{OutputWriter}
+use Rattle.compaction.specs.Survivors.{IsSortedUnion}
+use Rattle.compaction.specs.Walks.{AreMetBefore, HasWalked, IsWalking}
 use Rattle.compaction.specs.WrittenTables.{Written, nothing_written, with_next, written_of}
 use Rattle.compaction.proofs.Cutting.{behind_all, by_case, in_turn, opened_upto}
 
@@ -125,6 +132,23 @@ module _ (has : Entry → Type 0) (entries : List Entry) where
   walk_ends (On here) off walked = absurd (off tt)
   walk_ends Off off walked = walked.before
   walk_ends Broken off walked = absurd walked.before
+
+each_among : (P : Entry → Type 0) (xs : List Entry) → All P xs → (z : Entry) → Among z xs → P z
+each_among P xs all z a = among_of_All P xs z all a
+
+-- the walk is at its end: the entries that were met are those of the inputs, in order
+pub walk_done : {U F : Type 0} (u : CursorGhosts U F) (d : Ghosts F) (meant : u.Meant)
+    (inputs : List LevelTable) (files : F) (next_file : ℕ) (union : U) (writer : OutputWriter)
+    (w : IsWalking u d meant files next_file union writer inputs) → (IsOn (u.position union) → ⊥)
+    → IsSortedUnion inputs w.met
+walk_done u d meant inputs files next_file union writer w off = record {
+  rising = w.rising;
+  alike = λ entry. (
+    λ there. each_among (tables_entries inputs) w.met w.walked.each entry
+        (among_from_Contains w.met entry there),
+    walk_ends (tables_entries inputs) w.met (u.position union) off w.walked entry,
+  );
+}
 
 -- ---- what is written of it
 

@@ -9,7 +9,6 @@ use Rattle.version_edits.specs.{StoreVersion}
 use Rattle.compaction.specs.declared.Merge.{Merge}
 use Rattle.compaction.specs.declared.error.MergeError.{MergeError}
 use Rattle.compaction.specs.declared.error.MergeError.TheVariants as merging
-use Rattle.compaction.specs.declared.writer.OutputWriter.{OutputWriter}
 use Rattle.compaction.specs.Merges.{HasEntriesLeft, IsMerging, StepsMerge}
 use Rattle.compaction.specs.Outputs.{IsOwnFile}
 use Rattle.compaction.specs.Walks.{FindsNoRoom, StepRefusal}
@@ -175,7 +174,8 @@ module _ {D : Type 0} (g : Ghosts D) (old : StoreFiles) (u : AreUsableFiles old)
         IsEnvironmental engine.Disk engine.Memory (error_of_merge e)
     outside e room did list h =
         let m = h.merges.under_way in
-        environment e (only_environment e _ _ room h.merges.intact (did.steps m.meant h.merges.plan (known_facts old).floor m.merging))
+        environment e (only_environment e _ _ room h.merges.intact
+        (did.steps m.meant h.merges.plan (known_facts old).floor m.merging))
 
     held : (answer : Result Bool MergeError) → Did answer →
         (list : List BatchContent) → HoldsWithMerge g a old (Some was) list →

@@ -223,9 +223,9 @@ pub record CanEndNow {D : Type 0} (g : Ghosts D) (a : CachedDisk D g) (old : Sto
 
 module _ {D : Type 0} (g : Ghosts D) where
   -- one of the next entries wants a place that there is not, with this free file
-  abbrev pub LacksPlace : (a : CachedDisk D g) → (old : StoreFiles) (was : Merge D)
+  abbrev pub LacksMergeRoom : (a : CachedDisk D g) → (old : StoreFiles) (was : Merge D)
       (tables : List LevelTable) (plan : MergePlan) → IsMergeOf g a old tables was plan → ℕ → Type 0
-  LacksPlace a old was tables plan before free =
+  LacksMergeRoom a old was tables plan before free =
       FindsNoRoom (length (known_version old).version.tables) free
       (length before.merging.walk.met) step_length was.writer plan.inputs
 
@@ -241,7 +241,7 @@ module _ {D : Type 0} (g : Ghosts D) where
       × (HasEntriesLeft (union_ghosts g) (files_ghosts g) now → ⊥)
       × CanEndNow g a old was tables plan before
   HasProgress a b old new was now tables plan before progress.Full =
-      LacksPlace a old was tables plan before new.free_file
+      LacksMergeRoom a old was tables plan before new.free_file
 
   -- so it went on, where it was under way by any plan
   abbrev pub AdvancesPlanned : (a b : CachedDisk D g) → (old new : StoreFiles) →

@@ -31,7 +31,7 @@ use Rattle.store_files.specs.Tending.{FlushIsDue, IsTend, IsWorkAnswer, RewriteI
 use Rattle.table_files.specs.{inner_disk}
 use Rattle.table_files.specs.declared.cached_disk.CachedDisk.{CachedDisk}
 use Rattle.engine.specs.MergeParts.{CanEndNow, HasNoLeftovers, IsAdvanced, IsEditOf, IsNewMerge}
-use Rattle.engine.specs.MergeParts.{IsTendedFile, KeepsPart, LacksPlace, PartMayFail, StepsOn}
+use Rattle.engine.specs.MergeParts.{IsTendedFile, KeepsPart, LacksMergeRoom, PartMayFail, StepsOn}
 use Rattle.engine.specs.MergeParts.{free_behind, step_length}
 use Rattle.engine.specs.UnderWay.{HoldsWithMerge, IsMergeOf, WasMeantWithMerge}
 
@@ -96,7 +96,8 @@ module _ {D : Type 0} where
     HasStepped : (now : Merge D) → IsAdvanced old new was now → left ≡ Some now →
         answer ≡ tended.Worked → ContinuesMerge old new was left answer
     EndsByEdit : (edit : Change) (used : ℕ) → UsesUpTo old.free_file used →
-        IsMergedBy edit (with_free old used) new → left ≡ None → answer ≡ tended.Worked → ContinuesMerge old new was left answer
+        IsMergedBy edit (with_free old used) new → left ≡ None → answer ≡ tended.Worked →
+        ContinuesMerge old new was left answer
     IsGivenUp : (used : ℕ) → UsesUpTo old.free_file used →
         new ≡ with_free old (free_behind (begun_number was) (with_free old used)) →
         left ≡ None → answer ≡ tended.Full → ContinuesMerge old new was left answer
@@ -171,7 +172,7 @@ module _ {D : Type 0} (g : Ghosts D) where
   pub record AbandonsFull (a b : CachedDisk D g) (old : StoreFiles) (was : Merge D) (used : ℕ)
       (tables : List LevelTable) (plan : MergePlan) (before : IsMergeOf g a old tables was plan)
       : Type 0 where
-    pub why : LacksPlace g a old was tables plan before used
+    pub why : LacksMergeRoom g a old was tables plan before used
         ⊎ (CanEndNow g a old was tables plan before × IsEditOf old plan (target_of was) None)
     pub removed : HasNoLeftovers g (begun_number was) (with_free old used) b
 

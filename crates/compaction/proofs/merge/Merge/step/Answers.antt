@@ -2,9 +2,9 @@ use Rattle.std.proofs.Common.{refl, sym, subst, ◌∙◌}
 use Rattle.std.proofs.lemmas.Bool.{both_ways}
 use Rattle.compaction.specs.Outputs.{IsOwnFile}
 use Rattle.compaction.specs.Survivors.{AreDeeperLines}
+use Rattle.compaction.proofs.Advances.{refusal_few, step_meets}
 use Rattle.compaction.proofs.Calls.{done, ok_fails, passed_on, refused, writes_as}
 use Rattle.compaction.proofs.Calls.{writes_nothing}
-use Rattle.compaction.proofs.Merging.{refusal_few, step_meets}
 use Rattle.compaction.proofs.Numbers.{begun_more, steps_beside}
 use Rattle.compaction.proofs.Writing.{refuses, uses_few, uses_none}
 use Rattle.compaction.proofs.merge.Merge.step.Goals as goal
