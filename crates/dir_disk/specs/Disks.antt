@@ -1,5 +1,5 @@
 -- Disks over a folder and over another disk, as callers see them.
-use Rattle.std.specs.Prelude.{◌≡◌, ◌==◌, ◌⊎◌, ℕ, List, Bool, IsSome, None, cond, false, true}
+use Rattle.std.specs.Prelude.{◌≡◌, ◌==◌, ℕ, List, Bool, IsSome, None, cond, true}
 use Rattle.std.specs.Prelude.{[], ◌∷◌, is_some, string_bytes}
 use Rattle.std.specs.Prelude.{Result, IsErrOf, MatchResult, ◌-◌, ◌^◌, ◌≤◌}
 use Rattle.std.specs.List.{list_any}
@@ -9,12 +9,13 @@ use Rattle.disk.specs.{Absent, IsSame, Marks, RisesByOne, State, seen}
 use Rattle.disk.specs.Calls.{IsRefusalOf}
 use Rattle.disk.specs.declared.Disk.{Ghosts}
 use Rattle.disk.specs.declared.error.DiskError.{DiskError}
-use Rattle.disk.specs.declared.error.DiskError.TheVariants.{Failed, NoFile}
+use Rattle.disk.specs.declared.error.DiskError.TheVariants.{Failed}
 use Rattle.disk.specs.declared.Junk.TheVariants.{Bytes}
 use Rattle.disk.specs.declared.Mark.TheVariants.{Crashed}
 use Rattle.dir_disk.specs.declared.folder.DirDisk.{DirDisk}
 use Rattle.dir_disk.specs.declared.open_files.OpenFiles.{OpenFiles}
 use Rattle.dir_disk.specs.declared.unchanged.Unchanged.{Unchanged}
+use Rattle.dir_disk.specs.Open.{IsSetUpAs}
 
 -- the path of the folder
 abbrev pub disk_folder : {R : Type 0} → DirDisk R → String Global
@@ -27,10 +28,6 @@ may_change disk = disk.writes
 -- a disk of the folder at this path
 abbrev pub IsFolderAt : {R : Type 0} → List ℕ → DirDisk R → Type 0
 IsFolderAt path disk = string_bytes (disk_folder disk) ≡ path
-
--- how often the device of the folder has failed
-abbrev pub folder_failures : {R : Type 0} → DirDisk R → ℕ
-folder_failures disk = disk.failures.count
 
 -- the files of the folder that are open
 abbrev pub open_files : {R : Type 0} → DirDisk R → OpenFiles
@@ -45,7 +42,7 @@ pub record IsLockedFolder {R : Type 0} (path : List ℕ) (disk : DirDisk R) : Ty
   pub folder : IsFolderAt path disk
   pub locked : HasLock disk
   pub writes : may_change disk ≡ true
-  pub works : folder_failures disk ≡ 0
+  pub works : disk.failures.count ≡ 0
 
 -- a test as a byte
 abbrev pub test_byte : Bool → ℕ
@@ -64,10 +61,6 @@ folder_marks disk = (
 abbrev pub disk_below : {D : Type 0} → Unchanged D → D
 disk_below disk = disk.inner.disk
 
--- how often a call of the disk that changes nothing has failed
-abbrev pub failures_above : {D : Type 0} → Unchanged D → ℕ
-failures_above disk = disk.failures.count
-
 -- the files of it that were removed
 abbrev pub files_left_out : {D : Type 0} → Unchanged D → List ℕ
 files_left_out disk = disk.removed.items
@@ -79,12 +72,6 @@ is_left_out removed file = list_any (λ it. it == file) removed
 -- what is shown of a disk: its files without those that were removed
 abbrev pub shown_state : List ℕ → State → State
 shown_state removed state file = cond (is_left_out removed file) (Absent None) (state file)
-
--- whether a call is made of a file: not of one that was removed, nor where the device fails
-abbrev pub MayLook : List ℕ → ℕ → Result (Unit {0}) DiskError → Type 0
-MayLook removed file result =
-    MatchResult result (λ _. is_left_out removed file ≡ false)
-    (λ e. (e ≡ Failed) ⊎ ((e ≡ NoFile) × (is_left_out removed file ≡ true)))
 
 -- a file is there, or the refusal says why not
 abbrev pub FindsFile : State → ℕ → Result (Unit {0}) DiskError → Type 0
@@ -98,6 +85,24 @@ pub record CountsFailure {T : Type 0} (result : Result T DiskError) (before now 
   pub count : (IsErrOf result Failed → ⊥) → now ≡ before
   pub last : 2 ^ 64 - 1 ≤ before → IsErrOf result Failed
 
+-- This answer is not counted yet: the count is the same. At its last value it reports a failure.
+pub record IsUncounted {T : Type 0} (result : Result T DiskError) (before now : ℕ) : Type 0 where
+  pub count : now ≡ before
+  pub last : 2 ^ 64 - 1 ≤ before → IsErrOf result Failed
+
+-- what each call keeps of a folder: failures are counted, and it stays set up as it was
+pub record KeepsFolder {R T : Type 0} (old new : DirDisk R) (result : Result T DiskError)
+    : Type 0 where
+  pub counts : CountsFailure result old.failures.count new.failures.count
+  pub same : IsSetUpAs old new
+
 -- a disk that was honest still is, and its files are the same
 abbrev pub LeavesFiles : {D : Type 0} → Ghosts D → (old new : D) → Type 0
 LeavesFiles g old new = g.is_honest old → g.is_honest new × IsSame (g.state old) (g.state new)
+
+-- what each call keeps of a disk that changes nothing: failures are counted, and an honest disk
+-- inside keeps its files
+pub record KeepsBelow {D T : Type 0} (g : Ghosts D) (old new : Unchanged D)
+    (result : Result T DiskError) : Type 0 where
+  pub counts : CountsFailure result old.failures.count new.failures.count
+  pub same : LeavesFiles g (disk_below old) (disk_below new)

@@ -1,11 +1,7 @@
 -- The names of the files of a folder.
-use Rattle.std.specs.Prelude.{◌≡◌, ℕ, ◌++◌, List, codes}
+use Rattle.std.specs.Prelude.{ℕ, ◌++◌, List, codes}
 use Rattle.std.specs.Fmt.{decimal}
 
--- the file with this number has this name: the number in decimal
-abbrev pub IsFileName : ℕ → List ℕ → Type 0
-IsFileName file name = name ≡ decimal file
-
--- the path of the file with this number: the folder's path, a slash, and the file's name
+-- the path of the file with this number: the folder's path, a slash, and the number in decimal
 abbrev pub file_path : List ℕ → ℕ → List ℕ
 file_path folder file = folder ++ (codes "/" ++ decimal file)

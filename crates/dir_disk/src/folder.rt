@@ -29,7 +29,8 @@ pub struct DirDisk<R> {
 }
 
 impl<R: Files<File = File> + Alloc<A = Global> + Clone + Drop> DirDisk<R> {
-    ghost use Rattle.dir_disk.specs.Disks.{HasLock, IsFolderAt, disk_folder, may_change};
+    ghost use Rattle.dir_disk.specs.Disks.{HasLock, IsFolderAt, IsUncounted, disk_folder};
+    ghost use Rattle.dir_disk.specs.Disks.{may_change};
     ghost use Rattle.dir_disk.specs.Open.{IsLatest, IsNotOpen, IsSetUpAs};
 
     /// The folder at this path. It need not be there, and is not made.
@@ -99,9 +100,8 @@ impl<R: Files<File = File> + Alloc<A = Global> + Clone + Drop> DirDisk<R> {
     // Opens the file with this number, unless it is open, and makes it the latest. Where it is
     // absent, it is created if that is asked for.
     fn reach(&mut self, number: u64, creates: bool) -> Result<(), DiskError>
-        ensures count { self.new.failures.count ≡ self.old.failures.count }
+        ensures counts { IsUncounted result self.old.failures.count self.new.failures.count }
         ensures same { IsSetUpAs self.old self.new }
-        ensures last { 2 ^ 64 - 1 ≤ self.old.failures.count → IsErrOf result DiskError.Failed }
         ensures latest { OnOk result (IsLatest number self.new.files) }
     {
         self.failures.works()?;
@@ -131,9 +131,8 @@ impl<R: Files<File = File> + Alloc<A = Global> + Clone + Drop> DirDisk<R> {
     }
 
     fn write_in(&mut self, file: u64, at: u64, bytes: &[u8]) -> Result<(), DiskError>
-        ensures count { self.new.failures.count ≡ self.old.failures.count }
+        ensures counts { IsUncounted result self.old.failures.count self.new.failures.count }
         ensures same { IsSetUpAs self.old self.new }
-        ensures last { 2 ^ 64 - 1 ≤ self.old.failures.count → IsErrOf result DiskError.Failed }
         ensures reads { self.old.writes ≡ false → IsErrOf result DiskError.Failed }
         ensures range { EndsOutOfRange at (length bytes.now) → IsErrOf result DiskError.Failed }
     {
@@ -146,9 +145,8 @@ impl<R: Files<File = File> + Alloc<A = Global> + Clone + Drop> DirDisk<R> {
     }
 
     fn cut_in(&mut self, file: u64, length: u64) -> Result<(), DiskError>
-        ensures count { self.new.failures.count ≡ self.old.failures.count }
+        ensures counts { IsUncounted result self.old.failures.count self.new.failures.count }
         ensures same { IsSetUpAs self.old self.new }
-        ensures last { 2 ^ 64 - 1 ≤ self.old.failures.count → IsErrOf result DiskError.Failed }
         ensures reads { self.old.writes ≡ false → IsErrOf result DiskError.Failed }
     {
         self.may_write()?;
@@ -157,9 +155,8 @@ impl<R: Files<File = File> + Alloc<A = Global> + Clone + Drop> DirDisk<R> {
     }
 
     fn remove_in(&mut self, file: u64) -> Result<(), DiskError>
-        ensures count { self.new.failures.count ≡ self.old.failures.count }
+        ensures counts { IsUncounted result self.old.failures.count self.new.failures.count }
         ensures same { IsSetUpAs self.old self.new }
-        ensures last { 2 ^ 64 - 1 ≤ self.old.failures.count → IsErrOf result DiskError.Failed }
         ensures reads { self.old.writes ≡ false → IsErrOf result DiskError.Failed }
         ensures closed { OnOk result (IsNotOpen file self.new.files) }
     {
@@ -171,9 +168,8 @@ impl<R: Files<File = File> + Alloc<A = Global> + Clone + Drop> DirDisk<R> {
 }
 
 impl<R: Files<File = File> + Alloc<A = Global> + Clone + Drop> Disk for DirDisk<R> {
-    ghost use Rattle.dir_disk.specs.Disks.{CountsFailure, folder_failures, folder_marks};
-    ghost use Rattle.dir_disk.specs.Disks.{may_change, open_files};
-    ghost use Rattle.dir_disk.specs.Open.{IsNotOpen, IsSetUpAs};
+    ghost use Rattle.dir_disk.specs.Disks.{KeepsFolder, folder_marks, may_change, open_files};
+    ghost use Rattle.dir_disk.specs.Open.{IsNotOpen};
 
     ghost is_honest = { λ disk. ⊥ };
 
@@ -190,9 +186,7 @@ impl<R: Files<File = File> + Alloc<A = Global> + Clone + Drop> Disk for DirDisk<
     ghost allocates = { Unit {0} };
 
     fn files(&mut self) -> Result<Vec<u64>, DiskError>
-        ensures counts { CountsFailure result (folder_failures self.old)
-            (folder_failures self.new) }
-        ensures same { IsSetUpAs self.old self.new }
+        ensures kept { KeepsFolder self.old self.new result }
         ensures rising { IfOk result (λ numbers. IsNonDecreasing numbers.items) }
     {
         let answer = self.list();
@@ -200,9 +194,7 @@ impl<R: Files<File = File> + Alloc<A = Global> + Clone + Drop> Disk for DirDisk<
     }
 
     fn length(&mut self, file: u64) -> Result<u64, DiskError>
-        ensures counts { CountsFailure result (folder_failures self.old)
-            (folder_failures self.new) }
-        ensures same { IsSetUpAs self.old self.new }
+        ensures kept { KeepsFolder self.old self.new result }
     {
         let answer = match self.reach(file, false) {
             Ok(()) => self.files.latest().length(),
@@ -212,9 +204,7 @@ impl<R: Files<File = File> + Alloc<A = Global> + Clone + Drop> Disk for DirDisk<
     }
 
     fn read(&mut self, file: u64, at: u64, into: &mut [u8]) -> Result<(), DiskError>
-        ensures counts { CountsFailure result (folder_failures self.old)
-            (folder_failures self.new) }
-        ensures same { IsSetUpAs self.old self.new }
+        ensures kept { KeepsFolder self.old self.new result }
     {
         let answer = match self.reach(file, false) {
             Ok(()) => self.files.latest().read(at, into),
@@ -224,9 +214,7 @@ impl<R: Files<File = File> + Alloc<A = Global> + Clone + Drop> Disk for DirDisk<
     }
 
     fn write_at(&mut self, file: u64, at: u64, bytes: &[u8]) -> Result<(), DiskError>
-        ensures counts { CountsFailure result (folder_failures self.old)
-            (folder_failures self.new) }
-        ensures same { IsSetUpAs self.old self.new }
+        ensures kept { KeepsFolder self.old self.new result }
         ensures reads { may_change self.old ≡ false → IsErrOf result DiskError.Failed }
         ensures range { EndsOutOfRange at (length bytes.now) → IsErrOf result DiskError.Failed }
     {
@@ -235,9 +223,7 @@ impl<R: Files<File = File> + Alloc<A = Global> + Clone + Drop> Disk for DirDisk<
     }
 
     fn cut(&mut self, file: u64, length: u64) -> Result<(), DiskError>
-        ensures counts { CountsFailure result (folder_failures self.old)
-            (folder_failures self.new) }
-        ensures same { IsSetUpAs self.old self.new }
+        ensures kept { KeepsFolder self.old self.new result }
         ensures reads { may_change self.old ≡ false → IsErrOf result DiskError.Failed }
     {
         let answer = self.cut_in(file, length);
@@ -245,9 +231,7 @@ impl<R: Files<File = File> + Alloc<A = Global> + Clone + Drop> Disk for DirDisk<
     }
 
     fn sync(&mut self, file: u64) -> Result<(), DiskError>
-        ensures counts { CountsFailure result (folder_failures self.old)
-            (folder_failures self.new) }
-        ensures same { IsSetUpAs self.old self.new }
+        ensures kept { KeepsFolder self.old self.new result }
     {
         let answer = match self.reach(file, false) {
             Ok(()) => self.files.latest().sync(),
@@ -257,9 +241,7 @@ impl<R: Files<File = File> + Alloc<A = Global> + Clone + Drop> Disk for DirDisk<
     }
 
     fn remove(&mut self, file: u64) -> Result<(), DiskError>
-        ensures counts { CountsFailure result (folder_failures self.old)
-            (folder_failures self.new) }
-        ensures same { IsSetUpAs self.old self.new }
+        ensures kept { KeepsFolder self.old self.new result }
         ensures reads { may_change self.old ≡ false → IsErrOf result DiskError.Failed }
         ensures closed { OnOk result (IsNotOpen file (open_files self.new)) }
     {

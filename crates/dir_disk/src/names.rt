@@ -1,15 +1,16 @@
 // The names of files: their numbers in decimal.
 ghost use Rattle.std.specs.Prelude.{ℕ, ◌≡◌, ◌<◌, ◌^◌, ◌++◌, IfOk, IfSome, IsNone, codes};
 ghost use Rattle.std.specs.Prelude.{string_bytes};
-ghost use Rattle.dir_disk.specs.Names.{IsFileName, file_path};
+ghost use Rattle.std.specs.Fmt.{decimal};
+ghost use Rattle.dir_disk.specs.Names.{file_path};
 
 use std::alloc::{AllocError, Global};
 
 /// The number of the file with this name: the name spells it without a sign and without leading
 /// zeros. Any other name is that of no file of the disk.
 pub fn number_of(name: &str) -> Option<u64>
-    ensures number { IfSome result (λ file. IsFileName file name.now) }
-    ensures none { IsNone result → (file : ℕ) → file < 2 ^ 64 → IsFileName file name.now → ⊥ }
+    ensures number { IfSome result (λ file. name.now ≡ decimal file) }
+    ensures none { IsNone result → (file : ℕ) → file < 2 ^ 64 → name.now ≡ decimal file → ⊥ }
 {
     let bytes = name.as_bytes();
     if bytes.is_empty() || bytes[0] == b'+' {

@@ -1,6 +1,6 @@
 // A disk over another one, of which it changes nothing.
-ghost use Rattle.std.specs.Prelude.{◌≡◌, ◌≤◌, ◌^◌, ◌-◌, ◌++◌, ◌∷◌, [], Err, None, IsErrOf};
-ghost use Rattle.std.specs.Prelude.{MatchResult, length};
+ghost use Rattle.std.specs.Prelude.{◌≡◌, ◌⊎◌, ◌≤◌, ◌^◌, ◌-◌, ◌++◌, ◌∷◌, [], Err, None, IsErrOf};
+ghost use Rattle.std.specs.Prelude.{MatchResult, false, length, true};
 ghost use Rattle.disk.specs.{Absent};
 ghost use Rattle.disk.specs.Calls.{FilesAnswer, LengthAnswer, ReadAnswer};
 
@@ -20,8 +20,8 @@ pub struct Unchanged<D: Disk> {
 }
 
 impl<D: Disk + Drop> Unchanged<D> {
-    ghost use Rattle.dir_disk.specs.Disks.{FindsFile, LeavesFiles, MayLook, disk_below};
-    ghost use Rattle.dir_disk.specs.Disks.{files_left_out, shown_state};
+    ghost use Rattle.dir_disk.specs.Disks.{FindsFile, IsUncounted, LeavesFiles, disk_below};
+    ghost use Rattle.dir_disk.specs.Disks.{files_left_out, is_left_out, shown_state};
 
     /// A disk over this one, none of whose files is left out.
     pub fn new(alloc: Global, disk: D) -> Unchanged<D>
@@ -46,7 +46,9 @@ impl<D: Disk + Drop> Unchanged<D> {
     // Whether a call is made of the file: it was not removed.
     fn may_look(&self, file: u64) -> Result<(), DiskError>
         ensures last { 2 ^ 64 - 1 ≤ self.now.failures.count → IsErrOf result DiskError.Failed }
-        ensures looks { MayLook self.now.removed.items file result }
+        ensures looks { MatchResult result (λ _. is_left_out self.now.removed.items file ≡ false)
+            (λ e. (e ≡ DiskError.Failed) ⊎ ((e ≡ DiskError.NoFile)
+            × (is_left_out self.now.removed.items file ≡ true))) }
     {
         self.failures.works()?;
         if self.removed.contains(&file) {
@@ -56,9 +58,8 @@ impl<D: Disk + Drop> Unchanged<D> {
     }
 
     fn numbers(&mut self) -> Result<Vec<u64>, DiskError>
+        ensures counts { IsUncounted result self.old.failures.count self.new.failures.count }
         ensures same { LeavesFiles D.Disk self.old.inner.disk self.new.inner.disk }
-        ensures count { self.new.failures.count ≡ self.old.failures.count }
-        ensures last { 2 ^ 64 - 1 ≤ self.old.failures.count → IsErrOf result DiskError.Failed }
         ensures left_out { self.new.removed.items ≡ self.old.removed.items }
         ensures files { D.is_honest self.old.inner.disk → FilesAnswer
             (shown_state self.old.removed.items (D.state self.old.inner.disk)) result }
@@ -71,9 +72,8 @@ impl<D: Disk + Drop> Unchanged<D> {
     }
 
     fn measure(&mut self, file: u64) -> Result<u64, DiskError>
+        ensures counts { IsUncounted result self.old.failures.count self.new.failures.count }
         ensures same { LeavesFiles D.Disk self.old.inner.disk self.new.inner.disk }
-        ensures count { self.new.failures.count ≡ self.old.failures.count }
-        ensures last { 2 ^ 64 - 1 ≤ self.old.failures.count → IsErrOf result DiskError.Failed }
         ensures left_out { self.new.removed.items ≡ self.old.removed.items }
         ensures length { D.is_honest self.old.inner.disk → LengthAnswer
             (shown_state self.old.removed.items (D.state self.old.inner.disk)) file result }
@@ -83,9 +83,8 @@ impl<D: Disk + Drop> Unchanged<D> {
     }
 
     fn fill(&mut self, file: u64, at: u64, into: &mut [u8]) -> Result<(), DiskError>
+        ensures counts { IsUncounted result self.old.failures.count self.new.failures.count }
         ensures same { LeavesFiles D.Disk self.old.inner.disk self.new.inner.disk }
-        ensures count { self.new.failures.count ≡ self.old.failures.count }
-        ensures last { 2 ^ 64 - 1 ≤ self.old.failures.count → IsErrOf result DiskError.Failed }
         ensures left_out { self.new.removed.items ≡ self.old.removed.items }
         ensures read { D.is_honest self.old.inner.disk → ReadAnswer
             (shown_state self.old.removed.items (D.state self.old.inner.disk)) file at
@@ -96,9 +95,8 @@ impl<D: Disk + Drop> Unchanged<D> {
     }
 
     fn look_for(&mut self, file: u64) -> Result<(), DiskError>
+        ensures counts { IsUncounted result self.old.failures.count self.new.failures.count }
         ensures same { LeavesFiles D.Disk self.old.inner.disk self.new.inner.disk }
-        ensures count { self.new.failures.count ≡ self.old.failures.count }
-        ensures last { 2 ^ 64 - 1 ≤ self.old.failures.count → IsErrOf result DiskError.Failed }
         ensures left_out { self.new.removed.items ≡ self.old.removed.items }
         ensures found { D.is_honest self.old.inner.disk → FindsFile
             (shown_state self.old.removed.items (D.state self.old.inner.disk)) file result }
@@ -109,9 +107,8 @@ impl<D: Disk + Drop> Unchanged<D> {
     }
 
     fn leave_out(&mut self, file: u64) -> Result<(), DiskError>
+        ensures counts { IsUncounted result self.old.failures.count self.new.failures.count }
         ensures same { LeavesFiles D.Disk self.old.inner.disk self.new.inner.disk }
-        ensures count { self.new.failures.count ≡ self.old.failures.count }
-        ensures last { 2 ^ 64 - 1 ≤ self.old.failures.count → IsErrOf result DiskError.Failed }
         ensures left_out { MatchResult result
             (λ _. self.new.removed.items ≡ self.old.removed.items ++ file ∷ [])
             (λ _. self.new.removed.items ≡ self.old.removed.items) }
@@ -125,8 +122,8 @@ impl<D: Disk + Drop> Unchanged<D> {
 }
 
 impl<D: Disk + Drop> Disk for Unchanged<D> {
-    ghost use Rattle.dir_disk.specs.Disks.{CountsFailure, FindsFile, LeavesFiles, disk_below};
-    ghost use Rattle.dir_disk.specs.Disks.{failures_above, files_left_out, shown_state};
+    ghost use Rattle.dir_disk.specs.Disks.{FindsFile, KeepsBelow, disk_below, files_left_out};
+    ghost use Rattle.dir_disk.specs.Disks.{shown_state};
 
     ghost is_honest = { λ disk. ⊥ };
 
@@ -143,9 +140,7 @@ impl<D: Disk + Drop> Disk for Unchanged<D> {
     ghost allocates = { Unit {0} };
 
     fn files(&mut self) -> Result<Vec<u64>, DiskError>
-        ensures counts { CountsFailure result (failures_above self.old)
-            (failures_above self.new) }
-        ensures same { LeavesFiles D.Disk (disk_below self.old) (disk_below self.new) }
+        ensures kept { KeepsBelow D.Disk self.old self.new result }
         ensures left_out { files_left_out self.new ≡ files_left_out self.old }
         ensures files { D.is_honest (disk_below self.old) → FilesAnswer
             (shown_state (files_left_out self.old) (D.state (disk_below self.old)))
@@ -156,9 +151,7 @@ impl<D: Disk + Drop> Disk for Unchanged<D> {
     }
 
     fn length(&mut self, file: u64) -> Result<u64, DiskError>
-        ensures counts { CountsFailure result (failures_above self.old)
-            (failures_above self.new) }
-        ensures same { LeavesFiles D.Disk (disk_below self.old) (disk_below self.new) }
+        ensures kept { KeepsBelow D.Disk self.old self.new result }
         ensures left_out { files_left_out self.new ≡ files_left_out self.old }
         ensures length { D.is_honest (disk_below self.old) → LengthAnswer
             (shown_state (files_left_out self.old) (D.state (disk_below self.old)))
@@ -169,9 +162,7 @@ impl<D: Disk + Drop> Disk for Unchanged<D> {
     }
 
     fn read(&mut self, file: u64, at: u64, into: &mut [u8]) -> Result<(), DiskError>
-        ensures counts { CountsFailure result (failures_above self.old)
-            (failures_above self.new) }
-        ensures same { LeavesFiles D.Disk (disk_below self.old) (disk_below self.new) }
+        ensures kept { KeepsBelow D.Disk self.old self.new result }
         ensures left_out { files_left_out self.new ≡ files_left_out self.old }
         ensures read { D.is_honest (disk_below self.old) → ReadAnswer
             (shown_state (files_left_out self.old) (D.state (disk_below self.old)))
@@ -182,9 +173,7 @@ impl<D: Disk + Drop> Disk for Unchanged<D> {
     }
 
     fn write_at(&mut self, _file: u64, _at: u64, _bytes: &[u8]) -> Result<(), DiskError>
-        ensures counts { CountsFailure result (failures_above self.old)
-            (failures_above self.new) }
-        ensures same { LeavesFiles D.Disk (disk_below self.old) (disk_below self.new) }
+        ensures kept { KeepsBelow D.Disk self.old self.new result }
         ensures left_out { files_left_out self.new ≡ files_left_out self.old }
         ensures fails { result ≡ Err DiskError.Failed }
     {
@@ -192,9 +181,7 @@ impl<D: Disk + Drop> Disk for Unchanged<D> {
     }
 
     fn cut(&mut self, _file: u64, _length: u64) -> Result<(), DiskError>
-        ensures counts { CountsFailure result (failures_above self.old)
-            (failures_above self.new) }
-        ensures same { LeavesFiles D.Disk (disk_below self.old) (disk_below self.new) }
+        ensures kept { KeepsBelow D.Disk self.old self.new result }
         ensures left_out { files_left_out self.new ≡ files_left_out self.old }
         ensures fails { result ≡ Err DiskError.Failed }
     {
@@ -203,9 +190,7 @@ impl<D: Disk + Drop> Disk for Unchanged<D> {
     }
 
     fn sync(&mut self, file: u64) -> Result<(), DiskError>
-        ensures counts { CountsFailure result (failures_above self.old)
-            (failures_above self.new) }
-        ensures same { LeavesFiles D.Disk (disk_below self.old) (disk_below self.new) }
+        ensures kept { KeepsBelow D.Disk self.old self.new result }
         ensures left_out { files_left_out self.new ≡ files_left_out self.old }
         ensures found { D.is_honest (disk_below self.old) → FindsFile
             (shown_state (files_left_out self.old) (D.state (disk_below self.old)))
@@ -216,9 +201,7 @@ impl<D: Disk + Drop> Disk for Unchanged<D> {
     }
 
     fn remove(&mut self, file: u64) -> Result<(), DiskError>
-        ensures counts { CountsFailure result (failures_above self.old)
-            (failures_above self.new) }
-        ensures same { LeavesFiles D.Disk (disk_below self.old) (disk_below self.new) }
+        ensures kept { KeepsBelow D.Disk self.old self.new result }
         ensures left_out { MatchResult result
             (λ _. files_left_out self.new ≡ files_left_out self.old ++ file ∷ [])
             (λ _. files_left_out self.new ≡ files_left_out self.old) }
