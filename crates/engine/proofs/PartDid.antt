@@ -96,20 +96,20 @@ module _ {D : Type 0} (g : Ghosts D) (a b c : CachedDisk D g) (old mid new : Sto
           (abandoned_store old mid was now on new ended) none told;
       planned = λ tables plan before.
           let done = ahead progress.Done is tables plan before in record {
-        why = inr (done.2, edit_on None edit tables plan done.0);
-        removed = λ file it. gone (honest before.merging.walk.honest) refl file
-            (leftover_on old mid was now on file it);
-      };
+            why = inr (done.2, edit_on None edit tables plan done.0);
+            removed = λ file it. gone (honest before.merging.walk.honest) refl file
+                (leftover_on old mid was now on file it);
+          };
     }
     of_made is answer (Some made) told ended edit gone inputs = record {
       did = continues.EndsByEdit made mid.free_file (on.numbers.rises, on.numbers.within)
           (subst (λ (s : StoreFiles). IsMergedBy made s new) on.store ended) none told;
       planned = λ tables plan before.
           let done = ahead progress.Done is tables plan before in (
-        edit_on (Some made) edit tables plan done.0,
-        done.2,
-        inputs (honest before.merging.walk.honest),
-      );
+            edit_on (Some made) edit tables plan done.0,
+            done.2,
+            inputs (honest before.merging.walk.honest),
+          );
     }
 
     pub ended : called ≡ Ok progress.Done → (result : Result Tended EngineError) →

@@ -47,6 +47,10 @@ use Rattle.engine.specs.UnderWay.{HoldsWithMerge, IsMergeOf, WasMeantWithMerge}
 abbrev pub step_length : ℕ
 step_length = 256
 
+-- one step of a merge used file numbers from the first of these on, up to the second
+abbrev pub UsesUpTo : (free used : ℕ) → Type 0
+UsesUpTo free used = (free ≤ used) × (used ≤ free + step_length)
+
 -- ---- which files a part of a merge may change
 
 -- The files of a merge under way: the slots of the manifest, the files of numbers from the first

@@ -1,5 +1,5 @@
 -- A tend of an engine's files: what is due, and what it did.
-use Rattle.std.specs.Prelude.{◌≡◌, ◌≢◌, ◌⊎◌, ◌==◌, ◌&&◌, ◌+◌, ◌≤◌, ℕ, List, if◌then◌else◌}
+use Rattle.std.specs.Prelude.{◌≡◌, ◌≢◌, ◌⊎◌, ◌==◌, ◌&&◌, ℕ, List, if◌then◌else◌}
 use Rattle.std.specs.Prelude.{IfErr, Option, Result, Some, None, option_map}
 use Rattle.std.specs.List.{find}
 use Rattle.std.specs.Option.{option_and_then, option_or}
@@ -32,7 +32,7 @@ use Rattle.table_files.specs.{inner_disk}
 use Rattle.table_files.specs.declared.cached_disk.CachedDisk.{CachedDisk}
 use Rattle.engine.specs.MergeParts.{CanEndNow, HasNoLeftovers, IsAdvanced, IsEditOf, IsNewMerge}
 use Rattle.engine.specs.MergeParts.{IsTendedFile, KeepsPart, LacksMergeRoom, PartMayFail, StepsOn}
-use Rattle.engine.specs.MergeParts.{free_behind, step_length}
+use Rattle.engine.specs.MergeParts.{UsesUpTo, free_behind}
 use Rattle.engine.specs.UnderWay.{HoldsWithMerge, IsMergeOf, WasMeantWithMerge}
 
 -- ---- whose turn it is
@@ -83,10 +83,6 @@ module _ {D : Type 0} where
     pub is : new.merge ≡ Some merge
     pub first : begun_number merge ≡ new.store.free_file
     pub target : target_of merge ≡ limits.table
-
-  -- file numbers were used from the first of these on, up to the second, by one step of a merge
-  abbrev pub UsesUpTo : (free used : ℕ) → Type 0
-  UsesUpTo free used = (free ≤ used) × (used ≤ free + step_length)
 
   -- What the next part of a merge under way did of any files, and what is left of the merge. Only
   -- numbers of files were used; or its edit is recorded; or it is given up, and the files are as
