@@ -1,17 +1,18 @@
 -- Looks at a disk: what a crash leaves behind them, and an opening behind a look.
 use Rattle.std.proofs.Common.{◌≡◌, Bool, inl, subst, sym}
 use Rattle.std.proofs.Math.Path.{fun_ext}
-use Rattle.std.specs.Prelude.{◌↔◌, Result, Ok, Err, IsTrue}
+use Rattle.std.specs.Prelude.{◌↔◌, ◌⊎◌, Result, Ok, Err, IfErr, IsTrue}
 use Rattle.disk.specs.declared.Disk.{Ghosts}
-use Rattle.disk.specs.{AlwaysLeaves, Contents, IsCrashOutcome, OnlyLeaves, State, contents}
+use Rattle.disk.specs.{AlwaysLeaves, Contents, IsCrashOutcome, IsStill, OnlyLeaves, State}
+use Rattle.disk.specs.{contents}
 use Rattle.disk.specs.MomentsLemmas.{join, weaker}
 use Rattle.disk.specs.StillLemmas.{still_more}
-use Rattle.engine.specs.{IsOneOf, WereOneOf}
-use Rattle.manifest.specs.{HasOnlyCreationFiles, OnlyLooks}
+use Rattle.engine.specs.{AreLeftOf, IsOneOf, WereOneOf, kept_files}
+use Rattle.manifest.specs.{HasOnlyCreationFiles, ManifestRepresents, OnlyLooks}
 use Rattle.embedded_store.specs.declared.error.OpenError.{OpenError}
 use Rattle.embedded_store.specs.declared.store.EmbeddedStore.{EmbeddedStore}
-use Rattle.embedded_store.specs.Openings.{IsOfEnvironment, KeepsRefusedFiles, OpensContents}
-use Rattle.embedded_store.specs.Openings.{disk_of_opening}
+use Rattle.embedded_store.specs.Openings.{AreNoStore, IsOfEnvironment, IsOfNoStore}
+use Rattle.embedded_store.specs.Openings.{LeavesFound, OpensContents, disk_of_opening}
 use Rattle.embedded_store.proofs.Refusals.{external_explains}
 
 module _ {D : Type 0} (g : Ghosts D) where
@@ -81,10 +82,43 @@ module _ {D : Type 0} (g : Ghosts D) where
     };
   }
 
-  -- what a refusal leaves behind a look
-  pub look_still : {failed : Type 0} (old mid : D)
+  -- what an opening leaves behind a look, both do
+  pub look_keeps : {failed : Type 0} (old mid : D)
       (result : Result (EmbeddedStore D g) (OpenError × D)) → OnlyLooks g old mid failed →
-      KeepsRefusedFiles g mid result → KeepsRefusedFiles g old result
-  look_still old mid (Ok store) looks left = tt
-  look_still old mid (Err refused) looks left = λ none honest.
-      still_more (looks.still honest) (left none (looks.kept.honest.1 honest))
+      LeavesFound g mid result → LeavesFound g old result
+  look_keeps old mid result looks left = record {
+    refused = look_still old mid result looks left.refused;
+    named = λ named honest represents.
+        let states : g.state mid ≡ g.state old =
+        fun_ext (λ file. looks.kept.files honest file) in
+        leaves_behind (AreLeftOf (kept_files named.version) (g.state old)) old mid
+        (disk_of_opening result) looks honest (λ left at file has. at file)
+        (λ only. subst (λ (s : State). AlwaysLeaves g mid (disk_of_opening result)
+        (AreLeftOf (kept_files named.version) s)) states
+        (left.named named (looks.kept.honest.1 honest)
+        (subst (λ (s : State). ManifestRepresents named (contents s)) (sym states) represents)));
+  }
+    where
+      look_still : {failed : Type 0} (old mid : D)
+          (result : Result (EmbeddedStore D g) (OpenError × D)) → OnlyLooks g old mid failed →
+          IfErr result (λ refused. IsOfNoStore refused.0 ⊎ AreNoStore (contents (g.state mid)) →
+          IsStill g mid refused.1) →
+          IfErr result (λ refused. IsOfNoStore refused.0 ⊎ AreNoStore (contents (g.state old)) →
+          IsStill g old refused.1)
+      look_still old mid (Ok store) looks left = tt
+      look_still old mid (Err refused) looks left = λ why honest.
+          let states : g.state mid ≡ g.state old =
+          fun_ext (λ file. looks.kept.files honest file) in
+          still_more (looks.still honest) (left (subst
+          (λ (s : State). IsOfNoStore refused.0 ⊎ AreNoStore (contents s)) (sym states) why)
+          (looks.kept.honest.1 honest))
+
+  -- a look that is refused leaves all
+  pub look_leaves_all : {failed : Type 0} (old after : D) (s : OpenError) →
+      OnlyLooks g old after failed → LeavesFound g old (Err (s, after))
+  look_leaves_all old after s looks = record {
+    refused = λ why. looks.still;
+    named = λ named honest represents.
+        look_leaves (AreLeftOf (kept_files named.version) (g.state old)) old after looks honest
+        (λ left at file has. at file);
+  }

@@ -1,7 +1,8 @@
 -- The stores of engines that were opened or created.
 use Rattle.std.proofs.Common.{◌≡◌, ap, inl, inr, refl, subst, sym, ℕ, Bool, false, List, true, ◌∙◌}
 use Rattle.std.proofs.Common.{[], ◌∷◌, ◌<◌, ◌≢◌, arith}
-use Rattle.std.specs.Prelude.{◌⊎◌, ◌↔◌, Result, Ok, Err, IfOk, IsFalse, IsTrue, MatchResult}
+use Rattle.std.specs.Prelude.{◌⊎◌, ◌↔◌, Result, Ok, Err, IfErr, IfOk, IsFalse, IsTrue}
+use Rattle.std.specs.Prelude.{MatchResult}
 use Rattle.std.specs.Prelude.{All, Contains}
 use Rattle.std.proofs.lemmas.List.Elements.{All-weaker}
 use Rattle.kv_types.specs.declared.Limits.{Limits}
@@ -16,9 +17,9 @@ use Rattle.engine.specs.KeepingLemmas.{kept_as, neither}
 use Rattle.engine.specs.{EngineHolds, ExplainsRefusal, Facts, FilesRepresent, HasFirstFiles}
 use Rattle.engine.specs.{HasOnlyFiles, IsEngineOf, IsJustOpened, IsNewEngine, IsNotCreated}
 use Rattle.engine.specs.{IsOpened, IsOwned, LookUps, OpensAs, engine_disk, engine_files, facts_of}
-use Rattle.engine.specs.{AreAlone, HasOpened, StillLeavesOneOf, TendedStore, first_facts}
-use Rattle.engine.specs.{IsMeantEngineOf, WereMeant, engine_version, kept_files, known_version}
-use Rattle.engine.specs.{look_ups}
+use Rattle.engine.specs.{AreAlone, HasOpened, SparesFound, SparesNamed, StillLeavesOneOf}
+use Rattle.engine.specs.{IsMeantEngineOf, WereMeant, engine_version, first_facts, kept_files}
+use Rattle.engine.specs.{TendedStore, known_version, look_ups}
 use Rattle.embedded_store.specs.declared.error.OpenError.{OpenError}
 use Rattle.embedded_store.specs.declared.error.OpenError.TheVariants.{Store}
 use Rattle.embedded_store.specs.declared.store.EmbeddedStore.{EmbeddedStore}
@@ -29,9 +30,10 @@ use Rattle.manifest.specs.Laws.{VersionsAreCreated}
 use Rattle.manifest.specs.Lawful.{IsAllocated}
 use Rattle.manifest.specs.Slots.{IsClosedOrAbsent}
 use Rattle.embedded_store.specs.Alone.{IsAloneAs}
-use Rattle.embedded_store.specs.Openings.{CreatesStore, ExplainsOpening, IsFirstStore, IsOfChain}
+use Rattle.embedded_store.specs.Openings.{AreNoStore, CreatesStore, ExplainsOpening, IsFirstStore}
+use Rattle.embedded_store.specs.Openings.{IsOfChain, IsOfNoStore}
 use Rattle.embedded_store.specs.Openings.{IsOpenedAs, IsOpenedFrom, IsOwnStore}
-use Rattle.embedded_store.specs.Openings.{IsStoreOver, KeepsOpenedDisk, KeepsRefusedFiles}
+use Rattle.embedded_store.specs.Openings.{IsStoreOver, LeavesFound, KeepsOpenedDisk}
 use Rattle.embedded_store.specs.Openings.{OpensContents, StandsAlone}
 use Rattle.embedded_store.specs.Stores.{IsFreshStore, store_disk, store_engine}
 use Rattle.embedded_store.proofs.Refusals.{chain_is_store, explained, external_explains}
@@ -314,37 +316,66 @@ module _ {D : Type 0} (g : Ghosts D) where
       (refuses facts list files)) none
       (λ same only. let no : false ≡ true = found.1 only in cc) leaves)
 
-  -- ---- what a refusal leaves
+  -- ---- what an opening leaves
 
-  -- a chain's store is no such refusal
-  pub own_still : (disk : D) (engine : Engine D g)
-      (result : Result (EmbeddedStore D g) (OpenError × D)) → IsOwnStore engine result →
-      KeepsRefusedFiles g disk result
-  own_still disk engine (Ok store) is = tt
-  own_still disk engine (Err refused) is = λ none.
-      absurd (chain_is_store refused.0 is.0 none)
+  -- a chain's store is no such refusal, and its files open
+  pub own_still : (disk : D) (engine : Engine D g) {for_files : Type 0}
+      (result : Result (EmbeddedStore D g) (OpenError × D)) →
+      (g.is_honest disk → IsOpened (contents (g.state disk)) engine) →
+      SparesFound g disk (engine_disk engine) for_files → IsOwnStore engine result →
+      LeavesFound g disk result
+  own_still disk engine (Ok store) opens left is = record {
+    refused = tt;
+    named = subst (SparesNamed g disk) (sym is.1.disk) left.named;
+  }
+  own_still disk engine (Err refused) opens left is = record {
+    refused = λ why honest. absurd (elim why [
+      | inl none ↦ chain_is_store refused.0 is.0 none
+      | inr shut ↦ shut.0 (facts_of engine) (look_ups engine).count (opens honest)
+    ]);
+    named = subst (SparesNamed g disk) (sym is.2) left.named;
+  }
 
-  -- nor is a want of the device or of memory
+  -- nor is a want of the device or of memory, where a creation was cut short
   created_still : (disk : D) (result : Result (EmbeddedStore D g) (OpenError × D)) →
-      (g.is_honest disk → CreatesStore result) → KeepsRefusedFiles g disk result
-  created_still disk (Ok store) made = tt
-  created_still disk (Err refused) made = λ none honest.
-      absurd (external_is_store refused.0 (made honest) none)
+      (g.is_honest disk → WasCutShort (contents (g.state disk))) →
+      (g.is_honest disk → CreatesStore result) → IfErr result (λ refused. IsOfNoStore refused.0
+      ⊎ AreNoStore (contents (g.state disk)) → IsStill g disk refused.1)
+  created_still disk (Ok store) cut made = tt
+  created_still disk (Err refused) cut made = λ why honest. absurd (elim why [
+    | inl none ↦ external_is_store refused.0 (made honest) none
+    | inr shut ↦ shut.1 (cut honest)
+  ])
 
   -- a creation if the disk is free, behind an opening that left what it found
-  pub free_still : (disk mid : D) (is_free : Bool)
+  pub free_still : VersionsAreCreated → (disk mid : D) (is_free : Bool) {for_files : Type 0}
       (result : Result (EmbeddedStore D g) (OpenError × D)) →
+      (g.is_honest disk →
+      IsTrue is_free ↔ HasOnlyCreationFiles (contents (g.state disk))) →
+      (g.is_honest disk → IsNotCreated (contents (g.state disk))) →
       (g.is_honest disk → g.is_honest mid) → IsStill g disk mid →
+      SparesFound g disk mid for_files →
       (g.is_honest mid → IsTrue is_free → CreatesStore result) →
       (IsFalse is_free → result ≡ Err (Store engine.NotCreated, mid)) →
-      KeepsRefusedFiles g disk result
-  free_still disk mid true result honest left made refused =
-      created_still disk result (λ at. made (honest at) refl)
-  free_still disk mid false result honest left made refused =
-      subst (KeepsRefusedFiles g disk) (sym (refused refl)) (λ none. left)
+      LeavesFound g disk result
+  free_still created disk mid true result found none honest still left made refused = record {
+    refused = created_still disk result (λ at. (none at, (found at).0 refl))
+        (λ at. made (honest at) refl);
+    named = λ named at represents.
+        absurd (created named (contents (g.state disk)) represents (none at));
+  }
+  free_still created disk mid false result found none honest still left made refused =
+      subst (LeavesFound g disk) (sym (refused refl))
+      (record { refused = λ why. still; named = left.named })
 
-  -- the engine's refusal, which left what it found where it is for files
+  -- the engine's refusal, which left what it found where it is for files, or where they are none
   pub refused_still : (disk after : D) (e : EngineError) (s : OpenError) → s ≡ Store e →
-      ((IsEnvironmental engine.Disk engine.Memory e → ⊥) → IsStill g disk after) →
-      KeepsRefusedFiles g disk (Err (s, after))
-  refused_still disk after e s is left = λ none. left (files_not_external e s is none)
+      SparesFound g disk after (IsEnvironmental engine.Disk engine.Memory e → ⊥) →
+      LeavesFound g disk (Err (s, after))
+  refused_still disk after e s is left = record {
+    refused = λ why. left.shut (elim why [
+      | inl none ↦ inr (files_not_external e s is none)
+      | inr shut ↦ inl shut.0
+    ]);
+    named = left.named;
+  }

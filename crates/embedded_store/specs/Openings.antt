@@ -8,7 +8,8 @@ use Rattle.manifest.specs.{HasOnlyCreationFiles, ManifestRepresents, WasCutShort
 use Rattle.engine.specs.EngineError.TheVariants as engine
 use Rattle.engine.specs.declared.Engine.{Engine}
 use Rattle.engine.specs.{AreAlone, Facts, FilesRepresent, HasFirstFiles, HasOnlyFiles, IsDamaged}
-use Rattle.engine.specs.{IsNotCreated, IsOpened, IsOwned, OpensAs, StaysAsItWas, StillLeavesOneOf}
+use Rattle.engine.specs.{AreShut, IsNotCreated, IsOpened, IsOwned, OpensAs, StaysAsItWas}
+use Rattle.engine.specs.{SparesNamed, StillLeavesOneOf}
 use Rattle.engine.specs.{engine_disk, engine_files, engine_version, facts_of, first_facts}
 use Rattle.engine.specs.{WereMeant, kept_files, look_ups, with_committed}
 use Rattle.embedded_store.specs.declared.error.OpenError.{OpenError}
@@ -28,6 +29,11 @@ IsOfEnvironment = IsEnvironmental (Store engine.Disk) (Store engine.Memory)
 -- refused for files that are none of a store
 abbrev pub IsOfNoStore : OpenError → Type 0
 IsOfNoStore e = (e ≡ Store engine.Damaged) ⊎ (e ≡ Store engine.NotCreated)
+
+-- no opening makes a store of the files: they open as none, and are not what a creation may have
+-- left that was cut short
+abbrev pub AreNoStore : Contents → Type 0
+AreNoStore left = AreShut left × (WasCutShort left → ⊥)
 
 -- The files open as a store that does not stand alone. Those of its version read as before on the
 -- disk that is returned, which has no other.
@@ -130,10 +136,13 @@ module _ {D : Type 0} (g : Ghosts D) where
   KeepsOpenedDisk disk result = KeepsDisk g disk (disk_of_opening result)
       (IsErrAnd result (λ refused. refused.0 ≡ Store engine.Disk)) ⊥ IsOwned
 
-  -- an opening that is refused for files that are none of a store leaves them as they were
-  abbrev pub KeepsRefusedFiles : D → Result (EmbeddedStore D g) (OpenError × D) → Type 0
-  KeepsRefusedFiles disk result =
-      IfErr result (λ refused. IsOfNoStore refused.0 → IsStill g disk refused.1)
+  -- What an opening leaves of the files: where it is refused, all if it says that they are no
+  -- store, or if none makes a store of them; and those that the version of the slots names.
+  pub record LeavesFound (disk : D) (result : Result (EmbeddedStore D g) (OpenError × D)) : Type 0
+    where
+      pub refused : IfErr result (λ refused. IsOfNoStore refused.0
+          ⊎ AreNoStore (contents (g.state disk)) → IsStill g disk refused.1)
+      pub named : SparesNamed g disk (disk_of_opening result)
 
   -- what an opening promises of an honest disk with this content
   pub record OpensContents (disk : D) (left : Contents)

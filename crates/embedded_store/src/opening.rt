@@ -5,7 +5,7 @@ ghost use Rattle.embedded_store.specs.declared.error.OpenError.TheVariants.{Stor
 ghost use Rattle.disk.specs.{contents};
 ghost use Rattle.manifest.specs.{HasOnlyCreationFiles};
 ghost use Rattle.embedded_store.specs.Openings.{CreatesStore, IsOwnStore, IsStoreOver};
-ghost use Rattle.embedded_store.specs.Openings.{KeepsOpenedDisk, KeepsRefusedFiles, OpensContents};
+ghost use Rattle.embedded_store.specs.Openings.{LeavesFound, KeepsOpenedDisk, OpensContents};
 ghost use Rattle.embedded_store.specs.Stores.{IsFreshStore};
 
 use crate::alone::{alone, is_alone};
@@ -88,7 +88,7 @@ fn opened_or_created<D: Disk + Drop>(
         IsTrue is_free ↔ HasOnlyCreationFiles (contents (D.state disk)) }
     ensures kept { KeepsOpenedDisk D.Disk disk result }
     ensures opens { D.is_honest disk → OpensContents D.Disk disk (contents (D.state disk)) result }
-    ensures still { KeepsRefusedFiles D.Disk disk result }
+    ensures still { LeavesFound D.Disk disk result }
     ensures fresh { IfOk result (IsFreshStore limits.now) }
 {
     reads_are_outcomes(); // law: a disk as it reads is one of the outcomes
@@ -114,7 +114,7 @@ impl<D: Disk + Drop> EmbeddedStore<D> {
         ensures kept { KeepsOpenedDisk D.Disk disk result }
         ensures opens { D.is_honest disk →
             OpensContents D.Disk disk (contents (D.state disk)) result }
-        ensures still { KeepsRefusedFiles D.Disk disk result }
+        ensures still { LeavesFound D.Disk disk result }
         ensures fresh { IfOk result (IsFreshStore limits.now) }
     {
         match has_only_creation_files(&mut disk) {

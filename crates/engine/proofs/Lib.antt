@@ -2,6 +2,7 @@ pub mod Floors
 pub mod Merges
 pub mod Results
 pub mod Engines
+pub mod Openings
 pub mod Unchanged
 pub mod Removals
 pub mod Begins

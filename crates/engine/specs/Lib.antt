@@ -34,10 +34,10 @@ pub use Rattle.store_tables.specs.Errors.{EndsEngine, IsEnd}
 pub use Rattle.store_files.specs.Adopting.{IsLaterConfig, facts_with_config}
 pub use Rattle.store_files.specs.Files.{Facts, IsOwned, first_facts}
 pub use Rattle.store_files.specs.StoreFiles.{FilesRepresent, HasFirstFiles, IsDamaged, IsOneOf}
-pub use Rattle.store_files.specs.StoreFiles.{OpensAs}
+pub use Rattle.store_files.specs.StoreFiles.{AreShut, OpensAs}
 pub use Rattle.store_files.specs.StoreFiles.{StillLeavesOneOf, WereMeant, WereOneOf}
-pub use Rattle.store_files.specs.OpenFiles.{known_version}
+pub use Rattle.store_files.specs.OpenFiles.{SparesFound, SparesNamed, known_version}
 pub use Rattle.store_files.specs.Openings.{kept_files}
-pub use Rattle.store_files.specs.Settling.{AreAlone, AreReadAlike}
+pub use Rattle.store_files.specs.Settling.{AreAlone, AreLeftOf, AreReadAlike}
 pub use Rattle.store_files.specs.Tending.{IsSameBeside}
 pub use Rattle.manifest.specs.{IsNotCreated}

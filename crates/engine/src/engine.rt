@@ -61,10 +61,10 @@ fn files_over<D: Disk + Drop>(
 
 impl<D: Disk + Drop> Engine<D> {
     ghost use Rattle.std.specs.Prelude.{◌≡◌, ◌⊎◌, ℕ, ◌<◌, ◌≤◌, [], ◌∷◌, ◌++◌, List};
-    ghost use Rattle.std.specs.Prelude.{IfOk, IfErr, MatchResult, slice_index, Some};
+    ghost use Rattle.std.specs.Prelude.{IfOk, IfErr, IsErrAnd, MatchResult, slice_index, Some};
     ghost use Rattle.kv_types.specs.declared.bounds.TheConstants.{MAX_NUMBER};
     ghost use Rattle.kv_types.specs.{BatchContent, place};
-    ghost use Rattle.disk.specs.{contents, IsEnvironmental, IsSameBut, IsStill};
+    ghost use Rattle.disk.specs.{contents, IsEnvironmental, IsSameBut};
     ghost use Rattle.disk.specs.{MakesCalls};
     ghost use Rattle.engine.specs.Calls.{ChangesList, ExplainsRefusal, HasOpened, IsAdrift};
     ghost use Rattle.engine.specs.Calls.{IsJustOpened, IsNewEngine, IsOpened, IsTendOf, TendsAsDue};
@@ -77,6 +77,7 @@ impl<D: Disk + Drop> Engine<D> {
     ghost use Rattle.engine.specs.Engines.{look_ups, newest_log_file, raised_facts};
     ghost use Rattle.engine.specs.Engines.{table_count, with_one_more, with_committed};
     ghost use Rattle.store_files.specs.Files.{Facts};
+    ghost use Rattle.store_files.specs.OpenFiles.{SparesFound};
     ghost use Rattle.store_files.specs.StoreFiles.{StillLeavesOneOf};
     ghost use Rattle.store_files.specs.declared.tended.Tended.TheVariants.{Idle};
     ghost use Rattle.compaction.specs.Outputs.{IsSameBeyond};
@@ -133,9 +134,9 @@ impl<D: Disk + Drop> Engine<D> {
 
         ensures alike { D.is_honest disk → IfOk result (HasOpened D.Disk (D.state disk)) }
 
-        // What is refused for its files is left as it was.
-        ensures still { IfErr result (λ refused. (IsEnvironmental Disk Memory refused.0 → ⊥) →
-            IsStill D.Disk disk refused.1) }
+        // Files that open as no store, or for which it is refused, are left as they were.
+        ensures still { SparesFound D.Disk disk (disk_after result)
+            (IsErrAnd result (λ refused. IsEnvironmental Disk Memory refused.0 → ⊥)) }
     {
         held_files_are_left(); // law: what the disk of open files reads as, and leaves
         let (mut files, turn) = files_over(alloc, disk, limits)?;

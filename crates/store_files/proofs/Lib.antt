@@ -20,6 +20,7 @@ pub mod KeptNames
 pub mod KeptFiles
 pub mod StillFiles
 pub mod OpenMoments
+pub mod SparedFiles
 pub mod NewestLog
 pub mod ReadParts
 pub mod ReadFiles

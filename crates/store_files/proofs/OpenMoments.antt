@@ -70,6 +70,13 @@ patched_may disk left (file ∷ files) at other = elim (cases_eq other file) [
       (patched_may disk left files (λ one has. at one (contains_next file files one has)) other)
 ]
 
+-- what a crash left of some files, behind calls that leave nothing new, it might have left before
+pub left_before : (files : List ℕ) (old mid : State) → OnlyLeaves (IsCrashOutcome old) mid →
+    (left : Contents) → AreLeftOf files mid left → AreLeftOf files old left
+left_before files old mid only left at file has =
+    subst (IsFileOutcome (old file)) (patched_here (contents mid) left files file has)
+    (only (patched (contents mid) left files) (patched_may mid left files at) file)
+
 -- ---- the files of a store
 
 -- a file that the version names is kept

@@ -1,6 +1,6 @@
 -- The answers of an opening, by what its files represent.
 use Rattle.std.proofs.Common.{◌≡◌, ℕ, suc, ◌+◌, ◌-◌, List}
-use Rattle.std.proofs.Common.{arith, drop, length, subst, sym}
+use Rattle.std.proofs.Common.{arith, drop, length, refl, subst, sym}
 use Rattle.kv_types.specs.{BatchContent}
 use Rattle.disk.specs.{Contents, IsEnvironmental, State, contents}
 use Rattle.manifest.specs.declared.Manifest.{Manifest}
@@ -20,6 +20,8 @@ use Rattle.store_files.specs.Files.{Facts}
 use Rattle.store_tables.specs.LevelTables.{AreTablesOf}
 use Rattle.batch_logs.specs.Replaying.{AreBatchesOf}
 use Rattle.store_files.specs.OpenFiles.{AreUsableFiles}
+use Rattle.store_files.specs.OpenFiles.{batch_count, known_facts, known_version}
+use Rattle.store_files.specs.declared.store_files.StoreFiles.{StoreFiles}
 use Rattle.store_files.specs.StoreFiles.{AreOrderedNumbers}
 use Rattle.store_files.specs.OpenFiles.{FilesOpenAs, OpeningRefusal}
 use Rattle.store_files.specs.Openings.{AreParts, HasParts, WereParts}
@@ -84,6 +86,23 @@ opens_as s0 s1 s2 spares manifest parts is had w =
       count = omega (arith, positive, count);
       tables = fit_before (version_of manifest).version is s0 s1 spares w.fits;
     }
+
+-- what open files know, their disk's files open as
+pub opens_of : (left : Contents) (files : StoreFiles) → FilesOpenAs left files →
+    AreUsableFiles files → OpensAs left (known_facts files) (batch_count files)
+opens_of left files opens usable = record {
+  version = (known_version files).version;
+  manifest = opens.version;
+  epoch = refl;
+  ids = refl;
+  floor = refl;
+  batches = opens.batches;
+  logs = opens.logs.have;
+  each = opens.logs.each;
+  counted = opens.count;
+  numbers = usable.numbers;
+  tables = opens.tables;
+}
 
 -- files that open as something have the parts, behind the opening of the manifest
 pub parts_then : (s0 s1 : State) → SparesOthers s0 s1 → (facts : Facts) (count : ℕ)

@@ -6,7 +6,8 @@ use Rattle.kv_types.specs.declared.bounds.TheConstants.{MAX_NUMBER}
 use Rattle.kv_types.specs.{BatchContent, Entry, IsBatch}
 use Rattle.version_edits.specs.declared.line.TheConstants.{MAX_NEXT}
 use Rattle.disk.specs.declared.Disk.{Ghosts}
-use Rattle.disk.specs.{Contents, IsDurable, IsEnvironmental, KeepsDisk, State, contents, seen}
+use Rattle.disk.specs.{AlwaysLeaves, Contents, IsDurable, IsEnvironmental, IsStill, KeepsDisk}
+use Rattle.disk.specs.{State, contents, seen}
 use Rattle.memtable.specs.{TableHolds}
 use Rattle.store_model.specs.{LevelTable, StoreRepresents, StoreState, memory_entries}
 use Rattle.manifest.specs.{IsNotCreated, IsVersion, ManifestHasFailed, ManifestHolds}
@@ -23,7 +24,9 @@ use Rattle.store_tables.specs.declared.levels.LevelTables.{LevelTables}
 use Rattle.batch_logs.specs.Lists.{ListFollowsOn}
 use Rattle.batch_logs.specs.Memtables.{IsNumberedTo}
 use Rattle.batch_logs.specs.Replaying.{AreBatchesOf}
-use Rattle.store_files.specs.StoreFiles.{AreOrderedNumbers, FilesRepresent, OpensAs, WereMeant}
+use Rattle.store_files.specs.Openings.{kept_files}
+use Rattle.store_files.specs.Settling.{AreLeftOf}
+use Rattle.store_files.specs.StoreFiles.{AreOrderedNumbers, AreShut, FilesRepresent, WereMeant}
 use Rattle.store_files.specs.StoreFiles.{store_of_version}
 
 -- ---- what the open files know
@@ -184,8 +187,7 @@ pub record FilesOpenAs (left : Contents) (files : StoreFiles) : Type 0 where
 -- something of what an opening reads
 abbrev pub OpeningRefusal : EngineError → Contents → Type 0
 OpeningRefusal engine.Disk left = Unit {0}
-OpeningRefusal engine.Damaged left =
-    (IsNotCreated left → ⊥) × ((facts : Facts) (count : ℕ) → OpensAs left facts count → ⊥)
+OpeningRefusal engine.Damaged left = (IsNotCreated left → ⊥) × AreShut left
 OpeningRefusal engine.Memory left = Unit {0}
 OpeningRefusal engine.NotCreated left = IsNotCreated left
 OpeningRefusal engine.Failed left = ⊥
@@ -224,6 +226,19 @@ pub record OpensStore {D : Type 0} (g : Ghosts D)
       (λ e. OpeningRefusal e (contents (g.state old)))
   -- the open files are usable
   pub usable : IfOk result AreUsableFiles
+
+-- a crash at any moment leaves of the files that the version of the slots names what it might have
+-- left before
+abbrev pub SparesNamed : {D : Type 0} → Ghosts D → (old new : D) → Type 0
+SparesNamed g old new =
+    (named : NodeVersion) → g.is_honest old → ManifestRepresents named (contents (g.state old)) →
+    AlwaysLeaves g old new (AreLeftOf (kept_files named.version) (g.state old))
+
+-- What an opening leaves of the files: all of them where they are shut, or where it is refused for
+-- them, and those that the version of the slots names, whatever it answers.
+pub record SparesFound {D : Type 0} (g : Ghosts D) (old new : D) (for_files : Type 0) : Type 0 where
+  pub shut : AreShut (contents (g.state old)) ⊎ for_files → IsStill g old new
+  pub named : SparesNamed g old new
 
 -- the open files of a new store: its facts, no batch, and they are usable
 pub record AreNewFiles (id : ℕ) (ids : List ℕ) (files : StoreFiles) : Type 0 where

@@ -118,12 +118,16 @@ pub record OpensAs (left : Contents) (facts : Facts) (count : ℕ) : Type 0 wher
   pub numbers : AreOrderedNumbers version facts.kept count
   pub tables : All (FileFits left) version.tables
 
+-- files of this content are shut: they open as no store
+abbrev pub AreShut : Contents → Type 0
+AreShut left = (facts : Facts) (count : ℕ) → OpensAs left facts count → ⊥
+
 -- The files are of a store that was created, and represent none. They lack something of what an
 -- opening reads.
 pub record IsDamaged (left : Contents) : Type 0 where
   pub created : IsNotCreated left → ⊥
   pub no_store : (facts : Facts) (list : List BatchContent) → FilesRepresent facts list left → ⊥
-  pub shut : (facts : Facts) (count : ℕ) → OpensAs left facts count → ⊥
+  pub shut : AreShut left
 
 -- Files that were meant to represent a list open as it where each table's file fits its line, so
 -- that of tables only blocks are damaged.

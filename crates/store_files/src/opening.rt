@@ -1,5 +1,6 @@
 //! Creating and opening the files of a store.
-ghost use Rattle.std.specs.Prelude.{◌≡◌, ◌↔◌, ◌-◌, [], IsErrOf, IsTrue, List, IfOk, OnOk, IfErr};
+ghost use Rattle.std.specs.Prelude.{◌≡◌, ◌↔◌, ◌-◌, [], IsErrAnd, IsErrOf, IsTrue, List, IfOk};
+ghost use Rattle.std.specs.Prelude.{OnOk};
 ghost use Rattle.store_tables.specs.declared.error.EngineError.TheVariants.{Disk, Memory};
 ghost use Rattle.std.specs.Prelude.{MatchResult, All};
 ghost use Rattle.kv_types.specs.{BatchContent};
@@ -7,7 +8,7 @@ ghost use Rattle.disk.specs.{IsEnvironmental, IsStill, KeepsDisk, contents};
 ghost use Rattle.store_files.specs.Files.{Facts, IsOwned};
 ghost use Rattle.store_files.specs.StoreFiles.{StillLeavesOneOf, before_newest};
 ghost use Rattle.store_files.specs.StoreFiles.{AreOrderedNumbers, HasFirstFiles};
-ghost use Rattle.store_files.specs.OpenFiles.{HasNoFileUnderWay};
+ghost use Rattle.store_files.specs.OpenFiles.{HasNoFileUnderWay, SparesFound};
 ghost use Rattle.store_files.specs.OpenFiles.{AreNewFiles, FilesAreRead, FilesHold, OpensStore};
 ghost use Rattle.store_files.specs.OpenFiles.{known_version, WereMeantToHold, WereMeantToRead};
 ghost use Rattle.store_files.specs.Openings.{AreParts, HasParts, PartsHold, PartsWereMeant};
@@ -199,9 +200,9 @@ impl StoreFiles {
             (kept_files (known_version files).version) (D.state disk.old) (D.state disk.new)) }
         ensures counter { IfOk result HasNoFileUnderWay }
 
-        // What is refused for its files is left as it was.
-        ensures still { IfErr result (λ e. (IsEnvironmental Disk Memory e → ⊥) →
-            IsStill D.Disk disk.old disk.new) }
+        // Files that open as no store, or for which it is refused, are left as they were.
+        ensures still { SparesFound D.Disk disk.old disk.new
+            (IsErrAnd result (λ e. IsEnvironmental Disk Memory e → ⊥)) }
     {
         held_versions_are_left(); // law: a crash leaves the version of an open manifest
         version_is_one(); // law: files represent one version at most

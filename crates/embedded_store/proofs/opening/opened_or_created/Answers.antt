@@ -1,7 +1,7 @@
-use Rattle.std.proofs.Common.{subst}
+use Rattle.std.proofs.Common.{inl, inr, subst}
 use Rattle.disk.specs.{contents}
 use Rattle.engine.specs.EngineError.{EngineError}
-use Rattle.engine.specs.KeepingLemmas.{kept_as}
+use Rattle.engine.specs.KeepingLemmas.{kept_as, kept_behind}
 use Rattle.engine.specs.{ExplainsRefusal}
 use Rattle.embedded_store.proofs.Openings.{free_opens, free_still, own_fresh, own_kept, own_opens}
 use Rattle.embedded_store.proofs.Openings.{own_still, refused_opens, refused_still}
@@ -32,15 +32,26 @@ returns-in-Ok-clause-fresh g c =
 
 pub returns-in-Ok-clause-still : goal.returns-in-Ok-clause-still
 returns-in-Ok-clause-still g c =
-    own_still g.D.Disk c.args.disk c.in-Ok.engine c.own.result c.own.ensures
+    own_still g.D.Disk c.args.disk c.in-Ok.engine c.own.result c.in-Ok.ensures.told
+    c.in-Ok.ensures.still c.own.ensures
 
 -- a creation, if the disk is free
+pub returns-in-NotCreated-clause-kept : goal.returns-in-NotCreated-clause-kept
+returns-in-NotCreated-clause-kept g c =
+    kept_behind g.D.Disk (λ a b d same owned. tt) c.in-Err.ensures.kept
+    (λ fails. not_external c.in-Err.e c.in-NotCreated.is (inl fails))
+    c.created_if_free.ensures.kept
+
 pub returns-in-NotCreated-clause-still : goal.returns-in-NotCreated-clause-still
 returns-in-NotCreated-clause-still g c =
-    free_still g.D.Disk c.args.disk c.in-Err.disk c.args.is_free c.created_if_free.result
+    free_still g.D.Disk c.version_is_one.ensures.created c.args.disk c.in-Err.disk c.args.is_free
+    c.created_if_free.result c.requires
+    (λ honest. subst
+    (λ (e : EngineError). ExplainsRefusal e (contents (g.D.Disk.state c.args.disk)))
+    c.in-NotCreated.is (c.in-Err.ensures.told honest))
     c.in-Err.ensures.kept.honest.1
-    (c.in-Err.ensures.still (λ why. not_external c.in-Err.e c.in-NotCreated.is why))
-    c.created_if_free.ensures.created c.created_if_free.ensures.refused
+    (c.in-Err.ensures.still.shut (inr (λ why. not_external c.in-Err.e c.in-NotCreated.is why)))
+    c.in-Err.ensures.still c.created_if_free.ensures.created c.created_if_free.ensures.refused
 
 pub returns-in-NotCreated-clause-opens : goal.returns-in-NotCreated-clause-opens
 returns-in-NotCreated-clause-opens g c = λ honest.

@@ -1,7 +1,8 @@
 use Rattle.std.proofs.Common.{◌≡◌, Err, ap}
 use Rattle.disk.specs.declared.error.DiskError.TheVariants.{Failed}
 use Rattle.engine.specs.KeepingLemmas.{kept_as, kept_behind}
-use Rattle.embedded_store.proofs.Looks.{look_free, look_opens, look_refused, look_still}
+use Rattle.embedded_store.proofs.Looks.{look_free, look_keeps, look_leaves_all, look_opens}
+use Rattle.embedded_store.proofs.Looks.{look_refused}
 use Rattle.embedded_store.proofs.Refusals.{look_external, look_told}
 use Rattle.embedded_store.proofs.store.EmbeddedStore.over.Goals as goal
 
@@ -26,7 +27,7 @@ returns-in-Ok-clause-opens g c = λ honest.
 
 pub returns-in-Ok-clause-still : goal.returns-in-Ok-clause-still
 returns-in-Ok-clause-still g c =
-    look_still g.D.Disk c.args.disk c.has_only_creation_files.new.disk c.opened_or_created.result
+    look_keeps g.D.Disk c.args.disk c.has_only_creation_files.new.disk c.opened_or_created.result
     c.in-Ok.ensures.looks c.opened_or_created.ensures.still
 
 -- the look was refused
@@ -46,4 +47,6 @@ returns-in-Err-clause-opens g c = λ honest.
     (look_external c.in-Err.e c.from.result c.from.ensures (c.in-Err.ensures.found honest))
 
 pub returns-in-Err-clause-still : goal.returns-in-Err-clause-still
-returns-in-Err-clause-still g c = λ none. c.in-Err.ensures.looks.still
+returns-in-Err-clause-still g c =
+    look_leaves_all g.D.Disk c.args.disk c.has_only_creation_files.new.disk c.from.result
+    c.in-Err.ensures.looks

@@ -8,6 +8,7 @@ use Rattle.store_files.specs.StoreFiles.{WereOneOf}
 use Rattle.store_tables.specs.KeepingLemmas.{answered, neither}
 use Rattle.engine.proofs.Engines.{explains, holds_of, leaves_since_same, meant_of, reads_of}
 use Rattle.engine.proofs.Engines.{still_refused}
+use Rattle.engine.proofs.Openings.{leaves_refused, leaves_same}
 use Rattle.engine.proofs.Results.{not_true}
 use Rattle.engine.proofs.Unchanged.{owned_keeps}
 use Rattle.engine.proofs.engine.Engine.open.Goals as goal
@@ -93,6 +94,23 @@ returns-in-Err-clause-any_moment g c = λ facts list facts' list' honest.
     subst (λ d. StillLeavesOneOf g.D.Disk c.args.disk d facts list facts' list')
     (sym c.into_disk.ensures)
     (leaves_since_same g.D.Disk facts list facts' list' is leaves.whole leaves.meant)
+
+-- what the store's files leave, the engine does
+pub returns-in_err-files-clause-still : goal.returns-in_err-files-clause-still
+returns-in_err-files-clause-still g c =
+    let p = err_from_is_err_and c.from_residual.result c.from_residual.ensures.1 in
+    leaves_refused g.D.Disk c.args.disk c.from_residual.result p.0 c.in_err-files.field-0.0 p.1 p.2
+    c.in_err-files.ensures.refused.1
+
+pub returns-in-Ok-clause-still : goal.returns-in-Ok-clause-still
+returns-in-Ok-clause-still g c =
+    leaves_same g.D.Disk c.in_ok-files.ensures.files refl (λ no. absurd no)
+    c.in-Ok.ensures.still.shut c.in-Ok.ensures.still.named
+
+pub returns-in-Err-clause-still : goal.returns-in-Err-clause-still
+returns-in-Err-clause-still g c =
+    leaves_same g.D.Disk c.in_ok-files.ensures.files (sym c.into_disk.ensures)
+    (λ other. other) c.in-Err.ensures.still.shut c.in-Err.ensures.still.named
 
 -- a refusal says what is wrong
 pub returns-in-Err-clause-opened : goal.returns-in-Err-clause-opened

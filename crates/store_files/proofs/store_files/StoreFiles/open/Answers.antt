@@ -8,11 +8,12 @@ use Rattle.store_files.specs.Openings.{kept_files}
 use Rattle.disk.specs.{Contents, IsEnvironmental, contents, seen}
 use Rattle.store_files.specs.Settling.{AreSwept, IsReadAlike}
 use Rattle.store_files.specs.StoreFiles.{IsOneOf, WereOneOf}
-use Rattle.store_tables.specs.RefusalLemmas.{answers_nothing, done, if_refuses, lacks_memory}
+use Rattle.store_tables.specs.RefusalLemmas.{answers_nothing, done, lacks_memory}
 use Rattle.store_tables.specs.RefusalLemmas.{passed_on, refuses}
 use Rattle.store_files.proofs.StillFiles.{settled_as, still_keeps}
 use Rattle.store_files.proofs.MeantOpenings.{settled_as_meant}
 use Rattle.store_files.proofs.OpenMoments.{settling_keeps_each}
+use Rattle.store_files.proofs.SparedFiles.{for_cause, only_read, then_removed}
 use Rattle.store_files.proofs.store_files.StoreFiles.open.Goals as goal
 
 -- the files that are read are those that the disk represents
@@ -181,19 +182,36 @@ returns-clause-any_moment g c = λ facts list facts' list' honest.
     (c.remove_others.ensures.any_moment honest1) in
     record { whole = each.0; meant = each.1 }
 
--- a refusal of the reading left what there was, and one of a removal is external
+-- the reading leaves what there was, and the removals the files of the version
 pub returns-in_err-files-clause-still : goal.returns-in_err-files-clause-still
 returns-in_err-files-clause-still g c =
-    if_refuses c.from_residual.result _ c.from_residual.ensures.1
-    (λ other. c.read_files.ensures.still)
+    only_read g.D.Disk c.args.disk.now c.read_files.new.disk c.read_files.ensures.still
 
 pub returns-in_err-kept-clause-still : goal.returns-in_err-kept-clause-still
 returns-in_err-kept-clause-still g c =
-    if_refuses c.from_residual-in_err-kept.result _ c.from_residual-in_err-kept.ensures.1
-    (λ other. c.read_files.ensures.still)
+    only_read g.D.Disk c.args.disk.now c.read_files.new.disk c.read_files.ensures.still
 
 pub returns-in_err-remove_others-clause-still : goal.returns-in_err-remove_others-clause-still
 returns-in_err-remove_others-clause-still g c =
-    if_refuses c.from_residual-in_err-remove_others.result _
-    c.from_residual-in_err-remove_others.ensures.1 (λ other honest. absurd (other
-    (c.in_err-remove_others.ensures.alone (c.read_files.ensures.opens.kept.honest.1 honest))))
+    let honest1 = c.read_files.ensures.opens.kept.honest.1 in
+    then_removed g.D.Disk c.version_is_one.ensures.one c.args.disk.now c.read_files.new.disk
+    c.remove_others.new.disk c.in_ok-files.files c.deref.result.now
+    (c.deref.ensures.value ∙ c.in_ok-kept.ensures
+    ∙ ap (λ (n : NodeVersion). kept_files n.version) c.state.ensures)
+    c.in_ok-files.ensures.opens.told c.in_ok-files.ensures.opens.usable
+    c.read_files.ensures.still (λ honest. c.remove_others.ensures.any_moment (honest1 honest))
+    (λ honest for_files. for_cause c.from_residual-in_err-remove_others.result
+    (λ e. IsEnvironmental engine.Disk engine.Memory e → ⊥)
+    c.from_residual-in_err-remove_others.ensures.1 for_files
+    (c.in_err-remove_others.ensures.alone (honest1 honest)))
+
+pub returns-clause-still : goal.returns-clause-still
+returns-clause-still g c =
+    let honest1 = c.read_files.ensures.opens.kept.honest.1 in
+    then_removed g.D.Disk c.version_is_one.ensures.one c.args.disk.now c.read_files.new.disk
+    c.remove_others.new.disk c.in_ok-files.files c.deref.result.now
+    (c.deref.ensures.value ∙ c.in_ok-kept.ensures
+    ∙ ap (λ (n : NodeVersion). kept_files n.version) c.state.ensures)
+    c.in_ok-files.ensures.opens.told c.in_ok-files.ensures.opens.usable
+    c.read_files.ensures.still (λ honest. c.remove_others.ensures.any_moment (honest1 honest))
+    (λ honest for_files. for_files)
