@@ -1,4 +1,4 @@
-use Rattle.std.proofs.Common.{subst, sym}
+use Rattle.std.proofs.Common.{inr, subst, sym}
 use Rattle.disk.specs.{IsEnvironmental, contents}
 use Rattle.node.specs.declared.stop.Stop.TheVariants as stop
 use Rattle.node.specs.Outputs.{AlwaysRefines}
@@ -28,9 +28,9 @@ returns-in-Err-clause-any_moment g c = λ x n m honest rests.
 -- .. and one for the files no more than was there
 pub returns-in-Err-clause-still : goal.returns-in-Err-clause-still
 returns-in-Err-clause-still g c = λ other.
-    c.in-Err.ensures.still (λ machine.
+    c.in-Err.ensures.still.shut (inr (λ machine.
     other (subst
-    (IsEnvironmental stop.Disk stop.Memory) (sym c.from.ensures) (env_of c.in-Err.e machine)))
+    (IsEnvironmental stop.Disk stop.Memory) (sym c.from.ensures) (env_of c.in-Err.e machine))))
 
 pub returns-in-Ok-clause-still : goal.returns-in-Ok-clause-still
 returns-in-Ok-clause-still g c =
