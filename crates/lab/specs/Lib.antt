@@ -32,7 +32,7 @@ pub use Rattle.events.specs.declared.kind.EventKind
 pub use Rattle.lab.specs.Events.{NamesNode, node_in}
 pub use Rattle.events.specs.{delivered_place, faultless}
 pub use Rattle.lab.specs.LinesSoFar.{AddsLines, AreEventLines, EventAddsLines, HasItsNodes}
-pub use Rattle.lab.specs.LinesSoFar.{configs_of, lines_so_far, sim_node_ids}
+pub use Rattle.lab.specs.LinesSoFar.{configs_of, lines_so_far, nodes_of, sim_node_ids}
 pub use Rattle.lab.specs.History.{ClientHistory, DisksHold, OneHistory}
 pub use Rattle.lab.specs.Runs.{AreNumbersOf, IsRun, IsRunOver}
 pub use Rattle.lab.specs.SimNodes.{Arrives, Choice}

@@ -78,9 +78,13 @@ module _ {D C : Type 0} {g : Ghosts D} where
   abbrev pub configs_of : World D C g → Configurations
   configs_of world = world.configs
 
+  -- the nodes of a world
+  abbrev pub nodes_of : World D C g → List (SimNode D g)
+  nodes_of world = world.nodes.items
+
   -- the world has the nodes of its first configuration, and no others
   abbrev pub HasItsNodes : World D C g → Type 0
-  HasItsNodes world = sim_node_ids world.nodes.items ≡ at_epoch world.configs 0
+  HasItsNodes world = sim_node_ids (nodes_of world) ≡ at_epoch (configs_of world) 0
 
   -- So many events were run. If they name nodes of the first configuration (`named`), the world has
   -- a list of lines of each behind those that it had. If they name others, it is as it was. Each

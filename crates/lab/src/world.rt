@@ -12,8 +12,7 @@ ghost use Rattle.lab.specs.Worlds.{HasMoved, HasNoNode, HasRun, HaveLimits, IsCr
 ghost use Rattle.lab.specs.Worlds.{IsDownAmong, IsReportOf, IsRunSoFar, ShowsTables, WorldHasEnded};
 ghost use Rattle.lab.specs.Worlds.{WorldHasLimits, WorldKeepsLimits, WorldRun, direct_carrier};
 ghost use Rattle.lab.specs.Worlds.{empty_run, frames_in_steps, losses_of};
-ghost use Rattle.lab.specs.LinesSoFar.{EventAddsLines, HasItsNodes, configs_of, lines_so_far};
-ghost use Rattle.lab.specs.LinesSoFar.{sim_node_ids};
+ghost use Rattle.lab.specs.LinesSoFar.{EventAddsLines, configs_of, lines_so_far, nodes_of};
 ghost use Rattle.lab.specs.Transmissions.{carrier_of};
 
 use crate::delivery::{Posted, delivery_of};
@@ -206,9 +205,9 @@ impl<C: Carrier + Drop> World<MemDisk, C> {
 }
 
 impl<D: Disk + Drop, C: Carrier + Drop> World<D, C> {
-    /// A world of these nodes, which has run no event. If they were just created, the world has run
-    /// so (`ran`). Of nodes that were started on what an earlier run left of their disks nothing of
-    /// one history is claimed: no event of this run submitted what they hold.
+    /// A world of just these nodes, which has run no event. If they were just created, the world
+    /// has run so (`ran`). Of nodes that were started on what an earlier run left of their disks
+    /// nothing of one history is claimed: no event of this run submitted what they hold.
     pub fn over(
         alloc: Global,
         configs: Configs,
@@ -223,7 +222,7 @@ impl<D: Disk + Drop, C: Carrier + Drop> World<D, C> {
         ensures goes_on { WorldHasEnded result → ⊥ }
         ensures limits { HaveLimits nodes.items limits.now → WorldHasLimits result limits.now }
         ensures none { lines_so_far result ≡ [] }
-        ensures nodes { sim_node_ids nodes.items ≡ at_epoch configs 0 → HasItsNodes result }
+        ensures nodes { nodes_of result ≡ nodes.items }
         ensures configs { configs_of result ≡ configs }
     {
         World {

@@ -1,7 +1,7 @@
 -- A text that has a line too long or one too many has one fault, whatever follows it.
 use Rattle.std.proofs.Common.{◌≡◌, ◌≢◌, ◌⊎◌, ◌+◌, ◌<◌, ◌≤◌, ℕ, zero, suc, List, [], ◌∷◌, ◌++◌, refl}
 use Rattle.std.proofs.Common.{sym, ap, subst, ◌∙◌, inl, inr, arith, true, false, Option, Some, None}
-use Rattle.std.proofs.Common.{length, append_assoc, take, drop, get_or}
+use Rattle.std.proofs.Common.{length, append_assoc, append-nil, take, drop, get_or}
 use Rattle.std.specs.Prelude.{All, Bool, ◌==◌, if◌then◌else◌, is_none, nat_lt}
 use Rattle.std.specs.Option.{option_map_or, option_or}
 use Rattle.std.specs.List.{onto_first}
@@ -17,7 +17,7 @@ use Rattle.scripts.specs.declared.statement.ParserState.{ParserState}
 use Rattle.script_words.specs.Lines.{script_lines}
 use Rattle.scripts.specs.Faults.{script_fault, start, numbered_fault, line_fault, after_line}
 use Rattle.scripts.specs.Faults.{IsReported}
-use Rattle.scripts.specs.Beginnings.{HasExtent, IsFaulty}
+use Rattle.scripts.specs.Beginnings.{HasExtent, HasPassedLimit, IsFaulty}
 use Rattle.kv_types.specs.{has}
 
 -- ---- a text grows by one byte
@@ -206,6 +206,37 @@ fault_among text bytes i less faulty =
     let same = snoc (text ++ take i bytes) b rest ∙ append_assoc text (take i bytes) (b ∷ rest)
     ∙ ap (λ l. text ++ l) (parts bytes i less) in
     subst IsFaulty same (more_faulty ((text ++ take i bytes) ++ b ∷ []) rest faulty)
+
+-- .. and where a text passes a limit, so does each longer one
+passes_more : (text more : List ℕ) → HasPassedLimit text → HasPassedLimit (text ++ more)
+passes_more text more passes = record {
+  begin = passes.begin;
+  behind = passes.behind ++ more;
+  is = ap (λ l. l ++ more) passes.is ∙ append_assoc passes.begin passes.behind more;
+  extent = passes.extent;
+  has = passes.has;
+  passed = passes.passed;
+}
+
+pub passes_at : (text : List ℕ) (extent : Extent) → HasExtent text extent →
+    (100000 < extent.lines) ⊎ (262144 < extent.line) → HasPassedLimit text
+passes_at text extent has passed = record {
+  begin = text;
+  behind = [];
+  is = sym (append-nil text);
+  extent = extent;
+  has = has;
+  passed = passed;
+}
+
+pub passes_among : (text bytes : List ℕ) (i : ℕ) → i < length bytes →
+    HasPassedLimit ((text ++ take i bytes) ++ get_or bytes i 0 ∷ []) →
+    HasPassedLimit (text ++ bytes)
+passes_among text bytes i less passes =
+    let b = get_or bytes i 0 in let rest = drop (suc i) bytes in
+    let same = snoc (text ++ take i bytes) b rest ∙ append_assoc text (take i bytes) (b ∷ rest)
+    ∙ ap (λ l. text ++ l) (parts bytes i less) in
+    subst HasPassedLimit same (passes_more ((text ++ take i bytes) ++ b ∷ []) rest passes)
 
 some_fault : (fault : ℕ × ScriptError) (found : Option (ℕ × ScriptError)) → found ≡ Some fault →
     found ≡ None → ⊥

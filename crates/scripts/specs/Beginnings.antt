@@ -1,5 +1,6 @@
 -- What the beginning of a script shows of the whole.
-use Rattle.std.specs.Prelude.{◌≡◌, ◌==◌, ℕ, false, List, ◌++◌, length, All, Some, None, Bool}
+use Rattle.std.specs.Prelude.{◌≡◌, ◌==◌, ◌≤◌, ◌<◌, ◌⊎◌, ℕ, false, List, ◌++◌, length, All, Some}
+use Rattle.std.specs.Prelude.{None, Bool}
 use Rattle.script_words.specs.declared.error.ScriptError.{ScriptError}
 use Rattle.scripts.specs.declared.extent.Extent.{Extent}
 use Rattle.script_words.specs.Lines.{script_lines}
@@ -24,6 +25,21 @@ pub record HasExtent (text : List ℕ) (extent : Extent) : Type 0 where
   pub same : (more : List ℕ) → script_lines (text ++ more) ≡ ended ++ script_lines (behind ++ more)
   pub lines : length ended ≡ extent.lines
   pub line : length behind ≡ extent.line
+
+-- so many lines, and so many bytes behind them, may be the beginning of a script
+pub record IsWithinLimits (extent : Extent) : Type 0 where
+  pub lines : extent.lines ≤ 100000
+  pub line : extent.line ≤ 262144
+
+-- a beginning of the text has more ended lines than a script may have, or behind them more bytes
+-- than a line may have
+pub record HasPassedLimit (text : List ℕ) : Type 0 where
+  pub begin : List ℕ
+  pub behind : List ℕ
+  pub is : text ≡ begin ++ behind
+  pub extent : Extent
+  pub has : HasExtent begin extent
+  pub passed : (100000 < extent.lines) ⊎ (262144 < extent.line)
 
 -- a beginning of a script that has the fault of the whole, and is the whole where it has none,
 -- whether faults may be spelled or not

@@ -1,6 +1,6 @@
 //! How far the beginning of a script goes, and whether it shows a fault of the whole.
-ghost use Rattle.std.specs.Prelude.{◌++◌, ◌∷◌, [], ℕ, List, MatchOption};
-ghost use Rattle.scripts.specs.Beginnings.{HasExtent, IsFaulty};
+ghost use Rattle.std.specs.Prelude.{◌++◌, ◌∷◌, [], ℕ, List, IfSome, IsNone, MatchOption};
+ghost use Rattle.scripts.specs.Beginnings.{HasExtent, HasPassedLimit, IsFaulty, IsWithinLimits};
 
 use crate::reader::{LINE, LINES};
 
@@ -14,15 +14,19 @@ pub struct Extent {
 impl Extent {
     /// The extent of an empty text.
     pub fn new() -> Extent
-        ensures { HasExtent [] result }
+        ensures extent { HasExtent [] result }
+        ensures within { IsWithinLimits result }
     {
         Extent { lines: 0, line: 0 }
     }
 
     /// The extent behind one more byte, unless a line is then too long, or one too many.
     fn after_byte(self, byte: u8) -> Option<Extent>
-        ensures { (text : List ℕ) → HasExtent text self →
+        ensures extent { (text : List ℕ) → HasExtent text self →
             MatchOption result (IsFaulty (text ++ byte ∷ [])) (HasExtent (text ++ byte ∷ [])) }
+        ensures within { IsWithinLimits self → IfSome result IsWithinLimits }
+        ensures refused { (text : List ℕ) → HasExtent text self →
+            IsNone result → HasPassedLimit (text ++ byte ∷ []) }
     {
         if byte == b'\n' {
             if self.lines >= LINES {
@@ -44,8 +48,11 @@ impl Extent {
 
     /// The extent behind more bytes, unless a line is then too long, or one too many.
     pub fn after(self, bytes: &[u8]) -> Option<Extent>
-        ensures { (text : List ℕ) → HasExtent text self →
+        ensures extent { (text : List ℕ) → HasExtent text self →
             MatchOption result (IsFaulty (text ++ bytes.now)) (HasExtent (text ++ bytes.now)) }
+        ensures within { IsWithinLimits self → IfSome result IsWithinLimits }
+        ensures refused { (text : List ℕ) → HasExtent text self →
+            IsNone result → HasPassedLimit (text ++ bytes.now) }
     {
         let mut extent = self;
         for byte in bytes {
