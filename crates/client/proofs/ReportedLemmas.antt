@@ -19,12 +19,13 @@ use Rattle.scripts.specs.declared.statement.Action.{Action}
 use Rattle.scripts.specs.declared.statement.Action.TheVariants.{Event, Invalid, Flow}
 use Rattle.scripts.specs.declared.statement.Action.TheVariants.{Settle, Show}
 use Rattle.scripts.specs.declared.statement.Statement.{Statement}
+use Rattle.client.specs.declared.run_error.RunError.TheVariants.{Memory, Write}
 use Rattle.client.specs.declared.statement_result.Note.TheVariants as note
 use Rattle.client.specs.ScriptRuns.{busy, most, shown}
 use Rattle.client.specs.declared.statement_result.StatementResult.{StatementResult}
 use Rattle.client.specs.PrintedRuns.{AppendsPart}
 use Rattle.client.specs.ReportedRuns.{ActionAddsLines, AreActionLines, AreLinesOf, AreReported}
-use Rattle.client.specs.ReportedRuns.{IsReportedIn, ReportIsBegun, ReportIsPrinted}
+use Rattle.client.specs.ReportedRuns.{IsReportedIn, ReportIsCut, ReportIsPrinted}
 use Rattle.client.specs.ReportedRuns.AreReported.{NoStatement, OneMore}
 use Rattle.client.specs.Text.{result_text}
 use Rattle.client.proofs.Printed.{appends_more, appends_none}
@@ -211,17 +212,21 @@ module _ {D C : Type 0} {g : Ghosts D} where
   }
 
   -- the run ended for memory behind them
-  pub begun_so_far : (first now : World D C g) (all : List Statement) (i : ℕ) (places : List ℕ)
-      (before : ℕ) (old new : Option (List ℕ)) →
-      ReportsSoFar first now (take i all) places before old new →
-      ReportIsBegun (configs_of first) (HasItsNodes first) all old new
-  begun_so_far first now all i places before old new r = record {
-    count = i;
-    places = places;
-    steps = r.steps;
-    text = r.text;
-    are = r.are;
-    part = part_of_all old new r.text r.wrote;
+  pub cut_in_memory : (first world now : World D C g) (all : List Statement) (i : ℕ)
+      (places : List ℕ) (before : ℕ) (old new : Option (List ℕ)) →
+      ReportsSoFar first world (take i all) places before old new →
+      ReportIsCut Memory first now all old new
+  cut_in_memory first world now all i places before old new r = record {
+    begun = record {
+      count = i;
+      places = places;
+      steps = r.steps;
+      text = r.text;
+      are = r.are;
+      part = part_of_all old new r.text r.wrote;
+    };
+    memory = λ _. r.wrote;
+    output = λ is. cc;
   }
 
   -- all statements were run
@@ -271,16 +276,24 @@ module _ {D C : Type 0} {g : Ghosts D} (first world now : World D C g)
       (OneMore (take i all) places r.steps r.text r.are it turn is.adds.more is.answered
       own_lines_are)
 
+  added_more : lines_so_far now ≡ lines_so_far first ++ (r.steps ++ is.adds.more)
+  added_more = is.adds.added ∙ ap (λ (l : List (List Line)). l ++ is.adds.more) r.added
+      ∙ append_assoc (lines_so_far first) r.steps is.adds.more
+
   -- .. of which the output took a beginning
-  pub begun_with_one : (new : Option (List ℕ)) → AppendsPart mid new text →
-      ReportIsBegun (configs_of first) (HasItsNodes first) all old new
-  begun_with_one new part = record {
-    count = suc i;
-    places = more_places;
-    steps = r.steps ++ is.adds.more;
-    text = r.text ++ text;
-    are = one_more;
-    part = part_behind old mid new r.text text r.wrote part;
+  pub cut_in_output : (new : Option (List ℕ)) → AppendsPart mid new text →
+      ReportIsCut Write first now all old new
+  cut_in_output new part = record {
+    begun = record {
+      count = suc i;
+      places = more_places;
+      steps = r.steps ++ is.adds.more;
+      text = r.text ++ text;
+      are = one_more;
+      part = part_behind old mid new r.text text r.wrote part;
+    };
+    memory = λ is. cc;
+    output = λ _. added_more;
   }
 
   -- .. which was written
@@ -292,8 +305,7 @@ module _ {D C : Type 0} {g : Ghosts D} (first world now : World D C g)
     are = one_more;
     configs = is.adds.configs ∙ r.configs;
     nodes = λ its. is.adds.nodes (r.nodes its);
-    added = is.adds.added ∙ ap (λ (l : List (List Line)). l ++ is.adds.more) r.added
-        ∙ append_assoc (lines_so_far first) r.steps is.adds.more;
+    added = added_more;
     count = ap length reports;
     wrote = appends_more old mid new r.text text r.wrote wrote;
   }

@@ -19,6 +19,8 @@ use Rattle.client.specs.declared.statement_result.StatementResult.{StatementResu
 use Rattle.client.specs.declared.statement_result.Note.{Note}
 use Rattle.client.specs.declared.statement_result.Note.TheVariants as note
 use Rattle.client.specs.PrintedRuns.{AppendsPart}
+use Rattle.client.specs.declared.run_error.RunError.{RunError}
+use Rattle.client.specs.declared.run_error.RunError.TheVariants.{Memory, Write}
 use Rattle.client.specs.ScriptRuns.{HasSettled, ShowsLast, most, shown}
 use Rattle.client.specs.Text.{result_text}
 
@@ -117,3 +119,12 @@ pub record ReportIsBegun (cs : Configurations) (has_nodes : Type 0) (statements 
   pub text : List ℕ
   pub are : AreReported cs has_nodes (take count statements) places steps text
   pub part : AppendsPart before after text
+
+-- Statements were run in a world, and this ended them early. Where memory was short, the text of so
+-- many first ones was written; where the output took no more, a beginning of it, and the world has
+-- exactly the lines of these behind those that it had.
+pub record ReportIsCut {D C : Type 0} {g : Ghosts D} (error : RunError) (old new : World D C g)
+    (statements : List Statement) (before after : Option (List ℕ)) : Type 0 where
+  pub begun : ReportIsBegun (configs_of old) (HasItsNodes old) statements before after
+  pub memory : error ≡ Memory → Appends before after begun.text
+  pub output : error ≡ Write → lines_so_far new ≡ lines_so_far old ++ begun.steps

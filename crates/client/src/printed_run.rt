@@ -1,8 +1,7 @@
 //! A script is run statement by statement, and each is printed before the next begins.
 ghost use Rattle.std.specs.Prelude.{◌≡◌, ◌++◌, drop, replicate, OnOk, IfErr, MatchResult};
-ghost use Rattle.lab.specs.{HasItsNodes, configs_of};
 ghost use Rattle.client.specs.PrintedRuns.{HasEndedEarly, IsPrintedRun, IsReadyToRun};
-ghost use Rattle.client.specs.ReportedRuns.{ReportIsBegun, ReportIsPrinted};
+ghost use Rattle.client.specs.ReportedRuns.{ReportIsCut, ReportIsPrinted};
 ghost use Rattle.client.specs.Text.{result_text};
 
 use crate::run_error::RunError;
@@ -75,8 +74,8 @@ pub fn run_script<D: Crash + Drop, C: Carrier + Drop, W: Write>(
     ensures reported { MatchResult result
         (λ _. ReportIsPrinted world.old world.new script.now.statements.items
         (W.contents out.old) (W.contents out.new))
-        (λ _. ReportIsBegun (configs_of world.old) (HasItsNodes world.old)
-        script.now.statements.items (W.contents out.old) (W.contents out.new)) }
+        (λ error. ReportIsCut error world.old world.new script.now.statements.items
+        (W.contents out.old) (W.contents out.new)) }
 {
     let mut left = VecDeque::new(alloc);
     let mut places = Vec::new(alloc);

@@ -5,7 +5,7 @@ use Rattle.client.specs.ScriptRuns.{no_stretch, run_of}
 use Rattle.scripts.specs.Scripts.{Names}
 use Rattle.client.proofs.PrintedRuns.{ended_in_memory, ended_in_write, printed, prints_more}
 use Rattle.client.proofs.PrintedRuns.{prints_none}
-use Rattle.client.proofs.ReportedLemmas.{all_reported, begun_so_far, begun_with_one, reports_more}
+use Rattle.client.proofs.ReportedLemmas.{all_reported, cut_in_memory, cut_in_output, reports_more}
 use Rattle.client.proofs.ReportedLemmas.{reports_none}
 use Rattle.client.proofs.printed_run.run_script.Goals as goal
 
@@ -115,24 +115,24 @@ returns-clause-printed g c = λ ready.
 
 pub returns-in_err-turn-clause-reported : goal.returns-in_err-turn-clause-reported
 returns-in_err-turn-clause-reported g c =
-    let begun = begun_so_far c.args.world.now c.loop-statement.world
+    let cut = cut_in_memory c.args.world.now c.loop-statement.world c.run_statement.new.world
     c.args.script.now.statements.items c.loop-statement.statement-index
     c.loop-statement.places.items c.loop-statement.before (g.W.Write.contents c.args.out.now)
     (g.W.Write.contents c.loop-statement.out) c.loop-statement.invariant.1 in
-    search (rules, begun)
+    search (rules, cut)
 
 pub returns-in_err-make_text-clause-reported : goal.returns-in_err-make_text-clause-reported
 returns-in_err-make_text-clause-reported g c =
-    let begun = begun_so_far c.args.world.now c.loop-statement.world
+    let cut = cut_in_memory c.args.world.now c.loop-statement.world c.run_statement.new.world
     c.args.script.now.statements.items c.loop-statement.statement-index
     c.loop-statement.places.items c.loop-statement.before (g.W.Write.contents c.args.out.now)
     (g.W.Write.contents c.loop-statement.out) c.loop-statement.invariant.1 in
-    search (rules, begun)
+    search (rules, cut)
 
 pub returns-in_err-print-clause-reported : goal.returns-in_err-print-clause-reported
 returns-in_err-print-clause-reported g c =
     let same = c.deref-statement-items.ensures.value in
-    let begun = begun_with_one c.args.world.now c.loop-statement.world c.run_statement.new.world
+    let cut = cut_in_output c.args.world.now c.loop-statement.world c.run_statement.new.world
     c.args.script.now.statements.items c.loop-statement.statement-index _
     c.statement-item.result c.in_ok-turn.turn c.loop-statement.places.items
     c.make_text.new.places.items c.loop-statement.before c.report-steps.result.now
@@ -141,7 +141,7 @@ returns-in_err-print-clause-reported g c =
     c.loop-statement.invariant.1 c.in_ok-turn.ensures.reported c.report-steps.ensures.kept
     c.behind.ensures c.in_ok-make_text.ensures.places c.in_ok-make_text.ensures.text _
     (rw c.deref.ensures.value at c.in_err-print.ensures.part) in
-    search (rules, begun)
+    search (rules, cut)
 
 pub returns-clause-reported : goal.returns-clause-reported
 returns-clause-reported g c =
