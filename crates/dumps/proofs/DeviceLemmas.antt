@@ -1,18 +1,21 @@
 -- What is kept of a device, and which refusals are of it.
-use Rattle.std.proofs.Common.{◌≡◌, ◌↔◌, ◌⊎◌, ap, inl, inr}
-use Rattle.std.specs.Prelude.{IsErrAnd, IsErrOf, Result, Ok, Err}
-use Rattle.disk.specs.{IsEnvironmental, IsSame, KeepsDisk}
+use Rattle.std.proofs.Common.{◌≡◌, ◌∙◌, ◌↔◌, ◌⊎◌, ℕ, List, Option, ap, inl, inr, refl, subst, sym}
+use Rattle.std.specs.Prelude.{IsErrAnd, IsErrOf, IsNone, MatchResult, Result, Ok, Err}
+use Rattle.disk.specs.{Contents, IsEnvironmental, IsSame, IsStill, KeepsDisk, contents, seen}
 use Rattle.disk.specs.declared.Disk.{Ghosts}
 use Rattle.engine.specs.EngineError.{EngineError}
 use Rattle.engine.specs.EngineError.TheVariants as engine
 use Rattle.engine.specs.KeepingLemmas.{kept_as, kept_behind, neither, same_files, same_then_same}
 use Rattle.engine.specs.KeepingLemmas.{unchanged}
-use Rattle.engine.specs.{IsOwned}
+use Rattle.engine.specs.declared.Engine.{Engine}
+use Rattle.engine.specs.{AreAlone, ExplainsRefusal, HasOpened, IsOwned, engine_disk, engine_files}
+use Rattle.engine.specs.{engine_version}
 use Rattle.node.specs.Stops.{engine_stop}
 use Rattle.node.specs.declared.stop.Stop.TheVariants as stop
 use Rattle.dumps.specs.declared.dump_error.DumpError.{DumpError}
 use Rattle.dumps.specs.declared.dump_error.DumpError.TheVariants.{Store}
-use Rattle.dumps.specs.Dumped.{IsDumpRefusal}
+use Rattle.dumps.specs.Dumped.{AreOpenedFiles, IsDumpRefusal, IsNotOpened, LeavesDevice}
+use Rattle.dumps.specs.Dumped.{ReturnsFiles, UnopenedRefusal}
 
 -- ---- errors
 
@@ -47,6 +50,34 @@ alike : {T U : Type 0} (result : Result T DumpError) (error : DumpError) →
     IsErrOf {T = U} (Err error) (Store stop.Disk) ↔ IsErrOf result (Store stop.Disk)
 alike (Ok x) error same = absurd same
 alike (Err x) error same = (λ f. cc, λ f. cc)
+
+-- an opening is refused for the device exactly where a dump is
+of_device : (e : EngineError) (error : DumpError) → error ≡ Store (engine_stop e) →
+    (e ≡ engine.Disk) ↔ (error ≡ Store stop.Disk)
+of_device engine.Disk error is = (λ fails. is, λ fails. refl)
+of_device engine.Damaged error is = (λ fails. cc, λ fails. cc)
+of_device engine.Memory error is = (λ fails. cc, λ fails. cc)
+of_device engine.NotCreated error is = (λ fails. cc, λ fails. cc)
+of_device engine.Failed error is = (λ fails. cc, λ fails. cc)
+of_device engine.TooOld error is = (λ fails. cc, λ fails. cc)
+of_device engine.NotCommitted error is = (λ fails. cc, λ fails. cc)
+of_device engine.NoSuchSnapshot error is = (λ fails. cc, λ fails. cc)
+of_device engine.TooManySnapshots error is = (λ fails. cc, λ fails. cc)
+of_device engine.Exhausted error is = (λ fails. cc, λ fails. cc)
+
+-- why an engine was not opened, a dump tells too
+pub unopened : (left : Contents) (e : EngineError) → ExplainsRefusal e left →
+    UnopenedRefusal left (Store (engine_stop e))
+unopened left engine.Disk why = tt
+unopened left engine.Damaged why = why
+unopened left engine.Memory why = tt
+unopened left engine.NotCreated why = why
+unopened left engine.Failed why = absurd why
+unopened left engine.TooOld why = absurd why
+unopened left engine.NotCommitted why = absurd why
+unopened left engine.NoSuchSnapshot why = absurd why
+unopened left engine.TooManySnapshots why = absurd why
+unopened left engine.Exhausted why = absurd why
 
 -- ---- the device
 
@@ -84,3 +115,84 @@ module _ {D : Type 0} (g : Ghosts D) where
       KeepsDisk g old new (IsErrOf result (Store stop.Disk)) ⊥ IsSame
   kept_as_passed result error same kept =
       kept_as g (alike result error same) (λ a b files. files) kept
+
+-- ---- the disk that is returned
+
+-- what was written, or refused, is the answer, beside the disk
+abbrev pub IsPassedOn : {D : Type 0} → Result (Unit {0}) DumpError → D →
+    Result D (DumpError × D) → Type 0
+IsPassedOn written disk result =
+    MatchResult written (λ _. result ≡ Ok disk) (λ e. result ≡ Err (e, disk))
+
+-- so what is so of the one is so of the other
+pub passed_on : {D : Type 0} (P Q : Type 0) (written : Result (Unit {0}) DumpError) (disk : D)
+    (result : Result D (DumpError × D)) → IsPassedOn written disk result →
+    MatchResult written (λ _. P) (λ _. Q) → MatchResult result (λ _. P) (λ _. Q)
+passed_on {D} P Q (Ok x) disk result is so =
+    subst (λ (r : Result D (DumpError × D)). MatchResult r (λ _. P) (λ _. Q)) (sym is) so
+passed_on {D} P Q (Err e) disk result is so =
+    subst (λ (r : Result D (DumpError × D)). MatchResult r (λ _. P) (λ _. Q)) (sym is) so
+
+module _ {D : Type 0} (g : Ghosts D) where
+  -- an opening that was refused keeps the device
+  pub kept_of_refused : {old new : D} (e : EngineError) (error : DumpError) →
+      error ≡ Store (engine_stop e) → KeepsDisk g old new (e ≡ engine.Disk) ⊥ IsOwned →
+      KeepsDisk g old new (error ≡ Store stop.Disk) ⊥ IsOwned
+  kept_of_refused e error is kept = kept_as g (of_device e error is) (λ a b owned. owned) kept
+
+  kept_answered : {old left : D} (x : Unit {0}) →
+      KeepsDisk g old left (IsErrOf (Ok x) (Store stop.Disk)) ⊥ IsOwned →
+      KeepsDisk g old left ⊥ ⊥ IsOwned
+  kept_answered x kept = kept_as g (neither answers (λ f. f)) (λ a b owned. owned) kept
+
+  kept_refused : {old left : D} (e : DumpError) →
+      KeepsDisk g old left (IsErrOf {T = Unit {0}} (Err e) (Store stop.Disk)) ⊥ IsOwned →
+      KeepsDisk g old left (e ≡ Store stop.Disk) ⊥ IsOwned
+  kept_refused e kept = kept_as g (λ f. cc, λ f. cc) (λ a b owned. owned) kept
+
+  -- so does the answer, of the disk that it has
+  pub kept_passed_on : {old left : D} (written : Result (Unit {0}) DumpError) (disk : D)
+      (result : Result D (DumpError × D)) → IsPassedOn written disk result → disk ≡ left →
+      KeepsDisk g old left (IsErrOf written (Store stop.Disk)) ⊥ IsOwned →
+      LeavesDevice g old result
+  kept_passed_on {old} {left} (Ok x) disk result is same kept =
+      subst (LeavesDevice g old) (sym is)
+      (subst (λ (d : D). LeavesDevice g old (Ok d)) (sym same) (kept_answered x kept))
+  kept_passed_on {old} {left} (Err e) disk result is same kept =
+      subst (LeavesDevice g old) (sym is)
+      (subst (λ (d : D). LeavesDevice g old (Err (e, d))) (sym same) (kept_refused e kept))
+
+  -- no store was opened
+  pub not_opened : (disk left : D) (out : Option (List ℕ)) (e : EngineError) (error : DumpError) →
+      error ≡ Store (engine_stop e) → ExplainsRefusal e (contents (g.state disk)) →
+      ((IsEnvironmental engine.Disk engine.Memory e → ⊥) → IsStill g disk left) →
+      IsNotOpened g disk out out (Err (error, left))
+  not_opened disk left out e error is why still = record {
+    refused = subst (UnopenedRefusal (contents (g.state disk))) (sym is)
+        (unopened (contents (g.state disk)) e why);
+    none = refl;
+    still = λ other. still (λ met. other (subst IsDumpRefusal (sym is) (of_engine e met)));
+  }
+
+  -- behind an opening no file was changed
+  pub opened_files : (disk left : D) (engine : Engine D g) → HasOpened g (g.state disk) engine →
+      AreAlone (engine_files engine) (g.state (engine_disk engine)) →
+      IsSame (g.state (engine_disk engine)) (g.state left) →
+      AreOpenedFiles (g.state disk) (g.state left)
+  opened_files disk left engine opened alone same = record {
+    version = engine_version engine;
+    was = opened.version;
+    alike = λ file has. ap seen (same file) ∙ opened.alike file has;
+    alone = λ file other. subst (λ slot. IsNone (seen slot)) (sym (same file)) (alone file other);
+  }
+
+  pub files_passed_on : {disk left : D} (old new : Option (List ℕ))
+      (written : Result (Unit {0}) DumpError) (own : D) (result : Result D (DumpError × D)) →
+      IsPassedOn written own result → own ≡ left →
+      AreOpenedFiles (g.state disk) (g.state left) → ReturnsFiles g disk old new result
+  files_passed_on {disk} {left} old new (Ok x) own result is same files =
+      subst (ReturnsFiles g disk old new) (sym is)
+      (subst (λ (d : D). AreOpenedFiles (g.state disk) (g.state d)) (sym same) files)
+  files_passed_on {disk} {left} old new (Err e) own result is same files =
+      subst (ReturnsFiles g disk old new) (sym is)
+      (inl (subst (λ (d : D). AreOpenedFiles (g.state disk) (g.state d)) (sym same) files))

@@ -9,19 +9,16 @@ use Rattle.std.specs.Io.KnownBytes.{Appends}
 use Rattle.kv_types.specs.declared.row.Row.{Row}
 use Rattle.kv_types.specs.Pages.{PagesAgree, page_of}
 use Rattle.kv_types.specs.{BatchContent, map_of}
-use Rattle.disk.specs.{Contents}
-use Rattle.engine.specs.EngineError.{EngineError}
-use Rattle.engine.specs.EngineError.TheVariants as engine
-use Rattle.engine.specs.{AreOrdered, ExplainsRefusal, Facts, IsReadable, LookUps, with_committed}
-use Rattle.node.specs.Stops.{engine_stop}
+use Rattle.engine.specs.{AreOrdered, Facts, IsReadable, LookUps, with_committed}
 use Rattle.client.specs.PrintedRuns.{AppendsPart}
 use Rattle.dumps.specs.declared.dump_error.DumpError.{DumpError}
-use Rattle.dumps.specs.declared.dump_error.DumpError.TheVariants.{Store, Write}
+use Rattle.dumps.specs.declared.dump_error.DumpError.TheVariants.{Write}
 use Rattle.dumps.specs.Dumped.{AreAllWritten, AreBegun, IsBegunDump, IsBegunFor, IsCutDump}
 use Rattle.dumps.specs.Dumped.{IsDumpFor, IsDumpOf, IsDumpRefusal, IsSomeBegun}
-use Rattle.dumps.specs.Dumped.{IsSomeDump, UnopenedRefusal, WritesText, count_line, dump_text}
-use Rattle.dumps.specs.Dumped.{row_line, store_line}
+use Rattle.dumps.specs.Dumped.{IsSomeDump, WritesText, count_line, dump_text, row_line}
+use Rattle.dumps.specs.Dumped.{store_line}
 use Rattle.dumps.specs.Walks.{AreRowsOf, all_from}
+use Rattle.dumps.proofs.DeviceLemmas.{IsPassedOn}
 use Rattle.dumps.proofs.TextsLemmas.{appends_more, part_behind, part_none, part_of_longer}
 
 -- the output took no more than a beginning of a text
@@ -40,20 +37,6 @@ pub all_readable : (old new : LookUps) (at : ℕ) → new ≡ with_committed old
     at ≡ old.count → IsReadable new.facts.floor new.committed at
 all_readable old new at told ordered is =
     rw told (omega (arith, ordered.floor, ordered.committed, is), omega arith)
-
--- why an engine was not opened, a dump tells too
-pub unopened : (left : Contents) (e : EngineError) → ExplainsRefusal e left →
-    UnopenedRefusal left (Store (engine_stop e))
-unopened left engine.Disk why = tt
-unopened left engine.Damaged why = why
-unopened left engine.Memory why = tt
-unopened left engine.NotCreated why = why
-unopened left engine.Failed why = absurd why
-unopened left engine.TooOld why = absurd why
-unopened left engine.NotCommitted why = absurd why
-unopened left engine.NoSuchSnapshot why = absurd why
-unopened left engine.TooManySnapshots why = absurd why
-unopened left engine.Exhausted why = absurd why
 
 -- the map of each list has rows
 all_rows : PagesAgree → (list : List BatchContent) → (rows : List Row)
@@ -230,19 +213,27 @@ module _ (IsShown : List BatchContent → Type 0) (known facts : Facts) (count :
         part = as_told (AppendsPart old new) begun.tables all.0 all.2;
       }
 
-module _ {T : Type 0} (facts : Facts) (list : List BatchContent) (old new : Option (List ℕ)) where
-  abbrev Dumps : Result T DumpError → Type 0
-  Dumps result =
+module _ (facts : Facts) (list : List BatchContent) (old new : Option (List ℕ)) where
+  -- .. and the answer has the disk besides
+  abbrev PassesOn : {D : Type 0} → Result D (DumpError × D) → Type 0
+  PassesOn result =
       MatchResult result (λ _. IsDumpOf facts list old new) (λ _. IsBegunDump facts list old new)
 
   -- the store was written out whole
-  pub dumped_whole : (result : Result T DumpError) → Dumps result →
+  pub dumped_whole : {D : Type 0} (result : Result D (DumpError × D)) → PassesOn result →
       OnOk result (IsDumpOf facts list old new)
-  dumped_whole (Ok x) dump = dump
-  dumped_whole (Err e) begun = tt
+  dumped_whole (Ok disk) dump = dump
+  dumped_whole (Err refused) begun = tt
 
   -- or in part
-  pub dumped_in_part : (result : Result T DumpError) → Dumps result →
-      IfErr result IsDumpRefusal → IfErr result (IsCutDump facts list old new)
-  dumped_in_part (Ok x) dump refused = tt
-  dumped_in_part (Err e) begun refused = (refused, begun)
+  pub dumped_in_part : {D : Type 0} (written : Result (Unit {0}) DumpError) (disk : D)
+      (result : Result D (DumpError × D)) → IsPassedOn written disk result → PassesOn result →
+      IfErr written IsDumpRefusal →
+      IfErr result (λ refused. IsCutDump facts list old new refused.0)
+  dumped_in_part {D} (Ok x) disk result is dump refused =
+      subst (λ (r : Result D (DumpError × D)).
+      IfErr r (λ refused. IsCutDump facts list old new refused.0)) (sym is) tt
+  dumped_in_part {D} (Err e) disk result is begun refused =
+      subst (λ (r : Result D (DumpError × D)).
+      IfErr r (λ refused. IsCutDump facts list old new refused.0)) (sym is)
+      (refused, subst PassesOn is begun)

@@ -1,17 +1,18 @@
 -- What is written of a store: its numbers, all rows of the map at its count, and how many they are.
 use Rattle.std.specs.Prelude.{◌≡◌, ◌⊎◌, ◌<◌, ℕ, List, [], ◌∷◌, ◌++◌, Option, length, codes, take}
 use Rattle.std.specs.Prelude.{slice_index}
-use Rattle.std.specs.Prelude.{Result, Ok, Err, IsErrAnd, IsErrOf}
+use Rattle.std.specs.Prelude.{Result, Ok, Err, IfErr, IsErrAnd}
 use Rattle.std.specs.List.{flat_map}
 use Rattle.std.specs.Fmt.{decimal}
 use Rattle.std.specs.Io.KnownBytes.{Appends}
 use Rattle.kv_types.specs.declared.row.Row.{Row}
 use Rattle.kv_types.specs.{BatchContent, map_of}
-use Rattle.disk.specs.{Contents, KeepsDisk}
+use Rattle.disk.specs.{Contents, IsStill, KeepsDisk, State, contents}
 use Rattle.disk.specs.declared.Disk.{Ghosts}
 use Rattle.engine.specs.declared.Engine.{Engine}
-use Rattle.engine.specs.{EngineReads, EngineWasMeant, Facts, IsDamaged, IsNotCreated, IsOwned}
-use Rattle.engine.specs.{OpensAs, table_count}
+use Rattle.manifest.specs.{ManifestRepresents, NodeVersion}
+use Rattle.engine.specs.{AreAlone, AreReadAlike, EngineReads, EngineWasMeant, Facts, IsDamaged}
+use Rattle.engine.specs.{IsNotCreated, IsOwned, OpensAs, kept_files, table_count}
 use Rattle.node.specs.declared.stop.Stop.TheVariants as stop
 use Rattle.client.specs.PrintedRuns.{AppendsPart}
 use Rattle.client.specs.Text.{printed_row, store_text}
@@ -175,15 +176,38 @@ UnopenedRefusal left (Store stop.Memory) = Unit {0}
 UnopenedRefusal left (Store stop.NotCreated) = IsNotCreated left
 UnopenedRefusal left Write = ⊥
 
--- no store was opened, the content of the disk explains it, and nothing was written
-pub record IsNotOpened {T : Type 0} (left : Contents) (old new : Option (List ℕ))
-    (result : Result T DumpError) : Type 0 where
-  pub refused : IsErrAnd result (UnopenedRefusal left)
+-- No store was opened, the content of the disk explains it, and nothing was written. What is
+-- refused for its files is returned as it was.
+pub record IsNotOpened {D : Type 0} (g : Ghosts D) (disk : D) (old new : Option (List ℕ))
+    (result : Result D (DumpError × D)) : Type 0 where
+  pub refused : IsErrAnd result (λ it. UnopenedRefusal (contents (g.state disk)) it.0)
   pub none : new ≡ old
+  pub still : IfErr result (λ it. (IsDumpRefusal it.0 → ⊥) → IsStill g disk it.1)
 
--- A disk was left so that it is the device that it was: a failure is counted exactly where the
--- answer names the device.
-pub record LeavesDevice {D T : Type 0} (g : Ghosts D) (disk : D) (result : Result T DumpError)
-    : Type 0 where
-  pub left : D
-  pub kept : KeepsDisk g disk left (IsErrOf result (Store stop.Disk)) ⊥ IsOwned
+-- ---- the disk that is returned
+
+-- the disk behind an answer, or beside a refusal
+abbrev pub disk_of_dump : {D : Type 0} → Result D (DumpError × D) → D
+disk_of_dump (Ok disk) = disk
+disk_of_dump (Err refused) = refused.1
+
+-- the disk that is returned is the device that it was: a failure is counted exactly where the
+-- answer names the device
+abbrev pub LeavesDevice : {D : Type 0} → Ghosts D → D → Result D (DumpError × D) → Type 0
+LeavesDevice g disk result = KeepsDisk g disk (disk_of_dump result)
+    (IsErrAnd result (λ refused. refused.0 ≡ Store stop.Disk)) ⊥ IsOwned
+
+-- The files are those of the store that was opened: the slots represented a version, the files that
+-- it names read as before, and there is no other.
+pub record AreOpenedFiles (old new : State) : Type 0 where
+  pub version : NodeVersion
+  pub was : ManifestRepresents version (contents old)
+  pub alike : AreReadAlike (kept_files version.version) old new
+  pub alone : AreAlone (kept_files version.version) new
+
+-- the disk that is returned has these files, unless no store was opened
+abbrev pub ReturnsFiles : {D : Type 0} → Ghosts D → D → (old new : Option (List ℕ)) →
+    Result D (DumpError × D) → Type 0
+ReturnsFiles g disk old new (Ok left) = AreOpenedFiles (g.state disk) (g.state left)
+ReturnsFiles g disk old new (Err refused) = AreOpenedFiles (g.state disk) (g.state refused.1)
+    ⊎ IsNotOpened g disk old new (Err refused)

@@ -1,5 +1,5 @@
 // A store is opened and written out.
-ghost use Rattle.std.specs.Prelude.{◌≡◌, ℕ, List, IfErr, IsErrOf, MatchResult, OnOk};
+ghost use Rattle.std.specs.Prelude.{◌≡◌, ℕ, List, Ok, Err, IfErr, IsErrOf, MatchResult, OnOk};
 ghost use Rattle.disk.specs.{IsSame, KeepsDisk, contents};
 ghost use Rattle.kv_types.specs.{BatchContent};
 ghost use Rattle.engine.specs.{EngineReads, Facts, FilesRepresent, WereMeant, engine_disk};
@@ -9,8 +9,8 @@ ghost use Rattle.dumps.specs.declared.dump_error.DumpError.TheVariants.{Store};
 ghost use Rattle.dumps.specs.Dumped.{AreTableCounts};
 ghost use Rattle.dumps.specs.Dumped.{IsBegunDump, IsBegunFor, IsCutDump, IsDumpFor, IsDumpOf};
 ghost use Rattle.dumps.specs.Dumped.{IsDumpRefusal, IsNotOpened, IsSomeBegun, IsSomeDump};
-ghost use Rattle.dumps.specs.Dumped.{LeavesDevice, OpenAsNone, ShowsList, WritesText, count_line};
-ghost use Rattle.dumps.specs.Dumped.{store_line};
+ghost use Rattle.dumps.specs.Dumped.{LeavesDevice, ReturnsFiles, OpenAsNone, ShowsList};
+ghost use Rattle.dumps.specs.Dumped.{WritesText, count_line, store_line};
 
 use crate::dump_error::DumpError;
 use crate::row_walk::write_rows;
@@ -79,6 +79,16 @@ fn write_count<W: Write>(
     Ok(())
 }
 
+// The disk behind what was written, or beside the refusal.
+fn with_disk<D>(written: Result<(), DumpError>, disk: D) -> Result<D, (DumpError, D)>
+    ensures { MatchResult written (λ _. result ≡ Ok disk) (λ e. result ≡ Err (e, disk)) }
+{
+    match written {
+        Ok(()) => Ok(disk),
+        Err(e) => Err((e, disk)),
+    }
+}
+
 // Writes the numbers of an engine, all rows at its count, and how many they are.
 fn write_store<D: Disk + Drop, W: Write>(
     alloc: Global,
@@ -104,20 +114,20 @@ fn write_store<D: Disk + Drop, W: Write>(
 }
 
 /// Opens the store of a disk, and writes its numbers, all rows at its count in the order of their
-/// keys, and how many they are. The rows of a page are flushed before the next page is read, so
-/// after an error the text of the first ones may be out. `Memory` is also answered for more rows or
-/// pages than can be counted.
+/// keys, and how many they are. The disk is returned, on an error too. The rows of a page are
+/// flushed before the next page is read, so after an error the text of the first ones may be out.
+/// `Memory` is also answered for more rows or pages than can be counted.
 pub fn dump_store<D: Disk + Drop, W: Write>(
     alloc: Global,
     disk: D,
     out: &mut W,
-) -> Result<(), DumpError>
+) -> Result<D, (DumpError, D)>
     ensures written { (facts : Facts) (list : List BatchContent) → D.is_honest disk →
         FilesRepresent facts list (contents (D.state disk)) → OnOk result
         (IsDumpOf facts list (W.contents out.old) (W.contents out.new)) }
     ensures refused { (facts : Facts) (list : List BatchContent) → D.is_honest disk →
-        FilesRepresent facts list (contents (D.state disk)) → IfErr result
-        (IsCutDump facts list (W.contents out.old) (W.contents out.new)) }
+        FilesRepresent facts list (contents (D.state disk)) → IfErr result (λ refused.
+        IsCutDump facts list (W.contents out.old) (W.contents out.new) refused.0) }
 
     // Where blocks of tables are damaged, no wrong row is written, and none is left out.
     ensures meant { (facts : Facts) (list : List BatchContent) → D.is_honest disk →
@@ -125,25 +135,25 @@ pub fn dump_store<D: Disk + Drop, W: Write>(
         (λ _. IsDumpOf facts list (W.contents out.old) (W.contents out.new))
         (λ _. IsBegunDump facts list (W.contents out.old) (W.contents out.new)) }
 
-    ensures unopened { D.is_honest disk → OpenAsNone (contents (D.state disk)) → IsNotOpened
-        (contents (D.state disk)) (W.contents out.old) (W.contents out.new) result }
+    ensures unopened { D.is_honest disk → OpenAsNone (contents (D.state disk)) →
+        IsNotOpened D.Disk disk (W.contents out.old) (W.contents out.new) result }
 
     // Of any disk: the text of some store was written, or a beginning of it. It is refused for the
-    // device exactly where a failure was counted.
+    // device only where a failure was counted.
     ensures printed { MatchResult result
         (λ _. IsSomeDump (W.contents out.old) (W.contents out.new))
         (λ _. IsSomeBegun (W.contents out.old) (W.contents out.new)) }
     ensures device { LeavesDevice D.Disk disk result }
+
+    // No file is changed behind the opening.
+    ensures files { D.is_honest disk → ReturnsFiles D.Disk disk (W.contents out.old)
+        (W.contents out.new) result }
 {
     pages_agree(); // law: a map has a page in each range
     let mut engine = match Engine::open(alloc, disk, &Limits::default()) {
         Ok(engine) => engine,
-        Err((e, disk)) => {
-            drop(disk);
-            return Err(DumpError::from(e));
-        }
+        Err((e, disk)) => return Err((DumpError::from(e), disk)),
     };
     let written = write_store(alloc, &mut engine, out);
-    drop(engine);
-    written
+    with_disk(written, engine.into_disk())
 }
