@@ -1,2 +1,3 @@
 mod NamesLemmas
+mod OpenFilesLemmas
 mod ShownFiles

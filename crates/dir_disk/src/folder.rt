@@ -1,7 +1,7 @@
 // A folder as a disk. No contract says what the system does with its files, so this disk claims
 // neither that it is honest nor that it is reliable.
 ghost use Rattle.std.specs.Prelude.{◌≡◌, ◌≤◌, ◌<◌, ◌^◌, ◌-◌, [], None, IfErr, IfOk, IsErrOf, OnOk};
-ghost use Rattle.std.specs.Prelude.{IsSome, false, length, string_bytes, true};
+ghost use Rattle.std.specs.Prelude.{IsErr, IsOk, IsSome, false, length, string_bytes, true};
 ghost use Rattle.std.specs.List.Sorted.{IsNonDecreasing};
 ghost use Rattle.disk.specs.{Absent};
 ghost use Rattle.disk.specs.Calls.{EndsOutOfRange};
@@ -77,6 +77,8 @@ impl<R: Files<File = File> + Alloc<A = Global> + Clone + Drop> DirDisk<R> {
         ensures locked { OnOk result (HasLock self.new) }
         ensures folder { disk_folder self.new ≡ disk_folder self.old }
         ensures writes { may_change self.new ≡ may_change self.old }
+        ensures refused { IsErr result → self.new ≡ self.old }
+        ensures held { HasLock self.old → (self.new ≡ self.old) × IsOk result }
     {
         if self.lock.is_none() {
             let path = path_of_folder(self.rt.alloc(), self.folder.as_str())?;

@@ -104,6 +104,7 @@ impl OpenFile {
         ensures same { self.new.number ≡ self.old.number }
         ensures known { at + length bytes.now < 2 ^ 64 →
             OnOk result (IsSomeAnd self.new.len (λ len. at + length bytes.now ≤ len)) }
+        ensures short { IsErrOf result DiskError.Short → IsSomeAnd self.new.len (λ len. len < at) }
         ensures failed { IsErrOf result DiskError.Failed → self.new.len ≡ None }
     {
         let len = self.known_length()?;
@@ -121,6 +122,8 @@ impl OpenFile {
     pub fn cut(&mut self, length: u64) -> Result<(), DiskError>
         ensures same { self.new.number ≡ self.old.number }
         ensures known { OnOk result (self.new.len ≡ Some length) }
+        ensures short { IsErrOf result DiskError.Short →
+            IsSomeAnd self.new.len (λ len. len < length) }
         ensures failed { IsErrOf result DiskError.Failed → self.new.len ≡ None }
     {
         if length > self.known_length()? {

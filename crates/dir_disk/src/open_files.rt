@@ -1,5 +1,5 @@
 // The files of a folder that are open.
-ghost use Rattle.std.specs.Prelude.{◌≡◌, ◌<◌, ◌≤◌, ◌==◌, IfOk, IsTrue, OnOk, vec_len};
+ghost use Rattle.std.specs.Prelude.{◌≡◌, ◌<◌, ◌≤◌, ◌==◌, [], IfOk, IsTrue, OnOk, vec_len};
 ghost use Rattle.std.specs.List.{position};
 ghost use Rattle.dir_disk.specs.declared.open_files.TheConstants.{MOST};
 
@@ -22,7 +22,9 @@ impl OpenFiles {
     ghost use Rattle.dir_disk.specs.Open.{IsLatest, IsNotOpen};
     ghost use Rattle.dir_disk.specs.declared.open_file.OpenFile.{OpenFile};
 
-    pub fn new(alloc: Global) -> Result<OpenFiles, AllocError> {
+    pub fn new(alloc: Global) -> Result<OpenFiles, AllocError>
+        ensures { IfOk result (λ it. it.files.items ≡ []) }
+    {
         Ok(OpenFiles {
             files: Vec::with_capacity(alloc, MOST)?,
         })
@@ -57,7 +59,8 @@ impl OpenFiles {
 
     /// Makes an open file with this number the latest. It answers whether there is one.
     pub fn touch(&mut self, number: u64) -> Result<bool, AllocError>
-        ensures { IfOk result (λ is_open. IsTrue is_open → IsLatest number self.new) }
+        ensures latest { IfOk result (λ is_open. IsTrue is_open → IsLatest number self.new) }
+        ensures absent { IfOk result (λ is_open. (IsTrue is_open → ⊥) → IsNotOpen number self.new) }
     {
         let Some(index) = self.index_of(number) else {
             return Ok(false);
