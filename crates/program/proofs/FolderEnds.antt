@@ -9,16 +9,16 @@ use Rattle.carriers.specs.declared.Carrier.{Ghosts as Carriers}
 use Rattle.lab.specs.declared.Line.{Line}
 use Rattle.lab.specs.declared.SimNode.{SimNode}
 use Rattle.lab.specs.declared.world.World.{World}
-use Rattle.lab.specs.{HasItsNodes, configs_of, lines_so_far}
+use Rattle.lab.specs.{configs_of, lines_so_far, nodes_of}
 use Rattle.lab.specs.NodeLists.{Configurations, at_epoch}
 use Rattle.client.specs.declared.run_error.RunError.{RunError}
 use Rattle.client.specs.declared.run_error.RunError.TheVariants as run
 use Rattle.client.specs.PrintedRuns.{AppendsPart, HasEndedEarly}
-use Rattle.client.specs.ReportedRuns.{AreReported, ReportIsBegun, ReportIsPrinted}
-use Rattle.client.specs.ReportedRuns.AreReported.{NoStatement, OneMore}
+use Rattle.client.specs.ReportedRuns.{ReportIsPrinted}
 use Rattle.dumps.specs.Dumped.{IsSomeBegun}
 use Rattle.folder_nodes.specs.Finding.{sim_ids}
 use Rattle.folder_nodes.specs.FoundNodes.{IsFoundIn}
+use Rattle.tcp_carrier.specs.declared.carrier.TcpCarrier.{TcpCarrier}
 use Rattle.script_words.specs.Lines.{script_lines}
 use Rattle.scripts.specs.Faults.{script_fault, start}
 use Rattle.scripts.specs.Scripts.{IsScript, Names}
@@ -32,8 +32,9 @@ use Rattle.program.specs.declared.folder_failure.LoopFailure.TheVariants.{Folder
 use Rattle.program.specs.Failures.{IsFailureOf, IsOfReading, failure_of}
 use Rattle.program.specs.FolderFailures.{IsLoopFailureOf, dump_failure_line, loop_failure_line}
 use Rattle.program.specs.FolderRuns.{DumpEnds, EndsEarly, FailsInFolders, HasFoundNodes}
-use Rattle.program.specs.FolderRuns.{IsOfScript, IsPrintedReport, IsRunInFolders, LoopEnds}
-use Rattle.program.specs.FolderRuns.{LoopHasFailed, SpellsStatements, has_stop, stopped_status}
+use Rattle.program.specs.FolderRuns.{IsBegunInFolders, IsOfScript, IsPrintedReport, IsRunInFolders}
+use Rattle.program.specs.FolderRuns.{IsWorldOfFound, LoopEnds, LoopHasFailed, SpellsStatements}
+use Rattle.program.specs.FolderRuns.{has_stop, stopped_status}
 
 -- ---- a run in a world
 
@@ -56,56 +57,12 @@ pub printed_report : {D C : Type 0} {g : Ghosts D} (world now : World D C g)
     (statements : List Statement) (old new : Option (List ℕ)) (steps : List (List Line))
     (stopped : Bool) → lines_so_far world ≡ [] → ReportIsPrinted world now statements old new →
     steps ≡ lines_so_far now → stopped ≡ has_stop steps →
-    IsPrintedReport (configs_of world) (HasItsNodes world) statements old new stopped
+    IsPrintedReport world statements old new stopped
 printed_report world now statements old new steps stopped none report is stops = record {
-  places = report.places;
-  steps = report.steps;
-  written = report.text;
-  are = report.are;
-  wrote = report.wrote;
+  now = now;
+  report = report;
   stops = stops ∙ ap has_stop (is ∙ report.added
       ∙ ap (λ (l : List (List Line)). l ++ report.steps) none);
-}
-
--- ---- a world that has its nodes
-
--- each list of lines is such as its event has
-are_lines : {cs : Configurations} {has_nodes : Type 0} {statements : List Statement}
-    {places : List ℕ} {steps : List (List Line)} {text : List ℕ} → has_nodes →
-    AreReported cs has_nodes statements places steps text →
-    AreReported cs (Unit {0}) statements places steps text
-are_lines has NoStatement = NoStatement
-are_lines has (OneMore done places steps text are it turn own answered lines) =
-    OneMore done places steps text (are_lines has are) it turn own answered (record {
-      each = lines.each;
-      ends = lines.ends;
-      are = λ _. lines.are has;
-      unknown = lines.unknown;
-    })
-
-pub printed_in : (cs : Configurations) (has_nodes : Type 0) (statements : List Statement)
-    (old new : Option (List ℕ)) (stopped : Bool) → has_nodes →
-    IsPrintedReport cs has_nodes statements old new stopped →
-    IsPrintedReport cs (Unit {0}) statements old new stopped
-printed_in cs has_nodes statements old new stopped has printed = record {
-  places = printed.places;
-  steps = printed.steps;
-  written = printed.written;
-  are = are_lines has printed.are;
-  wrote = printed.wrote;
-  stops = printed.stops;
-}
-
-pub begun_in : (cs : Configurations) (has_nodes : Type 0) (statements : List Statement)
-    (old new : Option (List ℕ)) → has_nodes → ReportIsBegun cs has_nodes statements old new →
-    ReportIsBegun cs (Unit {0}) statements old new
-begun_in cs has_nodes statements old new has begun = record {
-  count = begun.count;
-  places = begun.places;
-  steps = begun.steps;
-  text = begun.text;
-  are = are_lines has begun.are;
-  part = begun.part;
 }
 
 -- ---- a run at the nodes of a script
@@ -116,15 +73,31 @@ any_text None f is = tt
 any_text (Some t) f is = is t
 
 -- the nodes of these configurations were found, which are those that were set up
-pub found_nodes : {R : Type 0} {g : Ghosts (DirDisk R)} (folder : List ℕ) (setup : Setup)
-    (configs : Configurations) (nodes : List (SimNode (DirDisk R) g)) → configs ≡ setup.configs →
-    sim_ids nodes ≡ at_epoch configs 0 → All (IsFoundIn folder setup.limits) nodes →
-    HasFoundNodes g folder setup
-found_nodes folder setup configs nodes is ids each = record {
-  nodes = nodes;
-  ids = subst (λ (cs : Configurations). sim_ids nodes ≡ at_epoch cs 0) is ids;
-  each = each;
-}
+module _ {R : Type 0} {g : Ghosts (DirDisk R)} (folder : List ℕ) (setup : Setup)
+    (configs : Configurations) (nodes : List (SimNode (DirDisk R) g))
+    (set_up : configs ≡ setup.configs) (ids : sim_ids nodes ≡ at_epoch configs 0)
+    (each : All (IsFoundIn folder setup.limits) nodes) where
+  pub found_nodes : HasFoundNodes g folder setup
+  found_nodes = record {
+    nodes = nodes;
+    ids = subst (λ (cs : Configurations). sim_ids nodes ≡ at_epoch cs 0) set_up ids;
+    each = each;
+  }
+
+  -- a world was made of them
+  pub world_of_found : (world : World (DirDisk R) (TcpCarrier R) g) → nodes_of world ≡ nodes →
+      configs_of world ≡ configs → lines_so_far world ≡ [] → IsWorldOfFound folder setup world
+  world_of_found world are is none = record {
+    found = record {
+      nodes = nodes;
+      ids = subst (λ (cs : Configurations). sim_ids nodes ≡ at_epoch cs 0) set_up ids;
+      each = each;
+    };
+    nodes = are;
+    configs = is ∙ set_up;
+    none = none;
+    has = ap sim_ids are ∙ ids ∙ ap (λ (cs : Configurations). at_epoch cs 0) (sym is);
+  }
 
 -- there was no listener
 pub no_carrier : {R : Type 0} {g : Ghosts (DirDisk R)} (folder : List ℕ) (setup : Setup)
@@ -141,15 +114,13 @@ no_carrier {R} {g} folder setup statements out f found (inr is) =
 -- the run ended early
 pub cut_short : {R : Type 0} {g : Ghosts (DirDisk R)} (folder : List ℕ) (setup : Setup)
     (statements : List Statement) (old new : Option (List ℕ)) (f : Failure) →
-    HasFoundNodes g folder setup → (f ≡ Output) ⊎ (f ≡ Memory) →
-    ReportIsBegun setup.configs (Unit {0}) statements old new →
+    (f ≡ Output) ⊎ (f ≡ Memory) → IsBegunInFolders g folder setup statements old new →
     FailsInFolders g folder setup statements old new (Run f)
-cut_short {R} {g} folder setup statements old new f found (inl is) begun =
+cut_short {R} {g} folder setup statements old new f (inl is) begun =
+    subst (λ (x : Failure). FailsInFolders g folder setup statements old new (Run x)) (sym is) begun
+cut_short {R} {g} folder setup statements old new f (inr is) begun =
     subst (λ (x : Failure). FailsInFolders g folder setup statements old new (Run x)) (sym is)
-    (record { found = found; begun = begun })
-cut_short {R} {g} folder setup statements old new f found (inr is) begun =
-    subst (λ (x : Failure). FailsInFolders g folder setup statements old new (Run x)) (sym is)
-    (inr (record { found = found; begun = begun }))
+    (inr begun)
 
 -- ---- a run in folders
 

@@ -12,12 +12,14 @@ pub record IsFolderToRead {R : Type 0} (path : List ℕ) (disk : DirDisk R) : Ty
   pub folder : IsFolderAt path disk
   pub reads : may_change disk ≡ false
 
--- a store was read whole from a disk that changes nothing, over the folder at this path
+-- a store was read whole from a disk that changes nothing, over the folder at this path, which was
+-- left so that no failure of it was counted
 pub record IsReadOfFolder {R : Type 0} (g : Ghosts (Unchanged (DirDisk R))) (path : List ℕ) : Type 0
   where
     pub disk : Unchanged (DirDisk R)
     pub below : IsFolderToRead path (disk_below disk)
-    pub left : LeavesDevice {T = Unit {0}} g disk (Ok tt)
+    pub left : Unchanged (DirDisk R)
+    pub kept : LeavesDevice g disk (Ok left)
 
 -- how that ends for the folder at this path: with status 0 its store was read whole, and the path
 -- is not empty

@@ -1,12 +1,13 @@
 -- Runs in folders and what is written of one: how they end.
-use Rattle.std.specs.Prelude.{◌≡◌, ◌≢◌, ◌⊎◌, ℕ, Bool, true, false, List, Option, codes}
+use Rattle.std.specs.Prelude.{◌≡◌, ◌≢◌, ◌⊎◌, ℕ, Bool, true, false, List, [], Option, codes}
 use Rattle.std.specs.Prelude.{Some, None, IfSome, All, Contains, if◌then◌else◌}
 use Rattle.std.specs.List.{list_any}
 use Rattle.std.specs.Io.KnownBytes.{Appends}
 use Rattle.disk.specs.declared.disk.Disk.{Ghosts}
 use Rattle.dir_disk.specs.declared.folder.DirDisk.{DirDisk}
 use Rattle.carriers.specs.declared.Carrier.{Ghosts as Carriers}
-use Rattle.lab.specs.NodeLists.{Configurations, at_epoch}
+use Rattle.lab.specs.{HasItsNodes, configs_of, lines_so_far, nodes_of}
+use Rattle.lab.specs.NodeLists.{at_epoch}
 use Rattle.lab.specs.declared.Line.{Line}
 use Rattle.lab.specs.declared.Line.TheVariants as line
 use Rattle.lab.specs.declared.SimNode.{SimNode}
@@ -15,12 +16,13 @@ use Rattle.client.specs.declared.run_error.RunError.{RunError}
 use Rattle.client.specs.declared.run_error.RunError.TheVariants as run
 use Rattle.client.specs.declared.statement_result.StatementResult.{StatementResult}
 use Rattle.client.specs.PrintedRuns.{AppendsPart, HasEndedEarly, HasRunStatements}
-use Rattle.client.specs.ReportedRuns.{AreReported, ReportIsBegun}
+use Rattle.client.specs.ReportedRuns.{ReportIsBegun, ReportIsPrinted}
 use Rattle.client.specs.ScriptRuns.{Stretch}
 use Rattle.client.specs.Text.{run_text}
 use Rattle.dumps.specs.Dumped.{IsSomeBegun, IsSomeDump}
 use Rattle.folder_nodes.specs.Finding.{sim_ids}
 use Rattle.folder_nodes.specs.FoundNodes.{IsFoundIn}
+use Rattle.tcp_carrier.specs.declared.carrier.TcpCarrier.{TcpCarrier}
 use Rattle.script_words.specs.Lines.{script_lines}
 use Rattle.scripts.specs.Faults.{script_fault, start}
 use Rattle.scripts.specs.Scripts.{IsScript, Names}
@@ -90,17 +92,13 @@ EndsEarly g h setup statements old new (Script fault) = ⊥
 
 -- ---- a run in any world
 
--- The statements were run in some world of these configurations, which may have their nodes. Just
--- the text of the lines that it had of them was written, and this is whether a node stopped by
--- itself in these.
-pub record IsPrintedReport (cs : Configurations) (has_nodes : Type 0) (statements : List Statement)
-    (old new : Option (List ℕ)) (stopped : Bool) : Type 0 where
-  pub places : List ℕ
-  pub steps : List (List Line)
-  pub written : List ℕ
-  pub are : AreReported cs has_nodes statements places steps written
-  pub wrote : Appends old new written
-  pub stops : stopped ≡ has_stop steps
+-- The statements were run in this world. Just the text of the lines that it then has of them was
+-- written, and this is whether a node stopped by itself in these.
+pub record IsPrintedReport {D C : Type 0} {g : Ghosts D} (world : World D C g)
+    (statements : List Statement) (old new : Option (List ℕ)) (stopped : Bool) : Type 0 where
+  pub now : World D C g
+  pub report : ReportIsPrinted world now statements old new
+  pub stops : stopped ≡ has_stop report.steps
 
 -- what was read, where that is known, spells a script without a fault, where no fault of a disk may
 -- be spelled: what it sets up, and statements that name only nodes of the first configuration; and
@@ -124,19 +122,31 @@ pub record HasFoundNodes {R : Type 0} (g : Ghosts (DirDisk R)) (folder : List �
   pub ids : sim_ids nodes ≡ at_epoch setup.configs 0
   pub each : All (IsFoundIn folder setup.limits) nodes
 
--- The nodes were found. Exactly the text of the lines that some world had of the statements was
--- written, one list for each event, and such as the event has: the world has the nodes of its
--- configurations. It is told whether a node stopped by itself in these.
+-- The world has the configurations that were set up, and no line yet. Its nodes are those that were
+-- found, one of each of the first configuration.
+pub record IsWorldOfFound {R : Type 0} {g : Ghosts (DirDisk R)} (folder : List ℕ) (setup : Setup)
+    (world : World (DirDisk R) (TcpCarrier R) g) : Type 0 where
+  pub found : HasFoundNodes g folder setup
+  pub nodes : nodes_of world ≡ found.nodes
+  pub configs : configs_of world ≡ setup.configs
+  pub none : lines_so_far world ≡ []
+  pub has : HasItsNodes world
+
+-- The statements were run in a world of the nodes that were found. Exactly the text of the lines
+-- that it then has was written, one list for each event, and such as the event has. It is told
+-- whether a node stopped by itself in these.
 pub record IsRunInFolders {R : Type 0} (g : Ghosts (DirDisk R)) (folder : List ℕ) (setup : Setup)
     (statements : List Statement) (old new : Option (List ℕ)) (stopped : Bool) : Type 0 where
-  pub found : HasFoundNodes g folder setup
-  pub printed : IsPrintedReport setup.configs (Unit {0}) statements old new stopped
+  pub world : World (DirDisk R) (TcpCarrier R) g
+  pub is : IsWorldOfFound folder setup world
+  pub printed : IsPrintedReport world statements old new stopped
 
--- the nodes were found, and a beginning of the text of some first statements was written
+-- statements were run in such a world, and a beginning of the text of some first ones was written
 pub record IsBegunInFolders {R : Type 0} (g : Ghosts (DirDisk R)) (folder : List ℕ) (setup : Setup)
     (statements : List Statement) (old new : Option (List ℕ)) : Type 0 where
-  pub found : HasFoundNodes g folder setup
-  pub begun : ReportIsBegun setup.configs (Unit {0}) statements old new
+  pub world : World (DirDisk R) (TcpCarrier R) g
+  pub is : IsWorldOfFound folder setup world
+  pub begun : ReportIsBegun (configs_of world) (HasItsNodes world) statements old new
 
 -- How a run of a script in folders fails. Where the output took no more, it had begun; where memory
 -- is wanted, maybe. A folder's fault is that of a node of the script, and a listener is wanted only

@@ -43,6 +43,14 @@ pub fn dump_folder<F: Files<File = File> + Alloc<A = Global> + Clone + Drop, W: 
     let Ok(disk) = disk_to_read(rt, folder) else {
         return Err(DumpFailure::Store(Stop::Memory));
     };
-    dump_store(rt.alloc(), Unchanged::new(rt.alloc(), disk), out)?;
-    Ok(())
+    match dump_store(rt.alloc(), Unchanged::new(rt.alloc(), disk), out) {
+        Ok(disk) => {
+            drop(disk);
+            Ok(())
+        }
+        Err((e, disk)) => {
+            drop(disk);
+            Err(DumpFailure::from(e))
+        }
+    }
 }

@@ -96,8 +96,8 @@ fn run_world<D: Crash + Drop, C: Carrier + Drop, W: Write>(
 
     // In any world that has no line yet.
     ensures printed { lines_so_far world ≡ [] → MatchResult result
-        (IsPrintedReport (configs_of world) (HasItsNodes world) script.now.statements.items
-        (W.contents out.old) (W.contents out.new))
+        (IsPrintedReport world script.now.statements.items (W.contents out.old)
+        (W.contents out.new))
         (λ _. ReportIsBegun (configs_of world) (HasItsNodes world) script.now.statements.items
         (W.contents out.old) (W.contents out.new)) }
 {

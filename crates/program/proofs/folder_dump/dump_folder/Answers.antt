@@ -3,12 +3,11 @@ use Rattle.program.specs.FolderDumps.{IsFolderToRead}
 use Rattle.program.proofs.folder_dump.dump_folder.Goals as goal
 
 -- it was read from the disk of this folder
-pub returns-clause-from : goal.returns-clause-from
-returns-clause-from g c =
-    let device = c.in_ok-dump_store.ensures.device in
-    record {
-      disk = c.new.result;
-      below = subst (λ disk. IsFolderToRead c.args.folder.now disk) (sym c.new.ensures.inner)
-          c.in-Ok.ensures;
-      left = record { left = device.left; kept = device.kept };
-    }
+pub returns-in-Ok-dump_store-clause-from : goal.returns-in-Ok-dump_store-clause-from
+returns-in-Ok-dump_store-clause-from g c = record {
+  disk = c.new.result;
+  below = subst (λ disk. IsFolderToRead c.args.folder.now disk) (sym c.new.ensures.inner)
+      c.in-Ok.ensures;
+  left = c.in-Ok-dump_store.disk;
+  kept = c.in-Ok-dump_store.ensures.device;
+}

@@ -30,6 +30,11 @@ returns-in_err-ran-clause-cause g c =
     let cause = output_or_memory c.in_err-ran.field-0.0 in
     search (rules, cause)
 
+pub returns-in_err-ran-clause-printed : goal.returns-in_err-ran-clause-printed
+returns-in_err-ran-clause-printed g c = λ none.
+    let begun = c.in_err-ran.ensures.reported.begun in
+    search (rules, begun)
+
 pub returns-clause-printed : goal.returns-clause-printed
 returns-clause-printed g c = λ none.
     printed_report c.args.world c.run_script-ran.new.world c.args.script.now.statements.items

@@ -22,7 +22,7 @@ returns-in-None-clause-read g c =
     (g.R.Read.remaining c.read_some.new.input) c.loop.text.items
     (take c.in-Some.count c.read_some.new.chunk) c.extend_from_slice.new.self.items items
     c.loop.invariant.read read.1)
-    (rw items (c.in-None.ensures c.loop.text.items c.loop.invariant.extent))
+    (rw items (c.in-None.ensures.extent c.loop.text.items c.loop.invariant.extent))
 
 pub loop-preserved : goal.loop-preserved
 loop-preserved g c =
@@ -32,5 +32,5 @@ loop-preserved g c =
           (g.R.Read.remaining c.read_some.new.input) c.loop.text.items
           (take c.in-Some.count c.read_some.new.chunk) c.extend_from_slice.new.self.items items
           c.loop.invariant.read read.1;
-      extent = rw items (c.in-Some-after.ensures c.loop.text.items c.loop.invariant.extent);
+      extent = rw items (c.in-Some-after.ensures.extent c.loop.text.items c.loop.invariant.extent);
     }
