@@ -1,7 +1,7 @@
 -- What is kept of a device, and which refusals are of it.
 use Rattle.std.proofs.Common.{◌≡◌, ◌∙◌, ◌↔◌, ◌⊎◌, ℕ, List, Option, ap, inl, inr, refl, subst, sym}
 use Rattle.std.specs.Prelude.{IsErrAnd, IsErrOf, IsNone, MatchResult, Result, Ok, Err}
-use Rattle.disk.specs.{Contents, IsEnvironmental, IsSame, IsStill, KeepsDisk, contents, seen}
+use Rattle.disk.specs.{Contents, IsEnvironmental, IsSame, KeepsDisk, contents, seen}
 use Rattle.disk.specs.declared.Disk.{Ghosts}
 use Rattle.engine.specs.EngineError.{EngineError}
 use Rattle.engine.specs.EngineError.TheVariants as engine
@@ -9,7 +9,7 @@ use Rattle.engine.specs.KeepingLemmas.{kept_as, kept_behind, neither, same_files
 use Rattle.engine.specs.KeepingLemmas.{unchanged}
 use Rattle.engine.specs.declared.Engine.{Engine}
 use Rattle.engine.specs.{AreAlone, ExplainsRefusal, HasOpened, IsOwned, engine_disk, engine_files}
-use Rattle.engine.specs.{engine_version}
+use Rattle.engine.specs.{SparesFound, engine_version}
 use Rattle.node.specs.Stops.{engine_stop}
 use Rattle.node.specs.declared.stop.Stop.TheVariants as stop
 use Rattle.dumps.specs.declared.dump_error.DumpError.{DumpError}
@@ -165,13 +165,17 @@ module _ {D : Type 0} (g : Ghosts D) where
   -- no store was opened
   pub not_opened : (disk left : D) (out : Option (List ℕ)) (e : EngineError) (error : DumpError) →
       error ≡ Store (engine_stop e) → ExplainsRefusal e (contents (g.state disk)) →
-      ((IsEnvironmental engine.Disk engine.Memory e → ⊥) → IsStill g disk left) →
+      SparesFound g disk left (IsEnvironmental engine.Disk engine.Memory e → ⊥) →
       IsNotOpened g disk out out (Err (error, left))
-  not_opened disk left out e error is why still = record {
+  not_opened disk left out e error is why spares = record {
     refused = subst (UnopenedRefusal (contents (g.state disk))) (sym is)
         (unopened (contents (g.state disk)) e why);
     none = refl;
-    still = λ other. still (λ met. other (subst IsDumpRefusal (sym is) (of_engine e met)));
+    still = λ why. elim why [
+      | inl shut ↦ spares.shut (inl shut)
+      | inr other ↦ spares.shut (inr (λ met. other
+          (subst IsDumpRefusal (sym is) (of_engine e met))))
+    ];
   }
 
   -- behind an opening no file was changed

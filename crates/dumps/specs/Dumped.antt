@@ -11,8 +11,8 @@ use Rattle.disk.specs.{Contents, IsStill, KeepsDisk, State, contents}
 use Rattle.disk.specs.declared.Disk.{Ghosts}
 use Rattle.engine.specs.declared.Engine.{Engine}
 use Rattle.manifest.specs.{ManifestRepresents, NodeVersion}
-use Rattle.engine.specs.{AreAlone, AreReadAlike, EngineReads, EngineWasMeant, Facts, IsDamaged}
-use Rattle.engine.specs.{IsNotCreated, IsOwned, OpensAs, kept_files, table_count}
+use Rattle.engine.specs.{AreAlone, AreReadAlike, AreShut, EngineReads, EngineWasMeant, Facts}
+use Rattle.engine.specs.{IsDamaged, IsNotCreated, IsOwned, kept_files, table_count}
 use Rattle.node.specs.declared.stop.Stop.TheVariants as stop
 use Rattle.client.specs.PrintedRuns.{AppendsPart}
 use Rattle.client.specs.Text.{printed_row, store_text}
@@ -164,10 +164,6 @@ WritesText text old new (Err error) = IsOfOutput error × AppendsPart old new te
 abbrev pub IsCutDump : Facts → List BatchContent → (old new : Option (List ℕ)) → DumpError → Type 0
 IsCutDump facts list old new error = IsDumpRefusal error × IsBegunDump facts list old new
 
--- files of this content open as no store
-abbrev pub OpenAsNone : Contents → Type 0
-OpenAsNone left = (facts : Facts) (count : ℕ) → OpensAs left facts count → ⊥
-
 -- why no store was opened, by the content of the disk
 abbrev pub UnopenedRefusal : Contents → DumpError → Type 0
 UnopenedRefusal left (Store stop.Disk) = Unit {0}
@@ -176,13 +172,14 @@ UnopenedRefusal left (Store stop.Memory) = Unit {0}
 UnopenedRefusal left (Store stop.NotCreated) = IsNotCreated left
 UnopenedRefusal left Write = ⊥
 
--- No store was opened, the content of the disk explains it, and nothing was written. What is
--- refused for its files is returned as it was.
+-- No store was opened, the content of the disk explains it, and nothing was written. A disk whose
+-- files open as none, or that is refused for them, is returned as it was.
 pub record IsNotOpened {D : Type 0} (g : Ghosts D) (disk : D) (old new : Option (List ℕ))
     (result : Result D (DumpError × D)) : Type 0 where
   pub refused : IsErrAnd result (λ it. UnopenedRefusal (contents (g.state disk)) it.0)
   pub none : new ≡ old
-  pub still : IfErr result (λ it. (IsDumpRefusal it.0 → ⊥) → IsStill g disk it.1)
+  pub still : IfErr result (λ it. AreShut (contents (g.state disk)) ⊎ (IsDumpRefusal it.0 → ⊥) →
+      IsStill g disk it.1)
 
 -- ---- the disk that is returned
 

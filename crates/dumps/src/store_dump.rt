@@ -2,14 +2,14 @@
 ghost use Rattle.std.specs.Prelude.{◌≡◌, ℕ, List, Ok, Err, IfErr, IsErrOf, MatchResult, OnOk};
 ghost use Rattle.disk.specs.{IsSame, KeepsDisk, contents};
 ghost use Rattle.kv_types.specs.{BatchContent};
-ghost use Rattle.engine.specs.{EngineReads, Facts, FilesRepresent, WereMeant, engine_disk};
+ghost use Rattle.engine.specs.{AreShut, EngineReads, Facts, FilesRepresent, WereMeant, engine_disk};
 ghost use Rattle.engine.specs.{facts_of, look_ups};
 ghost use Rattle.node.specs.declared.stop.Stop.TheVariants as stop;
 ghost use Rattle.dumps.specs.declared.dump_error.DumpError.TheVariants.{Store};
 ghost use Rattle.dumps.specs.Dumped.{AreTableCounts};
 ghost use Rattle.dumps.specs.Dumped.{IsBegunDump, IsBegunFor, IsCutDump, IsDumpFor, IsDumpOf};
 ghost use Rattle.dumps.specs.Dumped.{IsDumpRefusal, IsNotOpened, IsSomeBegun, IsSomeDump};
-ghost use Rattle.dumps.specs.Dumped.{LeavesDevice, ReturnsFiles, OpenAsNone, ShowsList};
+ghost use Rattle.dumps.specs.Dumped.{LeavesDevice, ReturnsFiles, ShowsList};
 ghost use Rattle.dumps.specs.Dumped.{WritesText, count_line, store_line};
 
 use crate::dump_error::DumpError;
@@ -135,7 +135,7 @@ pub fn dump_store<D: Disk + Drop, W: Write>(
         (λ _. IsDumpOf facts list (W.contents out.old) (W.contents out.new))
         (λ _. IsBegunDump facts list (W.contents out.old) (W.contents out.new)) }
 
-    ensures unopened { D.is_honest disk → OpenAsNone (contents (D.state disk)) →
+    ensures unopened { D.is_honest disk → AreShut (contents (D.state disk)) →
         IsNotOpened D.Disk disk (W.contents out.old) (W.contents out.new) result }
 
     // Of any disk: the text of some store was written, or a beginning of it. It is refused for the
