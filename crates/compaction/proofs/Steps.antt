@@ -26,7 +26,9 @@ use Rattle.compaction.specs.declared.error.MergeError.TheVariants as merge
 use Rattle.compaction.specs.declared.writer.OutputWriter.{OutputWriter}
 use Rattle.compaction.specs.Errors.{merge_error_of_cursor}
 use Rattle.compaction.specs.Outputs.{AreUnused, IsLeftBeyond, IsOwnFile}
-use Rattle.compaction.specs.Outputs.{KeepsRules, LacksRoom, PutRefusal, WriterHolds, WritesOnly}
+use Rattle.compaction.specs.Outputs.{KeepsRules, LacksRoom, PutRefusal, WantsRoom, WriterHolds}
+use Rattle.compaction.specs.Outputs.{WritesOnly}
+use Rattle.compaction.specs.Survivors.{is_dropped}
 use Rattle.compaction.specs.Walks.{HasSameFiles, HasWalked, IsIntactOn, IsWalking}
 use Rattle.compaction.specs.Walks.{StepRefusal, table_files, written_by}
 use Rattle.compaction.specs.WrittenTables.{Written, cut_before, nothing_written, with_next}
@@ -132,6 +134,20 @@ rules_through a b c k m = record {
   deeper = m.deeper ∙ k.deeper;
 }
 
+-- an entry that lacks room in one writer lacks it in another of the same rules
+wants_same : (old new : OutputWriter) → KeepsRules old new → (tables next_file : ℕ) (it : Written)
+    (entry : Entry) → WantsRoom tables next_file new it entry
+    → WantsRoom tables next_file old it entry
+wants_same old new k tables next_file it entry wants =
+    let deeper = k.deeper in
+    let items : new.deeper.items ≡ old.deeper.items = cc in (
+      subst (λ (floor : ℕ). is_dropped floor old.deeper.items it.before entry ≡ false) k.floor
+      (subst (λ (v : List TableLine). is_dropped new.floor v it.before entry ≡ false) items
+      wants.0),
+      subst (λ (target : ℕ). LacksRoom tables next_file (cut_before target it entry) entry)
+      k.target wants.1,
+    )
+
 -- writers of the same rules refuse for the same cause
 pub refusal_same : (old new : OutputWriter) → KeepsRules old new → (before now : Type 0)
     → (before → now) → (tables next_file first met some more : ℕ) → met ≡ first + some
@@ -155,11 +171,9 @@ refusal_same old new k before now stays tables next_file first met some more is 
         rising = full.1.rising;
         behind = omega (arith, behind, is);
         within = omega (arith, within, is);
-        full = subst (λ (target : ℕ). LacksRoom tables next_file
-            (cut_before target (written_by old full.1.met) full.1.entry) full.1.entry) k.target
-            (subst (λ (it : Written). LacksRoom tables next_file
-            (cut_before new.target it full.1.entry) full.1.entry) (rules_same old new k full.1.met)
-            full.1.full);
+        full = subst (λ (it : Written). WantsRoom tables next_file old it full.1.entry)
+            (rules_same old new k full.1.met) (wants_same old new k tables next_file
+            (written_by new full.1.met) full.1.entry full.1.full);
       },
     ))
 
@@ -291,8 +305,8 @@ module _ {U F : Type 0} (u : CursorGhosts U F) (d : Ghosts F)
 
     -- why the entry was not put
     pub step_refused : {intact : Type 0} (tables later : ℕ) (e : MergeError)
-        → PutRefusal tables later (cut_before writer.target (written_by writer w.met) entry)
-        entry e → StepRefusal intact tables later (length w.met) 1 writer inputs e
+        → PutRefusal tables later writer (written_by writer w.met) entry e
+        → StepRefusal intact tables later (length w.met) 1 writer inputs e
     step_refused tables later e (inl external) = inl external
     step_refused tables later e (inr full) = inr (inr (
       full.0,

@@ -20,7 +20,8 @@ use Rattle.compaction.specs.declared.error.MergeError.{MergeError}
 use Rattle.compaction.specs.declared.error.MergeError.TheVariants as merge
 use Rattle.compaction.specs.declared.open_output.OpenOutput.{OpenOutput}
 use Rattle.compaction.specs.declared.writer.OutputWriter.{OutputWriter}
-use Rattle.compaction.specs.WrittenTables.{Written}
+use Rattle.compaction.specs.Survivors.{is_dropped}
+use Rattle.compaction.specs.WrittenTables.{Written, cut_before}
 
 -- ---- what the writer knows
 
@@ -157,8 +158,20 @@ LacksRoom tables next_file it entry =
     ((it.opened ≡ []) × HasNoPlace tables next_file (length it.closed))
     ⊎ PassesTableLimit it.opened entry
 
--- why an entry was not written
-abbrev pub PutRefusal : ℕ → ℕ → Written → Entry → MergeError → Type 0
-PutRefusal tables next_file it entry e =
+-- why an entry that is not dropped was not written
+abbrev pub WriteRefusal : ℕ → ℕ → Written → Entry → MergeError → Type 0
+WriteRefusal tables next_file it entry e =
     IsEnvironmental merge.Disk merge.Memory e ⊎ ((e ≡ merge.Full) ×
     LacksRoom tables next_file it entry)
+
+-- the writer does not drop the next entry, which has no place behind what was written
+abbrev pub WantsRoom : ℕ → ℕ → OutputWriter → Written → Entry → Type 0
+WantsRoom tables next_file writer it entry =
+    (is_dropped writer.floor writer.deeper.items it.before entry ≡ false)
+    × LacksRoom tables next_file (cut_before writer.target it entry) entry
+
+-- why the next entry was neither dropped nor written
+abbrev pub PutRefusal : ℕ → ℕ → OutputWriter → Written → Entry → MergeError → Type 0
+PutRefusal tables next_file writer it entry e =
+    IsEnvironmental merge.Disk merge.Memory e ⊎ ((e ≡ merge.Full) ×
+    WantsRoom tables next_file writer it entry)

@@ -12,10 +12,10 @@ use Rattle.store_model.specs.{LevelTable, tables_entries}
 use Rattle.compaction.specs.declared.error.MergeError.{MergeError}
 use Rattle.compaction.specs.declared.error.MergeError.TheVariants as merge
 use Rattle.compaction.specs.declared.writer.OutputWriter.{OutputWriter}
-use Rattle.compaction.specs.Outputs.{AreUnused, IsOpenFile, IsOwnFile, KeepsRules, LacksRoom}
-use Rattle.compaction.specs.Outputs.{UsesNumbers, WriterHolds, WritesOnly}
+use Rattle.compaction.specs.Outputs.{AreUnused, IsOpenFile, IsOwnFile, KeepsRules, UsesNumbers}
+use Rattle.compaction.specs.Outputs.{WantsRoom, WriterHolds, WritesOnly}
 use Rattle.compaction.specs.Survivors.{IsSortedUnion}
-use Rattle.compaction.specs.WrittenTables.{Written, cut_before, written_of}
+use Rattle.compaction.specs.WrittenTables.{Written, written_of}
 
 -- ---- walks
 
@@ -93,8 +93,8 @@ pub record LeavesWalk {F : Type 0} (d : Ghosts F) (old new : F) (next_file later
 
 -- ---- refusals
 
--- Behind the entries of the inputs that were met before, at most so many are met, and one of them
--- wants a place that there is not, where this is the next file.
+-- Behind the entries of the inputs that were met before, at most so many are met, and one of them,
+-- which is not dropped, wants a place that there is not, where this is the next file.
 pub record FindsNoRoom (tables next_file before count : ℕ) (writer : OutputWriter)
     (inputs : List LevelTable) : Type 0 where
   pub met : List Entry
@@ -103,8 +103,7 @@ pub record FindsNoRoom (tables next_file before count : ℕ) (writer : OutputWri
   pub rising : AreRising met
   pub behind : before ≤ length met
   pub within : length met < before + count
-  pub full : LacksRoom tables next_file
-      (cut_before writer.target (written_by writer met) entry) entry
+  pub full : WantsRoom tables next_file writer (written_by writer met) entry
 
 -- why a merge did not go on by so many entries, where its inputs are intact or not
 abbrev pub StepRefusal : Type 0 → (tables next_file before count : ℕ) → OutputWriter →

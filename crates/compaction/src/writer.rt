@@ -49,7 +49,7 @@ impl OutputWriter {
     ghost use Rattle.compaction.specs.Outputs.{IsOpenFile, IsOutputFile, IsOwnFile, KeepsRules};
     ghost use Rattle.compaction.specs.Outputs.{KnowsBefore, UsesNumbers};
     ghost use Rattle.compaction.specs.Outputs.{PassesTableLimit, PutRefusal, WriterHolds};
-    ghost use Rattle.compaction.specs.Outputs.{WritesOnly, open_file};
+    ghost use Rattle.compaction.specs.Outputs.{WriteRefusal, WritesOnly, open_file};
     ghost use Rattle.compaction.specs.Survivors.{is_dropped};
     ghost use Rattle.compaction.specs.WrittenTables.{Written, cut_before, has_new_key, is_cut};
     ghost use Rattle.compaction.specs.WrittenTables.{with_written};
@@ -269,7 +269,7 @@ impl OutputWriter {
             (λ _. WriterHolds (D.state disk.new) next_file.new self.new
             (with_written (cut_before self.old.target it (lent_entry entry.entry))
             (lent_entry entry.entry)))
-            (PutRefusal tables next_file.new (cut_before self.old.target it
+            (WriteRefusal tables next_file.new (cut_before self.old.target it
             (lent_entry entry.entry)) (lent_entry entry.entry)) }
     {
         self.cut(alloc, disk, entry.key)?;
@@ -304,8 +304,7 @@ impl OutputWriter {
             (λ _. WriterHolds (D.state disk.new) next_file.new self.new
             (with_next self.old.floor self.old.deeper.items self.old.target it
             (lent_entry entry.entry)))
-            (PutRefusal tables next_file.new (cut_before self.old.target it
-            (lent_entry entry.entry)) (lent_entry entry.entry)) }
+            (PutRefusal tables next_file.new self.old it (lent_entry entry.entry)) }
     {
         if self.drops(entry) {
             self.remember(entry)?;

@@ -1,6 +1,6 @@
 use Rattle.std.proofs.Common.{inl, inr, length, ℕ, refl, subst, sym}
 use Rattle.compaction.specs.Outputs.{HasNoPlace, IsOpenFile, IsOutput, IsOwnFile, AreUnused}
-use Rattle.compaction.specs.Outputs.{PutRefusal, WriterHolds}
+use Rattle.compaction.specs.Outputs.{WriteRefusal, WriterHolds}
 use Rattle.compaction.specs.WrittenTables.{cut_before, with_written}
 use Rattle.table_format.specs.{lent_entry}
 use Rattle.compaction.proofs.Calls.{answered, passed_on, writes_as, writes_behind, writes_done}
@@ -25,7 +25,7 @@ returns-in_err-cut-clause-writes g c =
 pub returns-in_err-cut-clause-written : goal.returns-in_err-cut-clause-written
 returns-in_err-cut-clause-written g c = λ it honest w unused follows.
     let entry = lent_entry c.args.entry in
-    refuses c.from_residual.result _ (PutRefusal c.args.tables c.args.next_file.now
+    refuses c.from_residual.result _ (WriteRefusal c.args.tables c.args.next_file.now
     (cut_before c.args.self.now.target it entry) entry) c.from_residual.ensures.1
     (inl (c.in_err-cut.ensures.cut c.args.next_file.now it entry honest w refl))
 
@@ -55,7 +55,7 @@ returns-in_err-begin-clause-written g c = λ it honest w unused follows.
     w1.closed) (subst (λ (n : ℕ). HasNoPlace c.args.tables n
     (length c.cut.new.self.closed.items)) (sym full.4) full.2) in
     refuses c.from_residual-in_err-begin.result _
-    (PutRefusal c.args.tables c.begin.new.next_file cut entry)
+    (WriteRefusal c.args.tables c.begin.new.next_file cut entry)
     c.from_residual-in_err-begin.ensures.1 (inr (full.0, inl (empty, place)))
 
 -- ---- the entry is added
@@ -100,7 +100,7 @@ returns-clause-written g c = λ it honest w unused follows.
     let w2 = c.in_ok-begin.ensures.begun mid cut w1 unused1 in
     told_more (λ _. WriterHolds new later c.add.new.self (with_written cut entry))
     (λ _. WriterHolds new later c.add.new.self (with_written cut entry))
-    _ (PutRefusal c.args.tables later cut entry) c.add.result (λ x h. h)
+    _ (WriteRefusal c.args.tables later cut entry) c.add.result (λ x h. h)
     (λ e h. elim h [
       | inl external ↦ inl external
       | inr full ↦ inr (full.0, inr full.1)
