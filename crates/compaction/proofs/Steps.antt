@@ -142,10 +142,10 @@ wants_same old new k tables next_file it entry wants =
     let deeper = k.deeper in
     let items : new.deeper.items ≡ old.deeper.items = cc in (
       subst (λ (floor : ℕ). is_dropped floor old.deeper.items it.before entry ≡ false) k.floor
-      (subst (λ (v : List TableLine). is_dropped new.floor v it.before entry ≡ false) items
-      wants.0),
+          (subst (λ (v : List TableLine). is_dropped new.floor v it.before entry ≡ false) items
+          wants.0),
       subst (λ (target : ℕ). LacksRoom tables next_file (cut_before target it entry) entry)
-      k.target wants.1,
+          k.target wants.1,
     )
 
 -- writers of the same rules refuse for the same cause
