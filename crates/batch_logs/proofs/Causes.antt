@@ -24,14 +24,6 @@ pub working_log : (e : LogError) →
 working_log e (inl external) works = log_is_external e external
 working_log e (inr failed) works = absurd (works failed)
 
--- a refusal that is no damage is external
-pub undamaged : {T : Type 0} (result : Result T EngineError) →
-    IfErr result (λ e. (e ≡ engine.Damaged) ⊎ (e ≡ engine.Memory)) →
-    (IsErrOf result engine.Damaged → ⊥) → IfErr result (IsEnvironmental engine.Disk engine.Memory)
-undamaged (Ok x) only whole = tt
-undamaged (Err e) (inl damaged) whole = absurd (whole (ap (λ d. Err d) damaged))
-undamaged (Err e) (inr memory) whole = inr memory
-
 -- damage and a lack of memory end the files
 pub bytes_end : {e : EngineError} → (e ≡ engine.Damaged) ⊎ (e ≡ engine.Memory) → IsEnd e
 bytes_end (inl damaged) = subst IsEnd (sym damaged) tt

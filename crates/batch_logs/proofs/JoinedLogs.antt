@@ -1,9 +1,8 @@
 -- The batch of a number in logs that follow one another.
 use Rattle.std.proofs.Common.{◌≡◌, ◌⊎◌, ℕ, zero, suc, ◌+◌, ◌-◌, ◌≤◌, List, [], ◌∷◌, ◌++◌}
 use Rattle.std.proofs.Common.{length, drop, inl, inr, refl, sym, ap, subst, ◌∙◌, arith}
-use Rattle.std.proofs.Common.{length-append, Some, Ok, Err, Result}
-use Rattle.std.specs.Prelude.{All, Contains, IfErr, IfOk, IsErrOf, MatchResult}
-use Rattle.std.specs.Prelude.{slice_get}
+use Rattle.std.proofs.Common.{length-append, Option, None, Some, Ok, Err, Result}
+use Rattle.std.specs.Prelude.{All, Contains, MatchOption, MatchResult, ok_or, slice_get}
 use Rattle.std.proofs.lemmas.List.{append-nil, append_assoc}
 use Rattle.std.proofs.lemmas.List.Elements.{All-contains, All-cons, All-head, All-nil}
 use Rattle.std.proofs.lemmas.List.Elements.{Contains-append_left, Contains-push}
@@ -19,7 +18,6 @@ use Rattle.batch_logs.specs.BatchLogs.{AreJoined, AreParted}
 use Rattle.batch_logs.specs.BatchLogs.{HoldsPart, LogsHold, oldest_first}
 use Rattle.batch_logs.specs.BatchLogs.{end_of_log}
 use Rattle.batch_logs.specs.Layout.{batch_record, records_from}
-use Rattle.batch_logs.proofs.Causes.{undamaged}
 use Rattle.batch_logs.proofs.Records.{numbered_at}
 use Rattle.batch_logs.specs.BatchLogsLemmas.{AreInTurn, joined_in_turn, joined_of}
 use Rattle.batch_logs.specs.PartsLemmas.{all_before, all_behind}
@@ -47,21 +45,22 @@ batch_placed law number (x ∷ list) (suc i) batch each is got =
 
 -- the record of a number is that of its batch
 pub batch_of_part : SpellingsDiffer → (first number i : ℕ) (here : List BatchContent)
-    (bytes : List ℕ) (result : Result BatchContent EngineError) → number ≡ first + i →
-    All IsBatch here → slice_get (records_from first here) i ≡ Some bytes →
-    IfOk result (λ b. (bytes ≡ batch_record number b) × IsBatch b) →
-    (IsErrOf result engine.Damaged → (b : BatchContent) → IsBatch b →
-    bytes ≡ batch_record number b → ⊥) →
-    IfErr result (λ e. (e ≡ engine.Damaged) ⊎ (e ≡ engine.Memory)) →
+    (bytes : List ℕ) (found : Option BatchContent) (result : Result BatchContent EngineError) →
+    number ≡ first + i → All IsBatch here → slice_get (records_from first here) i ≡ Some bytes →
+    MatchOption found
+    ((b : BatchContent) → IsBatch b → bytes ≡ batch_record number b → ⊥)
+    (λ b. (bytes ≡ batch_record number b) × IsBatch b) →
+    result ≡ ok_or found engine.Damaged →
     MatchResult result (λ b. slice_get here i ≡ Some b) (IsEnvironmental engine.Disk engine.Memory)
-batch_of_part law first number i here bytes (Ok b) at each got found damaged only =
-    batch_placed law first here i b each found.1
-    (got ∙ ap (λ (r : List ℕ). Some r) (found.0 ∙ ap (λ (n : ℕ). batch_record n b) at))
-batch_of_part law first number i here bytes (Err e) at each got found damaged only =
+batch_of_part law first number i here bytes None result at each got none answer =
     let it = numbered_at first here i bytes each got in
-    undamaged {T = BatchContent} (Err e) only
-    (λ is. damaged is it.batch it.is_batch
+    absurd (none it.batch it.is_batch
     (it.spelled ∙ ap (λ (n : ℕ). batch_record n it.batch) (sym at)))
+batch_of_part law first number i here bytes (Some b) result at each got is answer =
+    let placed = batch_placed law first here i b each is.1
+    (got ∙ ap (λ (r : List ℕ). Some r) (is.0 ∙ ap (λ (n : ℕ). batch_record n b) at)) in
+    subst (λ (r : Result BatchContent EngineError). MatchResult r (λ x. slice_get here i ≡ Some x)
+    (IsEnvironmental engine.Disk engine.Memory)) (sym answer) placed
 
 -- the log holds some of the batches, and the first of them is numbered from that number on
 pub record PartOf (disk : State) (number : ℕ) (batches : List BatchContent) (one : BatchLog)

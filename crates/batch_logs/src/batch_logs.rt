@@ -54,7 +54,7 @@ fn batch_in<D: Disk>(
     spellings_differ(); // law: no two batches have one spelling
     let index = (number.get() - one.first) as usize;
     let record = one.log.record(alloc, disk, index)?;
-    batch_of(alloc, number.get(), &record)
+    batch_of(alloc, number.get(), &record)?.ok_or(EngineError::Damaged)
 }
 
 /// The log that has the batch of this number, of joined logs that have it.

@@ -1,11 +1,10 @@
 // The records of a store's logs of batches.
-ghost use Rattle.std.specs.Prelude.{◌≡◌, ◌⊎◌, IfOk, IfErr, IsErrOf, OnOk};
+ghost use Rattle.std.specs.Prelude.{◌≡◌, IfOk, MatchOption, OnOk};
 ghost use Rattle.kv_types.specs.{BatchContent, IsBatch};
 ghost use Rattle.batch_logs.specs.Layout.{batch_record};
 
 use kv_types::{Batch, KvError};
 use std::alloc::{AllocError, Global};
-use store_tables::EngineError;
 
 /// Makes these bytes the record of a batch with its number.
 pub(crate) fn spell_record(out: &mut Vec<u8>, number: u64, batch: &Batch) -> Result<(), AllocError>
@@ -17,26 +16,29 @@ pub(crate) fn spell_record(out: &mut Vec<u8>, number: u64, batch: &Batch) -> Res
     batch.spell_into(out)
 }
 
-/// The batch of a record, if the record has this number.
-pub(crate) fn batch_of(alloc: Global, number: u64, bytes: &[u8]) -> Result<Batch, EngineError>
-    ensures found { IfOk result (λ batch. (bytes.now ≡ batch_record number batch) × IsBatch batch) }
-    ensures damaged { IsErrOf result EngineError.Damaged → (batch : BatchContent) → IsBatch batch →
-        bytes.now ≡ batch_record number batch → ⊥ }
-    ensures only { IfErr result (λ e. (e ≡ EngineError.Damaged) ⊎ (e ≡ EngineError.Memory)) }
+/// The batch of a record, or none where the bytes are no record with this number.
+pub(crate) fn batch_of(
+    alloc: Global,
+    number: u64,
+    bytes: &[u8],
+) -> Result<Option<Batch>, AllocError>
+    ensures { IfOk result (λ found. MatchOption found
+        ((batch : BatchContent) → IsBatch batch → bytes.now ≡ batch_record number batch → ⊥)
+        (λ batch. (bytes.now ≡ batch_record number batch) × IsBatch batch)) }
 {
     if bytes.len() < 8 {
-        return Err(EngineError::Damaged);
+        return Ok(None);
     }
     let (head, body) = bytes.split_at(8);
     if head != number.to_be_bytes().as_slice() {
-        return Err(EngineError::Damaged);
+        return Ok(None);
     }
     match Batch::from_bytes(alloc, body) {
         Ok(batch) => {
             let _edits = batch.edits();
-            Ok(batch)
+            Ok(Some(batch))
         }
-        Err(KvError::Memory) => Err(EngineError::Memory),
-        Err(_) => Err(EngineError::Damaged),
+        Err(KvError::Memory) => Err(AllocError),
+        Err(_) => Ok(None),
     }
 }

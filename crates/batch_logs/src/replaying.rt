@@ -29,7 +29,7 @@ fn replay_record(
     requires numbered { IsNumberedTo memtable.old (number - 1) }
     ensures { ReplaysRecord bytes.now number flushed memtable.old memtable.new result }
 {
-    let batch = batch_of(alloc, number.get(), bytes)?;
+    let batch = batch_of(alloc, number.get(), bytes)?.ok_or(EngineError::Damaged)?;
     if number.get() > flushed {
         memtable.add(number, &batch)?;
     }

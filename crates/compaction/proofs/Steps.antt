@@ -1,5 +1,5 @@
 -- One step of a merge: an entry comes to the writer, and the union moves on.
-use Rattle.std.proofs.Common.{◌+◌, arith, length, length-append}
+use Rattle.std.proofs.Common.{◌+◌, arith, length, length-append, false}
 use Rattle.std.proofs.Common.{◌≡◌, ◌↔◌, inl, inr, ℕ, List, [], ◌∷◌, ◌++◌}
 use Rattle.std.proofs.Common.{IsTrue}
 use Rattle.std.proofs.Common.{Result, Ok, Err, refl, sym, ap, subst, ◌∙◌}

@@ -1,6 +1,6 @@
 // The manifest of a store.
 ghost use Rattle.std.specs.Prelude.{◌≡◌, ◌↔◌, ◌+◌, ◌<◌, ◌^◌, IfOk, IsErrOf, MatchResult};
-ghost use Rattle.std.specs.Prelude.{IsTrue, OnOk};
+ghost use Rattle.std.specs.Prelude.{IsTrue};
 ghost use Rattle.kv_types.specs.declared.bounds.TheConstants.{MAX_NUMBER};
 ghost use Rattle.disk.specs.{IsEnvironmental, KeepsDisk, State, contents};
 ghost use Rattle.manifest.specs.declared.error.ManifestError.TheVariants.{Disk, Memory};
@@ -152,7 +152,8 @@ impl Manifest {
             (λ _. (generation_of self.new ≡ generation_of self.old + 1)
             × (HasLongSlot self.new → ⊥) × (ManifestHasFailed self.new → ⊥))
             (λ _. ManifestHasFailed self.new) }
-        ensures slots { OnOk result (counting_file self.new ≡ spare_file self.old) }
+        ensures slots { MatchResult result (λ _. counting_file self.new ≡ spare_file self.old)
+            (λ _. HasSameSlots self.old self.new) }
         ensures changes { ChangesManifest D.Disk disk.old disk.new self.old ⊥ (spare_file self.old)
             (λ named state. IsRewritten state self.new named) ManifestRepresents result }
         ensures calls { MakesCalls D.Disk (rewrite_calls self.old) disk.old disk.new result }

@@ -166,9 +166,9 @@ impl SlotPair {
             (IsSameBut (other_slot self.old.slot)) }
         ensures changes { ChangesSlots D.Disk disk.old disk.new self.old self.new
             (λ records. one.now ∷ []) (IsEnvironmental (Disk Failed) Memory) result }
-        ensures next { OnOk result ((file_of self.new.log ≡ other_slot self.old.slot)
-            × (self.new.generation ≡ self.old.generation + 1)
-            × (IsLongLog self.new.log → ⊥)) }
+        ensures next { MatchResult result (λ _. (file_of self.new.log ≡ other_slot self.old.slot)
+            × (self.new.generation ≡ self.old.generation + 1) × (IsLongLog self.new.log → ⊥))
+            (λ _. self.new ≡ self.old) }
         ensures calls { MakesCalls D.Disk (closing_calls self.old.other_is_open + 5) disk.old
             disk.new result }
     {

@@ -32,6 +32,6 @@ returns g c = record {
       ap (slice_get records) at ∙ c.in_ok-record.ensures.given records honest h
       ∙ ap (λ b. Some b) (sym c.deref.ensures.value) in
       batch_of_part c.spellings_differ.ensures first c.get-2.result (c.args.number - first) here
-      c.deref.result.now c.batch_of.result number each got c.batch_of.ensures.found
-      c.batch_of.ensures.damaged c.batch_of.ensures.only;
+      c.deref.result.now c.in_ok-batch_of.field-0 c.ok_or.result number each got
+      c.in_ok-batch_of.ensures c.ok_or.ensures.value;
 }
