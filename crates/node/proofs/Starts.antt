@@ -1,13 +1,13 @@
 -- The node of an engine that was opened.
 use Rattle.std.proofs.Common.{◌≡◌, ℕ}
-use Rattle.std.proofs.Common.{inr}
+use Rattle.std.proofs.Common.{inl, inr}
 use Rattle.std.proofs.Common.{sym, ap, subst}
-use Rattle.std.specs.Prelude.{Result, Ok, Err, IfOk, IfErr}
+use Rattle.std.specs.Prelude.{Result, Ok, Err, IfOk, IfErr, IsErrAnd}
 use Rattle.disk.specs.declared.Disk.{Ghosts}
 use Rattle.disk.specs.{Contents, IsEnvironmental}
 use Rattle.engine.specs.declared.Engine.{Engine}
 use Rattle.engine.specs.{EngineHolds, Facts}
-use Rattle.engine.specs.{OpensAs, facts_of, look_ups}
+use Rattle.engine.specs.{OpensAs, SparesFound, facts_of, look_ups}
 use Rattle.chain_model.specs.{started}
 use Rattle.chain_core.specs.{Machine, CoreRefines}
 use Rattle.node.specs.declared.node.Node.{Node}
@@ -49,12 +49,23 @@ module _ {D : Type 0} (g : Ghosts D) where
   started_or_memory engine (Ok node) x n holds facts opened memory = opened.runs x n holds facts
   started_or_memory engine (Err refused) x n holds facts opened memory = inr memory
 
-  -- so it says nothing of the files
-  pub not_for_files : (Q : Stop × D → Type 0) (result : Result (Node D g) (Stop × D)) →
+  -- so it was not refused for the files
+  pub never_for_files : (result : Result (Node D g) (Stop × D)) →
       IfErr result (λ refused. refused.0 ≡ stop.Memory) →
-      IfErr result (λ refused. (IsEnvironmental stop.Disk stop.Memory refused.0 → ⊥) → Q refused)
-  not_for_files Q (Ok node) memory = tt
-  not_for_files Q (Err refused) memory = λ other. absurd (other (inr memory))
+      IsErrAnd result (λ refused. IsEnvironmental stop.Disk stop.Memory refused.0 → ⊥) → ⊥
+  never_for_files (Ok node) memory other = other
+  never_for_files (Err refused) memory other = other (inr memory)
+
+  -- what is left where one cause holds is left where another holds only with it
+  pub spares_as : (old new : D) {cause other : Type 0} → SparesFound g old new cause →
+      (other → cause) → SparesFound g old new other
+  spares_as old new spares same = record {
+    shut = λ h. elim h [
+      | inl shut ↦ spares.shut (inl shut)
+      | inr is ↦ spares.shut (inr (same is))
+    ];
+    named = spares.named;
+  }
 
   -- the files open as what the running node's store tells
   pub started_from : (result : Result (Node D g) (Stop × D)) (left : Contents)

@@ -1,9 +1,9 @@
 // How a node begins: it is created, or it starts with the store of its disk.
-ghost use Rattle.std.specs.Prelude.{◌≡◌, ℕ, IfOk, IfErr};
-ghost use Rattle.disk.specs.{contents, IsEnvironmental, IsStill};
+ghost use Rattle.std.specs.Prelude.{◌≡◌, ℕ, IfOk, IfErr, IsErrAnd};
+ghost use Rattle.disk.specs.{contents, IsEnvironmental};
 ghost use Rattle.chain_model.specs.{created, started};
 ghost use Rattle.chain_core.specs.{Machine};
-ghost use Rattle.engine.specs.{IsJustOpened, IsNewEngine, engine_disk, look_ups};
+ghost use Rattle.engine.specs.{IsJustOpened, IsNewEngine, SparesFound, engine_disk, look_ups};
 ghost use Rattle.node.specs.declared.stop.Stop.TheVariants.{Disk, Memory};
 ghost use Rattle.node.specs.Outputs.{AlwaysRefines};
 ghost use Rattle.node.specs.Starts.{BeginsAs, CoreStartsFrom, ExplainsStart, KeepsReceived};
@@ -95,9 +95,9 @@ impl<D: Disk + Drop> Node<D> {
             DiskRefinesOneOf (D.state disk) x n m →
             AlwaysRefines D.Disk disk (disk_behind result) x n m }
 
-        // What is refused for its files is left as it was.
-        ensures still { IfErr result (λ refused. (IsEnvironmental Disk Memory refused.0 → ⊥) →
-            IsStill D.Disk disk refused.1) }
+        // Files that open as no store, or for which it is refused, are left as they were.
+        ensures still { SparesFound D.Disk disk (disk_behind result)
+            (IsErrAnd result (λ refused. IsEnvironmental Disk Memory refused.0 → ⊥)) }
     {
         match Engine::open(alloc, disk, limits) {
             Ok(engine) => run_opened(alloc, engine),

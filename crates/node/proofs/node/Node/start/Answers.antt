@@ -1,11 +1,13 @@
-use Rattle.std.proofs.Common.{inr, subst, sym}
+use Rattle.std.proofs.Common.{subst, sym}
+use Rattle.std.specs.Prelude.{IsErrAnd}
 use Rattle.disk.specs.{IsEnvironmental, contents}
 use Rattle.node.specs.declared.stop.Stop.TheVariants as stop
 use Rattle.node.specs.Outputs.{AlwaysRefines}
 use Rattle.node.specs.Steps.{facts_for}
+use Rattle.engine.specs.{SparesFound, engine_disk}
 use Rattle.engine.specs.KeepingLemmas.{kept_as}
 use Rattle.node.proofs.Causes.{device_told, env_of}
-use Rattle.node.proofs.Starts.{not_for_files, started_from, started_or_memory}
+use Rattle.node.proofs.Starts.{never_for_files, spares_as, started_from, started_or_memory}
 use Rattle.node.proofs.node.Node.start.Goals as goal
 
 -- the machine that the files represent runs
@@ -25,16 +27,20 @@ pub returns-in-Err-clause-any_moment : goal.returns-in-Err-clause-any_moment
 returns-in-Err-clause-any_moment g c = λ x n m honest rests.
     (c.in-Err.ensures.any_moment (facts_for x n) n.list (facts_for x m) m.list honest).whole rests
 
--- .. and one for the files no more than was there
+-- what the opening leaves, the start does
 pub returns-in-Err-clause-still : goal.returns-in-Err-clause-still
-returns-in-Err-clause-still g c = λ other.
-    c.in-Err.ensures.still.shut (inr (λ machine.
-    other (subst
-    (IsEnvironmental stop.Disk stop.Memory) (sym c.from.ensures) (env_of c.in-Err.e machine))))
+returns-in-Err-clause-still g c =
+    spares_as g.D.Disk c.args.disk c.in-Err.disk c.in-Err.ensures.still (λ other machine.
+    other (subst (IsEnvironmental stop.Disk stop.Memory) (sym c.from.ensures)
+    (env_of c.in-Err.e machine)))
 
 pub returns-in-Ok-clause-still : goal.returns-in-Ok-clause-still
 returns-in-Ok-clause-still g c =
-    not_for_files g.D.Disk _ c.run_opened.result c.run_opened.ensures.memory
+    let for_files = IsErrAnd c.run_opened.result
+    (λ refused. IsEnvironmental stop.Disk stop.Memory refused.0 → ⊥) in
+    subst (λ d. SparesFound g.D.Disk c.args.disk d for_files) (sym c.run_opened.ensures.disk)
+    (spares_as g.D.Disk c.args.disk (engine_disk c.in-Ok.engine) c.in-Ok.ensures.still
+    (never_for_files g.D.Disk c.run_opened.result c.run_opened.ensures.memory))
 
 -- the node's store tells what was opened
 pub returns-in-Ok-clause-told : goal.returns-in-Ok-clause-told
