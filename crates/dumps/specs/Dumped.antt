@@ -12,7 +12,8 @@ use Rattle.disk.specs.declared.Disk.{Ghosts}
 use Rattle.engine.specs.declared.Engine.{Engine}
 use Rattle.manifest.specs.{ManifestRepresents, NodeVersion}
 use Rattle.engine.specs.{AreAlone, AreReadAlike, AreShut, EngineReads, EngineWasMeant, Facts}
-use Rattle.engine.specs.{IsDamaged, IsNotCreated, IsOwned, kept_files, table_count}
+use Rattle.engine.specs.{FilesRepresent, IsDamaged, IsNotCreated, IsOwned, WereMeant}
+use Rattle.engine.specs.{kept_files, table_count}
 use Rattle.node.specs.declared.stop.Stop.TheVariants as stop
 use Rattle.client.specs.PrintedRuns.{AppendsPart}
 use Rattle.client.specs.Text.{printed_row, store_text}
@@ -107,6 +108,21 @@ pub record IsBegunDump (facts : Facts) (list : List BatchContent) (old new : Opt
   pub text : List ℕ
   pub is : IsDumpText facts list text
   pub part : AppendsPart old new text
+
+-- where the disk is honest, exactly the text was written of each store that its files represent, or
+-- were meant to
+pub record WritesStoreOf {D : Type 0} (g : Ghosts D) (disk : D) (old new : Option (List ℕ))
+    : Type 0 where
+  pub read : (facts : Facts) (list : List BatchContent) → g.is_honest disk →
+      FilesRepresent facts list (contents (g.state disk)) → IsDumpOf facts list old new
+  pub meant : (facts : Facts) (list : List BatchContent) → g.is_honest disk →
+      WereMeant facts list (contents (g.state disk)) → IsDumpOf facts list old new
+
+-- where the disk is honest, a beginning of the text was written of each store that its files were
+-- meant to represent
+abbrev pub BeginsStoreOf : {D : Type 0} → Ghosts D → D → (old new : Option (List ℕ)) → Type 0
+BeginsStoreOf g disk old new = (facts : Facts) (list : List BatchContent) → g.is_honest disk →
+    WereMeant facts list (contents (g.state disk)) → IsBegunDump facts list old new
 
 -- Exactly the text of these facts, so many batches and some rows was written: all rows of each list
 -- that is shown.

@@ -1,4 +1,4 @@
-use Rattle.std.proofs.Common.{subst, sym}
+use Rattle.std.proofs.Common.{inr, subst, sym}
 use Rattle.program.specs.FolderDumps.{IsFolderToRead}
 use Rattle.program.proofs.folder_dump.dump_folder.Goals as goal
 
@@ -10,4 +10,19 @@ returns-in-Ok-dump_store-clause-from g c = record {
       c.in-Ok.ensures;
   left = c.in-Ok-dump_store.disk;
   kept = c.in-Ok-dump_store.ensures.device;
+  written = record {
+    read = c.in-Ok-dump_store.ensures.written;
+    meant = c.in-Ok-dump_store.ensures.meant;
+  };
 }
+
+-- so far as it was read
+pub returns-in-Err-dump_store-clause-from : goal.returns-in-Err-dump_store-clause-from
+returns-in-Err-dump_store-clause-from g c = inr (record {
+  disk = c.new.result;
+  below = subst (λ disk. IsFolderToRead c.args.folder.now disk) (sym c.new.ensures.inner)
+      c.in-Ok.ensures;
+  refused = (c.in-Err-dump_store.e, c.in-Err-dump_store.disk);
+  kept = c.in-Err-dump_store.ensures.device;
+  begun = c.in-Err-dump_store.ensures.meant;
+})

@@ -8,6 +8,7 @@ returns-in-Ok g c = record {
   ends = inl (record { status = refl; wrote = c.in-Ok.ensures.printed; quiet = refl });
   from = λ whole. c.in-Ok.ensures.from;
   path_is = λ whole. c.in-Ok.ensures.path;
+  begun = λ part. absurd (omega (arith, part));
 }
 
 -- or in part
@@ -19,4 +20,5 @@ returns-in-Err g c = record {
       c.report_dump.ensures.status c.report_dump.ensures.text;
   from = λ whole. absurd (omega (arith, whole, c.report_dump.ensures.status));
   path_is = λ whole. absurd (omega (arith, whole, c.report_dump.ensures.status));
+  begun = λ part. c.in-Err.ensures.from;
 }
