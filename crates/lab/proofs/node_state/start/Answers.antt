@@ -30,7 +30,7 @@ returns-in_ok-new-in-Ok g c =
             c.count-count.ensures x (started x n) runs,
             c.committed-committed.ensures x (started x n) runs,
           ) refl);
-      disk = search (rules, c.arm.ensures, c.in-Ok.ensures, c.arm-in-Ok.ensures);
+      disk = search (rules, c.arm.ensures, c.in-Ok.ensures.kept, c.arm-in-Ok.ensures);
       only = search rules;
       follows = tt;
       grows = λ x n r.
