@@ -32,8 +32,8 @@ pub record IsBegunOfFolder {R : Type 0} (g : Ghosts (Unchanged (DirDisk R))) (pa
   pub kept : LeavesDevice g disk (Err refused)
   pub begun : BeginsStoreOf g disk old_out new_out
 
--- how that ends for the folder at this path: with status 0 its store was written whole, and the path
--- is not empty; with status 1 nothing was written, or a beginning of it
+-- how that ends for the folder at this path: with status 0 its store was written whole, and the
+-- path is not empty; with status 1 nothing was written, or a beginning of it
 pub record DumpEndsFor {R : Type 0} (g : Ghosts (Unchanged (DirDisk R))) (path : List ℕ)
     (old_out new_out old_err new_err : Option (List ℕ)) (answer : ℕ) : Type 0 where
   pub ends : DumpEnds old_out new_out old_err new_err answer
