@@ -158,6 +158,18 @@ module _ {D : Type 0} (g : Ghosts D) (it : Fault) (old : D) where
           (ap length arms.past)
           (subst (λ (o : Option ℕ). HasStruckBy o (length (g.past armed))) at has))
 
+  -- it struck none whose calls did not fail, nor does the one that it was armed with then
+  pub stays_so : (armed left new : D) {cause : Type 0} {IsKept : State → State → Type 0}
+      {last : Fault} → IsArmed g it old armed → KeepsDisk g armed left ⊥ cause IsKept →
+      IsArmed g last left new → g.is_honest old →
+      (struck_at new ≡ false) × (g.failures new ≡ g.failures old)
+  stays_so armed left new {cause} {IsKept} arms keeps again honest =
+      let left_so = spent armed left ⊥ cause IsKept arms keeps honest in (
+        subst (λ (past : List State). has_reached (struck_call it) (length (g.past old))
+            (length past) ≡ false) (sym again.past) (left_so.spared (λ never. never)),
+        again.count ∙ left_so.count (λ never. never),
+      )
+
   -- ---- a step that stopped the node
 
   -- what a crash leaves had had as many calls before

@@ -8,7 +8,7 @@ use Rattle.lab.specs.declared.node_state.NodeState.TheVariants.{Down}
 use Rattle.lab.specs.SimNodes.{StateRefines}
 use Rattle.lab.specs.Outcomes.{Starts, Fails, IsOutcomeOf}
 use Rattle.lab.proofs.Dispatching.{by_stop, halted, halts_so, honest_left, into_box}
-use Rattle.lab.proofs.Faults.{grown_since, marked_so, same_state}
+use Rattle.lab.proofs.Faults.{grown_since, marked_so, same_state, stays_so}
 use Rattle.lab.proofs.node_state.start.Goals as goal
 
 pub returns-in_ok-new-in-Ok : goal.returns-in_ok-new-in-Ok
@@ -30,7 +30,10 @@ returns-in_ok-new-in-Ok g c =
             c.count-count.ensures x (started x n) runs,
             c.committed-committed.ensures x (started x n) runs,
           ) refl);
-      disk = search (rules, c.arm.ensures, c.in-Ok.ensures.kept, c.arm-in-Ok.ensures);
+      disk = λ honest.
+          let stays = stays_so g.D.Disk c.args.fault c.args.disk c.arm.new.self _ _ c.arm.ensures
+          c.in-Ok.ensures.kept c.arm-in-Ok.ensures.armed honest in
+          record { spared = stays.0; count = stays.1; same = λ down. absurd down };
       only = search rules;
       follows = tt;
       grows = λ x n r.
