@@ -17,12 +17,12 @@ returns-in-Ok-dump_store-clause-from g c = record {
 }
 
 -- so far as it was read
-pub returns-in-Err-dump_store-clause-from : goal.returns-in-Err-dump_store-clause-from
-returns-in-Err-dump_store-clause-from g c = inr (record {
+pub returns-in-Err-clause-from : goal.returns-in-Err-clause-from
+returns-in-Err-clause-from g c = inr (record {
   disk = c.new.result;
   below = subst (λ disk. IsFolderToRead c.args.folder.now disk) (sym c.new.ensures.inner)
       c.in-Ok.ensures;
-  refused = (c.in-Err-dump_store.e, c.in-Err-dump_store.disk);
-  kept = c.in-Err-dump_store.ensures.device;
-  begun = c.in-Err-dump_store.ensures.meant;
+  refused = (c.in-Err.e, c.in-Err.disk);
+  kept = c.in-Err.ensures.device;
+  begun = c.in-Err.ensures.meant;
 })

@@ -1,4 +1,4 @@
-use Rattle.std.proofs.Common.{arith, inl}
+use Rattle.std.proofs.Common.{arith, inl, refl}
 use Rattle.program.specs.declared.folder_failure.DumpFailure.TheVariants.{Memory}
 use Rattle.program.proofs.FolderEnds.{dump_reported, nothing_dumped}
 use Rattle.program.proofs.folder_service.serve_dump.Goals as goal
@@ -20,4 +20,5 @@ returns-in-Err-Memory-clause-dumped g c = λ folder named.
           c.report_dump.ensures.status c.report_dump.ensures.text;
       from = λ whole. absurd (omega (arith, whole, c.report_dump.ensures.status));
       path_is = λ whole. absurd (omega (arith, whole, c.report_dump.ensures.status));
+      begun = λ part. inl refl;
     }
