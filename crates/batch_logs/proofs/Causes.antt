@@ -1,14 +1,11 @@
 -- Causes of a refusal, by the errors of the layers below.
-use Rattle.std.proofs.Common.{◌≡◌, ◌⊎◌, ℕ, ◌≤◌, List, length, Result, Ok, Err, inl, inr, ap, arith}
-use Rattle.std.proofs.Common.{subst, sym}
-use Rattle.std.specs.Prelude.{IfErr, IsErrOf}
+use Rattle.std.proofs.Common.{◌≡◌, ◌⊎◌, ℕ, ◌≤◌, List, length, Err, inl, inr, ap, arith}
 use Rattle.disk.specs.{IsEnvironmental}
 use Rattle.disk.specs.declared.DiskError.TheVariants as disk
 use Rattle.record_log.specs.declared.LogError.{LogError}
 use Rattle.record_log.specs.declared.LogError.TheVariants as log
 use Rattle.record_log.specs.declared.Log.{Log}
 use Rattle.record_log.specs as log_stands
-use Rattle.store_tables.specs.declared.error.EngineError.{EngineError}
 use Rattle.store_tables.specs.declared.error.EngineError.TheVariants as engine
 use Rattle.store_tables.specs.Errors.{IsEnd, error_of_log}
 
@@ -23,11 +20,6 @@ pub working_log : (e : LogError) →
     (e ≡ log.Failed → ⊥) → IsEnvironmental engine.Disk engine.Memory (error_of_log e)
 working_log e (inl external) works = log_is_external e external
 working_log e (inr failed) works = absurd (works failed)
-
--- damage and a lack of memory end the files
-pub bytes_end : {e : EngineError} → (e ≡ engine.Damaged) ⊎ (e ≡ engine.Memory) → IsEnd e
-bytes_end (inl damaged) = subst IsEnd (sym damaged) tt
-bytes_end (inr memory) = subst IsEnd (sym memory) tt
 
 -- each refusal of a log ends the files
 pub log_ends : (e : LogError) → IsEnd (error_of_log e)

@@ -1,6 +1,6 @@
 -- What a refusal says of the call before.
-use Rattle.std.proofs.Common.{◌≡◌, ◌↔◌, Result, Ok, Err, ap, inl, inr}
-use Rattle.std.specs.Prelude.{◌⊎◌, IfErr, IsErrAnd, IsErrOf}
+use Rattle.std.proofs.Common.{◌≡◌, ◌↔◌, Result, Ok, Err, ap}
+use Rattle.std.specs.Prelude.{IsErrAnd, IsErrOf}
 use Rattle.disk.specs.declared.DiskError.TheVariants as disk
 use Rattle.record_log.specs.declared.LogError.{LogError}
 use Rattle.record_log.specs.declared.LogError.TheVariants as log
@@ -20,10 +20,3 @@ log_failed called (log.Disk disk.Memory) (Err s) is told = (λ f. cc, λ f. cc)
 log_failed called log.Memory (Err s) is told = (λ f. cc, λ f. cc)
 log_failed called log.TooLong (Err s) is told = (λ f. cc, λ f. cc)
 log_failed called log.Failed (Err s) is told = (λ f. cc, λ f. cc)
-
--- a result whose refusals are those of a record's bytes alone reports no failure of the device
-pub bytes_only : {T : Type 0} (result : Result T EngineError) →
-    IfErr result (λ e. (e ≡ engine.Damaged) ⊎ (e ≡ engine.Memory)) → IsErrOf result engine.Disk → ⊥
-bytes_only (Ok x) told fails = cc
-bytes_only (Err e) (inl told) fails = cc
-bytes_only (Err e) (inr told) fails = cc

@@ -1,7 +1,9 @@
 -- What is read of the logs that lines name: their batches, and the entries that a memtable takes.
 use Rattle.std.specs.Global.{Vec}
 use Rattle.std.specs.Prelude.{◌≡◌, ◌≢◌, ◌↔◌, ◌⊎◌, ℕ, suc, ◌+◌, ◌-◌, ◌<◌, ◌≤◌, List, ◌∷◌, ◌++◌}
-use Rattle.std.specs.Prelude.{map, All, IfErr, IfOk, MatchResult, OnOk, Result, length}
+use Rattle.std.specs.Prelude.{map, All, Bool, IfErr, IfOk, IsTrue, MatchResult, OnOk, Result}
+use Rattle.std.specs.Prelude.{length}
+use Rattle.std.specs.declared.alloc.AllocError.{AllocError}
 use Rattle.kv_types.specs.declared.bounds.TheConstants.{MAX_NUMBER}
 use Rattle.kv_types.specs.{BatchContent, Entry, IsBatch, entries_of}
 use Rattle.disk.specs.declared.Disk.{Ghosts}
@@ -138,32 +140,27 @@ pub record AreOpenLogs (lines : List LogLine) (logs : BatchLogs) (memtable : Mem
 
 -- what the replay of one record promises
 pub record ReplaysRecord (bytes : List ℕ) (number flushed : ℕ) (old new : Memtable)
-    (result : Result (Unit {0}) EngineError) : Type 0 where
-  -- after `Ok` it was a batch's with this number, and the memtable took the batch
-  pub taken : OnOk result (IsBatchAdded bytes number flushed old new)
-  -- after `Ok` the memtable can take the next batch
-  pub numbered : OnOk result (IsNumberedTo new number)
-  -- the record of a batch is refused only for the environment
-  pub damaged : (batch : BatchContent) → IsBatch batch → bytes ≡ batch_record number batch →
-      IfErr result (IsEnvironmental engine.Disk engine.Memory)
-  -- it is refused for `Damaged` or `Memory` alone
-  pub only : IfErr result (λ e. (e ≡ engine.Damaged) ⊎ (e ≡ engine.Memory))
+    (result : Result Bool AllocError) : Type 0 where
+  -- of a batch with this number, the memtable took it, and can take the next one
+  pub taken : IfOk result (λ is. IsTrue is → IsBatchAdded bytes number flushed old new
+      × IsNumberedTo new number)
+  -- no record of such a batch is passed over
+  pub found : (batch : BatchContent) → IsBatch batch → bytes ≡ batch_record number batch →
+      IfOk result IsTrue
 
 -- what the replay of an opened log promises
 pub record ReplaysLog (opened : OpenedLog) (before flushed : ℕ) (old new : Memtable)
-    (result : Result (Unit {0}) EngineError) : Type 0 where
-  -- after `Ok` its records are those of batches behind this number, and the memtable took them
+    (result : Result Bool AllocError) : Type 0 where
+  -- its records are those of batches behind this number, and the memtable took them
   pub taken : (records : List (List ℕ)) → HasRead opened records →
-      OnOk result (AreBatchesAdded records before flushed old new)
-  -- after `Ok` the memtable can take the next batch
-  pub numbered : OnOk result (IsNumberedTo new (before + count_of opened.log)
+      IfOk result (λ are. IsTrue are → AreBatchesAdded records before flushed old new)
+  -- then the memtable can take the next batch
+  pub numbered : IfOk result (λ are. IsTrue are →
+      IsNumberedTo new (before + count_of opened.log)
       × (before + count_of opened.log ≤ MAX_NUMBER))
-  -- the records of batches are refused only for the environment
-  pub damaged : (batches : List BatchContent) → HasRead opened (records_from (suc before) batches) →
-      All IsBatch batches → before + length batches ≤ MAX_NUMBER →
-      IfErr result (IsEnvironmental engine.Disk engine.Memory)
-  -- it is refused for `Damaged` or `Memory` alone
-  pub only : IfErr result (λ e. (e ≡ engine.Damaged) ⊎ (e ≡ engine.Memory))
+  -- no records of such batches are passed over
+  pub found : (batches : List BatchContent) → HasRead opened (records_from (suc before) batches) →
+      All IsBatch batches → before + length batches ≤ MAX_NUMBER → IfOk result IsTrue
 
 -- what the opening of one log promises, with the replay of its batches
 pub record OpensLog {D : Type 0} (g : Ghosts D) (file before flushed : ℕ) (old : D)

@@ -13,50 +13,56 @@ use kv_types::bounds::MAX_NUMBER;
 use kv_types::laws::spellings_differ;
 use memtable::Memtable;
 use record_log::{Log, OpenedLog, records_are_unique};
-use std::alloc::Global;
+use std::alloc::{AllocError, Global};
 use store_tables::EngineError;
 use version_edits::{LogLine, StoreVersion};
 
-// Adds the batch of a record with this number to a memtable, if no table has it.
+// Adds the batch of a record with this number to a memtable, if no table has it. Says whether the
+// record is of such a batch.
 fn replay_record(
     alloc: Global,
     bytes: &[u8],
     number: Number,
     flushed: u64,
     memtable: &mut Memtable,
-) -> Result<(), EngineError>
+) -> Result<bool, AllocError>
     requires positive { 0 < number }
     requires numbered { IsNumberedTo memtable.old (number - 1) }
     ensures { ReplaysRecord bytes.now number flushed memtable.old memtable.new result }
 {
-    let batch = batch_of(alloc, number.get(), bytes)?.ok_or(EngineError::Damaged)?;
-    if number.get() > flushed {
-        memtable.add(number, &batch)?;
+    let Some(batch) = batch_of(alloc, number.get(), bytes)? else {
+        return Ok(false);
+    };
+    if number.get() > flushed && memtable.add(number, &batch).is_err() {
+        return Err(AllocError);
     }
-    Ok(())
+    Ok(true)
 }
 
 // Adds to a memtable the batches of an opened log, numbered behind this number, that no table has.
+// Says whether its records are of such batches.
 fn replay(
     alloc: Global,
     opened: &OpenedLog,
     before: u64,
     flushed: u64,
     memtable: &mut Memtable,
-) -> Result<(), EngineError>
+) -> Result<bool, AllocError>
     requires numbered { IsNumberedTo memtable.old before }
     requires few { before ≤ MAX_NUMBER }
     ensures { ReplaysLog opened.now before flushed memtable.old memtable.new result }
 {
     let count = opened.log.len();
     if count as u64 > MAX_NUMBER - before {
-        return Err(EngineError::Damaged);
+        return Ok(false);
     }
     for index in 0..count {
         let number = Number::new(before + index as u64 + 1).unwrap();
-        replay_record(alloc, opened.record(index), number, flushed, memtable)?;
+        if !replay_record(alloc, opened.record(index), number, flushed, memtable)? {
+            return Ok(false);
+        }
     }
-    Ok(())
+    Ok(true)
 }
 
 // Opens the log of a file, whose batches are numbered behind this number, and adds to a memtable
@@ -75,7 +81,9 @@ fn open_log<D: Disk>(
         result }
 {
     let opened = Log::open(alloc, disk, file, 0)?;
-    replay(alloc, &opened, before, flushed, memtable)?;
+    if !replay(alloc, &opened, before, flushed, memtable)? {
+        return Err(EngineError::Damaged);
+    }
     Ok(BatchLog {
         first: before + 1,
         log: opened.log,

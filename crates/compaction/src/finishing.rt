@@ -1,5 +1,5 @@
 // Finishing an output.
-ghost use Rattle.std.specs.Prelude.{◌≡◌, ◌≤◌, ◌<◌, IsErrOf, List, IfErr, IfOk, MatchResult, length};
+ghost use Rattle.std.specs.Prelude.{◌≡◌, ◌≤◌, ◌<◌, IsErrOf, List, IfOk, MatchResult, length};
 ghost use Rattle.disk.specs.{IsEnvironmental};
 ghost use Rattle.kv_types.specs.declared.bounds.TheConstants.{MAX_NUMBER};
 ghost use Rattle.kv_types.specs.{Entry};
@@ -53,7 +53,6 @@ pub(crate) fn finish_output<D: Disk>(
         (IsEnvironmental Disk Memory) }
     ensures file { IfOk result (λ line. line.file ≡ output.file) }
     ensures proper { IfOk result IsTableLine }
-    ensures place { IfErr result (λ e. e ≡ MergeError.Full → ⊥) }
 {
     let OpenOutput { file, builder } = output;
     if builder.len() == 0 {

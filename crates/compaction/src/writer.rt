@@ -152,7 +152,6 @@ impl OutputWriter {
         ensures empty { (slots : State) (next_file : ℕ) (it : Written) →
             WriterHolds slots next_file self.old it → it.opened ≡ [] → (disk.new ≡ disk.old)
             × IsOkAnd result (λ _. WriterHolds slots next_file self.new it) }
-        ensures place { IfErr result (λ e. e ≡ MergeError.Full → ⊥) }
     {
         let Some(output) = self.current.take() else {
             return Ok(());
@@ -176,7 +175,6 @@ impl OutputWriter {
             WriterHolds (D.state disk.old) next_file self.old it → entry.key ≡ lent_key key.entry →
             MatchResult result (λ _. WriterHolds (D.state disk.new) next_file self.new
             (cut_before self.old.target it entry)) (IsEnvironmental Disk Memory) }
-        ensures place { IfErr result (λ e. e ≡ MergeError.Full → ⊥) }
     {
         if self.is_complete(key) {
             self.close(alloc, disk)

@@ -2,7 +2,7 @@
 use Rattle.std.proofs.Common.{◌≡◌, ◌⊎◌, ◌↔◌, ◌<◌, ◌≤◌, inl, inr, ℕ, length, sym, ap, arith, refl}
 use Rattle.std.proofs.Common.{subst}
 use Rattle.std.proofs.Common.{◌∙◌, IsTrue, Bool}
-use Rattle.std.specs.Prelude.{Result, Ok, Err, IfErr, IfSome, IsErrOf, IsSome}
+use Rattle.std.specs.Prelude.{Result, Ok, Err, IfErr, IfSome, IsErrAnd, IsErrOf, IsSome}
 use Rattle.std.proofs.Math.Path.{fun_ext}
 use Rattle.std.proofs.lemmas.Bool.{cases_eq}
 use Rattle.disk.specs.declared.Disk.{Ghosts}
@@ -14,6 +14,7 @@ use Rattle.disk.specs.MomentsLemmas.{join, weaker}
 use Rattle.disk.specs.StepsLemmas.{read_is_outcome}
 use Rattle.disk.specs.StillLemmas.{still_more}
 use Rattle.configurations.specs.{at_epoch, Configurations}
+use Rattle.engine.specs.{SparesFound}
 use Rattle.engine.specs.KeepingLemmas.{kept_behind}
 use Rattle.chain_core.specs.{Machine}
 use Rattle.manifest.specs.{HasOnlyCreationFiles, IsNotCreated, NodeVersion, SlotsRead}
@@ -32,7 +33,8 @@ use Rattle.folder_nodes.specs.Faults.{disk_stop, manifest_stop}
 use Rattle.folder_nodes.specs.Finding.{CreatesAgain, CreatesIn, ExplainsFinding, FindingRefusal}
 use Rattle.folder_nodes.specs.Finding.{FindsOwn, HasOwnVersion, IsForEnvironment, IsOwn}
 use Rattle.folder_nodes.specs.Finding.{IsOwnVersion, KeepsFoundDisk, NamesOwn, StartFailure}
-use Rattle.folder_nodes.specs.Finding.{StartsAs, StartsFrom}
+use Rattle.folder_nodes.specs.Finding.{KeepsFoundFiles, StartsAs, StartsFrom, disk_left}
+use Rattle.folder_nodes.proofs.FoundFiles.{spares_still}
 use Rattle.folder_nodes.specs.declared.fault.FolderError.{FolderError}
 use Rattle.folder_nodes.specs.declared.fault.FolderError.TheVariants.{OtherNode, Stopped}
 
@@ -317,3 +319,20 @@ module _ {D : Type 0} {g : Ghosts D} where
   created_still old configs id (Ok node) creates = tt
   created_still old configs id (Err refused) creates =
       λ other honest. absurd (other (creates honest))
+
+  -- of a start that is refused for the files
+  pub refused_still : (disk : D) (result : Result (Node D g) (FolderError × D)) →
+      SparesFound g disk (disk_left result)
+      (IsErrAnd result (λ refused. IsForEnvironment refused.0 → ⊥)) →
+      IfErr result (λ refused. (IsForEnvironment refused.0 → ⊥) → IsStill g disk refused.1)
+  refused_still disk (Ok node) left = tt
+  refused_still disk (Err refused) left = λ other. left.shut (inr other)
+
+  -- the slots were looked at, and nothing else was done
+  pub only_looked : (old mid : D) (e : FolderError) → IsStill g old mid →
+      KeepsFoundFiles g old (Err (e, mid))
+  only_looked old mid e still = record {
+    named = λ named honest represents. spares_still g _ old mid still honest;
+    refused = λ other. still;
+    shut = λ none cut. still;
+  }

@@ -1,2 +1,3 @@
 mod FindingLemmas
+mod FoundFiles
 mod FoundNodesLemmas

@@ -1,11 +1,12 @@
 -- The node of a disk: the one that it represents, or one that is created there.
 use Rattle.std.specs.Prelude.{◌≡◌, ◌⊎◌, ◌↔◌, ◌<◌, ℕ, Bool, List, IsTrue, length, map}
-use Rattle.std.specs.Prelude.{Result, Ok, Err, IsErrAnd, MatchResult}
-use Rattle.disk.specs.{Contents, IsEnvironmental, KeepsDisk, State}
+use Rattle.std.specs.Prelude.{Result, Ok, Err, IfErr, IsErrAnd, MatchResult}
+use Rattle.disk.specs.{Contents, IsEnvironmental, IsStill, KeepsDisk, State, contents}
 use Rattle.disk.specs.declared.Disk.{Ghosts}
 use Rattle.configurations.specs.{at_epoch, Configurations}
 use Rattle.chain_model.specs.{created, started}
 use Rattle.chain_core.specs.{Machine}
+use Rattle.engine.specs.{AreShut, SparesNamed}
 use Rattle.manifest.specs.{HasOnlyCreationFiles, IsNotCreated, ManifestRepresents, NodeVersion}
 use Rattle.manifest.specs.{SlotsRead, WasCutShort}
 use Rattle.node.specs.declared.node.Node.{Node}
@@ -130,6 +131,17 @@ module _ {D : Type 0} {g : Ghosts D} where
       ⊎ ((refused.0 ≡ OtherNode) × (IsOwn configs id x n → ⊥)))
 
 module _ {D : Type 0} (g : Ghosts D) where
+  -- What a search for the node leaves of the files: those that the version of the slots names,
+  -- whatever it answers; and all of them, where it is refused for what the disk has, or where they
+  -- open as no store, unless a creation may have left them that was cut short.
+  pub record KeepsFoundFiles (disk : D) (result : Result (Node D g) (FolderError × D)) : Type 0
+    where
+      pub named : SparesNamed g disk (disk_left result)
+      pub refused : IfErr result (λ refused. (IsForEnvironment refused.0 → ⊥) →
+          IsStill g disk refused.1)
+      pub shut : AreShut (contents (g.state disk)) → (WasCutShort (contents (g.state disk)) → ⊥) →
+          IsStill g disk (disk_left result)
+
   -- the device is kept, which failed exactly where the refusal is for it
   abbrev pub KeepsFoundDisk : D → Result (Node D g) (FolderError × D) → Type 0
   KeepsFoundDisk disk result = KeepsDisk g disk (disk_left result)

@@ -1,7 +1,9 @@
 // The node of a disk: started, or created where nothing was created yet.
-ghost use Rattle.std.specs.Prelude.{◌≡◌, ◌↔◌, ℕ, IfErr, IfOk, IsTrue, MatchResult};
+ghost use Rattle.std.specs.Prelude.{◌≡◌, ◌↔◌, ℕ, IfErr, IfOk, IsErrAnd, IsTrue, MatchResult};
 ghost use Rattle.disk.specs.{IsStill, contents};
 ghost use Rattle.chain_core.specs.{Machine};
+ghost use Rattle.engine.specs.{SparesFound};
+ghost use Rattle.manifest.specs.{HasOnlyCreationFiles};
 ghost use Rattle.manifest.specs.Holds.{SparesOthers};
 ghost use Rattle.manifest.specs.Manifests.{ManifestRefusal};
 ghost use Rattle.manifest.specs.Reads.{SlotsAreRead};
@@ -9,6 +11,7 @@ ghost use Rattle.node.specs.{DiskRefines, DiskRefinesOneOf, IsReady, node_limits
 ghost use Rattle.node.specs.Outputs.{AlwaysRefines};
 ghost use Rattle.folder_nodes.specs.Finding.{CreatesAgain, CreatesIn, ExplainsFinding, FindsOwn};
 ghost use Rattle.folder_nodes.specs.Finding.{IsForEnvironment, IsOwnVersion, KeepsFoundDisk};
+ghost use Rattle.folder_nodes.specs.Finding.{KeepsFoundFiles};
 ghost use Rattle.folder_nodes.specs.Finding.{NamesOwn, StartsAs, StartsFrom, disk_left};
 
 use crate::fault::FolderError;
@@ -53,6 +56,8 @@ fn created_again<D: Disk + Drop>(
         CreatesAgain configs.now id (contents (D.state disk)) result }
     ensures refused { IfErr result (λ refused. (IsForEnvironment refused.0 → ⊥) →
         IsStill D.Disk disk refused.1) }
+    ensures more { (HasOnlyCreationFiles (contents (D.state disk)) → ⊥) →
+        IsStill D.Disk disk (disk_left result) }
     ensures works { IfOk result IsReady }
     ensures limits { IfOk result (λ node. node_limits node ≡ limits.now) }
 {
@@ -115,8 +120,8 @@ fn started<D: Disk + Drop>(
     ensures any_moment { (x : ℕ) (n m : Machine) → D.is_honest disk →
         DiskRefinesOneOf (D.state disk) x n m →
         AlwaysRefines D.Disk disk (disk_left result) x n m }
-    ensures refused { IfErr result (λ refused. (IsForEnvironment refused.0 → ⊥) →
-        IsStill D.Disk disk refused.1) }
+    ensures still { SparesFound D.Disk disk (disk_left result)
+        (IsErrAnd result (λ refused. IsForEnvironment refused.0 → ⊥)) }
     ensures works { IfOk result IsReady }
     ensures limits { IfOk result (λ node. node_limits node ≡ limits.now) }
 {
@@ -151,9 +156,8 @@ pub fn node_over<D: Disk + Drop>(
         DiskRefinesOneOf (D.state disk) x n m →
         AlwaysRefines D.Disk disk (disk_left result) x n m }
 
-    // What is refused for what the disk has is left as it was.
-    ensures refused { IfErr result (λ refused. (IsForEnvironment refused.0 → ⊥) →
-        IsStill D.Disk disk refused.1) }
+    // What is refused for what the disk has is left as it was, and so is what the version names.
+    ensures files { KeepsFoundFiles D.Disk disk result }
 {
     version_is_one(); // law: files represent one version at most, of a store that was created
     match names_own(alloc, &mut disk, id, configs) {

@@ -1,4 +1,4 @@
-use Rattle.std.proofs.Common.{List, ℕ, suc, arith, inr, subst, rules}
+use Rattle.std.proofs.Common.{List, ℕ, suc, arith, inr, refl, subst, rules}
 use Rattle.disk.specs.{IsEnvironmental, seen}
 use Rattle.record_log.specs.{LogHolds}
 use Rattle.store_tables.specs.declared.error.EngineError.TheVariants as engine
@@ -6,10 +6,10 @@ use Rattle.store_tables.specs.Errors.{IsEnd}
 use Rattle.batch_logs.specs.Layout.{IsLog}
 use Rattle.store_tables.specs.KeepingLemmas.{answered, kept_as, neither}
 use Rattle.batch_logs.specs.Layout.{records_from}
-use Rattle.batch_logs.proofs.Causes.{bytes_end, log_ends, log_is_external}
+use Rattle.batch_logs.proofs.Causes.{log_ends, log_is_external}
 use Rattle.store_tables.specs.RefusalLemmas.{refuses}
-use Rattle.batch_logs.proofs.Keeping.{bytes_only, log_failed}
-use Rattle.store_tables.specs.RefusalLemmas.{done, passed_on}
+use Rattle.batch_logs.proofs.Keeping.{log_failed}
+use Rattle.store_tables.specs.RefusalLemmas.{done, lacks_memory, refused_otherwise}
 use Rattle.batch_logs.proofs.replaying.open_log.Goals as goal
 
 -- where it was not opened, the files have to be opened again
@@ -33,28 +33,38 @@ returns-in_err-opened g c = record {
   told = search rules;
 }
 
--- the file was a log of batches, so its batches were read
+-- there was no memory for the batches
 pub returns-in_err-replay : goal.returns-in_err-replay
 returns-in_err-replay g c = record {
   reads = record {
-    kept =
-        let failed = passed_on c.replay.result c.in_err-replay.field-0.0
-        c.from_residual-in_err-replay.result c.in_err-replay.was
-        c.from_residual-in_err-replay.ensures.1 in
-        kept_as g.D.Disk (neither (answered c.open.result c.in_ok-opened.was)
-        (λ fails. bytes_only c.replay.result c.replay.ensures.only (failed.1 fails)))
+    kept = kept_as g.D.Disk (neither (answered c.open.result c.in_ok-opened.was)
+        (lacks_memory c.from_residual-in_err-replay.result c.from_residual-in_err-replay.ensures.1))
         (λ a b added. added) c.open.ensures.kept;
     causes = refuses c.from_residual-in_err-replay.result _ IsEnd
-        c.from_residual-in_err-replay.ensures.1
-        (bytes_end c.in_err-replay.ensures.only);
+        c.from_residual-in_err-replay.ensures.1 tt;
+    still = search rules;
+  };
+  opened = λ batches honest stood each few.
+      refuses c.from_residual-in_err-replay.result _ (IsEnvironmental engine.Disk engine.Memory)
+      c.from_residual-in_err-replay.ensures.1 (inr refl);
+  read = search rules;
+  told = search rules;
+}
+
+-- the records are of no batches, so the file was no log of batches
+pub returns-then-not-branch : goal.returns-then-not-branch
+returns-then-not-branch g c = record {
+  reads = record {
+    kept = kept_as g.D.Disk (neither (answered c.open.result c.in_ok-opened.was)
+        (refused_otherwise (λ e. cc))) (λ a b added. added) c.open.ensures.kept;
+    causes = search rules;
     still = search rules;
   };
   opened = λ batches honest stood each few.
       let read = (c.in_ok-opened.ensures.opened (records_from (suc c.args.before) batches) honest
       stood).1 in
-      refuses c.from_residual-in_err-replay.result _ (IsEnvironmental engine.Disk engine.Memory)
-      c.from_residual-in_err-replay.ensures.1
-      (c.in_err-replay.ensures.damaged batches read each few);
+      let found = c.in_ok-replay.ensures.found batches read each few in
+      cc;
   read = search rules;
   told = search rules;
 }
@@ -74,7 +84,7 @@ returns g c = record {
       let s1 = g.D.Disk.state c.open.new.disk in
       let opened = c.in_ok-opened.opened in
       let o = c.in_ok-opened.ensures.told honest in
-      let taken = c.in_ok-replay.ensures.taken o.records o.read in
+      let taken = c.in_ok-replay.ensures.taken o.records o.read c.if-not-branch.false in
       record {
         here = taken.batches;
         had = subst (IsLog (seen (s0 c.args.file))) taken.spelled o.stood;
@@ -87,11 +97,12 @@ returns g c = record {
         };
         entries = taken.entries;
       };
-  told = record {
-    in_file = c.in_ok-opened.ensures.at.in_file;
-    first = omega arith;
-    works = c.in_ok-opened.ensures.at.works;
-    numbered = c.in_ok-replay.ensures.numbered.0;
-    few = c.in_ok-replay.ensures.numbered.1;
-  };
+  told = let numbered = c.in_ok-replay.ensures.numbered c.if-not-branch.false in
+      record {
+        in_file = c.in_ok-opened.ensures.at.in_file;
+        first = omega arith;
+        works = c.in_ok-opened.ensures.at.works;
+        numbered = numbered.0;
+        few = numbered.1;
+      };
 }

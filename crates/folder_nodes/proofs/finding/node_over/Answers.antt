@@ -4,12 +4,17 @@ use Rattle.disk.specs.{contents}
 use Rattle.engine.specs.KeepingLemmas.{kept_as, neither}
 use Rattle.node.specs.{DiskRefines}
 use Rattle.folder_nodes.specs.Finding.{StartsFrom}
+use Rattle.engine.specs.{AreShut}
+use Rattle.manifest.specs.{ManifestRepresents}
 use Rattle.manifest.specs.declared.error.ManifestError.TheVariants as manifest
+use Rattle.folder_nodes.specs.declared.fault.FolderError.TheVariants.{OtherNode}
 use Rattle.folder_nodes.proofs.FindingLemmas.{answers, created_explains, device_opened, env_opened}
 use Rattle.folder_nodes.proofs.FindingLemmas.{finds, is_created, kept_on, later_still, none_failed}
 use Rattle.folder_nodes.proofs.FindingLemmas.{one_is_created, other_not_device, own_machine}
-use Rattle.folder_nodes.proofs.FindingLemmas.{refused_as, rests_on, rests_still, rests_then}
-use Rattle.folder_nodes.proofs.FindingLemmas.{same_contents, slots_explain, started_explains}
+use Rattle.folder_nodes.proofs.FindingLemmas.{only_before, only_looked, refused_as, refused_still}
+use Rattle.folder_nodes.proofs.FindingLemmas.{rests_on, rests_still, rests_then, same_contents}
+use Rattle.folder_nodes.proofs.FindingLemmas.{slots_explain, started_explains, still_on}
+use Rattle.folder_nodes.proofs.FoundFiles.{spares_on}
 use Rattle.folder_nodes.proofs.finding.node_over.Goals as goal
 
 -- the own node
@@ -50,11 +55,29 @@ returns-in-Ok-true-clause-any_moment g c = λ x n m honest rests.
     (c.started.ensures.any_moment x n m (reads.kept.honest.1 honest)
     (rests_then g.D.Disk c.args.disk c.names_own.new.disk x n m reads.still honest rests))
 
-pub returns-in-Ok-true-clause-refused : goal.returns-in-Ok-true-clause-refused
-returns-in-Ok-true-clause-refused g c =
+pub returns-in-Ok-true-clause-files : goal.returns-in-Ok-true-clause-files
+returns-in-Ok-true-clause-files g c =
     let reads = c.names_own.ensures.reads in
-    later_still c.args.disk c.names_own.new.disk c.started.result reads.still
-    reads.kept.honest.1 c.started.ensures.refused
+    let old = c.args.disk in
+    let mid = c.names_own.new.disk in
+    let left = c.started.ensures.still in
+    record {
+      named = λ named honest represents.
+          let told = c.in-Ok-true.ensures.told honest in
+          let same = same_contents (g.D.Disk.state old) (g.D.Disk.state mid) told.read
+          (reads.kept.files honest) in
+          spares_on g.D.Disk _ old mid reads.still honest _
+          (left.named named (reads.kept.honest.1 honest)
+          (subst (ManifestRepresents named) (sym same) represents));
+      refused = later_still old mid c.started.result reads.still reads.kept.honest.1
+          (refused_still mid c.started.result left);
+      shut = λ none cut honest.
+          let told = c.in-Ok-true.ensures.told honest in
+          let same = same_contents (g.D.Disk.state old) (g.D.Disk.state mid) told.read
+          (reads.kept.files honest) in
+          still_on g.D.Disk old mid _ reads.kept.honest.1 reads.still
+          (left.shut (inl (subst AreShut (sym same) none))) honest;
+    }
 
 -- another node
 pub returns-in-Ok-false-clause-kept : goal.returns-in-Ok-false-clause-kept
@@ -86,6 +109,10 @@ returns-in-Ok-false-clause-any_moment g c = λ x n m honest rests.
     rests_still g.D.Disk c.args.disk c.names_own.new.disk x n m c.names_own.ensures.reads.still
     honest rests
 
+pub returns-in-Ok-false-clause-files : goal.returns-in-Ok-false-clause-files
+returns-in-Ok-false-clause-files g c = only_looked c.args.disk c.names_own.new.disk OtherNode
+    c.names_own.ensures.reads.still
+
 -- no slot is open
 pub returns-in-NotCreated-clause-kept : goal.returns-in-NotCreated-clause-kept
 returns-in-NotCreated-clause-kept g c =
@@ -114,11 +141,28 @@ returns-in-NotCreated-clause-any_moment g c = λ x n m honest rests.
     (refused_as c.in-Err.e manifest.NotCreated _ c.in-NotCreated.is
     (c.in-Err.ensures.told honest)))
 
-pub returns-in-NotCreated-clause-refused : goal.returns-in-NotCreated-clause-refused
-returns-in-NotCreated-clause-refused g c =
+pub returns-in-NotCreated-clause-files : goal.returns-in-NotCreated-clause-files
+returns-in-NotCreated-clause-files g c =
     let reads = c.names_own.ensures.reads in
-    later_still c.args.disk c.names_own.new.disk c.created_again.result reads.still
-    reads.kept.honest.1 c.created_again.ensures.refused
+    let old = c.args.disk in
+    let mid = c.names_own.new.disk in
+    record {
+      named = λ named honest represents.
+          absurd (c.version_is_one.ensures.created named (contents (g.D.Disk.state old)) represents
+          (refused_as c.in-Err.e manifest.NotCreated _ c.in-NotCreated.is
+          (c.in-Err.ensures.told honest)));
+      refused = later_still old mid c.created_again.result reads.still reads.kept.honest.1
+          c.created_again.ensures.refused;
+      shut = λ none cut honest.
+          let free = refused_as c.in-Err.e manifest.NotCreated _ c.in-NotCreated.is
+          (c.in-Err.ensures.told honest) in
+          still_on g.D.Disk old mid _ reads.kept.honest.1 reads.still
+          (c.created_again.ensures.more (λ only. cut (
+            free,
+            only_before (g.D.Disk.state old)
+                (g.D.Disk.state mid) (reads.kept.files honest) only,
+          ))) honest;
+    }
 
 -- the manifest was refused
 pub returns-in_default : goal.returns-in_default
@@ -135,5 +179,6 @@ returns-in_default g c = record {
   limits = tt;
   any_moment = λ x n m honest rests. rests_still g.D.Disk c.args.disk c.names_own.new.disk x n m
       c.names_own.ensures.reads.still honest rests;
-  refused = λ _. c.names_own.ensures.reads.still;
+  files = only_looked c.args.disk c.names_own.new.disk c.from.result
+      c.names_own.ensures.reads.still;
 }

@@ -1,7 +1,7 @@
 use Rattle.engine.specs.KeepingLemmas.{kept_as}
 use Rattle.folder_nodes.proofs.FindingLemmas.{device_stopped, env_stopped}
 use Rattle.folder_nodes.specs.Finding.{StartFailure}
-use Rattle.std.proofs.Common.{inr, subst, sym}
+use Rattle.std.proofs.Common.{inl, inr, subst, sym}
 use Rattle.disk.specs.{contents}
 use Rattle.folder_nodes.proofs.finding.started.Goals as goal
 
@@ -20,7 +20,12 @@ returns-in-Err-clause-told g c = λ honest.
     subst (StartFailure (contents (g.D.Disk.state c.args.disk))) (sym c.from.ensures)
     (c.in-Err.ensures.told honest)
 
-pub returns-in-Err-clause-refused : goal.returns-in-Err-clause-refused
-returns-in-Err-clause-refused g c = λ other.
-    c.in-Err.ensures.still.shut (inr (λ machine.
-    other (env_stopped c.in-Err.stop c.from.result c.from.ensures machine)))
+pub returns-in-Err-clause-still : goal.returns-in-Err-clause-still
+returns-in-Err-clause-still g c = record {
+  shut = λ why. c.in-Err.ensures.still.shut (elim why [
+    | inl none ↦ inl none
+    | inr other ↦ inr (λ machine.
+        other (env_stopped c.in-Err.stop c.from.result c.from.ensures machine))
+  ]);
+  named = c.in-Err.ensures.still.named;
+}
