@@ -14,7 +14,7 @@ use Rattle.disk.specs.MomentsLemmas.{join, weaker}
 use Rattle.disk.specs.StepsLemmas.{read_is_outcome}
 use Rattle.disk.specs.StillLemmas.{still_more}
 use Rattle.configurations.specs.{at_epoch, Configurations}
-use Rattle.engine.specs.{SparesFound}
+use Rattle.engine.specs.{SparesFound, kept_files}
 use Rattle.engine.specs.KeepingLemmas.{kept_behind}
 use Rattle.chain_core.specs.{Machine}
 use Rattle.manifest.specs.{HasOnlyCreationFiles, IsNotCreated, NodeVersion, SlotsRead}
@@ -332,7 +332,8 @@ module _ {D : Type 0} {g : Ghosts D} where
   pub only_looked : (old mid : D) (e : FolderError) → IsStill g old mid →
       KeepsFoundFiles g old (Err (e, mid))
   only_looked old mid e still = record {
-    named = λ named honest represents. spares_still g _ old mid still honest;
+    named = λ named honest represents. spares_still g (kept_files named.version) old mid
+        still honest;
     refused = λ other. still;
     shut = λ none cut. still;
   }

@@ -4,7 +4,7 @@ use Rattle.disk.specs.{contents}
 use Rattle.engine.specs.KeepingLemmas.{kept_as, neither}
 use Rattle.node.specs.{DiskRefines}
 use Rattle.folder_nodes.specs.Finding.{StartsFrom}
-use Rattle.engine.specs.{AreShut}
+use Rattle.engine.specs.{AreShut, kept_files}
 use Rattle.manifest.specs.{ManifestRepresents}
 use Rattle.manifest.specs.declared.error.ManifestError.TheVariants as manifest
 use Rattle.folder_nodes.specs.declared.fault.FolderError.TheVariants.{OtherNode}
@@ -66,7 +66,7 @@ returns-in-Ok-true-clause-files g c =
           let told = c.in-Ok-true.ensures.told honest in
           let same = same_contents (g.D.Disk.state old) (g.D.Disk.state mid) told.read
           (reads.kept.files honest) in
-          spares_on g.D.Disk _ old mid reads.still honest _
+          spares_on g.D.Disk (kept_files named.version) old mid reads.still honest _
           (left.named named (reads.kept.honest.1 honest)
           (subst (ManifestRepresents named) (sym same) represents));
       refused = later_still old mid c.started.result reads.still reads.kept.honest.1
