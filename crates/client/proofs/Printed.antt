@@ -22,22 +22,22 @@ appends_more (Some xs) (Some ys) None a b p q = absurd q
 appends_more (Some xs) (Some ys) (Some zs) a b p q = rw (q, p, append_assoc) refl
 
 -- the next element is printed
-pub prints_next : {A : Type 0} (old mid new : Option (List ℕ)) (f : A → List ℕ) (xs : List A)
+pub prints_next : {A : Type 0} (old mid new : List ℕ) (f : A → List ℕ) (xs : List A)
     (i : ℕ) (d it : A) → i < length xs → it ≡ get_or xs i d
-    → Appends old mid (flat_map f (take i xs)) → Appends mid new (f it)
-    → Appends old new (flat_map f (take (i + 1) xs))
+    → mid ≡ old ++ flat_map f (take i xs) → new ≡ mid ++ f it
+    → new ≡ old ++ flat_map f (take (i + 1) xs)
 prints_next old mid new f xs i d it within at before wrote =
     let more : take (suc i) xs ≡ take i xs ++ it ∷ [] =
     rw at (take-suc xs i d within) in
     rw (add-one, more, flat_map-append f (take i xs) (it ∷ []), append-nil (f it))
-    (appends_more old mid new (flat_map f (take i xs)) (f it) before wrote)
+    (rw (wrote, before, append_assoc) refl)
 
 -- a line of a report is printed: its rows, then its own line
-pub prints_line : (old mid new : Option (List ℕ)) (events : List ℕ) (here number : ℕ) (line : Line)
+pub prints_line : (old mid new : List ℕ) (events : List ℕ) (here number : ℕ) (line : Line)
     (rows : List Row) → number ≡ reply_place events here line → rows ≡ rows_of_line line
-    → Appends old mid (flat_map (numbered_line number) (map printed_row rows))
-    → Appends mid new (numbered_line number (line_text line))
-    → Appends old new (line_output events here line)
+    → mid ≡ old ++ flat_map (numbered_line number) (map printed_row rows)
+    → new ≡ mid ++ numbered_line number (line_text line)
+    → new ≡ old ++ line_output events here line
 prints_line old mid new events here number line rows place are wrote own =
     let own_line = numbered_line number (line_text line) in
     rw (
@@ -45,8 +45,7 @@ prints_line old mid new events here number line rows place are wrote own =
       ← are,
       flat_map-append (numbered_line number) (map printed_row rows) (line_text line ∷ []),
       append-nil own_line,
-    ) (appends_more old mid new (flat_map (numbered_line number) (map printed_row rows)) own_line
-    wrote own)
+    ) (rw (own, wrote, append_assoc) refl)
 
 -- nothing was appended
 pub appends_none : (out : Option (List ℕ)) → Appends out out []

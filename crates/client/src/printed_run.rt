@@ -1,5 +1,6 @@
 //! A script is run statement by statement, and each is printed before the next begins.
-ghost use Rattle.std.specs.Prelude.{◌≡◌, ◌++◌, drop, replicate, OnOk, IfErr, MatchResult};
+ghost use Rattle.std.specs.Prelude.{◌≡◌, ◌++◌, drop, replicate, string_bytes};
+ghost use Rattle.std.specs.Prelude.{OnOk, IfErr, MatchResult};
 ghost use Rattle.client.specs.PrintedRuns.{HasEndedEarly, IsPrintedRun, IsReadyToRun};
 ghost use Rattle.client.specs.ReportedRuns.{ReportIsCut, ReportIsPrinted};
 ghost use Rattle.client.specs.Text.{result_text};
@@ -32,20 +33,16 @@ fn make_text(
     places: &mut Vec<u32>,
     turn: &StatementResult,
     steps: &[Lines],
-    text: &mut Vec<u8>,
+    text: &mut String,
 ) -> Result<(), AllocError>
     ensures places { OnOk result
         (places.new.items ≡ places.old.items ++ replicate turn.now.events turn.now.line) }
     ensures text { OnOk result
-        (text.new.items ≡ result_text places.new.items turn.now steps.now) }
+        (string_bytes text.new ≡ result_text places.new.items turn.now steps.now) }
 {
     add_places(places, turn.line, turn.events)?;
     text.clear();
-    match print_result(places, turn, steps, text) {
-        Ok(()) => Ok(()),
-        // Bytes that are kept need nothing but memory.
-        Err(_) => Err(AllocError),
-    }
+    print_result(places, turn, steps, text)
 }
 
 /// Runs the statements of a script in a world that has run nothing yet, one after another. The text
@@ -79,14 +76,14 @@ pub fn run_script<D: Crash + Drop, C: Carrier + Drop, W: Write>(
 {
     let mut left = VecDeque::new(alloc);
     let mut places = Vec::new(alloc);
-    let mut text = Vec::new(alloc);
+    let mut text = String::new(alloc);
     let mut before = world.report().len();
     for statement in &script.statements {
         let turn = run_statement(alloc, world, &mut left, statement)?;
         let steps = world.report();
         make_text(&mut places, &turn, behind(steps, before), &mut text)?;
         before = steps.len();
-        print(&text, out)?;
+        print(text.as_bytes(), out)?;
     }
     Ok(())
 }

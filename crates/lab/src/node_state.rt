@@ -5,7 +5,8 @@ ghost use Rattle.chain_model.specs.{Answer, stopped};
 ghost use Rattle.disk.specs.declared.Mark.TheVariants.{Crashed};
 ghost use Rattle.disk.specs.{HasStruck, IsLastLeft, fault_of};
 ghost use Rattle.chain_core.specs.{Machine};
-ghost use Rattle.node.specs.{IsReady, StopRefines};
+ghost use Rattle.node.specs.{IsReady, StopRefines, disk_of};
+ghost use Rattle.node.specs.Steps.{DiskAlwaysRefines, IfRefines};
 ghost use Rattle.lab.specs.Disks.{IsMarkedSo, junk_at_end};
 ghost use Rattle.lab.specs.Events.{line_cause};
 ghost use Rattle.lab.specs.SimNodes.{StateHasLimits, StateIsReady, StateRefines, disk_in};
@@ -25,6 +26,14 @@ use std::alloc::{AllocError, Global};
 pub enum NodeState<D: Disk + Drop> {
     Up(Box<Node<D>>),
     Down(D),
+}
+
+// The disk of a node that is no longer up. No other function has room for a whole node.
+fn disk_in_box<D: Disk + Drop>(boxed: Box<Node<D>>) -> D
+    ensures disk { result ≡ disk_of boxed.value }
+    ensures rests { IfRefines boxed.value (λ x n. DiskAlwaysRefines (D.state result) x n) }
+{
+    Box::into_inner(boxed).into_disk()
 }
 
 // The state of a node that stopped: its disk crashed with this junk.
@@ -125,7 +134,7 @@ fn step<D: Crash + Drop>(
             node.arm(&Fault::None);
             (NodeState::Up(boxed), StepOutcome::Answered(output))
         }
-        Err(stop) => stop_by_itself(Box::into_inner(boxed).into_disk(), stop, fault),
+        Err(stop) => stop_by_itself(disk_in_box(boxed), stop, fault),
     }
 }
 
@@ -148,7 +157,7 @@ fn tend<D: Crash + Drop>(
             node.arm(&Fault::None);
             (NodeState::Up(boxed), StepOutcome::Tended(did))
         }
-        Err(stop) => stop_by_itself(Box::into_inner(boxed).into_disk(), stop, fault),
+        Err(stop) => stop_by_itself(disk_in_box(boxed), stop, fault),
     }
 }
 
@@ -204,7 +213,7 @@ impl<D: Crash + Drop> NodeState<D> {
             }
             NodeInput::Stop(junk) => {
                 drop(fault);
-                let state = crash(Box::into_inner(node).into_disk(), junk);
+                let state = crash(disk_in_box(node), junk);
                 Ok((state, StepOutcome::Stopped(None)))
             }
         }

@@ -1,7 +1,6 @@
 //! The text of what a statement did.
-ghost use Rattle.std.specs.Prelude.{◌≡◌, ◌++◌, map, replicate, OnOk};
+ghost use Rattle.std.specs.Prelude.{◌≡◌, ◌++◌, map, replicate, string_bytes, OnOk};
 ghost use Rattle.std.specs.List.{flat_map};
-ghost use Rattle.std.specs.Io.KnownBytes.{Appends};
 ghost use Rattle.client.specs.Text.{line_of_request, reply_place, line_output};
 ghost use Rattle.client.specs.Text.{step_text, note_text, result_text, request_of};
 ghost use Rattle.client.specs.Text.{line_text, numbered_line, printed_row, rows_of_line};
@@ -15,7 +14,6 @@ use crate::statement_result::{Note, StatementResult};
 use kv_types::Row;
 use lab::{KeptReply, Line, Lines, Reply, ReplyForm};
 use std::alloc::AllocError;
-use std::io::{self, Write};
 
 /// Adds the places of a statement's events, which stand at its line.
 pub fn add_places(places: &mut Vec<u32>, line: u32, count: usize) -> Result<(), AllocError>
@@ -94,91 +92,96 @@ fn rows_of(line: &Line) -> &[Row]
     }
 }
 
-fn print_rows<W: Write>(number: u32, rows: &[Row], out: &mut W) -> io::Result<()>
-    ensures { OnOk result (Appends (W.contents out.old) (W.contents out.new)
-        (flat_map (numbered_line number) (map printed_row rows.now))) }
+fn print_rows(number: u32, rows: &[Row], text: &mut String) -> Result<(), AllocError>
+    ensures { OnOk result (string_bytes text.new ≡ string_bytes text.old
+        ++ flat_map (numbered_line number) (map printed_row rows.now)) }
 {
     for row in rows {
-        let text = RowText(row);
-        writeln!(out, "{number}: {text}")?;
+        let row = RowText(row);
+        writeln!(text, "{number}: {row}")?;
     }
     Ok(())
 }
 
 // The line without its rows.
-fn print_text<W: Write>(number: u32, line: &Line, out: &mut W) -> io::Result<()>
-    ensures { OnOk result (Appends (W.contents out.old) (W.contents out.new)
-        (numbered_line number (line_text line.now))) }
+fn print_text(number: u32, line: &Line, text: &mut String) -> Result<(), AllocError>
+    ensures { OnOk result (string_bytes text.new ≡ string_bytes text.old
+        ++ numbered_line number (line_text line.now)) }
 {
-    let text = LineText(line);
-    writeln!(out, "{number}: {text}")
+    let line = LineText(line);
+    writeln!(text, "{number}: {line}")
 }
 
-fn print_line<W: Write>(places: &[u32], here: u32, line: &Line, out: &mut W) -> io::Result<()>
-    ensures { OnOk result (Appends (W.contents out.old) (W.contents out.new)
-        (line_output places.now here line.now)) }
+fn print_line(places: &[u32], here: u32, line: &Line, text: &mut String) -> Result<(), AllocError>
+    ensures { OnOk result (string_bytes text.new ≡ string_bytes text.old
+        ++ line_output places.now here line.now) }
 {
     let number = place_of(places, here, line);
-    print_rows(number, rows_of(line), out)?;
-    print_text(number, line, out)?;
+    print_rows(number, rows_of(line), text)?;
+    print_text(number, line, text)?;
     Ok(())
 }
 
-fn print_step<W: Write>(places: &[u32], here: u32, step: &[Line], out: &mut W) -> io::Result<()>
-    ensures { OnOk result (Appends (W.contents out.old) (W.contents out.new)
-        (step_text places.now here step.now)) }
+fn print_step(places: &[u32], here: u32, step: &[Line], text: &mut String) -> Result<(), AllocError>
+    ensures { OnOk result (string_bytes text.new ≡ string_bytes text.old
+        ++ step_text places.now here step.now) }
 {
     for line in step {
-        print_line(places, here, line, out)?;
+        print_line(places, here, line, text)?;
     }
     Ok(())
 }
 
-fn print_steps<W: Write>(places: &[u32], here: u32, steps: &[Lines], out: &mut W) -> io::Result<()>
-    ensures { OnOk result (Appends (W.contents out.old) (W.contents out.new)
-        (flat_map (step_text places.now here) steps.now)) }
+fn print_steps(
+    places: &[u32],
+    here: u32,
+    steps: &[Lines],
+    text: &mut String,
+) -> Result<(), AllocError>
+    ensures { OnOk result (string_bytes text.new ≡ string_bytes text.old
+        ++ flat_map (step_text places.now here) steps.now) }
 {
     for step in steps {
-        print_step(places, here, step.as_slice(), out)?;
+        print_step(places, here, step.as_slice(), text)?;
     }
     Ok(())
 }
 
-fn print_note<W: Write>(here: u32, note: &Note, out: &mut W) -> io::Result<()>
-    ensures { OnOk result (Appends (W.contents out.old) (W.contents out.new)
-        (note_text here note.now)) }
+fn print_note(here: u32, note: &Note, text: &mut String) -> Result<(), AllocError>
+    ensures { OnOk result (string_bytes text.new ≡ string_bytes text.old
+        ++ note_text here note.now) }
 {
     match *note {
         Note::Nothing => Ok(()),
         Note::Invalid(error) => {
-            let text = error_name(error);
-            writeln!(out, "{here}: invalid {text}")
+            let error = error_name(error);
+            writeln!(text, "{here}: invalid {error}")
         }
-        Note::Busy => writeln!(out, "{here}: busy"),
+        Note::Busy => writeln!(text, "{here}: busy"),
         Note::Running(node, ref numbers) => {
-            let text = NumbersText(node, numbers);
-            writeln!(out, "{here}: {text}")
+            let numbers = NumbersText(node, numbers);
+            writeln!(text, "{here}: {numbers}")
         }
         Note::Down(node) => {
-            let text = StoppedText(node, None);
-            writeln!(out, "{here}: {text}")
+            let stopped = StoppedText(node, None);
+            writeln!(text, "{here}: {stopped}")
         }
     }
 }
 
 /// Prints what a statement did: the lines of its steps, but of the silent first ones, and what is
 /// said of it besides. `places` are the lines of the events so far.
-pub fn print_result<W: Write>(
+pub fn print_result(
     places: &[u32],
     turn: &StatementResult,
     steps: &[Lines],
-    out: &mut W,
-) -> io::Result<()>
-    ensures { OnOk result (Appends (W.contents out.old) (W.contents out.new)
-        (result_text places.now turn.now steps.now)) }
+    text: &mut String,
+) -> Result<(), AllocError>
+    ensures { OnOk result (string_bytes text.new ≡ string_bytes text.old
+        ++ result_text places.now turn.now steps.now) }
 {
     let (own, _behind) = steps.split_at(turn.events.min(steps.len()));
     let (_silent, printed) = own.split_at(turn.silent.min(own.len()));
-    print_steps(places, turn.line, printed, out)?;
-    print_note(turn.line, &turn.note, out)
+    print_steps(places, turn.line, printed, text)?;
+    print_note(turn.line, &turn.note, text)
 }

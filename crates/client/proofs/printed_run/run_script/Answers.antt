@@ -1,3 +1,4 @@
+use Rattle.std.specs.Prelude.{string_bytes}
 use Rattle.std.proofs.Common.{add-one, ap, length, rules, subst, sym}
 use Rattle.std.proofs.lemmas.List.{take_all}
 use Rattle.scripts.specs.declared.statement.Statement.{Statement}
@@ -62,10 +63,10 @@ returns-in_err-print-clause-ended g c = λ ready.
     setup c.loop-statement.left.items c.run_statement.new.left.items all i _ c.statement-item.result
     c.in_ok-turn.turn c.loop-statement.places.items c.make_text.new.places.items
     c.loop-statement.before c.report-steps.result.now c.behind.result.now
-    c.make_text.new.text.items _ _ within at p t c.report-steps.ensures.steps
+    (string_bytes c.make_text.new.text) _ _ within at p t c.report-steps.ensures.steps
     c.report-steps.ensures.run c.report-steps.ensures.history c.behind.ensures
     c.in_ok-make_text.ensures.places c.in_ok-make_text.ensures.text _
-    (rw c.deref.ensures.value at c.in_err-print.ensures.part) in
+    (rw c.as_bytes.ensures.value at c.in_err-print.ensures.part) in
     search (rules, ended)
 
 -- one statement more
@@ -86,20 +87,21 @@ loop-statement-preserved g c = (
       setup c.loop-statement.left.items c.run_statement.new.left.items all i _
       c.statement-item.result c.in_ok-turn.turn c.loop-statement.places.items
       c.make_text.new.places.items c.loop-statement.before c.report-steps.result.now
-      c.behind.result.now c.make_text.new.text.items _ _ within at p t c.report-steps.ensures.steps
+      c.behind.result.now (string_bytes c.make_text.new.text) _ _ within at p t
+      c.report-steps.ensures.steps
       c.report-steps.ensures.run c.report-steps.ensures.history c.behind.ensures
       c.in_ok-make_text.ensures.places c.in_ok-make_text.ensures.text _
-      (rw c.deref.ensures.value at c.in_ok-print.ensures.whole)),
+      (rw c.as_bytes.ensures.value at c.in_ok-print.ensures.whole)),
   let same = c.deref-statement-items.ensures.value in
       rw add-one (reports_more c.args.world.now c.loop-statement.world c.run_statement.new.world
       c.args.script.now.statements.items c.loop-statement.statement-index _
       c.statement-item.result c.in_ok-turn.turn c.loop-statement.places.items
       c.make_text.new.places.items c.loop-statement.before c.report-steps.result.now
-      c.behind.result.now c.make_text.new.text.items _ _
+      c.behind.result.now (string_bytes c.make_text.new.text) _ _
       (rw same at c.loop-statement-test.true) (rw same at c.statement-item.is)
       c.loop-statement.invariant.1 c.in_ok-turn.ensures.reported c.report-steps.ensures.kept
       c.behind.ensures c.in_ok-make_text.ensures.places c.in_ok-make_text.ensures.text _
-      (rw c.deref.ensures.value at c.in_ok-print.ensures.whole)),
+      (rw c.as_bytes.ensures.value at c.in_ok-print.ensures.whole)),
 )
 
 pub returns-clause-printed : goal.returns-clause-printed
@@ -136,11 +138,11 @@ returns-in_err-print-clause-reported g c =
     c.args.script.now.statements.items c.loop-statement.statement-index _
     c.statement-item.result c.in_ok-turn.turn c.loop-statement.places.items
     c.make_text.new.places.items c.loop-statement.before c.report-steps.result.now
-    c.behind.result.now c.make_text.new.text.items _ _
+    c.behind.result.now (string_bytes c.make_text.new.text) _ _
     (rw same at c.loop-statement-test.true) (rw same at c.statement-item.is)
     c.loop-statement.invariant.1 c.in_ok-turn.ensures.reported c.report-steps.ensures.kept
     c.behind.ensures c.in_ok-make_text.ensures.places c.in_ok-make_text.ensures.text _
-    (rw c.deref.ensures.value at c.in_err-print.ensures.part) in
+    (rw c.as_bytes.ensures.value at c.in_err-print.ensures.part) in
     search (rules, cut)
 
 pub returns-clause-reported : goal.returns-clause-reported

@@ -53,7 +53,7 @@ returns-in-Err g c = λ limits.
     let ended : Result Output Cause = Err c.in-Err.stop in
     let full = IsNearlyFull (engine_of c.arm.new.self) in
     let own = c.as_mut-node.result.now in
-    let disk = c.into_disk.ensures.disk ∙ ap (λ (it : Node _ _). disk_of it) c.into_inner.ensures in
+    let disk = c.disk_in_box.ensures.disk in
     let same = sym disk in
     let kept = subst (λ d. KeepsDisk g.D.Disk (disk_of c.arm.new.self) d
     (IsErrOf ended stop.Disk) full
@@ -62,7 +62,7 @@ returns-in-Err g c = λ limits.
     in_box g.D.Disk limits c.args.fault (to_node.Step c.args.input) c.args.boxed own _ _
     c.as_mut-node.ensures.value
     (halted g.D.Disk c.args.fault (Up (holding c.args.boxed own)) c.stop_by_itself.result.0
-    c.stop_by_itself.result.1 (disk_of c.arm.new.self) c.into_disk.result c.in-Err.stop
+    c.stop_by_itself.result.1 (disk_of c.arm.new.self) c.disk_in_box.result c.in-Err.stop
     (IsErrOf ended stop.Disk) full IsOwned c.arm.ensures.armed kept (λ fails. cc)
     (λ is. ap (λ (e : Cause). Err e) is) e.told e.crashes limits (to_node.Step c.args.input) refl
     e.ready.0
@@ -74,7 +74,7 @@ returns-in-Err g c = λ limits.
     let ends = c.in-Err.ensures.ends x n (c.arm.ensures.refines x n r) in
     Ends r.core.running
     (halts_so g.D.Disk c.args.fault (Up (holding c.args.boxed own)) c.stop_by_itself.result.0
-    c.stop_by_itself.result.1 (disk_of c.arm.new.self) c.into_disk.result c.in-Err.stop
+    c.stop_by_itself.result.1 (disk_of c.arm.new.self) c.disk_in_box.result c.in-Err.stop
     (IsErrOf ended stop.Disk) full IsOwned c.arm.ensures.armed kept (λ fails. cc)
     (λ is. ap (λ (e : Cause). Err e) is) e.told e.crashes r.honest ends.done)
     (e.refines x n a (subst g.D.Disk.is_honest same ends.honest)
@@ -85,5 +85,5 @@ returns-in-Err g c = λ limits.
     (c.arm.ensures.refines sound.0 sound.1 sound.2) why)) tt
     (λ x n r.
     let ends = c.in-Err.ensures.ends x n (c.arm.ensures.refines x n r) in
-    grown_since g.D.Disk _ (disk_of own) (disk_of c.arm.new.self) _ c.into_disk.result
+    grown_since g.D.Disk _ (disk_of own) (disk_of c.arm.new.self) _ c.disk_in_box.result
     c.arm.ensures.armed.past ends.any_moment (ap g.D.Disk.past disk)))

@@ -3,4 +3,4 @@ use Rattle.std.proofs.lemmas.Grind.{common_steps}
 use Rattle.client.proofs.text.printing.print_result.Goals as goal
 
 pub returns : goal.returns
-returns g c = grind (arith, common_steps)
+returns c = grind (arith, common_steps)

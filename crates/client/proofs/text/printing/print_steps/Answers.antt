@@ -3,7 +3,7 @@ use Rattle.std.proofs.lemmas.Grind.{common_steps}
 use Rattle.client.proofs.text.printing.print_steps.Goals as goal
 
 pub loop-step-preserved : goal.loop-step-preserved
-loop-step-preserved g c = grind (arith, common_steps)
+loop-step-preserved c = grind (arith, common_steps)
 
 pub returns : goal.returns
-returns g c = grind (arith, common_steps)
+returns c = grind (arith, common_steps)

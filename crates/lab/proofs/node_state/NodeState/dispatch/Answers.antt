@@ -57,7 +57,7 @@ returns-in-Start g c =
 -- the disk crashed with the junk
 pub returns-in-Stop : goal.returns-in-Stop
 returns-in-Stop g c =
-    let left = c.into_disk.ensures.disk ∙ ap (λ (it : Node _ _). disk_of it) c.into_inner.ensures in
+    let left = c.disk_in_box.ensures.disk in
     let same = sym left in
     let e = c.crash-state.ensures in
     let new = c.crash-state.result in
@@ -71,9 +71,7 @@ returns-in-Stop g c =
       ready = e.ready;
       outcome = refl;
       refines = λ x n r.
-          let own = subst (λ (it : Node _ _). NodeRefines g.D.Disk.is_honest g.D.Disk.state it x n)
-          (sym c.into_inner.ensures) r in
-          let rests = c.into_disk.ensures.rests x n own in
+          let rests = c.disk_in_box.ensures.rests x n r in
           let stopped_now = elim (e.refines x n (silent n) (subst g.D.Disk.is_honest same r.honest)
           (λ after now. inl (rests after now))) as
           (λ _. StateRefines g.D.Disk.is_honest g.D.Disk.state new x (stopped n)) [
