@@ -28,7 +28,8 @@ pub enum NodeState<D: Disk + Drop> {
     Down(D),
 }
 
-// The disk of a node that is no longer up. No other function has room for a whole node.
+// The disk of a node that stops. It has a function of its own, so that no other event makes room
+// for a whole node.
 fn disk_in_box<D: Disk + Drop>(boxed: Box<Node<D>>) -> D
     ensures disk { result ≡ disk_of boxed.value }
     ensures rests { IfRefines boxed.value (λ x n. DiskAlwaysRefines (D.state result) x n) }
