@@ -5,20 +5,22 @@ use Rattle.std.specs.Prelude.{if◌then◌else◌, ◌==◌}
 use Rattle.std.proofs.lemmas.Bool.{cases_eq}
 use Rattle.std.proofs.lemmas.Bool.Decides.{nat_tests}
 use Rattle.disk.specs.declared.error.DiskError.{DiskError}
-use Rattle.disk.specs.States.{Slot, State, Contents, IsFileOutcome, IsCrashOutcome, IsSameBut, seen}
+use Rattle.disk.specs.States.{Slot, State, Contents, IsFileOutcome, IsCrashOutcome, IsSameBut}
+use Rattle.disk.specs.States.{contents, seen}
 use Rattle.disk.specs.Calls.{SyncOutcome}
 use Rattle.disk.specs.Moments.{OnlyLeaves, Passes, LeavesSince, LooksAt, IsUnnamed}
 use Rattle.disk.specs.Moments.{IsLeftAt}
 use Rattle.disk.specs.StepsLemmas.{Only, read_is_outcome}
-use Rattle.disk.specs.MomentsLemmas.{none_yet, one_call_more, stays, join, weaker, sync_narrows}
+use Rattle.disk.specs.MomentsLemmas.{Narrows, none_yet, one_call_more, stays, join, weaker}
+use Rattle.disk.specs.MomentsLemmas.{sync_narrows}
 
 -- the contents with this file exchanged
-abbrev exchanged : Contents → ℕ → Option (List ℕ) → Contents
+abbrev pub exchanged : Contents → ℕ → Option (List ℕ) → Contents
 exchanged left file bytes other = if other == file then bytes else left other
 
 -- the exchanged file
-exchanged_here : (left : Contents) (file : ℕ) (bytes : Option (List ℕ)) (other : ℕ) → other ≡ file
-    → exchanged left file bytes other ≡ bytes
+pub exchanged_here : (left : Contents) (file : ℕ) (bytes : Option (List ℕ)) (other : ℕ)
+    → other ≡ file → exchanged left file bytes other ≡ bytes
 exchanged_here left file bytes other here = rw (eq-eqb other file here) refl
 
 -- numbers that differ fail the test
@@ -26,9 +28,26 @@ neq_eqb : (a b : ℕ) → (a ≡ b → ⊥) → eqb a b ≡ false
 neq_eqb a b apart = grind (arith, nat_tests)
 
 -- and the others
-exchanged_there : (left : Contents) (file : ℕ) (bytes : Option (List ℕ)) (other : ℕ)
+pub exchanged_there : (left : Contents) (file : ℕ) (bytes : Option (List ℕ)) (other : ℕ)
     → other ≢ file → exchanged left file bytes other ≡ left other
 exchanged_there left file bytes other apart = rw (neq_eqb other file apart) refl
+
+-- what this file may hold, beside the others as they read, is an outcome
+exchanged_may : (disk : State) (file : ℕ) (bytes : Option (List ℕ))
+    → IsFileOutcome (disk file) bytes → IsCrashOutcome disk (exchanged (contents disk) file bytes)
+exchanged_may disk file bytes at other = elim (cases_eq other file) [
+  | inl here ↦ subst (IsFileOutcome (disk other))
+      (sym (exchanged_here (contents disk) file bytes other here))
+      (subst (λ (f : ℕ). IsFileOutcome (disk f) bytes) (sym here) at)
+  | inr apart ↦ subst (IsFileOutcome (disk other))
+      (sym (exchanged_there (contents disk) file bytes other apart)) (read_is_outcome (disk other))
+]
+
+-- a state that leaves nothing new leaves nothing new of each file
+pub narrows_of : (old new : State) → OnlyLeaves (IsCrashOutcome old) new → Narrows old new
+narrows_of old new only file left now =
+    subst (IsFileOutcome (old file)) (exchanged_here (contents new) file left file refl)
+    (only (exchanged (contents new) file left) (exchanged_may new file left now) file)
 
 module _ (Names : Contents → ℕ → Type 0) (P : Contents → Type 0) (looks : LooksAt Names P) where
   -- an outcome after a call beside P was one before it, with that file as it read

@@ -28,8 +28,8 @@ pub use Rattle.disk.specs.Crashes.{CrashOutcome, CrashedIsDurable}
 pub use Rattle.disk.specs.Faults.{HasStruckBy, Marks, armed_after, fault_of, struck_call}
 pub use Rattle.disk.specs.Lent.{AlwaysLeaves, IsArmed, IsStill, KeepsDisk, WritesInto}
 pub use Rattle.disk.specs.Memory.{IsReliable, Slots, past_states, state_of}
-pub use Rattle.disk.specs.Moments.{AddsMoment, AllLeave, IsLastLeft, IsLeftAt, LeavesSince}
-pub use Rattle.disk.specs.Moments.{OnlyLeaves, Passes}
+pub use Rattle.disk.specs.Moments.{AddsMoment, AllLeave, AreLeftOf, IsLastLeft, IsLeftAt}
+pub use Rattle.disk.specs.Moments.{LeavesSince, OnlyLeaves, Passes}
 pub use Rattle.disk.specs.Refusals.{IsEnvironmental}
 pub use Rattle.disk.specs.States.{Absent, AddsNoOutcome, Contents, DurableFileIsLeft}
 pub use Rattle.disk.specs.States.{DurableIsLeft, Fresh}

@@ -1,6 +1,6 @@
 -- What a crash at any moment since an earlier one may have left. A moment is the list of the states
 -- that the disk had had until then, the latest first: at first, and after each call and crash.
-use Rattle.std.specs.Prelude.{◌≡◌, ◌≢◌, ◌⊎◌, ℕ, List, [], ◌∷◌, Option}
+use Rattle.std.specs.Prelude.{◌≡◌, ◌≢◌, ◌⊎◌, ℕ, List, [], ◌∷◌, Option, Contains}
 use Rattle.disk.specs.States.{State, Contents, IsCrashOutcome, IsFileOutcome, IsSame}
 
 -- every crash outcome of the state has P
@@ -34,6 +34,10 @@ pub record LeavesSince (old : State) (past : List State) (new : State) (since : 
   pub first : OnlyLeaves P old
   pub later : AllLeave P past since
   pub now : OnlyLeaves P new
+
+-- a crash left of these files what it might have left when the disk had this state
+abbrev pub AreLeftOf : List ℕ → State → Contents → Type 0
+AreLeftOf kept disk left = (file : ℕ) → Contains kept file → IsFileOutcome (disk file) (left file)
 
 -- A crash left of one file contents with Q, and of every other file what it might have left when
 -- the disk had this state.

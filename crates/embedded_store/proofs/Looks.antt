@@ -6,8 +6,8 @@ use Rattle.disk.specs.declared.Disk.{Ghosts}
 use Rattle.disk.specs.{AlwaysLeaves, Contents, IsCrashOutcome, IsStill, OnlyLeaves, State}
 use Rattle.disk.specs.{contents}
 use Rattle.disk.specs.MomentsLemmas.{join, weaker}
-use Rattle.disk.specs.StillLemmas.{still_more}
-use Rattle.engine.specs.{AreLeftOf, IsOneOf, WereOneOf, kept_files}
+use Rattle.disk.specs.StillLemmas.{spares_more, spares_still, still_more}
+use Rattle.engine.specs.{IsOneOf, WereOneOf, kept_files}
 use Rattle.manifest.specs.{HasOnlyCreationFiles, ManifestRepresents, OnlyLooks}
 use Rattle.embedded_store.specs.declared.error.OpenError.{OpenError}
 use Rattle.embedded_store.specs.declared.store.EmbeddedStore.{EmbeddedStore}
@@ -91,12 +91,9 @@ module _ {D : Type 0} (g : Ghosts D) where
     named = λ named honest represents.
         let states : g.state mid ≡ g.state old =
         fun_ext (λ file. looks.kept.files honest file) in
-        leaves_behind (AreLeftOf (kept_files named.version) (g.state old)) old mid
-        (disk_of_opening result) looks honest (λ left at file has. at file)
-        (λ only. subst (λ (s : State). AlwaysLeaves g mid (disk_of_opening result)
-        (AreLeftOf (kept_files named.version) s)) states
+        spares_more (kept_files named.version) (looks.still honest)
         (left.named named (looks.kept.honest.1 honest)
-        (subst (λ (s : State). ManifestRepresents named (contents s)) (sym states) represents)));
+        (subst (λ (s : State). ManifestRepresents named (contents s)) (sym states) represents));
   }
     where
       look_still : {failed : Type 0} (old mid : D)
@@ -118,7 +115,5 @@ module _ {D : Type 0} (g : Ghosts D) where
       OnlyLooks g old after failed → LeavesFound g old (Err (s, after))
   look_leaves_all old after s looks = record {
     refused = λ why. looks.still;
-    named = λ named honest represents.
-        look_leaves (AreLeftOf (kept_files named.version) (g.state old)) old after looks honest
-        (λ left at file has. at file);
+    named = λ named honest represents. spares_still (kept_files named.version) (looks.still honest);
   }

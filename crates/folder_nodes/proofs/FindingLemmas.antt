@@ -12,7 +12,7 @@ use Rattle.disk.specs.declared.error.DiskError.{DiskError}
 use Rattle.disk.specs.declared.error.DiskError.TheVariants as device
 use Rattle.disk.specs.MomentsLemmas.{join, weaker}
 use Rattle.disk.specs.StepsLemmas.{read_is_outcome}
-use Rattle.disk.specs.StillLemmas.{still_more}
+use Rattle.disk.specs.StillLemmas.{spares_still, still_more}
 use Rattle.configurations.specs.{at_epoch, Configurations}
 use Rattle.engine.specs.{SparesFound, kept_files}
 use Rattle.engine.specs.KeepingLemmas.{kept_behind}
@@ -34,7 +34,6 @@ use Rattle.folder_nodes.specs.Finding.{CreatesAgain, CreatesIn, ExplainsFinding,
 use Rattle.folder_nodes.specs.Finding.{FindsOwn, HasOwnVersion, IsForEnvironment, IsOwn}
 use Rattle.folder_nodes.specs.Finding.{IsOwnVersion, KeepsFoundDisk, NamesOwn, StartFailure}
 use Rattle.folder_nodes.specs.Finding.{KeepsFoundFiles, StartsAs, StartsFrom, disk_left}
-use Rattle.folder_nodes.proofs.FoundFiles.{spares_still}
 use Rattle.folder_nodes.specs.declared.fault.FolderError.{FolderError}
 use Rattle.folder_nodes.specs.declared.fault.FolderError.TheVariants.{OtherNode, Stopped}
 
@@ -332,8 +331,7 @@ module _ {D : Type 0} {g : Ghosts D} where
   pub only_looked : (old mid : D) (e : FolderError) → IsStill g old mid →
       KeepsFoundFiles g old (Err (e, mid))
   only_looked old mid e still = record {
-    named = λ named honest represents. spares_still g (kept_files named.version) old mid
-        still honest;
+    named = λ named honest represents. spares_still (kept_files named.version) (still honest);
     refused = λ other. still;
     shut = λ none cut. still;
   }

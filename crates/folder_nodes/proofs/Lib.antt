@@ -1,3 +1,2 @@
 mod FindingLemmas
-mod FoundFiles
 mod FoundNodesLemmas

@@ -1,6 +1,7 @@
 -- The slots are looked at; then the node is started, or created.
 use Rattle.std.proofs.Common.{inl, inr, refl, subst, sym, true≢false, ◌∙◌}
 use Rattle.disk.specs.{contents}
+use Rattle.disk.specs.StillLemmas.{spares_more}
 use Rattle.engine.specs.KeepingLemmas.{kept_as, neither}
 use Rattle.node.specs.{DiskRefines}
 use Rattle.folder_nodes.specs.Finding.{StartsFrom}
@@ -14,7 +15,6 @@ use Rattle.folder_nodes.proofs.FindingLemmas.{one_is_created, other_not_device, 
 use Rattle.folder_nodes.proofs.FindingLemmas.{only_before, only_looked, refused_as, refused_still}
 use Rattle.folder_nodes.proofs.FindingLemmas.{rests_on, rests_still, rests_then, same_contents}
 use Rattle.folder_nodes.proofs.FindingLemmas.{slots_explain, started_explains, still_on}
-use Rattle.folder_nodes.proofs.FoundFiles.{spares_on}
 use Rattle.folder_nodes.proofs.finding.node_over.Goals as goal
 
 -- the own node
@@ -66,7 +66,7 @@ returns-in-Ok-true-clause-files g c =
           let told = c.in-Ok-true.ensures.told honest in
           let same = same_contents (g.D.Disk.state old) (g.D.Disk.state mid) told.read
           (reads.kept.files honest) in
-          spares_on g.D.Disk (kept_files named.version) old mid reads.still honest _
+          spares_more (kept_files named.version) (reads.still honest)
           (left.named named (reads.kept.honest.1 honest)
           (subst (ManifestRepresents named) (sym same) represents));
       refused = later_still old mid c.started.result reads.still reads.kept.honest.1
