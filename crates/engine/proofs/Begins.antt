@@ -23,9 +23,11 @@ use Rattle.compaction.specs.Outputs.{AreUnused}
 use Rattle.compaction.specs.Picks.{due_level, plan_of_level, table_in_turn}
 use Rattle.store_model.specs.{IsPlanned, KeyRange, LevelTable}
 use Rattle.store_model.specs.Claims.{PlansFit}
+use Rattle.sorted_table.specs.{table_file}
 use Rattle.sorted_table.specs.declared.TableCursor.{TableCursor}
 use Rattle.store_tables.specs.declared.error.EngineError.TheVariants as engine
 use Rattle.store_tables.specs.declared.levels.OpenTable.{OpenTable}
+use Rattle.store_tables.specs.KeepingLemmas.{open_as_itself}
 use Rattle.store_tables.specs.LevelTables.{AreServed, AreTablesOf, HasMeantBlocks, IsServed}
 use Rattle.store_tables.specs.LevelTables.{WasServed, WereServed}
 use Rattle.store_tables.specs.MergeTables.{HaveInputs}
@@ -123,7 +125,7 @@ are_served disk [] [] zip = tt
 are_served disk [] (t ∷ tables) zip = absurd zip
 are_served disk (it ∷ items) [] zip = absurd zip
 are_served disk (it ∷ items) (t ∷ tables) zip = (
-  record { serves = zip.0; blocks = λ n part is. is },
+  record { serves = zip.0; blocks = open_as_itself (disk (table_file it.table)) it.table },
   are_served disk items tables zip.1,
 )
 

@@ -2,7 +2,7 @@
 use Rattle.std.proofs.Common.{◌≡◌, Result, Err, ap, inl, inr, subst, sym, ◌∙◌}
 use Rattle.std.specs.Prelude.{◌⊎◌}
 use Rattle.disk.specs.declared.Disk.{Ghosts}
-use Rattle.disk.specs.{IsStill, contents}
+use Rattle.disk.specs.{AreLeftOf, IsStill, contents}
 use Rattle.disk.specs.MomentsLemmas.{none_yet}
 use Rattle.disk.specs.StillLemmas.{still}
 use Rattle.engine.specs.Calls.{disk_after}
@@ -10,7 +10,6 @@ use Rattle.engine.specs.declared.engine.Engine.{Engine}
 use Rattle.store_tables.specs.declared.error.EngineError.{EngineError}
 use Rattle.store_files.specs.OpenFiles.{SparesFound, SparesNamed}
 use Rattle.store_files.specs.Openings.{kept_files}
-use Rattle.store_files.specs.Settling.{AreLeftOf}
 use Rattle.store_files.specs.StoreFiles.{AreShut}
 
 -- what was refused before a call of the disk left its files

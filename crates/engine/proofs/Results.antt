@@ -67,6 +67,14 @@ pub is_refused : {T : Type 0} (result : Result T EngineError) (e : EngineError) 
 is_refused (Ok x) e told = absurd told
 is_refused (Err s) e told = refl
 
+-- one that ends no engine is not for damage
+pub not_for_damage : {T : Type 0} (result : Result T EngineError) (e : EngineError) →
+    IsErrAnd result (λ s. s ≡ e) → (IsEnd e → ⊥) → IsErrOf result engine.Damaged → ⊥
+not_for_damage (Ok x) e told lives damaged = absurd told
+not_for_damage (Err s) e told lives damaged =
+    let is : e ≡ engine.Damaged = cc in
+    lives (subst IsEnd (sym is) tt)
+
 -- an answer and a refusal
 pub match_of : {T : Type 0} (result : Result T EngineError) (P : T → Type 0)
     (Q : EngineError → Type 0) → IfOk result P → IfErr result Q → MatchResult result P Q

@@ -38,6 +38,6 @@ pub use Rattle.store_files.specs.StoreFiles.{AreShut, OpensAs}
 pub use Rattle.store_files.specs.StoreFiles.{StillLeavesOneOf, WereMeant, WereOneOf}
 pub use Rattle.store_files.specs.OpenFiles.{SparesFound, SparesNamed, known_version}
 pub use Rattle.store_files.specs.Openings.{kept_files}
-pub use Rattle.store_files.specs.Settling.{AreAlone, AreLeftOf, AreReadAlike}
+pub use Rattle.store_files.specs.Settling.{AreAlone, AreReadAlike}
 pub use Rattle.store_files.specs.Tending.{IsSameBeside}
 pub use Rattle.manifest.specs.{IsNotCreated}

@@ -19,7 +19,9 @@ impl<D: Disk + Drop> Engine<D> {
     ghost use Rattle.engine.specs.Calls.{ChangesSnapshots, IsCloseAnswer, IsNoDamage};
     ghost use Rattle.engine.specs.Calls.{IsOpenAnswer, IsReadableAnswer, OfEachList, ReadsEngine};
     ghost use Rattle.engine.specs.Engines.{EngineReads, HasEnded};
+    ghost use Rattle.engine.specs.Engines.{engine_disk, engine_version};
     ghost use Rattle.engine.specs.Engines.{look_ups, with_closed, with_opened};
+    ghost use Rattle.store_tables.specs.TableReads.{OneNamedLacksBlock};
 
     // Whether a read at the number may be answered.
     fn may_read(&self, at: Number) -> Result<(), EngineError>
@@ -40,7 +42,8 @@ impl<D: Disk + Drop> Engine<D> {
         Ok(())
     }
 
-    /// The value of a key in the map of the first `at` batches.
+    /// The value of a key in the map of the first `at` batches. `Damaged` only where a table whose
+    /// range holds the key lacks the block in which the key would be.
     pub fn get(
         &mut self,
         alloc: Global,
@@ -50,11 +53,16 @@ impl<D: Disk + Drop> Engine<D> {
         ensures reads { ReadsEngine D.Disk self.old self.new result }
         ensures readable { IsReadableAnswer (look_ups self.old) at result }
 
-        // A damaged block of a table is never passed over, and refused only where there is one.
+        // A damaged block of a table is never passed over, and refused only where it is the one in
+        // which the key would be.
         ensures found { OfEachList D.Disk self.old (λ list.
             IfOk result (λ value. value ≡ map_of (take at list) key.now)) }
         ensures intact { (list : List BatchContent) → EngineReads D.Disk self.old list →
             IsNoDamage result }
+        ensures damaged { OfEachList D.Disk self.old (λ _.
+            IsErrOf result EngineError.Damaged →
+            OneNamedLacksBlock (D.state (engine_disk self.old))
+            (engine_version self.old).version.tables key.now at) }
     {
         held_files_are_left(); // law: what the disk of open files reads as, and leaves
         merges_outlive_calls::<D>(); // law: a merge outlives calls that leave its files

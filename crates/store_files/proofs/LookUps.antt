@@ -3,12 +3,13 @@ use Rattle.std.proofs.Common.{◌≡◌, ◌↔◌, ℕ, ◌≤◌, ◌<◌, Lis
 use Rattle.std.proofs.Common.{Contains, Err, Ok, Result, ap, arith, inl, inr, subst, suc, sym, zero}
 use Rattle.std.proofs.Common.{◌+◌, ◌-◌, ◌∙◌, refl}
 use Rattle.std.specs.Result.{IsOk}
-use Rattle.std.specs.Prelude.{IfErr, drop, slice_get, IfOk, IfSome, IsSomeAnd, MatchResult, take}
+use Rattle.std.specs.Prelude.{IfErr, IfOk, IfSome, IsErrOf, IsSomeAnd, MatchResult, drop, slice_get}
+use Rattle.std.specs.Prelude.{take}
 use Rattle.std.specs.Option.{option_flatten, option_map}
 use Rattle.std.proofs.lemmas.List.Elements.{All-contains}
 use Rattle.kv_types.specs.declared.bounds.TheConstants.{MAX_VALUE}
 use Rattle.kv_types.specs.{BatchContent, Entry, IsUnseen, map_of, place}
-use Rattle.disk.specs.{Contents, IsEnvironmental}
+use Rattle.disk.specs.{Contents, IsEnvironmental, State}
 use Rattle.memtable.specs.declared.Memtable.{Memtable}
 use Rattle.memtable.specs.declared.error.MemtableError.{MemtableError}
 use Rattle.memtable.specs.declared.error.MemtableError.TheVariants as memtable
@@ -16,14 +17,17 @@ use Rattle.memtable.specs.{TableHolds}
 use Rattle.table_format.specs.{IsTableEntry, TableRepresents}
 use Rattle.sorted_table.specs.declared.FoundVersion.{FoundVersion}
 use Rattle.sorted_table.specs.{found_entry}
-use Rattle.store_model.specs.PlacesLemmas.{contains_cases, slice_get-drop}
+use Rattle.store_model.specs.PlacesLemmas.{contains_cases, contains_head, contains_next}
+use Rattle.store_model.specs.PlacesLemmas.{slice_get-drop}
 use Rattle.store_model.specs.Claims.{LookUpsAreMaps}
-use Rattle.store_model.specs.{LevelTable, NewestHas, StoreRepresents, StoreState, memory_entries}
+use Rattle.store_model.specs.{KeyRange, LevelTable, NewestHas, StoreRepresents, StoreState}
+use Rattle.store_model.specs.{memory_entries}
 use Rattle.manifest.specs.declared.TableLine.{TableLine}
 use Rattle.store_tables.specs.declared.error.EngineError.{EngineError}
 use Rattle.store_tables.specs.declared.error.EngineError.TheVariants as engine
 use Rattle.store_tables.specs.LevelTables.{AreTablesOf, IsTableOf, TableLookUpsAreMaps, TablesFind}
-use Rattle.store_tables.specs.LevelTables.{found_value}
+use Rattle.store_tables.specs.LevelTables.{found_value, line_range}
+use Rattle.store_tables.specs.TableReads.{LacksBlock, OneNamedLacksBlock}
 use Rattle.store_files.proofs.Entries.{newest_in, unseen_in}
 
 -- a call of a memtable that is refused where it has failed alone is answered where it has not
@@ -113,6 +117,41 @@ pub never_long : (found : Option FoundVersion) (result : Result (Option (List �
     → IfErr result (IsEnvironmental engine.Disk engine.Memory)
 never_long found (Ok value) damaged short = tt
 never_long found (Err e) damaged short = absurd (short damaged.1)
+
+-- so an answer is not refused for damage
+pub not_damaged : (found : Option FoundVersion) (result : Result (Option (List ℕ)) EngineError)
+    → IfErr result (λ e. (e ≡ engine.Damaged)
+    × IsSomeAnd (option_flatten (found_value found)) (λ bytes. MAX_VALUE < length bytes))
+    → (IsSomeAnd (option_flatten (found_value found)) (λ bytes. MAX_VALUE < length bytes) → ⊥)
+    → IsErrOf result engine.Damaged → ⊥
+not_damaged found (Ok value) damaged short is = absurd cc
+not_damaged found (Err e) damaged short is = absurd (short damaged.1)
+
+-- ---- tables that lack a block
+
+-- a table that lacks the block of a key is named by a line
+pub named_lacks : (disk : State) (left : Contents) (key : List ℕ) (at : ℕ) (lines : List TableLine)
+    (tables : List LevelTable) → AreTablesOf left lines tables → (table : LevelTable)
+    → Contains tables table → LacksBlock (disk table.file) table.range key at
+    → OneNamedLacksBlock disk lines key at
+named_lacks disk left key at [] [] named table has lacks =
+    absurd (let lt = has.1 in omega (arith, lt))
+named_lacks disk left key at [] (t ∷ tables) named table has lacks = absurd named
+named_lacks disk left key at (line ∷ lines) [] named table has lacks = absurd named
+named_lacks disk left key at (line ∷ lines) (t ∷ tables) named table has lacks =
+    elim (contains_cases t tables table has) [
+      | inl same ↦
+          let here = subst (λ (u : LevelTable). LacksBlock (disk u.file) u.range key at) (sym same)
+          lacks in (
+            line,
+            contains_head line lines,
+            subst (λ (f : ℕ). LacksBlock (disk f) (line_range line) key at) named.0.file
+                (subst (λ (r : KeyRange). LacksBlock (disk t.file) r key at) named.0.range here),
+          )
+      | inr later ↦
+          let it = named_lacks disk left key at lines tables named.1 table later lacks in
+          (it.0, contains_next line lines it.0 it.1, it.2)
+    ]
 
 -- ---- a batch of the logs
 

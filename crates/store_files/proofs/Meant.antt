@@ -10,7 +10,7 @@ use Rattle.kv_types.specs.{BatchContent, Entry, IsBatch}
 use Rattle.disk.specs.{IsDurable, IsEnvironmental, IsSame, IsSameBut, Slot, State, contents}
 use Rattle.memtable.specs.declared.Memtable.{Memtable}
 use Rattle.memtable.specs.{TableHolds}
-use Rattle.sorted_table.specs.{AreAsMeant, as_meant_itself, index_lines, table_file}
+use Rattle.sorted_table.specs.{table_file}
 use Rattle.store_model.specs.Claims.{AppendsKeep}
 use Rattle.store_model.specs.{LevelTable, memory_entries}
 use Rattle.store_model.specs.PlacesLemmas.{contains_head, contains_next}
@@ -23,8 +23,9 @@ use Rattle.store_tables.specs.declared.error.EngineError.{EngineError}
 use Rattle.store_tables.specs.declared.levels.OpenTable.{OpenTable}
 use Rattle.store_files.specs.declared.store_files.StoreFiles.{StoreFiles}
 use Rattle.batch_logs.specs.BatchLogs.{LogsHold, lines_of, newest_file}
-use Rattle.store_tables.specs.LevelTables.{AreTablesOf, HasMeantBlocks, IsServed, IsTableAsMeant}
-use Rattle.store_tables.specs.LevelTables.{IsTableOf, WasServed}
+use Rattle.store_tables.specs.KeepingLemmas.{open_as_itself}
+use Rattle.store_tables.specs.LevelTables.{AreTablesOf, HasMeantBlocks, IsOpenAsMeant, IsServed}
+use Rattle.store_tables.specs.LevelTables.{IsTableAsMeant, IsTableOf, WasServed}
 use Rattle.store_tables.specs.declared.levels.LevelTables.{LevelTables}
 use Rattle.store_files.specs.OpenFiles.{AreUsableFiles, FilesHold, IsAsMeant, WereMeantToHold}
 use Rattle.store_files.specs.OpenFiles.{batch_count, known_store, known_version, trimmed_count}
@@ -41,7 +42,7 @@ use Rattle.store_files.proofs.Appended.{appended_with_plan}
 pub own_blocks : (disk : State) (items : List OpenTable) → All (HasMeantBlocks disk disk) items
 own_blocks disk [] = All-nil (HasMeantBlocks disk disk)
 own_blocks disk (it ∷ items) = All-cons (HasMeantBlocks disk disk) it items
-    (as_meant_itself (disk (table_file it.table)) (index_lines it.table)) (own_blocks disk items)
+    (open_as_itself (disk (table_file it.table)) it.table) (own_blocks disk items)
 
 -- a disk whose open files hold a list is as it was meant to be
 pub meant_as_is : (disk : State) (files : StoreFiles) (list : List BatchContent)
@@ -90,11 +91,10 @@ blocks_stay old new meant later (line ∷ lines) (it ∷ items) (t ∷ tables) s
     all =
     let at : line.file ≡ table_file it.table = sym read.0.file ∙ served.0.file in
     let here = contains_head line lines in
-    let mine : AreAsMeant (new (table_file it.table)) (later (table_file it.table))
-    (index_lines it.table) =
-    subst (λ (s : Slot). AreAsMeant (new (table_file it.table)) s (index_lines it.table))
+    let mine : HasMeantBlocks new later it =
+    subst (λ (s : Slot). IsOpenAsMeant (new (table_file it.table)) s it.table)
     (sym (subst (λ (f : ℕ). later f ≡ meant f) at (still line here)))
-    (subst (λ (s : Slot). AreAsMeant s (meant (table_file it.table)) (index_lines it.table))
+    (subst (λ (s : Slot). IsOpenAsMeant s (meant (table_file it.table)) it.table)
     (sym (subst (λ (f : ℕ). new f ≡ old f) at (same line here)))
     (All-head (HasMeantBlocks old meant) it items all)) in
     All-cons (HasMeantBlocks new later) it items mine

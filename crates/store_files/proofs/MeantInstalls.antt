@@ -9,7 +9,6 @@ use Rattle.disk.specs.{LeavesSince, Slot, State, seen}
 use Rattle.disk.specs.MomentsLemmas.{join, none_yet, weaker}
 use Rattle.memtable.specs.{TableHolds}
 use Rattle.record_log.specs.{EndsInRange}
-use Rattle.sorted_table.specs.{AreAsMeant, as_meant_itself, index_lines}
 use Rattle.store_model.specs.Claims.{FlushesKeep, FlushesLeaveMerges}
 use Rattle.store_model.specs.{LevelTable}
 use Rattle.manifest.specs.declared.LogLine.{LogLine}
@@ -21,7 +20,9 @@ use Rattle.batch_logs.specs.declared.batch_logs.BatchLogs.{BatchLogs}
 use Rattle.store_tables.specs.declared.levels.OpenTable.{OpenTable}
 use Rattle.store_files.specs.declared.store_files.StoreFiles.{StoreFiles}
 use Rattle.batch_logs.specs.BatchLogs.{LogsHold, lines_of, next_number, with_line}
-use Rattle.store_tables.specs.LevelTables.{IsTableAsMeant, WasServed, WereServed, with_flushed}
+use Rattle.store_tables.specs.KeepingLemmas.{open_as_itself}
+use Rattle.store_tables.specs.LevelTables.{IsOpenAsMeant, IsTableAsMeant, WasServed, WereServed}
+use Rattle.store_tables.specs.LevelTables.{with_flushed}
 use Rattle.store_files.specs.OpenFiles.{AreUsableFiles, IsAsMeant, batch_count, known_facts}
 use Rattle.store_files.specs.OpenFiles.{known_version, trimmed_count, known_store}
 use Rattle.store_files.specs.StoreFiles.{WereMeant, flush_change}
@@ -313,10 +314,10 @@ module _ {files : StoreFiles} {line : TableLine} {file : ℕ} {edit : Change}
           record {
             serves = new_served so m1 list one meant_spilled
                 m2 spares_meant logs lines began_meant keeps m3 slot is_slot same_meant;
-            blocks = subst (λ (f : ℕ). AreAsMeant (s3 f) (m3 f) (index_lines one.table))
+            blocks = subst (λ (f : ℕ). IsOpenAsMeant (s3 f) (m3 f) one.table)
                 (sym ms.spilled.written.is.file ∙ ms.spilled.served.file)
-                (subst (λ (s : Slot). AreAsMeant (s3 line.file) s (index_lines one.table)) line_now
-                (as_meant_itself (s3 line.file) (index_lines one.table)));
+                (subst (λ (s : Slot). IsOpenAsMeant (s3 line.file) s one.table) line_now
+                (open_as_itself (s3 line.file) one.table));
           },
         )
 

@@ -1,13 +1,11 @@
 -- What a crash leaves at each moment of an opening: where a property looks at the files of a store
 -- alone, removals of other files keep it.
-use Rattle.std.proofs.Common.{◌≡◌, ◌≢◌, ℕ, List, [], ◌∷◌, Contains, arith, eq-eqb, eqb, false, inl}
-use Rattle.std.proofs.Common.{inr, refl, subst, sym, ◌∙◌}
-use Rattle.std.specs.Prelude.{if◌then◌else◌, ◌==◌}
+use Rattle.std.proofs.Common.{◌≡◌, ℕ, List, [], ◌∷◌, Contains, ap, inl, inr, subst, sym, ◌∙◌}
 use Rattle.std.proofs.lemmas.Bool.{cases_eq}
-use Rattle.std.proofs.lemmas.Bool.Decides.{nat_tests}
 use Rattle.kv_types.specs.{BatchContent}
-use Rattle.disk.specs.{Contents, IsCrashOutcome, IsFileOutcome, LeavesSince, OnlyLeaves, State}
-use Rattle.disk.specs.{contents}
+use Rattle.disk.specs.{AreLeftOf, Contents, IsCrashOutcome, IsFileOutcome, LeavesSince}
+use Rattle.disk.specs.{OnlyLeaves, State, contents}
+use Rattle.disk.specs.BesideLemmas.{exchanged, exchanged_here, exchanged_there}
 use Rattle.disk.specs.Moments.{LooksAt}
 use Rattle.disk.specs.MomentsLemmas.{join, weaker}
 use Rattle.disk.specs.StepsLemmas.{read_is_outcome}
@@ -19,7 +17,6 @@ use Rattle.store_files.specs.declared.store_files.StoreFiles.{StoreFiles}
 use Rattle.store_files.specs.Files.{Facts}
 use Rattle.store_files.specs.OpenFiles.{known_version}
 use Rattle.store_files.specs.Openings.{kept_files}
-use Rattle.store_files.specs.Settling.{AreLeftOf}
 use Rattle.store_files.specs.StoreFiles.{IsOneOf, IsStoreFile, NamesStoreFile, WereOneOf}
 use Rattle.store_files.proofs.KeptNames.{log_is_kept, slot_is_kept, table_is_kept}
 use Rattle.store_files.proofs.StillFiles.{still_keeps}
@@ -29,53 +26,37 @@ use Rattle.store_files.proofs.NamedFiles.{files_are_named}
 -- ---- some files as a crash left them
 
 -- these files as a crash left them, and each other as it read
-abbrev patched : Contents → Contents → List ℕ → Contents
-patched was left [] other = was other
-patched was left (file ∷ files) other =
-    if other == file then left other else patched was left files other
-
--- numbers that differ fail the test
-neq_eqb : (a b : ℕ) → (a ≡ b → ⊥) → eqb a b ≡ false
-neq_eqb a b apart = grind (arith, nat_tests)
-
-module _ (was left : Contents) (file : ℕ) (files : List ℕ) (other : ℕ) where
-  first_patched : other ≡ file → patched was left (file ∷ files) other ≡ left other
-  first_patched here = rw (eq-eqb other file here) refl
-
-  later_patched : other ≢ file →
-      patched was left (file ∷ files) other ≡ patched was left files other
-  later_patched apart = rw (neq_eqb other file apart) refl
+abbrev pub patched : Contents → Contents → List ℕ → Contents
+patched was left [] = was
+patched was left (file ∷ files) = exchanged (patched was left files) file (left file)
 
 patched_here : (was left : Contents) (files : List ℕ) (other : ℕ) → Contains files other →
     patched was left files other ≡ left other
 patched_here was left [] other has = absurd (contains_none other has)
-patched_here was left (file ∷ files) other has = elim (cases_eq other file) [
-  | inl here ↦ first_patched was left file files other here
-  | inr apart ↦ later_patched was left file files other apart
-      ∙ patched_here was left files other (elim (contains_cases file files other has) [
-        | inl is ↦ absurd (apart (sym is))
-        | inr more ↦ more
-      ])
-]
+patched_here was left (file ∷ files) other has =
+    let rest = patched was left files in
+    elim (cases_eq other file) [
+      | inl here ↦ exchanged_here rest file (left file) other here ∙ ap left (sym here)
+      | inr apart ↦ exchanged_there rest file (left file) other apart
+          ∙ patched_here was left files other (elim (contains_cases file files other has) [
+            | inl is ↦ absurd (apart (sym is))
+            | inr more ↦ more
+          ])
+    ]
 
 patched_may : (disk : State) (left : Contents) (files : List ℕ) → AreLeftOf files disk left →
     IsCrashOutcome disk (patched (contents disk) left files)
 patched_may disk left [] at other = read_is_outcome (disk other)
-patched_may disk left (file ∷ files) at other = elim (cases_eq other file) [
-  | inl here ↦ subst (IsFileOutcome (disk other))
-      (sym (first_patched (contents disk) left file files other here))
-      (at other (subst (Contains (file ∷ files)) (sym here) (contains_head file files)))
-  | inr apart ↦ subst (IsFileOutcome (disk other))
-      (sym (later_patched (contents disk) left file files other apart))
-      (patched_may disk left files (λ one has. at one (contains_next file files one has)) other)
-]
-
--- what a crash left of some files, behind calls that leave nothing new, it might have left before
-pub left_before : (files : List ℕ) (old mid : State) → OnlyLeaves (IsCrashOutcome old) mid →
-    (left : Contents) → AreLeftOf files mid left → AreLeftOf files old left
-left_before files old mid only left at file has =
-    subst (IsFileOutcome (old file)) (patched_here (contents mid) left files file has)
-    (only (patched (contents mid) left files) (patched_may mid left files at) file)
+patched_may disk left (file ∷ files) at other =
+    let rest = patched (contents disk) left files in
+    elim (cases_eq other file) [
+      | inl here ↦ subst (IsFileOutcome (disk other))
+          (sym (exchanged_here rest file (left file) other here ∙ ap left (sym here)))
+          (at other (subst (Contains (file ∷ files)) (sym here) (contains_head file files)))
+      | inr apart ↦ subst (IsFileOutcome (disk other))
+          (sym (exchanged_there rest file (left file) other apart))
+          (patched_may disk left files (λ one has. at one (contains_next file files one has)) other)
+    ]
 
 -- ---- the files of a store
 

@@ -11,14 +11,14 @@ use Rattle.std.proofs.lemmas.List.Elements.{Decides-contains, contains_decides}
 use Rattle.std.proofs.lemmas.List.Kept.{AllPairs-from_increasing}
 use Rattle.store_model.specs.PlacesLemmas.{contains_cases, contains_next, contains_none}
 use Rattle.disk.specs.declared.Disk.{Ghosts}
-use Rattle.disk.specs.{Absent, AlwaysLeaves, Fresh, IsFileOutcome, IsSame, IsSameBut, Kept}
-use Rattle.disk.specs.{KeepsDisk}
+use Rattle.disk.specs.{Absent, AlwaysLeaves, AreLeftOf, Fresh, IsFileOutcome, IsSame, IsSameBut}
+use Rattle.disk.specs.{Kept, KeepsDisk}
 use Rattle.disk.specs.{OnlyLeaves, Passes, Slot, State, seen}
 use Rattle.disk.specs.Calls.{ListsFiles}
 use Rattle.disk.specs.MomentsLemmas.{one_call_more, none_yet}
 use Rattle.disk.specs.States.{ChangesSlot, removed}
 use Rattle.store_tables.specs.KeepingLemmas.{kept_as, kept_behind, neither}
-use Rattle.store_files.specs.Settling.{AreAlone, AreLeftOf, SparesFiles}
+use Rattle.store_files.specs.Settling.{AreAlone, SparesFiles}
 
 -- each of these files exists, and beside them only files that are kept
 pub record AreLeft (disk : State) (kept left : List ℕ) : Type 0 where

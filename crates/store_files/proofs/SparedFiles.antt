@@ -2,16 +2,13 @@
 use Rattle.std.proofs.Common.{◌≡◌, ℕ, List, Result, Ok, Err, ap, inl, inr, subst, ◌∙◌}
 use Rattle.std.specs.Prelude.{IsErrAnd}
 use Rattle.disk.specs.declared.Disk.{Ghosts}
-use Rattle.disk.specs.{AlwaysLeaves, IsCrashOutcome, IsStill, LeavesSince}
-use Rattle.disk.specs.{State, contents}
-use Rattle.disk.specs.MomentsLemmas.{join, weaker}
+use Rattle.disk.specs.{AlwaysLeaves, AreLeftOf, IsStill, contents}
+use Rattle.disk.specs.StillLemmas.{spares_more, spares_still}
 use Rattle.manifest.specs.{NodeVersion, VersionIsOne}
 use Rattle.store_files.specs.declared.store_files.StoreFiles.{StoreFiles}
 use Rattle.store_files.specs.OpenFiles.{AreUsableFiles, FilesOpenAs, SparesFound, batch_count}
 use Rattle.store_files.specs.OpenFiles.{known_facts, known_version}
 use Rattle.store_files.specs.Openings.{kept_files}
-use Rattle.store_files.specs.Settling.{AreLeftOf}
-use Rattle.store_files.proofs.OpenMoments.{left_before}
 use Rattle.store_files.proofs.ReadAnswers.{opens_of}
 
 -- what contradicts the cause contradicts the refusal that tells it
@@ -20,33 +17,13 @@ pub for_cause : {T E : Type 0} (result : Result T E) {e : E} (P : E → Type 0) 
 for_cause (Ok x) P told p = absurd told
 for_cause (Err s) P told p = subst P told p
 
--- what a call left that leaves nothing new is so of some files
-still_spares : (kept : List ℕ) (old : State) (past : List State) (new : State)
-    (since : List State) → LeavesSince old past new since (IsCrashOutcome old) →
-    LeavesSince old past new since (AreLeftOf kept old)
-still_spares kept old past new since run =
-    weaker (IsCrashOutcome old) (AreLeftOf kept old) old past new since
-    (λ left at file has. at file) run
-
--- and of removals of others behind it
-settling_spares : (kept : List ℕ) (old mid new : State) (past so_far since : List State) →
-    LeavesSince old past mid so_far (IsCrashOutcome old) →
-    LeavesSince mid so_far new since (AreLeftOf kept mid) →
-    LeavesSince old past new since (AreLeftOf kept old)
-settling_spares kept old mid new past so_far since before removed =
-    join (AreLeftOf kept old) old mid new past so_far since
-    (still_spares kept old past mid so_far before)
-    (weaker (AreLeftOf kept mid) (AreLeftOf kept old) mid so_far new since
-    (left_before kept old mid before.now) removed)
-
 module _ {D : Type 0} (g : Ghosts D) where
   -- files were read, and none was removed
   pub only_read : (old new : D) {for_files : Type 0} → IsStill g old new →
       SparesFound g old new for_files
   only_read old new still = record {
     shut = λ why. still;
-    named = λ named honest represents. still_spares (kept_files named.version) (g.state old)
-        (g.past old) (g.state new) (g.past new) (still honest);
+    named = λ named honest represents. spares_still (kept_files named.version) (still honest);
   }
 
   -- a store's files were read, and others removed behind it
@@ -67,6 +44,5 @@ module _ {D : Type 0} (g : Ghosts D) where
         (opens honest).version represents in
         subst (λ (l : List ℕ). AlwaysLeaves g old new (AreLeftOf l (g.state old)))
         (is ∙ ap (λ (n : NodeVersion). kept_files n.version) same)
-        (settling_spares kept (g.state old) (g.state mid) (g.state new) (g.past old) (g.past mid)
-        (g.past new) (still honest) (removed honest));
+        (spares_more kept (still honest) (removed honest));
   }

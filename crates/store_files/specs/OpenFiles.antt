@@ -6,8 +6,8 @@ use Rattle.kv_types.specs.declared.bounds.TheConstants.{MAX_NUMBER}
 use Rattle.kv_types.specs.{BatchContent, Entry, IsBatch}
 use Rattle.version_edits.specs.declared.line.TheConstants.{MAX_NEXT}
 use Rattle.disk.specs.declared.Disk.{Ghosts}
-use Rattle.disk.specs.{AlwaysLeaves, Contents, IsDurable, IsEnvironmental, IsStill, KeepsDisk}
-use Rattle.disk.specs.{State, contents, seen}
+use Rattle.disk.specs.{AlwaysLeaves, AreLeftOf, Contents, IsDurable, IsEnvironmental, IsStill}
+use Rattle.disk.specs.{KeepsDisk, State, contents, seen}
 use Rattle.memtable.specs.{TableHolds}
 use Rattle.store_model.specs.{LevelTable, StoreRepresents, StoreState, memory_entries}
 use Rattle.manifest.specs.{IsNotCreated, IsVersion, ManifestHasFailed, ManifestHolds}
@@ -25,7 +25,6 @@ use Rattle.batch_logs.specs.Lists.{ListFollowsOn}
 use Rattle.batch_logs.specs.Memtables.{IsNumberedTo}
 use Rattle.batch_logs.specs.Replaying.{AreBatchesOf}
 use Rattle.store_files.specs.Openings.{kept_files}
-use Rattle.store_files.specs.Settling.{AreLeftOf}
 use Rattle.store_files.specs.StoreFiles.{AreOrderedNumbers, AreShut, FilesRepresent, WereMeant}
 use Rattle.store_files.specs.StoreFiles.{store_of_version}
 

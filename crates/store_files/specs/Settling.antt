@@ -1,7 +1,7 @@
 -- What an opening makes of the files of a store: those that are named are made durable, and the
 -- others are removed.
 use Rattle.std.specs.Prelude.{◌≡◌, ℕ, List, Some, All, IsSome, IsNone, Contains}
-use Rattle.disk.specs.{Contents, IsFileOutcome, State, seen}
+use Rattle.disk.specs.{State, seen}
 use Rattle.record_log.specs.{IsDurableAs}
 use Rattle.manifest.specs.declared.TableLine.{TableLine}
 use Rattle.batch_logs.specs.Syncs.{SlotSettles}
@@ -27,10 +27,6 @@ AreThere disk lines = All (λ line. IsSome (seen (disk line.file))) lines
 -- these files are as they were
 abbrev pub SparesFiles : List ℕ → State → State → Type 0
 SparesFiles kept old new = (file : ℕ) → Contains kept file → new file ≡ old file
-
--- a crash left of these files what it might have left when the disk had this state
-abbrev pub AreLeftOf : List ℕ → State → Contents → Type 0
-AreLeftOf kept disk left = (file : ℕ) → Contains kept file → IsFileOutcome (disk file) (left file)
 
 -- no other file exists
 abbrev pub AreAlone : List ℕ → State → Type 0

@@ -1,12 +1,11 @@
 // What an opening does to the files of a store: it syncs tables, and removes what nothing names.
 ghost use Rattle.std.specs.Prelude.{IfErr, IsErrOf, OnOk, MatchResult};
-ghost use Rattle.disk.specs.{AlwaysLeaves, IsEnvironmental, KeepsDisk};
+ghost use Rattle.disk.specs.{AlwaysLeaves, AreLeftOf, IsEnvironmental, KeepsDisk};
 ghost use Rattle.store_tables.specs.declared.error.EngineError.TheVariants.{Disk, Memory};
 ghost use Rattle.store_tables.specs.Errors.{IsEnd};
 ghost use Rattle.batch_logs.specs.Reads.{OnlyReads};
 ghost use Rattle.batch_logs.specs.Syncs.{AddsNothing};
-ghost use Rattle.store_files.specs.Settling.{AreAlone, AreLeftOf, AreSynced, AreThere};
-ghost use Rattle.store_files.specs.Settling.{SparesFiles};
+ghost use Rattle.store_files.specs.Settling.{AreAlone, AreSynced, AreThere, SparesFiles};
 
 use crate::EngineError;
 use disk::Disk;

@@ -8,14 +8,15 @@ ghost use Rattle.disk.specs.{IsEnvironmental, IsSame, IsSameBut, KeepsDisk};
 ghost use Rattle.disk.specs.{MakesCalls};
 ghost use Rattle.batch_logs.specs.BatchLogs.{HasFullLog, newest_file};
 ghost use Rattle.store_files.specs.BesideFiles.{with_free};
-ghost use Rattle.store_tables.specs.declared.error.EngineError.TheVariants.{Disk, Memory};
+ghost use Rattle.store_tables.specs.declared.error.EngineError.TheVariants.{Damaged, Disk, Memory};
 ghost use Rattle.store_tables.specs.Errors.{IsEnd};
 ghost use Rattle.store_files.specs.OpenFiles.{AreUsableFiles, FilesHold, batch_count, known_facts};
 ghost use Rattle.store_files.specs.OpenFiles.{HasSameFacts, IfHeld, IfMeant, IsNextNumber};
 ghost use Rattle.store_files.specs.OpenFiles.{ListGrows};
-ghost use Rattle.store_files.specs.OpenFiles.{WereMeantToHold, trimmed_count};
+ghost use Rattle.store_files.specs.OpenFiles.{WereMeantToHold, known_version, trimmed_count};
 ghost use Rattle.memtable.specs.{HasFailedAdd, TableHolds};
 ghost use Rattle.store_tables.specs.LevelTables.{EntriesHave, found_value};
+ghost use Rattle.store_tables.specs.TableReads.{OneNamedLacksBlock};
 ghost use Rattle.batch_logs.specs.Reads.{OnlyReads};
 ghost use Rattle.std.specs.Prelude.{◌++◌, ◌∷◌, []};
 ghost use Rattle.store_files.specs.Plans.{KeepsPlans};
@@ -155,7 +156,8 @@ impl StoreFiles {
     }
 
     /// The value of a key in the map of the first `at` batches: looked up in memory, and then in
-    /// the tables. `Damaged` only where a block of a table is damaged.
+    /// the tables. `Damaged` only where a table whose range holds the key lacks the block in which
+    /// the key would be.
     pub fn get<D: Disk + Drop>(
         &self,
         alloc: Global,
@@ -170,6 +172,10 @@ impl StoreFiles {
             IfOk result (λ value. value ≡ map_of (take at list) key.now)) }
         ensures intact { IfHeld ⟦<CachedDisk<D> as Disk>⟧ files.old self.now (λ list.
             IfErr result (IsEnvironmental Disk Memory)) }
+        ensures damaged { IfMeant ⟦<CachedDisk<D> as Disk>⟧ files.old self.now (λ _.
+            IsErrOf result Damaged →
+            OneNamedLacksBlock (⟦<CachedDisk<D> as Disk>⟧.state files.old)
+            (known_version self.now).version.tables key.now at) }
     {
         levels_rise(); // law: tables stand in order of level
         // laws: what memory or else the tables have of a key is what the map has

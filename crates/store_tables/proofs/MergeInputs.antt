@@ -8,7 +8,7 @@ use Rattle.disk.specs.declared.Disk.{Ghosts as DiskGhosts}
 use Rattle.disk.specs.{Slot, State}
 use Rattle.kv_types.specs.{Entry}
 use Rattle.merge_iter.specs.declared.Cursor.{Ghosts}
-use Rattle.sorted_table.specs.{TableServes, as_meant_itself, index_lines, table_file}
+use Rattle.sorted_table.specs.{TableServes, table_file}
 use Rattle.store_model.specs.{AreLeveled, KeyRange, LevelTable}
 use Rattle.store_model.specs.PlacesLemmas.{contains_cases, contains_head, contains_next}
 use Rattle.store_model.specs.PlacesLemmas.{contains_none}
@@ -19,6 +19,7 @@ use Rattle.compaction.specs.Walks.{table_files}
 use Rattle.compaction.specs.declared.plan.Plan.{Plan}
 use Rattle.store_tables.specs.declared.levels.OpenTable.{OpenTable}
 use Rattle.store_tables.specs.declared.levels.LevelTables.{LevelTables}
+use Rattle.store_tables.specs.KeepingLemmas.{open_as_itself}
 use Rattle.store_tables.specs.LevelTables.{IsServed, WasServed}
 use Rattle.store_tables.specs.MergeTables.{HaveInputs}
 use Rattle.store_tables.specs.RangeReads.{HasTable, HaveOwnFiles}
@@ -107,7 +108,7 @@ module _ {C F : Type 0} (c : Ghosts C F) (d : DiskGhosts F) (as_meant : State â†
             serves = subst (Î» (slot : Slot). TableServes slot it.table t.entries) (sym file)
                 one.serves;
           };
-          blocks = as_meant_itself (s (table_file it.table)) (index_lines it.table);
+          blocks = open_as_itself (s (table_file it.table)) it.table;
         }) served in
         let zip = have_tables s other same.0 here in (
           as_meant s,

@@ -1,32 +1,35 @@
 -- Open tables: which tables they serve, and what they have of a key.
 use Rattle.std.proofs.Common.{◌≡◌, ◌<◌, ◌^◌, ℕ, List, length, Option, Some, None, inl, inr, sym}
-use Rattle.std.proofs.Common.{◌∙◌, ap, subst, Contains}
-use Rattle.std.specs.Prelude.{IsSomeAnd}
+use Rattle.std.proofs.Common.{◌∙◌, ap, refl, subst, Contains, Result, Ok, Err}
+use Rattle.std.specs.Prelude.{IsErrAnd, IsErrOf, IsSomeAnd}
 use Rattle.disk.specs.{IsEnvironmental}
 use Rattle.disk.specs.declared.Disk.{Ghosts}
 use Rattle.disk.specs.{Contents, contents, IsSame, IsStill, KeepsDisk, Slot, State, seen}
 use Rattle.disk.specs.StillLemmas.{still, still_more}
-use Rattle.kv_types.specs.{Entry}
+use Rattle.kv_types.specs.{Entry, StoredKey}
 use Rattle.table_format.specs.declared.FileError.TheVariants as reading
 use Rattle.table_format.specs.{TableRepresents}
 use Rattle.table_format.specs.declared.FileError.{FileError}
-use Rattle.sorted_table.specs.{AreAsMeant, CanBeOpen, FileRepresents, HasItsLines, HasTail}
-use Rattle.sorted_table.specs.{LookupFinds, TableServes}
+use Rattle.sorted_table.specs.{CanBeOpen, FileRepresents, HasItsLines, HasTail, IsOpenOn}
+use Rattle.sorted_table.specs.{LookupAnswer, LookupFinds, TableServes}
 use Rattle.table_format.specs.declared.IndexLine.{IndexLine}
 use Rattle.sorted_table.specs.{greatest_key, index_lines, last_line_key, table_file, table_filter}
 use Rattle.sorted_table.specs.declared.Table.{Table}
 use Rattle.sorted_table.specs.declared.FoundVersion.{FoundVersion}
 use Rattle.table_files.specs.{inner_disk}
 use Rattle.table_files.specs.declared.CachedDisk.{CachedDisk}
-use Rattle.store_model.specs.{LevelTable}
+use Rattle.store_model.specs.{KeyRange, LevelTable, RangeHolds}
 use Rattle.manifest.specs.declared.TableLine.{TableLine}
+use Rattle.store_tables.specs.declared.error.EngineError.{EngineError}
 use Rattle.store_tables.specs.declared.error.EngineError.TheVariants as engine
 use Rattle.store_tables.specs.declared.levels.OpenTable.{OpenTable}
 use Rattle.store_tables.specs.KeepingLemmas.{kept_as, kept_behind, neither, same_files}
 use Rattle.store_tables.specs.KeepingLemmas.{same_then_same}
 use Rattle.store_tables.specs.KeepingLemmas.{unchanged}
-use Rattle.store_tables.specs.LevelTables.{EntriesFind, FileFits, FitsLine, IsServed, IsTableOf}
-use Rattle.store_tables.specs.LevelTables.{WasServed, error_of_table, line_range}
+use Rattle.store_tables.specs.LevelTables.{EntriesFind, FileFits, FitsLine, IsOpenAsMeant}
+use Rattle.store_tables.specs.LevelTables.{IsServed, IsTableOf, WasServed, error_of_table}
+use Rattle.store_tables.specs.LevelTables.{line_range}
+use Rattle.store_tables.specs.TableReads.{LacksBlock}
 
 -- a refusal that says nothing of a file
 pub of_table : (e : FileError) → IsEnvironmental reading.Disk reading.Memory e →
@@ -62,6 +65,51 @@ pub found_in : (entries : List Entry) (key : List ℕ) (at : ℕ) (found : Optio
 found_in entries key at None it = it
 found_in entries key at (Some found) it = it
 
+-- a refusal for damage is one of the table's file
+pub damage_of_table : {T : Type 0} (result : Result T EngineError) (e : FileError)
+    → IsErrAnd result (λ s. s ≡ error_of_table e) → IsErrOf result engine.Damaged
+    → e ≡ reading.Damaged
+damage_of_table (Ok x) e told is = absurd told
+damage_of_table (Err s) reading.Disk told is = absurd cc
+damage_of_table (Err s) reading.Damaged told is = refl
+damage_of_table (Err s) reading.Memory told is = absurd cc
+
+-- a lookup in a table finds damage only where the file lacks the block of the key
+pub lookup_lacks : (file meant : Slot) (table : Table) (entries : List Entry) (range : KeyRange)
+    (key : StoredKey) (at : ℕ) (e : FileError) → RangeHolds range key
+    → TableServes meant table entries → IsOpenAsMeant file meant table
+    → (TableServes file table entries → IsEnvironmental reading.Disk reading.Memory e)
+    → (IsOpenOn file table → LookupAnswer file table key at (Err e)) → e ≡ reading.Damaged
+    → LacksBlock file range key at
+lookup_lacks file meant table entries range key at e in_range serves is found checked damaged =
+    elim is.opened as (λ _. LacksBlock file range key at) [
+      | inl same ↦
+          let machine = found
+          (subst (λ (slot : Slot). TableServes slot table entries) (sym same) serves) in
+          absurd (no_damage e machine damaged)
+      | inr on ↦ by_answer on (checked on)
+    ]
+  where
+    no_damage : (e : FileError) → IsEnvironmental reading.Disk reading.Memory e
+        → e ≡ reading.Damaged → ⊥
+    no_damage e (inl disk) is = absurd cc
+    no_damage e (inr memory) is = absurd cc
+
+    by_answer : IsOpenOn file table → LookupAnswer file table key at (Err e)
+        → LacksBlock file range key at
+    by_answer on (inl denied) = let is = denied.1 in absurd cc
+    by_answer on (inr it) = record {
+      in_range = in_range;
+      lines = index_lines table;
+      filter = table_filter table;
+      tail = on;
+      in_filter = it.0;
+      n = it.1;
+      place = it.2;
+      there = it.3.0;
+      damaged = it.3.1 damaged;
+    }
+
 -- while the files stay, the same tables are served
 pub served_same : (old new : State) (it : OpenTable) (table : LevelTable) → IsSame old new
     → IsServed old it table → IsServed new it table
@@ -77,8 +125,7 @@ pub was_same : (old new meant : State) (it : OpenTable) (table : LevelTable) →
     → WasServed old meant it table → WasServed new meant it table
 was_same old new meant it table same was = record {
   serves = was.serves;
-  blocks = subst
-      (λ (slot : Slot). AreAsMeant slot (meant (table_file it.table)) (index_lines it.table))
+  blocks = subst (λ (slot : Slot). IsOpenAsMeant slot (meant (table_file it.table)) it.table)
       (sym (same (table_file it.table))) was.blocks;
 }
 
@@ -87,7 +134,7 @@ pub opened_as_meant : (disk meant : State) (line copy : TableLine) (table : Leve
     (opened : Table) → copy ≡ line → table_file opened ≡ line.file
     → IsTableOf (contents meant) line table
     → TableServes (meant line.file) opened table.entries
-    × AreAsMeant (disk line.file) (meant line.file) (index_lines opened)
+    × IsOpenAsMeant (disk line.file) (meant line.file) opened
     → WasServed disk meant (record { line = copy; table = opened }) table
 opened_as_meant disk meant line copy table opened same at is both = record {
   serves = record {
@@ -96,7 +143,7 @@ opened_as_meant disk meant line copy table opened same at is both = record {
     range = is.range ∙ ap line_range (sym same);
     serves = subst (λ (f : ℕ). TableServes (meant f) opened table.entries) (sym at) both.0;
   };
-  blocks = subst (λ (f : ℕ). AreAsMeant (disk f) (meant f) (index_lines opened)) (sym at) both.1;
+  blocks = subst (λ (f : ℕ). IsOpenAsMeant (disk f) (meant f) opened) (sym at) both.1;
 }
 
 pub lines_same : (old new : State) (line : TableLine) (table : LevelTable) → IsSame old new

@@ -118,10 +118,16 @@ IsTableAsMeant file meant =
     ⊎ ((table : Table) (entries : List Entry) → IsOpenOn file table → FileRepresents meant entries →
     TableServes meant table entries × AreAsMeant file meant (index_lines table))
 
--- each block of the open table's file that is not damaged is the one that it was meant to have
+-- The table is open on the file, or the file is the one that was meant. Each block of the table
+-- that the file has is the one that was meant.
+pub record IsOpenAsMeant (file meant : Slot) (table : Table) : Type 0 where
+  pub opened : (file ≡ meant) ⊎ IsOpenOn file table
+  pub blocks : AreAsMeant file meant (index_lines table)
+
+-- the open table's file is so
 abbrev pub HasMeantBlocks : State → State → OpenTable → Type 0
 HasMeantBlocks disk meant it =
-    AreAsMeant (disk (table_file it.table)) (meant (table_file it.table)) (index_lines it.table)
+    IsOpenAsMeant (disk (table_file it.table)) (meant (table_file it.table)) it.table
 
 -- The open table was meant to serve the table: it would from what the disk was meant to be, and of
 -- that the disk has each block of it that is not damaged.

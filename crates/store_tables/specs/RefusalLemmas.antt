@@ -35,6 +35,12 @@ pub passed_on : {T U : Type 0} (called : Result T EngineError) (e : EngineError)
 passed_on called e (Ok x) is told = absurd told
 passed_on called e (Err s) is told = (λ f. cc, λ f. cc)
 
+-- the cause of a refusal is that of the one that it passes on
+pub passed_cause : {T U : Type 0} (result : Result U EngineError) {e cause : EngineError} →
+    IsErrAnd result (λ s. s ≡ e) → IsErrOf result cause → IsErrOf {T = T} (Err e) cause
+passed_cause (Ok x) told is = absurd told
+passed_cause (Err s) told is = cc
+
 -- a refusal for another cause is none
 pub refused_otherwise : {T : Type 0} {e : EngineError} → (e ≡ engine.Disk → ⊥) →
     IsErrOf {T = T} (Err e) engine.Disk → ⊥

@@ -1,8 +1,16 @@
 -- What the calls promise that read the files of tables: an opening, and a lookup.
-use Rattle.std.specs.Prelude.{◌≡◌, IsErrOf, List, All, Result, IfErr, IfOk, MatchResult}
+use Rattle.std.specs.Prelude.{◌≡◌, ◌<◌, ℕ, IsErrOf, List, All, Contains, length, Result, IfErr}
+use Rattle.std.specs.Prelude.{IfOk, IsSomeAnd, MatchResult}
+use Rattle.bloom.specs.{Covers}
 use Rattle.disk.specs.declared.Disk.{Ghosts}
-use Rattle.disk.specs.{Contents, IsEnvironmental, IsSame, IsStill, KeepsDisk, State, contents}
-use Rattle.store_model.specs.{LevelTable}
+use Rattle.disk.specs.{Contents, IsEnvironmental, IsSame, IsStill, KeepsDisk, Slot, State}
+use Rattle.disk.specs.{contents, seen}
+use Rattle.kv_types.specs.{StoredKey}
+use Rattle.merge_iter.specs.{spot}
+use Rattle.table_format.specs.declared.IndexLine.{IndexLine}
+use Rattle.sorted_table.specs.{HasTail, IsBlockAtLine}
+use Rattle.sorted_table.specs.Searches.{IsLinePlace}
+use Rattle.store_model.specs.{KeyRange, LevelTable, RangeHolds}
 use Rattle.manifest.specs.declared.TableLine.{TableLine}
 use Rattle.store_tables.specs.declared.error.EngineError.TheVariants as engine
 use Rattle.store_tables.specs.declared.error.EngineError.{EngineError}
@@ -11,7 +19,7 @@ use Rattle.store_tables.specs.declared.levels.LevelTables.{LevelTables}
 use Rattle.store_tables.specs.Errors.{IsEnd}
 use Rattle.store_tables.specs.LevelTables.{AreServed, AreTablesOf, FileFits, IsServed}
 use Rattle.store_tables.specs.LevelTables.{IsTableAsMeant, IsTableOf, WasServed, WereServed}
-use Rattle.store_tables.specs.LevelTables.{table_lines}
+use Rattle.store_tables.specs.LevelTables.{line_range, table_lines}
 
 -- what a call promises that reads the files of tables
 pub record ReadsTables {D T : Type 0} (g : Ghosts D) (disk later : D)
@@ -22,6 +30,34 @@ pub record ReadsTables {D T : Type 0} (g : Ghosts D) (disk later : D)
   pub causes : IfErr result IsEnd
   -- a crash at any moment leaves what it might have left before
   pub still : IsStill g disk later
+
+-- ---- a lookup that meets damage
+
+-- The file lacks the block of the key, as that of a table with this range. The range has the key,
+-- and so has the filter that the file ends in. Of the lines of the index there, line n is the first
+-- whose block does not end before key and number. The file has no block there that is as the line
+-- says.
+pub record LacksBlock (file : Slot) (range : KeyRange) (key : StoredKey) (at : ℕ) : Type 0 where
+  pub in_range : RangeHolds range key
+  pub lines : List IndexLine
+  pub filter : List ℕ
+  pub tail : IsSomeAnd (seen file) (λ bytes. HasTail bytes lines filter)
+  pub in_filter : Covers filter key
+  pub n : ℕ
+  pub place : IsLinePlace lines (spot key at) n
+  pub there : n < length lines
+  pub damaged : (part : List ℕ) → IsBlockAtLine lines n file part → ⊥
+
+-- one of these tables has a file that does
+abbrev pub OneLacksBlock : State → List LevelTable → StoredKey → ℕ → Type 0
+OneLacksBlock disk tables key at =
+    (table : LevelTable) × Contains tables table × LacksBlock (disk table.file) table.range key at
+
+-- one of these lines names such a file
+abbrev pub OneNamedLacksBlock : State → List TableLine → StoredKey → ℕ → Type 0
+OneNamedLacksBlock disk lines key at =
+    (line : TableLine) × Contains lines line
+    × LacksBlock (disk line.file) (line_range line) key at
 
 -- ---- an opening
 

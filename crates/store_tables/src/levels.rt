@@ -1,6 +1,6 @@
 //! Open tables, level by level, and lookups in them.
 ghost use Rattle.std.specs.Prelude.{◌≡◌, ◌⊎◌, ◌↔◌, ℕ, List, IfOk, IfErr, IsTrue, MatchResult};
-ghost use Rattle.std.specs.Prelude.{◌<◌, OnOk, Some, not, slice_index};
+ghost use Rattle.std.specs.Prelude.{◌<◌, IsErrOf, OnOk, Some, not, slice_index};
 ghost use Rattle.std.specs.List.{prefix_len};
 ghost use Rattle.std.specs.Prelude.{Contains, [], ◌∷◌, ◌++◌};
 ghost use Rattle.bloom.specs.{hashes_of};
@@ -12,7 +12,7 @@ ghost use Rattle.store_model.specs.{level_entries};
 ghost use Rattle.version_edits.specs.Versions.{table_is_before};
 ghost use Rattle.compaction.specs.Merges.{AreCursorsOf, AreIntactCursors};
 ghost use Rattle.compaction.specs.Plans.{model_plan};
-ghost use Rattle.store_tables.specs.declared.error.EngineError.TheVariants.{Disk, Memory};
+ghost use Rattle.store_tables.specs.declared.error.EngineError.TheVariants.{Damaged, Disk, Memory};
 ghost use Rattle.store_tables.specs.LevelTables.{AreServed, EntriesFind, IsServed, LevelsRise};
 ghost use Rattle.store_tables.specs.LevelTables.{TablesFind, WasServed, WereServed};
 ghost use Rattle.store_tables.specs.LevelTables.{error_of_table, is_flushed, level_count};
@@ -20,6 +20,7 @@ ghost use Rattle.store_tables.specs.LevelTables.{line_range};
 ghost use Rattle.store_tables.specs.LevelTables.{table_lines, with_flushed, with_flushed_line};
 ghost use Rattle.store_tables.specs.MergeTables.{HaveInputs, ReplacesTables};
 ghost use Rattle.store_tables.specs.RangeReads.{AreRangeCursors, HasTable, meets_span};
+ghost use Rattle.store_tables.specs.TableReads.{LacksBlock, OneLacksBlock};
 ghost use Rattle.store_tables.specs.TableReads.{OpensTables, ReadsTables, by_all_lines};
 ghost use Rattle.store_tables.specs.TableReads.{by_one_line};
 
@@ -121,8 +122,8 @@ impl OpenTable {
         self.table.cursor(alloc)
     }
 
-    // What the table has of the key with these hashes, or `Damaged` where the block that may have
-    // the key is damaged. Where the range of the table does not hold the key, it is not read.
+    // What the table has of the key with these hashes. Where the range of the table does not hold
+    // the key, it is not read. `Damaged` only where its file lacks the block of the key.
     fn get<D: Disk + Drop>(
         &self,
         alloc: Global,
@@ -141,6 +142,12 @@ impl OpenTable {
         ensures intact { (table : LevelTable) → ⟦<CachedDisk<D> as Disk>⟧.is_honest files.old →
             IsServed (⟦<CachedDisk<D> as Disk>⟧.state files.old) self.now table →
             IfErr result (IsEnvironmental Disk Memory) }
+        ensures damaged { (meant : State) (table : LevelTable) →
+            ⟦<CachedDisk<D> as Disk>⟧.is_honest files.old →
+            WasServed (⟦<CachedDisk<D> as Disk>⟧.state files.old) meant self.now table →
+            IsErrOf result Damaged →
+            LacksBlock (⟦<CachedDisk<D> as Disk>⟧.state files.old table.file) table.range key.now
+            at }
     {
         if !self.may_have(key) {
             return Ok(None);
@@ -244,8 +251,8 @@ impl LevelTables {
     }
 
     /// The newest version of the key with at most this number, if the tables have one. The levels
-    /// are looked up in turn, up to the first that has an entry of the key. `Damaged` where a block
-    /// that may have one is damaged.
+    /// are looked up in turn, up to the first that has an entry of the key. `Damaged` only where a
+    /// table whose range holds the key lacks the block in which the key would be.
     pub fn get<D: Disk + Drop>(
         &self,
         alloc: Global,
@@ -263,6 +270,11 @@ impl LevelTables {
             ⟦<CachedDisk<D> as Disk>⟧.is_honest files.old →
             AreServed (⟦<CachedDisk<D> as Disk>⟧.state files.old) self.now tables →
             IfErr result (IsEnvironmental Disk Memory) }
+        ensures damaged { (meant : State) (tables : List LevelTable) →
+            ⟦<CachedDisk<D> as Disk>⟧.is_honest files.old →
+            WereServed (⟦<CachedDisk<D> as Disk>⟧.state files.old) meant self.now tables →
+            IsErrOf result Damaged →
+            OneLacksBlock (⟦<CachedDisk<D> as Disk>⟧.state files.old) tables key.now at }
     {
         let hashes = KeyHashes::of(key.as_bytes());
         let mut level = 0;

@@ -5,8 +5,9 @@ use Rattle.memtable.specs.{TableHolds}
 use Rattle.store_tables.specs.declared.error.EngineError.TheVariants as engine
 use Rattle.store_tables.specs.LevelTables.{EntriesHave}
 use Rattle.store_files.specs.OpenFiles.{known_store}
-use Rattle.store_tables.specs.RefusalLemmas.{if_refuses}
-use Rattle.store_files.proofs.LookUps.{found_short, memory_shows, never_long, tables_show, told_as}
+use Rattle.store_tables.specs.RefusalLemmas.{if_refuses, passed_cause}
+use Rattle.store_files.proofs.LookUps.{found_short, memory_shows, named_lacks, never_long}
+use Rattle.store_files.proofs.LookUps.{not_damaged, tables_show, told_as}
 use Rattle.store_files.proofs.Meant.{own_blocks, zip_was}
 use Rattle.store_files.proofs.store_files.StoreFiles.get.Goals as goal
 
@@ -78,6 +79,36 @@ returns-clause-intact g c = λ list honest h.
     never_long c.in_ok-get.field-0 c.value_of.result c.value_of.ensures.damaged
     (found_short (contents disk) lines h.known.tables h.known.read c.args.at c.args.key.now
     c.in_ok-get.field-0 finds)
+
+-- so it is where blocks are damaged, for what was found was meant
+pub returns-clause-damaged : goal.returns-clause-damaged
+returns-clause-damaged g c = λ list honest w refused.
+    let h = w.hold in
+    let files = c.args.self.now in
+    let disk = g.D.Disk.state c.args.files.now.disk in
+    let lines = files.manifest.version.version.tables in
+    let rise = c.levels_rise.ensures.lines (contents w.meant) lines h.known.tables
+    h.known.usable.version.lines.tables_in_order h.known.read in
+    let finds = c.in_ok-get.ensures.found w.meant h.known.tables
+    (known_store files h.known.tables).flushed honest
+    (zip_was disk w.meant files.tables.tables.items h.known.tables h.known.served
+    w.disk_is.blocks) h.known.store.tables rise in
+    absurd (not_damaged c.in_ok-get.field-0 c.value_of.result c.value_of.ensures.damaged
+    (found_short (contents w.meant) lines h.known.tables h.known.read c.args.at c.args.key.now
+    c.in_ok-get.field-0 finds) refused)
+
+-- a table lacks the block of the key
+pub returns-in_err-get-clause-damaged : goal.returns-in_err-get-clause-damaged
+returns-in_err-get-clause-damaged g c = λ list honest w refused.
+    let h = w.hold in
+    let files = c.args.self.now in
+    let disk = g.D.Disk.state c.args.files.now.disk in
+    let one = c.in_err-get.ensures.damaged w.meant h.known.tables honest
+    (zip_was disk w.meant files.tables.tables.items h.known.tables h.known.served
+    w.disk_is.blocks)
+    (passed_cause c.from_residual-in_err-get.result c.from_residual-in_err-get.ensures.1 refused) in
+    named_lacks disk (contents w.meant) c.args.key.now c.args.at
+    files.manifest.version.version.tables h.known.tables h.known.read one.0 one.1 one.2
 
 -- undamaged tables are read
 pub returns-in_err-get-clause-intact : goal.returns-in_err-get-clause-intact

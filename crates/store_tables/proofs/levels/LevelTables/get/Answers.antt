@@ -1,5 +1,5 @@
 use Rattle.std.proofs.Common.{◌+◌, ◌≡◌, ◌⊎◌, ℕ, List, [], None, inl, inr, drop}
-use Rattle.disk.specs.{IsEnvironmental}
+use Rattle.disk.specs.{IsEnvironmental, Slot}
 use Rattle.std.proofs.Common.{rules, subst, sym, take, ◌∙◌}
 use Rattle.std.specs.List.{AllZip}
 use Rattle.store_model.specs.{LevelTable}
@@ -7,7 +7,8 @@ use Rattle.store_tables.specs.declared.error.EngineError.TheVariants as engine
 use Rattle.store_tables.specs.declared.levels.OpenTable.{OpenTable}
 use Rattle.store_tables.specs.KeepingLemmas.{answered}
 use Rattle.store_tables.specs.LevelTables.{IsServed, TablesFind, WasServed}
-use Rattle.store_tables.specs.RefusalLemmas.{if_refuses}
+use Rattle.store_tables.specs.RefusalLemmas.{if_refuses, passed_cause}
+use Rattle.store_tables.specs.TableReads.{LacksBlock}
 use Rattle.store_tables.proofs.LevelLemmas.{Walked, all_walked, found_left, none_found}
 use Rattle.store_tables.proofs.LevelLemmas.{none_walked, one_walked}
 use Rattle.store_tables.proofs.OpenTables.{files_ghosts, none_read, read_more, served_same}
@@ -111,6 +112,26 @@ returns-in_err-found-clause-intact g c = λ tables honest served.
     (IsEnvironmental engine.Disk engine.Memory) c.from_residual.ensures.1
     (c.in_err-found.ensures.intact b.other (before.honest.1 honest)
     (served_same s0 s1 one b.other (before.files honest) b.related))
+
+-- the table lacks the block of the key
+pub returns-in_err-found-clause-damaged : goal.returns-in_err-found-clause-damaged
+returns-in_err-found-clause-damaged g c = λ meant tables honest served refused.
+    let s0 = g.D.Disk.state c.args.files.now.disk in
+    let s1 = g.D.Disk.state c.loop-open.files.disk in
+    let one = c.open-item.result in
+    let before = c.loop-open.invariant.read.kept in
+    let zip = subst (λ (l : List OpenTable). AllZip (WasServed s0 meant) l tables)
+    (sym c.deref-open-items.ensures.value) served in
+    let b = beside (WasServed s0 meant) c.deref-open-items.result.now tables
+    c.loop-open.open-index one zip c.loop-open-test.true c.open-item.is in
+    let lacks = c.in_err-found.ensures.damaged meant b.other (before.honest.1 honest)
+    (was_same s0 s1 meant one b.other (before.files honest) b.related)
+    (passed_cause c.from_residual.result c.from_residual.ensures.1 refused) in (
+      b.other,
+      b.there,
+      subst (λ (s : Slot). LacksBlock s b.other.range c.args.key.now c.args.at)
+          (before.files honest b.other.file) lacks,
+    )
 
 pub returns-in_err-found-clause-reads : goal.returns-in_err-found-clause-reads
 returns-in_err-found-clause-reads g c = record {

@@ -41,7 +41,7 @@ loop-open-preserved g c =
           (record {
             serves = λ meant files table honest was.
                 let it = w.in_ok-cursor.ensures.serves meant files table.entries honest
-                was.serves.serves was.blocks in
+                was.serves.serves was.blocks.blocks in
                 record { sound = it.0; holds = it.1 };
             suits = w.in_ok-cursor.ensures.suits;
           }))

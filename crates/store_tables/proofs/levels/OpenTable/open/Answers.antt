@@ -3,9 +3,11 @@ use Rattle.std.proofs.Common.{rules, subst, sym}
 use Rattle.std.specs.Prelude.{IsSomeAnd}
 use Rattle.disk.specs.{IsEnvironmental, Slot, contents, seen}
 use Rattle.disk.specs.StillLemmas.{still, still_more, still_same}
-use Rattle.sorted_table.specs.{AreAsMeant, HasTail, IsOpenOn, TableServes, as_meant_itself}
+use Rattle.sorted_table.specs.{AreAsMeant, HasTail, IsOpenOn, TableServes}
 use Rattle.sorted_table.specs.{index_lines, table_filter}
 use Rattle.store_tables.specs.declared.error.EngineError.TheVariants as engine
+use Rattle.store_tables.specs.KeepingLemmas.{open_as_itself}
+use Rattle.store_tables.specs.LevelTables.{IsOpenAsMeant}
 use Rattle.store_tables.specs.RefusalLemmas.{refuses}
 use Rattle.store_tables.proofs.OpenTables.{file_represents, fit_read, fits_last, fits_length}
 use Rattle.store_tables.proofs.OpenTables.{fits_opens, of_table, opened_as_meant}
@@ -143,15 +145,15 @@ returns-clause-opens g c = record {
       opened_as_meant s2 meant line c.in_ok-line.line table opened c.in_ok-line.ensures
       c.in_ok-table.ensures.at is
       (elim as_meant as (λ _. TableServes (meant file) opened table.entries
-      × AreAsMeant (s2 file) (meant file) (index_lines opened)) [
+      × IsOpenAsMeant (s2 file) (meant file) opened) [
         | inl e ↦
             let has = file_represents (contents meant) line table (s1 file) is
             (ap seen (first ∙ e)) in
             let now : s2 file ≡ meant file = same ∙ e in (
               subst (λ (s : Slot). TableServes s opened table.entries) now
                   (c.in_ok-table.ensures.opened table.entries between has),
-              subst (λ (s : Slot). AreAsMeant (s2 file) s (index_lines opened)) now
-                  (as_meant_itself (s2 file) (index_lines opened)),
+              subst (λ (s : Slot). IsOpenAsMeant (s2 file) s opened) now
+                  (open_as_itself (s2 file) opened),
             )
         | inr rest ↦
             let was = subst (λ (s : Slot). IsOpenOn s opened) same
@@ -159,8 +161,11 @@ returns-clause-opens g c = record {
             let both = rest opened table.entries was
             (file_represents (contents meant) line table (meant file) is refl) in (
               both.0,
-              subst (λ (s : Slot). AreAsMeant s (meant file) (index_lines opened)) (sym same)
-                  both.1,
+              record {
+                opened = inr (c.in_ok-table.ensures.checked between).0;
+                blocks = subst (λ (s : Slot). AreAsMeant s (meant file) (index_lines opened))
+                    (sym same) both.1;
+              },
             )
       ]);
   -- the file had the length of the line, and its greatest key

@@ -5,10 +5,11 @@ use Rattle.manifest.specs.declared.TableLine.{TableLine}
 use Rattle.manifest.specs.{IsFit, NodeVersion}
 use Rattle.memtable.specs.declared.Memtable.{Memtable}
 use Rattle.memtable.specs.{HasFailedAdd, TableHolds}
-use Rattle.sorted_table.specs.{as_meant_itself, index_lines, table_file}
+use Rattle.sorted_table.specs.{table_file}
 use Rattle.store_files.specs.declared.store_files.StoreFiles.{StoreFiles}
 use Rattle.store_tables.specs.declared.error.EngineError.TheVariants as engine
 use Rattle.store_tables.specs.KeepingLemmas.{answered, kept_as, kept_behind, kept_but, neither}
+use Rattle.store_tables.specs.KeepingLemmas.{open_as_itself}
 use Rattle.store_tables.specs.LevelTables.{table_lines, with_flushed, with_flushed_line}
 use Rattle.store_files.specs.OpenFiles.{known_version, trimmed_count}
 use Rattle.store_files.proofs.FlushVersions.{count_kept, edit_is, flush_by, facts_kept}
@@ -110,8 +111,8 @@ installs g c =
                   serves = new_served so s1 list c.args.made.table hs s2 spares logs
                       begun.2 began keeps s3 _
                       slot same;
-                  blocks = as_meant_itself (s3 (table_file c.args.made.table.table)) (index_lines
-                      c.args.made.table.table);
+                  blocks = open_as_itself (s3 (table_file c.args.made.table.table))
+                      c.args.made.table.table;
                 }))) empty;
             any_moment = edit_is_recorded so s1 list table hs s2 spares logs begun.2 began
                 keeps law left stays edits p1 p2 p3 s3 (c.begin.ensures.any_moment honest)

@@ -5,9 +5,10 @@ use Rattle.manifest.specs.declared.TableLine.{TableLine}
 use Rattle.manifest.specs.{IsFit, NodeVersion}
 use Rattle.memtable.specs.declared.Memtable.{Memtable}
 use Rattle.memtable.specs.{HasFailedAdd, TableHolds}
-use Rattle.sorted_table.specs.{as_meant_itself, index_lines, table_file}
+use Rattle.sorted_table.specs.{table_file}
 use Rattle.store_files.specs.declared.store_files.StoreFiles.{StoreFiles}
 use Rattle.store_tables.specs.declared.error.EngineError.TheVariants as engine
+use Rattle.store_tables.specs.KeepingLemmas.{open_as_itself}
 use Rattle.store_tables.specs.LevelTables.{table_lines, with_flushed, with_flushed_line}
 use Rattle.store_files.specs.OpenFiles.{known_version, trimmed_count}
 use Rattle.store_files.proofs.FlushVersions.{edit_is, flush_by, installed_usable, known}
@@ -92,8 +93,8 @@ ends_as_before g c =
                   serves = new_served so s1 list c.args.made.table hs s2 spares logs
                       begun.2 began keeps s3 _
                       slot same;
-                  blocks = as_meant_itself (s3 (table_file c.args.made.table.table)) (index_lines
-                      c.args.made.table.table);
+                  blocks = open_as_itself (s3 (table_file c.args.made.table.table))
+                      c.args.made.table.table;
                 }))) empty;
             can_end = ends_behind so s1 list c.args.made.table hs s2 spares logs begun.2 began
                 keeps s3 _ slot same leaves new c.in_default.ensures.told.0 plan it.can_end;
