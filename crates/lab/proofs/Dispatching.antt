@@ -1,17 +1,16 @@
 -- A node that takes an input, by the state that it had.
 use Rattle.std.specs.Global.{Box}
-use Rattle.std.proofs.Common.{◌≡◌, ◌↔◌, ◌⊎◌, ◌∷◌, ℕ, Bool, [], None, Option, true, length}
-use Rattle.std.proofs.Common.{inl, refl, subst, sym, ◌∙◌}
-use Rattle.std.specs.Prelude.{IsSome}
+use Rattle.std.proofs.Common.{◌≡◌, ◌↔◌, ◌⊎◌, ℕ, Bool, [], None, Option, true}
+use Rattle.std.proofs.Common.{Err, Ok, Result, false, inl, refl, subst, sym, ◌∙◌}
+use Rattle.std.specs.Prelude.{IfOk, IsSome}
 use Rattle.kv_types.specs.declared.Limits.{Limits}
 use Rattle.chain_core.specs.{Machine}
 use Rattle.chain_model.specs.declared.DropReason.{DropReason}
 use Rattle.chain_model.specs.declared.DropReason.TheVariants as reason
 use Rattle.disk.specs.declared.Fault.{Fault}
 use Rattle.disk.specs.declared.Junk.{Junk}
-use Rattle.disk.specs.declared.Mark.TheVariants.{Crashed}
 use Rattle.disk.specs.declared.disk.Disk.{Ghosts}
-use Rattle.disk.specs.{HasStruck, IsArmed, IsEnvironmental, IsLastLeft, KeepsDisk, State, fault_of}
+use Rattle.disk.specs.{HasStruck, IsArmed, IsEnvironmental, IsLastLeft, KeepsDisk, State}
 use Rattle.engine.specs.{Facts, facts_of}
 use Rattle.node.specs.declared.Node.{Node}
 use Rattle.node.specs.declared.Output.{Output}
@@ -24,19 +23,19 @@ use Rattle.lab.specs.declared.input.StepOutcome.{StepOutcome}
 use Rattle.lab.specs.declared.input.StepOutcome.TheVariants as done
 use Rattle.lab.specs.declared.node_state.NodeState.{NodeState}
 use Rattle.lab.specs.declared.node_state.NodeState.TheVariants.{Up, Down}
-use Rattle.lab.specs.Disks.{HasGrown, IsMarkedSo, junk_at_end}
+use Rattle.lab.specs.Disks.{HasGrown, junk_at_end}
 use Rattle.lab.specs.Events.{line_cause}
 use Rattle.lab.specs.Outcomes.{DiskFits, DropsResting, HasCrashed, HasDispatched, IsAnswerAtRest}
-use Rattle.lab.specs.Outcomes.{IsDrop, IsIgnored, IsOutcomeOf, IsStopOutcome, MarksFit}
+use Rattle.lab.specs.Outcomes.{IsDrop, IsIgnored, IsOutcomeOf, MarksFit}
 use Rattle.lab.specs.Outcomes.{OutcomeRefines, Rests, RestsOn, StateFollows}
 use Rattle.lab.specs.Outcomes.{StopsByItself, TendsNot, has_struck_in, input_junk}
-use Rattle.lab.specs.SimNodes.{IsDown, StateHasLimits, StateIsReady, StateIsSound, StateRefines}
-use Rattle.lab.specs.SimNodes.{disk_in}
+use Rattle.lab.specs.SimNodes.{IsDown, StateIsReady, StateIsSound, StateRefines, disk_in}
+use Rattle.lab.specs.Stops.{GoesDown, StopsWithDisk}
 use Rattle.lab.proofs.Faults.{IsSpent, disk_fits, explained, grown_end, idle_in, marked_end, spent}
 use Rattle.lab.proofs.Faults.{stopped_so, struck_at}
 
--- the box, if it held this node
-abbrev pub holding : {D : Type 0} {g : Ghosts D} → Box (Node D g) → Node D g → Box (Node D g)
+-- the box, if it held this
+abbrev pub holding : {A : Type 0} → Box A → A → Box A
 holding boxed own = record { ptr = boxed.ptr; alloc = boxed.alloc; value = own }
 
 -- a node that is up is ready where it says so, and one that is down is
@@ -46,8 +45,14 @@ ready_up node ready other same =
     let is : node ≡ other = cc in
     subst (λ (it : Box (Node _ _)). IsReady it.value) is ready
 
-pub ready_down : {D : Type 0} (g : Ghosts D) (disk : D) → StateIsReady {g = g} (Down disk)
+pub ready_down : {D : Type 0} (g : Ghosts D) (disk : Box D) → StateIsReady {g = g} (Down disk)
 ready_down g disk other same = absurd cc
+
+-- what has P has Q
+pub each_answer : {T E : Type 0} {P Q : T → Type 0} (result : Result T E) →
+    ((x : T) → P x → Q x) → IfOk result P → IfOk result Q
+each_answer (Ok x) so has = so x has
+each_answer (Err e) so has = tt
 
 -- the same, where the input and the state before it are known
 pub dispatched_as : {D : Type 0} {g : Ghosts D} {old new : NodeState D g} {did : StepOutcome}
@@ -66,6 +71,14 @@ pub in_box : {D : Type 0} (g : Ghosts D) (limits : Limits) (it : Fault) (node_in
 in_box g limits it node_input old own new did is took =
     subst (λ (v : Node _ g). HasDispatched g limits it node_input (Up (holding old v)) new did)
     is took
+
+-- .. of one that is down, by the disk that its box gives
+pub in_disk_box : {D : Type 0} (g : Ghosts D) (limits : Limits) (it : Fault)
+    (node_input : NodeInput) (old : Box D) (own : D) (new : NodeState D g) (did : StepOutcome) →
+    own ≡ old.value → HasDispatched g limits it node_input (Down (holding old own)) new did →
+    HasDispatched g limits it node_input (Down old) new did
+in_disk_box g limits it node_input old own new did is took =
+    subst (λ (d : _). HasDispatched g limits it node_input (Down (holding old d)) new did) is took
 
 -- .. and of one that came up so, by the node that was put into its box
 pub into_box : {D : Type 0} (g : Ghosts D) (limits : Limits) (it : Fault) (node_input : NodeInput)
@@ -108,17 +121,9 @@ answered_only g limits it node_input old output ready outcome may ignored refine
 pub some_drop : (why : DropReason) (output : Output) → IsDrop why output → IsSome output.dropped
 some_drop why output is = subst (λ (d : Option DropReason). IsSome d) (sym is.dropped) refl
 
--- a node that stopped has such an outcome
-pub by_stop : (P : StepOutcome → Type 0) → ((cause : Option Cause) → P (done.Stopped cause)) →
-    (did : StepOutcome) → IsStopOutcome did → P did
-by_stop P of (done.Answered output) is = absurd is
-by_stop P of (done.Started epoch count committed) is = absurd is
-by_stop P of (done.Stopped cause) is = of cause
-by_stop P of (done.Tended answer) is = absurd is
-
 -- a node that is down takes what does not start it
 pub answered_at_rest : {D : Type 0} (g : Ghosts D) (limits : Limits) (it : Fault)
-    (node_input : NodeInput) (disk : D)
+    (node_input : NodeInput) (disk : Box D)
     (output : Output) → (node_input ≡ to_node.Start → ⊥) → IsAnswerAtRest node_input output →
     HasDispatched g limits it node_input (Down disk) (Down disk) (done.Answered output)
 answered_at_rest g limits it (to_node.Step inp) disk output other is =
@@ -166,19 +171,20 @@ tends_armed g x n node armed is refines =
     subst (λ (f : Facts). NodeRefines g.is_honest g.state armed x (answer_to_tend x n f).node)
     (is.facts ∙ sym refines.facts) refines
 
+-- two tests of one fact answer the same
+same_test : (a b : Bool) {P : Type 0} → (a ≡ true) ↔ P → (b ≡ true) ↔ P → a ≡ b
+same_test true true is so = refl
+same_test true false is so = sym (so.1 (is.0 refl))
+same_test false true is so = is.1 (so.0 refl)
+same_test false false is so = refl
+
 -- A node that was in this state stopped by itself, once its disk was armed with the fault, and the
 -- calls of its step left this disk, which then crashed.
 module _ {D : Type 0} (g : Ghosts D) (it : Fault) (was new : NodeState D g) (did : StepOutcome)
     (armed left : D) (stop : Cause) (has_failed cause : Type 0)
     (IsKept : State → State → Type 0) (arms : IsArmed g it (disk_in was) armed)
     (keeps : KeepsDisk g armed left has_failed cause IsKept) (to : has_failed → stop ≡ Disk)
-    (from : stop ≡ Disk → has_failed)
-    (told : (struck : Bool) → ((struck ≡ true) ↔ HasStruck g.marks g.past left) →
-    did ≡ done.Stopped (line_cause it struck stop))
-    (crashes : (struck : Bool) → ((struck ≡ true) ↔ HasStruck g.marks g.past left) →
-    g.is_honest left →
-    HasCrashed g.state g.failures g.past (junk_at_end it struck) left new
-    × IsLastLeft (g.past left) (g.state left))
+    (from : stop ≡ Disk → has_failed) (stops : StopsWithDisk g left stop it new did)
   where
     abbrev struck : Bool
     struck = has_struck_in g.past it (disk_in was) new
@@ -191,6 +197,21 @@ module _ {D : Type 0} (g : Ghosts D) (it : Fault) (was new : NodeState D g) (did
     pub honest_left : g.is_honest (disk_in was) → g.is_honest left
     honest_left honest = (spent_so honest).honest
 
+    told : (b : Bool) → ((b ≡ true) ↔ HasStruck g.marks g.past left) →
+        did ≡ done.Stopped (line_cause it b stop)
+    told b strikes = subst (λ (t : Bool). did ≡ done.Stopped (line_cause it t stop))
+        (same_test stops.struck b stops.strikes strikes) stops.told
+
+    down : (b : Bool) → ((b ≡ true) ↔ HasStruck g.marks g.past left) →
+        GoesDown g left (junk_at_end it b) new
+    down b strikes = subst (λ (t : Bool). GoesDown g left (junk_at_end it t) new)
+        (same_test stops.struck b stops.strikes strikes) stops.down
+
+    crashes : (b : Bool) → ((b ≡ true) ↔ HasStruck g.marks g.past left) → g.is_honest left →
+        HasCrashed g.state g.failures g.past (junk_at_end it b) left new
+        × IsLastLeft (g.past left) (g.state left)
+    crashes b strikes honest = ((down b strikes).crashes honest, stops.last honest)
+
     -- it stopped for its device or for memory: for its device where the fault struck
     pub halts_so : g.is_honest (disk_in was) → IsEnvironmental Disk Memory stop →
         StopsByItself it struck did
@@ -199,12 +220,7 @@ module _ {D : Type 0} (g : Ghosts D) (it : Fault) (was new : NodeState D g) (did
 
     -- so it took an input that does not stop it
     pub halted : (given : Limits) (node_input : NodeInput) → input_junk node_input ≡ None →
-        StateIsReady new → IsOutcomeOf node_input did →
-        ((b : Bool) → ((b ≡ true) ↔ HasStruck g.marks g.past left) → g.is_honest left →
-        IsMarkedSo g.state g.past g.marks
-        ((length (g.past left), Crashed (junk_at_end it b)) ∷ g.marks left) (disk_in new)) →
-        (g.is_honest left → fault_of (g.marks (disk_in new)) ≡ None) →
-        StateHasLimits new given →
+        ((told : Option Cause) → IsOutcomeOf node_input (done.Stopped told)) →
         ((x : ℕ) (n : Machine) → StateRefines g.is_honest g.state was x n →
         OutcomeRefines g.is_honest g.state it struck x n node_input was new did) →
         (StateIsSound g was → cause → HasLongFile (g.state (disk_in was))) →
@@ -212,11 +228,10 @@ module _ {D : Type 0} (g : Ghosts D) (it : Fault) (was new : NodeState D g) (did
         ((x : ℕ) (n : Machine) → StateRefines g.is_honest g.state was x n →
         HasGrown g.past (disk_in was) left) →
         HasDispatched g given it node_input was new did
-    halted given node_input unstopped ready outcome stamped forgets limits refines long follows
-        grows =
+    halted given node_input unstopped outcome refines long follows grows =
         record {
-          ready = ready;
-          outcome = outcome;
+          ready = stops.down.ready;
+          outcome = subst (IsOutcomeOf node_input) (sym stops.told) (outcome _);
           refines = refines;
           disk = λ honest. subst (λ (j : Option Junk).
               DiskFits g.state g.failures g.past j it struck did (disk_in was) new) (sym unstopped)
@@ -230,7 +245,8 @@ module _ {D : Type 0} (g : Ghosts D) (it : Fault) (was new : NodeState D g) (did
           marked = λ honest. subst (λ (j : Option Junk).
               MarksFit g.state g.past g.marks j it struck did (disk_in was) new) (sym unstopped)
               (marked_end g it (disk_in was) left stop new did has_failed cause (spent_so honest)
-              to from told crashes armed has_failed cause IsKept arms keeps honest stamped);
-          forgets = λ honest _. forgets (honest_left honest);
-          limits = λ _. limits;
+              to from told crashes armed has_failed cause IsKept arms keeps honest
+              (λ b strikes. (down b strikes).marked));
+          forgets = λ honest _. stops.down.forgets (honest_left honest);
+          limits = λ _. stops.down.limits given;
         }

@@ -71,8 +71,8 @@ pub idle_in : {D : Type 0} (g : Ghosts D) (it : Fault) (old : NodeState D g) →
     has_struck_in g.past it (disk_in old) old ≡ false
 idle_in g it (Up node) = idle it (length (g.past (disk_of node.value)))
 idle_in g it (Down disk) =
-    idle_by it (length (g.past disk)) (length (before_crash (g.past disk)))
-    (no_longer (g.past disk))
+    idle_by it (length (g.past disk.value)) (length (before_crash (g.past disk.value)))
+    (no_longer (g.past disk.value))
 
 -- a test holds, or else what follows where it fails
 true_or : (b : Bool) {P : Type 0} → (b ≡ false → P) → (b ≡ true) ⊎ P

@@ -1,13 +1,12 @@
 -- Events as the chain's model has them, and the lines of their outcomes.
 use Rattle.std.specs.Prelude.{◌≡◌, ℕ, suc, List, [], ◌∷◌, ◌++◌, length, Option, Some, None}
-use Rattle.std.specs.Prelude.{Bool, IfSome, IsSome, true, false, if◌then◌else◌, All}
+use Rattle.std.specs.Prelude.{Bool, IfSome, IsSome, true, false, if◌then◌else◌}
 use Rattle.std.specs.List.{flat_map}
-use Rattle.kv_types.specs.{BatchContent, map_of, has, place}
+use Rattle.kv_types.specs.{BatchContent, map_of, place}
 use Rattle.kv_types.specs.Pages.{page_of}
 use Rattle.disk.specs.{IsEnvironmental}
 use Rattle.disk.specs.declared.Fault.{Fault}
 use Rattle.disk.specs.declared.Fault.TheVariants as fault
-use Rattle.configurations.specs.{Configurations, at_epoch}
 use Rattle.chain_model.specs.{Message, Request, Response}
 use Rattle.chain_model.specs.{SystemEvent}
 use Rattle.chain_model.specs.declared.DropReason.{DropReason}

@@ -8,6 +8,7 @@ pub mod Disks
 pub mod Arrivals
 pub mod Deliveries
 pub mod Outcomes
+pub mod Stops
 pub mod OutcomeLines
 pub mod Freshness
 pub mod Runs

@@ -85,7 +85,7 @@ HasAnswered did P = (output : Output) × (did ≡ done.Answered output) × P out
 -- since
 abbrev pub past_in : {D : Type 0} {g : Ghosts D} → (D → List State) → NodeState D g → List State
 past_in past (Up node) = past (disk_of node.value)
-past_in past (Down disk) = before_crash (past disk)
+past_in past (Down disk) = before_crash (past disk.value)
 
 -- whether the fault struck a call of a node's disk
 abbrev pub has_struck_in : {D : Type 0} {g : Ghosts D} → (D → List State) → Fault → D
@@ -234,7 +234,8 @@ abbrev pub HasCrashed : {D : Type 0} {g : Ghosts D} → (D → State) → (D →
     → Junk → D → NodeState D g
     → Type 0
 HasCrashed state failures past junk old (Up node) = ⊥
-HasCrashed state failures past junk old (Down disk) = IsCrashOf state failures past junk old disk
+HasCrashed state failures past junk old (Down disk) =
+    IsCrashOf state failures past junk old disk.value
 
 -- A node stopped by itself: a call of the disk failed if that is the cause, and else none. The
 -- state that the step left of the disk crashed with this junk.
@@ -316,11 +317,6 @@ IsIgnored (Down disk) to_node.Start = ⊥
 IsIgnored _ _ = Unit {0}
 
 -- ---- one input of a node
-
--- the node stopped
-abbrev pub IsStopOutcome : StepOutcome → Type 0
-IsStopOutcome (done.Stopped cause) = Unit {0}
-IsStopOutcome did = ⊥
 
 -- the outcome of an input, whatever the node: a start, a stop and a tend have no other than these,
 -- and what is no frame is dropped

@@ -16,7 +16,7 @@ use Rattle.lab.specs.declared.node_state.NodeState.TheVariants.{Up, Down}
 -- the disk that a node owns, or that is left of one that is down
 abbrev pub disk_in : {D : Type 0} {g : Ghosts D} → NodeState D g → D
 disk_in (Up node) = disk_of node.value
-disk_in (Down disk) = disk
+disk_in (Down disk) = disk.value
 
 -- the node is down
 abbrev pub IsDown : {D : Type 0} {g : Ghosts D} → NodeState D g → Type 0
@@ -41,13 +41,13 @@ DownRefines is_honest state disk x n =
 abbrev pub StateRefines : {D : Type 0} {g : Ghosts D} → (D → Type 0) → (D → State) → NodeState D g
     → ℕ → Machine → Type 0
 StateRefines is_honest state (Up node) x n = NodeRefines is_honest state node.value x n
-StateRefines is_honest state (Down disk) x n = DownRefines is_honest state disk x n
+StateRefines is_honest state (Down disk) x n = DownRefines is_honest state disk.value x n
 
 -- a running node refines some machine, or the disk of one that is down is honest
 abbrev pub StateIsSound : {D : Type 0} (g : Ghosts D) → NodeState D g → Type 0
 StateIsSound g (Up node) =
     (x : ℕ) × (n : Machine) × NodeRefines g.is_honest g.state node.value x n
-StateIsSound g (Down disk) = g.is_honest disk
+StateIsSound g (Down disk) = g.is_honest disk.value
 
 -- what the code may choose in a step: how it went, whether the event's fault struck in it, why the
 -- node stopped if it did, and what it did if it tended: whether its floor rises then, and which

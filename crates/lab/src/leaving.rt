@@ -27,7 +27,7 @@ fn left_of(node: SimNode<MemDisk>) -> NodeReport
         }
         NodeState::Down(disk) => NodeReport {
             id,
-            disk,
+            disk: Box::into_inner(disk),
             running: None,
         },
     }

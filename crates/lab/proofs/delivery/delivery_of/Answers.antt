@@ -1,4 +1,4 @@
-use Rattle.std.proofs.Common.{◌≡◌, ◌∙◌, ap, subst, sym}
+use Rattle.std.proofs.Common.{◌∙◌, ap, subst, sym}
 use Rattle.std.specs.Prelude.{IfOk}
 use Rattle.carriers.specs.{HasCarriedMore, delivery_lost}
 use Rattle.events.specs.declared.EventKind.{EventKind}

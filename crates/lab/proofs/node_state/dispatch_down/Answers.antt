@@ -9,12 +9,12 @@ use Rattle.lab.proofs.node_state.dispatch_down.Goals as goal
 pub returns-in-Start : goal.returns-in-Start
 returns-in-Start g c =
     subst (λ (k : NodeInput). IfOk c.start.result
-    (λ it. HasDispatched g.D.Disk c.args.limits.now c.args.fault k (Down c.args.disk) it.0 it.1))
+    (λ it. HasDispatched g.D.Disk c.args.limits.now c.args.fault k (Down c.args.boxed) it.0 it.1))
     (sym c.in-Start.is) c.start.ensures
 
 pub returns : goal.returns
 returns g c =
     let output = c.in_ok-output in
-    answered_at_rest g.D.Disk c.args.limits.now c.args.fault c.args.input.now c.args.disk
+    answered_at_rest g.D.Disk c.args.limits.now c.args.fault c.args.input.now c.args.boxed
     output.output
     c.in_default.not-Start output.ensures

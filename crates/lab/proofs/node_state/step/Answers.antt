@@ -1,17 +1,16 @@
 use Rattle.std.specs.Prelude.{IsErrOf}
-use Rattle.std.proofs.Common.{false, ◌∙◌, Err, Result, inr, refl, sym, ap, subst, rules}
+use Rattle.std.proofs.Common.{false, Err, Result, inr, refl, sym, ap, subst, rules}
 use Rattle.chain_core.specs.{answer_to}
 use Rattle.disk.specs.{KeepsDisk, State}
 use Rattle.node.specs.declared.Stop.TheVariants as stop
-use Rattle.node.specs.declared.Node.{Node}
 use Rattle.node.specs.declared.Output.{Output}
 use Rattle.node.specs.declared.Stop.{Stop as Cause}
 use Rattle.node.specs.{HasLongFile, IsNearlyFull, IsOwned, StopRefines}
 use Rattle.node.specs.{disk_of, engine_of}
 use Rattle.carriers.specs.declared.NodeInput.TheVariants as to_node
 use Rattle.lab.specs.declared.node_state.NodeState.TheVariants.{Up}
-use Rattle.lab.specs.Outcomes.{Answers, Ends, IsOutcomeOf}
-use Rattle.lab.proofs.Dispatching.{by_stop, halted, halts_so, holding, in_box}
+use Rattle.lab.specs.Outcomes.{Answers, Ends}
+use Rattle.lab.proofs.Dispatching.{each_answer, halted, halts_so, holding, in_box}
 use Rattle.lab.proofs.Faults.{grown_since, marked_so, same_state}
 use Rattle.lab.proofs.node_state.step.Goals as goal
 
@@ -58,26 +57,23 @@ returns-in-Err g c = λ limits.
     let kept = subst (λ d. KeepsDisk g.D.Disk (disk_of c.arm.new.self) d
     (IsErrOf ended stop.Disk) full
     IsOwned) same c.in-Err.ensures.kept.disk in
-    let e = c.stop_by_itself.ensures in
-    in_box g.D.Disk limits c.args.fault (to_node.Step c.args.input) c.args.boxed own _ _
+    each_answer c.stop_by_itself.result (λ did stops.
+    in_box g.D.Disk limits c.args.fault (to_node.Step c.args.input) c.args.boxed own did.0 did.1
     c.as_mut-node.ensures.value
-    (halted g.D.Disk c.args.fault (Up (holding c.args.boxed own)) c.stop_by_itself.result.0
-    c.stop_by_itself.result.1 (disk_of c.arm.new.self) c.disk_in_box.result c.in-Err.stop
+    (halted g.D.Disk c.args.fault (Up (holding c.args.boxed own)) did.0 did.1
+    (disk_of c.arm.new.self) c.disk_in_box.result c.in-Err.stop
     (IsErrOf ended stop.Disk) full IsOwned c.arm.ensures.armed kept (λ fails. cc)
-    (λ is. ap (λ (e : Cause). Err e) is) e.told e.crashes limits (to_node.Step c.args.input) refl
-    e.ready.0
-    (by_stop (IsOutcomeOf (to_node.Step c.args.input)) (λ cause. tt) c.stop_by_itself.result.1
-    e.ready.1)
-    e.marked e.forgets (e.limits limits)
+    (λ is. ap (λ (e : Cause). Err e) is) stops limits (to_node.Step c.args.input) refl
+    (λ told. tt)
     (λ x n r.
     let a = answer_to x n c.args.input in
     let ends = c.in-Err.ensures.ends x n (c.arm.ensures.refines x n r) in
     Ends r.core.running
-    (halts_so g.D.Disk c.args.fault (Up (holding c.args.boxed own)) c.stop_by_itself.result.0
-    c.stop_by_itself.result.1 (disk_of c.arm.new.self) c.disk_in_box.result c.in-Err.stop
+    (halts_so g.D.Disk c.args.fault (Up (holding c.args.boxed own)) did.0 did.1
+    (disk_of c.arm.new.self) c.disk_in_box.result c.in-Err.stop
     (IsErrOf ended stop.Disk) full IsOwned c.arm.ensures.armed kept (λ fails. cc)
-    (λ is. ap (λ (e : Cause). Err e) is) e.told e.crashes r.honest ends.done)
-    (e.refines x n a (subst g.D.Disk.is_honest same ends.honest)
+    (λ is. ap (λ (e : Cause). Err e) is) stops r.honest ends.done)
+    (stops.down.refines x n a (subst g.D.Disk.is_honest same ends.honest)
     (subst (λ d. StopRefines (g.D.Disk.state d) x n a) same ends.any_moment.now)))
     (λ sound why. subst (λ (s : State). HasLongFile s)
     (sym (same_state (c.arm.ensures.armed.same sound.2.honest)))
@@ -86,4 +82,4 @@ returns-in-Err g c = λ limits.
     (λ x n r.
     let ends = c.in-Err.ensures.ends x n (c.arm.ensures.refines x n r) in
     grown_since g.D.Disk _ (disk_of own) (disk_of c.arm.new.self) _ c.disk_in_box.result
-    c.arm.ensures.armed.past ends.any_moment (ap g.D.Disk.past disk)))
+    c.arm.ensures.armed.past ends.any_moment (ap g.D.Disk.past disk)))) c.stop_by_itself.ensures

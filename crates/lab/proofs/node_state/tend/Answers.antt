@@ -1,19 +1,18 @@
 use Rattle.std.specs.Prelude.{IsErrOf}
-use Rattle.std.proofs.Common.{◌⊎◌, ◌∙◌, Err, Result, inl, inr, refl, sym, ap, subst, rules}
+use Rattle.std.proofs.Common.{◌⊎◌, Err, Result, inl, inr, refl, sym, ap, subst, rules}
 use Rattle.std.proofs.Common.{true, false}
 use Rattle.chain_model.specs.Rules.{tend}
 use Rattle.disk.specs.{KeepsDisk, State}
 use Rattle.engine.specs.{IsAdrift, raised_facts}
 use Rattle.engine.specs.Tended.{Tended}
-use Rattle.node.specs.declared.Node.{Node}
 use Rattle.node.specs.declared.Stop.TheVariants as stop
 use Rattle.node.specs.declared.Stop.{Stop as Cause}
 use Rattle.node.specs.{HasLongFile, IsNearlyFull, IsOwned, StopRefines}
 use Rattle.node.specs.{disk_of, engine_of}
 use Rattle.carriers.specs.declared.NodeInput.TheVariants as to_node
 use Rattle.lab.specs.declared.node_state.NodeState.TheVariants.{Up}
-use Rattle.lab.specs.Outcomes.{Halts, Tends, IsOutcomeOf}
-use Rattle.lab.proofs.Dispatching.{by_stop, halted, halts_so, holding, in_box, tends_armed}
+use Rattle.lab.specs.Outcomes.{Halts, Tends}
+use Rattle.lab.proofs.Dispatching.{each_answer, halted, halts_so, holding, in_box, tends_armed}
 use Rattle.lab.proofs.Faults.{grown_since, marked_so, same_state}
 use Rattle.lab.proofs.node_state.tend.Goals as goal
 
@@ -60,25 +59,22 @@ returns-in-Err g c = λ limits.
     let kept = subst (λ d. KeepsDisk g.D.Disk (disk_of c.arm.new.self) d
     (IsErrOf ended stop.Disk) may
     IsOwned) same c.in-Err.ensures.kept in
-    let e = c.stop_by_itself.ensures in
-    in_box g.D.Disk limits c.args.fault to_node.Tend c.args.boxed own _ _
+    each_answer c.stop_by_itself.result (λ did stops.
+    in_box g.D.Disk limits c.args.fault to_node.Tend c.args.boxed own did.0 did.1
     c.as_mut-node.ensures.value
-    (halted g.D.Disk c.args.fault (Up (holding c.args.boxed own)) c.stop_by_itself.result.0
-    c.stop_by_itself.result.1 (disk_of c.arm.new.self) c.disk_in_box.result c.in-Err.stop
+    (halted g.D.Disk c.args.fault (Up (holding c.args.boxed own)) did.0 did.1
+    (disk_of c.arm.new.self) c.disk_in_box.result c.in-Err.stop
     (IsErrOf ended stop.Disk) may IsOwned c.arm.ensures.armed kept (λ fails. cc)
-    (λ is. ap (λ (e : Cause). Err e) is) e.told e.crashes limits to_node.Tend refl
-    e.ready.0
-    (by_stop (IsOutcomeOf to_node.Tend) (λ cause. tt) c.stop_by_itself.result.1 e.ready.1)
-    e.marked e.forgets (e.limits limits)
+    (λ is. ap (λ (e : Cause). Err e) is) stops limits to_node.Tend refl (λ told. tt)
     (λ x n r.
     let ends = c.in-Err.ensures.ends x n (c.arm.ensures.refines x n r) in
     Halts r.core.running
-    (halts_so g.D.Disk c.args.fault (Up (holding c.args.boxed own)) c.stop_by_itself.result.0
-    c.stop_by_itself.result.1 (disk_of c.arm.new.self) c.disk_in_box.result c.in-Err.stop
+    (halts_so g.D.Disk c.args.fault (Up (holding c.args.boxed own)) did.0 did.1
+    (disk_of c.arm.new.self) c.disk_in_box.result c.in-Err.stop
     (IsErrOf ended stop.Disk) may IsOwned c.arm.ensures.armed kept (λ fails. cc)
-    (λ is. ap (λ (e : Cause). Err e) is) e.told e.crashes r.honest ends.done)
+    (λ is. ap (λ (e : Cause). Err e) is) stops r.honest ends.done)
     (raised_facts (engine_of c.arm.new.self)).kept
-    (e.refines x n (tend n true (raised_facts (engine_of c.arm.new.self)).kept)
+    (stops.down.refines x n (tend n true (raised_facts (engine_of c.arm.new.self)).kept)
     (subst g.D.Disk.is_honest same ends.honest)
     (subst (λ d. StopRefines (g.D.Disk.state d) x n
     (tend n true (raised_facts (engine_of c.arm.new.self)).kept)) same ends.any_moment.now)))
@@ -93,4 +89,4 @@ returns-in-Err g c = λ limits.
     (λ x n r.
     let ends = c.in-Err.ensures.ends x n (c.arm.ensures.refines x n r) in
     grown_since g.D.Disk _ (disk_of own) (disk_of c.arm.new.self) _ c.disk_in_box.result
-    c.arm.ensures.armed.past ends.any_moment (ap g.D.Disk.past disk)))
+    c.arm.ensures.armed.past ends.any_moment (ap g.D.Disk.past disk)))) c.stop_by_itself.ensures

@@ -1,8 +1,6 @@
-use Rattle.std.proofs.Common.{◌≡◌, ◌↔◌, Option, Some, None, false, true, subst}
-use Rattle.link_messages.specs.{frame_bytes}
+use Rattle.std.proofs.Common.{Option, false, true, subst}
 use Rattle.node.specs.declared.Reply.{Reply}
-use Rattle.carriers.specs.declared.Peer.TheVariants.{Client, Node}
-use Rattle.carriers.specs.{HasCarriedMore, ReplyArrives, one_transmission, reply_frame, reply_lost}
+use Rattle.carriers.specs.{HasCarriedMore, ReplyArrives, reply_lost}
 use Rattle.lab.proofs.Arrivals.{follow_heard, follow_lost, none_follow, reply_sent}
 use Rattle.lab.proofs.Transmissions.{carried_both, carried_none}
 use Rattle.lab.proofs.replies.carry_replies.Goals as goal

@@ -1,4 +1,4 @@
-use Rattle.std.proofs.Common.{◌∷◌, [], length, refl, subst, sym}
+use Rattle.std.proofs.Common.{length, refl, subst, sym}
 use Rattle.carriers.specs.{HasCarriedMore}
 use Rattle.lab.specs.Arrivals.{RepliesFollow}
 use Rattle.lab.specs.OutcomeLines.{own_lines, replies_by}

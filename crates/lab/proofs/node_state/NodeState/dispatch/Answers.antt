@@ -10,10 +10,10 @@ use Rattle.lab.specs.declared.node_state.NodeState.{NodeState}
 use Rattle.lab.specs.declared.node_state.NodeState.TheVariants.{Up}
 use Rattle.lab.specs.SimNodes.{StateRefines, disk_in}
 use Rattle.lab.specs.Outcomes.{Drops, HasCrashed, HasDispatched, RunsOn, Stops}
-use Rattle.lab.proofs.Dispatching.{answered_only, dispatched_as, ready_up, some_drop}
+use Rattle.lab.proofs.Dispatching.{answered_only, dispatched_as, each_answer, ready_up}
+use Rattle.lab.proofs.Dispatching.{some_drop}
 use Rattle.lab.proofs.Faults.{before_is, crash_grows}
-use Rattle.node.specs.declared.Node.{Node}
-use Rattle.node.specs.{NodeRefines, disk_of}
+use Rattle.node.specs.{disk_of}
 use Rattle.lab.proofs.node_state.NodeState.dispatch.Goals as goal
 
 -- a node that is down takes it
@@ -26,11 +26,13 @@ returns-in-Down g c =
 
 -- .. or one that is up does
 pub returns-in-Step : goal.returns-in-Step
-returns-in-Step g c = dispatched_as c.args.limits.now c.args.fault c.in-Step.is c.in-Up.is
+returns-in-Step g c = each_answer c.step.result (λ did took.
+    dispatched_as c.args.limits.now c.args.fault c.in-Step.is c.in-Up.is took)
     (c.step.ensures c.args.limits.now)
 
 pub returns-in-Tend : goal.returns-in-Tend
-returns-in-Tend g c = dispatched_as c.args.limits.now c.args.fault c.in-Tend.is c.in-Up.is
+returns-in-Tend g c = each_answer c.tend.result (λ did took.
+    dispatched_as c.args.limits.now c.args.fault c.in-Tend.is c.in-Up.is took)
     (c.tend.ensures c.args.limits.now)
 
 pub returns-in-BadFrame : goal.returns-in-BadFrame
@@ -55,12 +57,12 @@ returns-in-Start g c =
     (λ x n r. RunsOn r.core.running r (output.result, refl, output.ensures)) refl)
 
 -- the disk crashed with the junk
-pub returns-in-Stop : goal.returns-in-Stop
-returns-in-Stop g c =
+pub returns-in_ok-state-in-Stop : goal.returns-in_ok-state-in-Stop
+returns-in_ok-state-in-Stop g c =
     let left = c.disk_in_box.ensures.disk in
     let same = sym left in
-    let e = c.crash-state.ensures in
-    let new = c.crash-state.result in
+    let e = c.in_ok-state-in-Stop.ensures in
+    let new = c.in_ok-state-in-Stop.state in
     let junk = c.in-Stop.junk in
     let node = c.in-Up.node in
     let crashed = λ (honest : g.D.Disk.is_honest (disk_of node.value)).

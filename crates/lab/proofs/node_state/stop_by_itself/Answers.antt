@@ -1,0 +1,20 @@
+use Rattle.std.proofs.Common.{◌≡◌, ap, rules, subst}
+use Rattle.lab.specs.declared.input.StepOutcome.TheVariants as done
+use Rattle.lab.specs.Disks.{junk_at_end}
+use Rattle.lab.specs.Events.{line_cause}
+use Rattle.lab.specs.Stops.{GoesDown}
+use Rattle.lab.proofs.node_state.stop_by_itself.Goals as goal
+
+pub returns : goal.returns
+returns g c =
+    let struck = c.has_struck-has_struck.result in
+    let junk : c.match-fault.junk.0 ≡ junk_at_end c.args.fault struck = search rules in
+    let cause : c.match-fault.junk.1 ≡ line_cause c.args.fault struck c.args.stop = search rules in
+    record {
+      struck = struck;
+      strikes = c.has_struck-has_struck.ensures.struck;
+      told = ap done.Stopped cause;
+      down = subst (λ j. GoesDown g.D.Disk c.args.disk j c.in_ok-state.state) junk
+          c.in_ok-state.ensures;
+      last = c.has_struck-has_struck.ensures.last;
+    }
