@@ -1,5 +1,6 @@
 pub mod Numbers
 pub mod Texts
+pub mod Spelled
 pub mod Fronts
 pub mod Edits
 pub mod Slices

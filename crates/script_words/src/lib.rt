@@ -18,7 +18,7 @@ pub use error::ScriptError;
 pub use fault::{fault_behind, split_fault};
 pub use junk::junk_of;
 pub use limits::{LimitName, ScriptLimits};
-pub use lines::{ScriptLines, put_words};
+pub use lines::{ScriptLines, ended_line, put_words};
 pub use plain::{is_itself, split_plain};
 pub use range::{RawRange, bounds_of};
 pub use word::{batch_number, bytes_of, number};

@@ -1,8 +1,8 @@
 //! The lines of a text, and the words of a line.
-ghost use Rattle.std.specs.Prelude.{◌≡◌, ◌≢◌, ◌<◌, ◌∷◌, ℕ, length, map, slice_index};
-ghost use Rattle.std.specs.Prelude.{IfSome, IfNone, OnOk};
+ghost use Rattle.std.specs.Prelude.{◌≡◌, ◌≢◌, ◌<◌, ◌++◌, ◌∷◌, ℕ, length, map, slice_index};
+ghost use Rattle.std.specs.Prelude.{IfSome, IfNone, MatchOption, OnOk};
 ghost use Rattle.std.specs.Iterator.{YieldsFirstRef, item_count};
-ghost use Rattle.script_words.specs.Lines.{script_lines, words_of};
+ghost use Rattle.script_words.specs.Lines.{HasNoFeed, script_lines, words_of};
 
 use memchr::memchr;
 use std::alloc::AllocError;
@@ -16,14 +16,23 @@ fn end_of_line(text: &[u8]) -> Option<usize>
     memchr(b'\n', text)
 }
 
+/// The first line of a text that a line feed ends, and what follows it.
+pub fn ended_line(text: &[u8]) -> Option<(&[u8], &[u8])>
+    ensures { MatchOption result (HasNoFeed text.now) (λ cut.
+        HasNoFeed cut.0.now × (text.now ≡ cut.0.now ++ 10 ∷ cut.1.now)) }
+{
+    let end = end_of_line(text)?;
+    Some((&text[..end], &text[end + 1..]))
+}
+
 // The first line of a text, and what follows it.
 fn first_line(text: &[u8]) -> (&[u8], &[u8])
     requires { 0 < length text.now }
     ensures { script_lines text.now ≡ result.0.now ∷ script_lines result.1.now }
 {
-    match end_of_line(text) {
+    match ended_line(text) {
         None => (text, &[]),
-        Some(end) => (&text[..end], &text[end + 1..]),
+        Some(cut) => cut,
     }
 }
 

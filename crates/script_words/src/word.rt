@@ -85,28 +85,22 @@ pub fn bytes_of(alloc: Global, word: &[u8]) -> Result<Option<Vec<u8>>, AllocErro
         (λ bytes. (is_byte_string word.now ≡ true) × AreBytes bytes.items
         × (word.now ≡ bytes_text bytes.items))) }
 {
-    let mut bytes = Vec::new(alloc);
-    if word == b"@".as_slice() {
-        return Ok(Some(bytes));
-    }
-    let mut rest = word;
-    while !rest.is_empty() {
-        let (plain, behind) = split_plain(rest);
-        if plain.is_empty() {
-            match first_byte(rest) {
-                None => return Ok(None),
-                Some((byte, after)) => {
-                    bytes.push(byte)?;
-                    rest = after;
-                }
-            }
-        } else {
-            bytes.extend_from_slice(plain)?;
-            rest = behind;
-        }
-    }
-    if bytes.is_empty() {
+    if word.is_empty() {
         return Ok(None);
+    }
+    if word == b"@".as_slice() {
+        return Ok(Some(Vec::new(alloc)));
+    }
+    let (plain, mut rest) = split_plain(word);
+    let mut bytes = Vec::from_slice(alloc, plain)?;
+    while !rest.is_empty() {
+        let Some((byte, after)) = first_byte(rest) else {
+            return Ok(None);
+        };
+        bytes.push(byte)?;
+        let (plain, behind) = split_plain(after);
+        bytes.extend_from_slice(plain)?;
+        rest = behind;
     }
     Ok(Some(bytes))
 }

@@ -1,43 +1,34 @@
 -- A text that has a line too long or one too many has one fault, whatever follows it.
-use Rattle.std.proofs.Common.{◌≡◌, ◌≢◌, ◌⊎◌, ◌+◌, ◌<◌, ◌≤◌, ℕ, zero, suc, List, [], ◌∷◌, ◌++◌, refl}
+use Rattle.std.proofs.Common.{◌≡◌, ◌≢◌, ◌⊎◌, ◌+◌, ◌<◌, ◌≤◌, ℕ, suc, List, [], ◌∷◌, ◌++◌, refl}
 use Rattle.std.proofs.Common.{sym, ap, subst, ◌∙◌, inl, inr, arith, true, false, Option, Some, None}
-use Rattle.std.proofs.Common.{length, append_assoc, append-nil, take, drop, get_or}
-use Rattle.std.specs.Prelude.{All, Bool, ◌==◌, if◌then◌else◌, is_none, nat_lt}
+use Rattle.std.proofs.Common.{length, append_assoc, append-nil, min, ◌^◌, ◌-◌}
+use Rattle.std.proofs.Math.Nat.{min-le_left}
+use Rattle.std.specs.Prelude.{Bool, ◌==◌, if◌then◌else◌, is_none, nat_lt}
 use Rattle.std.specs.Option.{option_map_or, option_or}
 use Rattle.std.specs.List.{onto_first}
 use Rattle.std.proofs.lemmas.Bool.{cases_Bool}
 use Rattle.std.proofs.lemmas.Bool.Decides.{nat_tests}
 use Rattle.std.proofs.lemmas.Grind.{common_steps}
-use Rattle.std.proofs.lemmas.List.Elements.{All-nil, All-cons, All-head, All-tail}
+use Rattle.std.proofs.lemmas.List.{length-append}
+use Rattle.std.proofs.lemmas.List.Elements.{All-append, All-nil, All-head, All-tail}
 use Rattle.script_words.specs.declared.error.ScriptError.{ScriptError}
 use Rattle.script_words.specs.declared.error.ScriptError.TheVariants.{LineTooLong, TooManyLines}
 use Rattle.script_words.specs.declared.error.ScriptError.TheVariants.{BadConfiguration, OutOfMemory}
 use Rattle.scripts.specs.declared.extent.Extent.{Extent}
 use Rattle.scripts.specs.declared.statement.ParserState.{ParserState}
-use Rattle.script_words.specs.Lines.{script_lines}
+use Rattle.script_words.specs.Lines.{HasNoFeed, script_lines}
 use Rattle.scripts.specs.Faults.{script_fault, start, numbered_fault, line_fault, after_line}
 use Rattle.scripts.specs.Faults.{IsReported}
 use Rattle.scripts.specs.Beginnings.{HasExtent, HasPassedLimit, IsFaulty}
 use Rattle.kv_types.specs.{has}
 
--- ---- a text grows by one byte
-
-abbrev IsPlain : List ℕ → Type 0
-IsPlain bytes = All (λ b. (b == 10) ≡ false) bytes
+-- ---- a text grows
 
 snoc : {A : Type 0} (xs : List A) (x : A) (more : List A) → (xs ++ x ∷ []) ++ more ≡ xs ++ x ∷ more
 snoc xs x more = append_assoc xs (x ∷ []) more
 
-plain_more : (bytes : List ℕ) (b : ℕ) → IsPlain bytes → (b == 10) ≡ false →
-    IsPlain (bytes ++ b ∷ [])
-plain_more [] b plain other = All-cons (λ b. (b == 10) ≡ false) b [] other (All-nil _)
-plain_more (a ∷ bytes) b plain other =
-    All-cons (λ b. (b == 10) ≡ false) a (bytes ++ b ∷ [])
-    (All-head (λ b. (b == 10) ≡ false) a bytes plain)
-    (plain_more bytes b (All-tail (λ b. (b == 10) ≡ false) a bytes plain) other)
-
 -- bytes without a line feed are a whole line before one
-whole_line : (bytes more : List ℕ) → IsPlain bytes →
+whole_line : (bytes more : List ℕ) → HasNoFeed bytes →
     script_lines (bytes ++ 10 ∷ more) ≡ bytes ∷ script_lines more
 whole_line [] more plain = refl
 whole_line (b ∷ bytes) more plain =
@@ -60,18 +51,21 @@ no_text extent lines line = record {
   line = line;
 }
 
-pub byte_more : (text : List ℕ) (old new : Extent) (b : ℕ) → (b == 10) ≡ false →
-    new.lines ≡ old.lines → new.line ≡ old.line + 1 → HasExtent text old →
-    HasExtent (text ++ b ∷ []) new
-byte_more text old new b other lines line has = record {
+-- .. by a part of a line
+pub part_more : (text part : List ℕ) (old new : Extent) → HasNoFeed part →
+    new.lines ≡ old.lines → new.line ≡ old.line + length part → HasExtent text old →
+    HasExtent (text ++ part) new
+part_more text part old new plain lines line has = record {
   ended = has.ended;
-  behind = has.behind ++ b ∷ [];
-  plain = plain_more has.behind b has.plain other;
-  same = λ more. rw (snoc text b more, snoc has.behind b more) (has.same (b ∷ more));
+  behind = has.behind ++ part;
+  plain = All-append (λ b. (b == 10) ≡ false) has.behind part has.plain plain;
+  same = λ more. rw (append_assoc text part more, append_assoc has.behind part more)
+      (has.same (part ++ more));
   lines = has.lines ∙ sym lines;
-  line = size_more has.behind b old.line has.line ∙ sym line;
+  line = omega (arith, length-append has.behind part, has.line, line);
 }
 
+-- .. by a line feed
 pub line_more : (text : List ℕ) (old new : Extent) → new.lines ≡ old.lines + 1 → new.line ≡ 0 →
     HasExtent text old → HasExtent (text ++ 10 ∷ []) new
 line_more text old new lines line has = record {
@@ -88,8 +82,18 @@ line_more text old new lines line has = record {
   line = sym line;
 }
 
-pub not_ten : (b : ℕ) → b ≢ 10 → (b == 10) ≡ false
-not_ten b other = grind (arith, nat_tests)
+-- a sum that is cut at the greatest number of 64 bits is as good beside the limit of a line
+pub over_line : (line sum : ℕ) → line ≡ min sum (2 ^ 64 - 1) → 262144 < line → 262144 < sum
+over_line line sum is over = omega (arith, is, over, min-le_left sum (2 ^ 64 - 1))
+
+pub within_line : (line sum : ℕ) → line ≡ min sum (2 ^ 64 - 1) → line ≤ 262144 → line ≡ sum
+within_line line sum is within = grind (arith, common_steps)
+
+-- a line and its feed are read, and the rest is behind them
+pub read_on : (all read rest part behind : List ℕ) → all ≡ read ++ rest →
+    rest ≡ part ++ 10 ∷ behind → all ≡ ((read ++ part) ++ 10 ∷ []) ++ behind
+read_on all read rest part behind is cut = is ∙ ap (λ l. read ++ l) cut
+    ∙ sym (snoc (read ++ part) 10 behind ∙ append_assoc read part (10 ∷ behind))
 
 -- ---- a fault that stays, whatever follows
 
@@ -154,7 +158,7 @@ onto b [] = (([], []), refl)
 onto b (line ∷ lines) = ((line, lines), refl)
 
 -- bytes without a line feed begin a line
-begins : (b : ℕ) (bytes more : List ℕ) → IsPlain (b ∷ bytes) →
+begins : (b : ℕ) (bytes more : List ℕ) → HasNoFeed (b ∷ bytes) →
     (rest : List ℕ × List (List ℕ))
     × (script_lines ((b ∷ bytes) ++ more) ≡ ((b ∷ bytes) ++ rest.0) ∷ rest.1)
 begins b [] more plain =
@@ -164,7 +168,7 @@ begins b (c ∷ bytes) more plain =
     let later = begins c bytes more (All-tail (λ b. (b == 10) ≡ false) b (c ∷ bytes) plain) in
     (later.0, rw (All-head (λ b. (b == 10) ≡ false) b (c ∷ bytes) plain, later.1) refl)
 
-long_line : (text : List ℕ) (ended : List (List ℕ)) (behind : List ℕ) → IsPlain behind →
+long_line : (text : List ℕ) (ended : List (List ℕ)) (behind : List ℕ) → HasNoFeed behind →
     ((more : List ℕ) → script_lines (text ++ more) ≡ ended ++ script_lines (behind ++ more)) →
     262144 < length behind → IsFaulty text
 long_line text ended [] plain same long = absurd (omega (arith, long))
@@ -194,18 +198,9 @@ more_faulty : (text more : List ℕ) → IsFaulty text → IsFaulty (text ++ mor
 more_faulty text more faulty =
     λ faults. ((faulty faults).0, λ rest. rw (append_assoc) ((faulty faults).1 (more ++ rest)))
 
-parts : (xs : List ℕ) (i : ℕ) → i < length xs → take i xs ++ get_or xs i 0 ∷ drop (suc i) xs ≡ xs
-parts [] i less = absurd (omega (arith, less))
-parts (x ∷ xs) zero less = refl
-parts (x ∷ xs) (suc i) less = ap (λ l. x ∷ l) (parts xs i (omega (arith, less)))
-
-pub fault_among : (text bytes : List ℕ) (i : ℕ) → i < length bytes →
-    IsFaulty ((text ++ take i bytes) ++ get_or bytes i 0 ∷ []) → IsFaulty (text ++ bytes)
-fault_among text bytes i less faulty =
-    let b = get_or bytes i 0 in let rest = drop (suc i) bytes in
-    let same = snoc (text ++ take i bytes) b rest ∙ append_assoc text (take i bytes) (b ∷ rest)
-    ∙ ap (λ l. text ++ l) (parts bytes i less) in
-    subst IsFaulty same (more_faulty ((text ++ take i bytes) ++ b ∷ []) rest faulty)
+pub faulty_begins : (text begin more : List ℕ) → text ≡ begin ++ more → IsFaulty begin →
+    IsFaulty text
+faulty_begins text begin more is faulty = subst IsFaulty (sym is) (more_faulty begin more faulty)
 
 -- .. and where a text passes a limit, so does each longer one
 passes_more : (text more : List ℕ) → HasPassedLimit text → HasPassedLimit (text ++ more)
@@ -229,14 +224,10 @@ passes_at text extent has passed = record {
   passed = passed;
 }
 
-pub passes_among : (text bytes : List ℕ) (i : ℕ) → i < length bytes →
-    HasPassedLimit ((text ++ take i bytes) ++ get_or bytes i 0 ∷ []) →
-    HasPassedLimit (text ++ bytes)
-passes_among text bytes i less passes =
-    let b = get_or bytes i 0 in let rest = drop (suc i) bytes in
-    let same = snoc (text ++ take i bytes) b rest ∙ append_assoc text (take i bytes) (b ∷ rest)
-    ∙ ap (λ l. text ++ l) (parts bytes i less) in
-    subst HasPassedLimit same (passes_more ((text ++ take i bytes) ++ b ∷ []) rest passes)
+pub passed_begins : (text begin more : List ℕ) → text ≡ begin ++ more → HasPassedLimit begin →
+    HasPassedLimit text
+passed_begins text begin more is passes =
+    subst HasPassedLimit (sym is) (passes_more begin more passes)
 
 some_fault : (fault : ℕ × ScriptError) (found : Option (ℕ × ScriptError)) → found ≡ Some fault →
     found ≡ None → ⊥

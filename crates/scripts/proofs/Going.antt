@@ -158,7 +158,7 @@ all_name limits n (line ∷ lines) setup ss (inr (inr (ids, all, words, follows,
 -- one line is taken
 pub takes_on : (before after : ParserState) (n : ℕ) (line : List ℕ) (lines : List (List ℕ))
     (old new : List Statement) (goal : Setup → List Statement → Type 0)
-    → ReadsNext before n line old new (Ok after)
+    → ReadsNext before after n line old new (Ok tt)
     → ((setup : Setup) (rest : List Statement)
     → IsRestOf before n (line ∷ lines) setup rest → goal setup (old ++ rest))
     → (setup : Setup) (rest : List Statement) → IsRestOf after (n + 1) lines setup rest
@@ -187,13 +187,13 @@ keeps_ranges before line (Config cs) is are = are
 keeps_ranges before line (Asks action) is are = are
 
 pub ranged : (before after : ParserState) (n : ℕ) (line : List ℕ) (old new : List Statement)
-    → ReadsNext before n line old new (Ok after) → HasRanges before.limits
+    → ReadsNext before after n line old new (Ok tt) → HasRanges before.limits
     → HasRanges after.limits
 ranged before after n line old new (good, few, later, (item, is, same, added)) are =
     rw same (keeps_ranges before line item is are)
 
 pub keeps_fault : (before after : ParserState) (n : ℕ) (line : List ℕ) (lines : List (List ℕ))
-    (old new : List Statement) → ReadsNext before n line old new (Ok after)
+    (old new : List Statement) → ReadsNext before after n line old new (Ok tt)
     → script_fault after (n + 1) lines ≡ script_fault before n (line ∷ lines)
 keeps_fault before after n line lines old new (good, few, later, taken) = rw (
   good,

@@ -1,9 +1,8 @@
 -- What the beginning of a script shows of the whole.
-use Rattle.std.specs.Prelude.{◌≡◌, ◌==◌, ◌≤◌, ◌<◌, ◌⊎◌, ℕ, false, List, ◌++◌, length, All, Some}
-use Rattle.std.specs.Prelude.{None, Bool}
+use Rattle.std.specs.Prelude.{◌≡◌, ◌≤◌, ◌<◌, ◌⊎◌, ℕ, List, ◌++◌, length, Some, None, Bool}
 use Rattle.script_words.specs.declared.error.ScriptError.{ScriptError}
 use Rattle.scripts.specs.declared.extent.Extent.{Extent}
-use Rattle.script_words.specs.Lines.{script_lines}
+use Rattle.script_words.specs.Lines.{HasNoFeed, script_lines}
 use Rattle.scripts.specs.Faults.{script_fault, start}
 
 -- whatever follows the text, the fault is this one
@@ -21,7 +20,7 @@ IsFaulty text = (faults : Bool) → HasFaultOfAll faults text
 pub record HasExtent (text : List ℕ) (extent : Extent) : Type 0 where
   pub ended : List (List ℕ)
   pub behind : List ℕ
-  pub plain : All (λ b. (b == 10) ≡ false) behind
+  pub plain : HasNoFeed behind
   pub same : (more : List ℕ) → script_lines (text ++ more) ≡ ended ++ script_lines (behind ++ more)
   pub lines : length ended ≡ extent.lines
   pub line : length behind ≡ extent.line

@@ -121,10 +121,11 @@ ReadsLine before line (Ok item) =
 ReadsLine before line (Err e) = (e ≢ OutOfMemory) → line_fault before line ≡ Some e
 
 -- a line that is one too many counts last
-abbrev pub ReadsNext : ParserState → ℕ → List ℕ → List Statement → List Statement
-    → Result ParserState ScriptError → Type 0
-ReadsNext before n line old new (Ok after) =
+abbrev pub ReadsNext : ParserState → ParserState → ℕ → List ℕ → List Statement → List Statement
+    → Result (Unit {0}) ScriptError → Type 0
+ReadsNext before after n line old new (Ok _) =
     (numbered_fault before n line ≡ None) × (n ≤ 100000) × (after_line before line ≡ after)
     × ((item : LineItem) × IsItem before line item × (after ≡ after_item before item)
     × (new ≡ old ++ statements_of n item))
-ReadsNext before n line old new (Err e) = (e ≢ OutOfMemory) → numbered_fault before n line ≡ Some e
+ReadsNext before after n line old new (Err e) =
+    (e ≢ OutOfMemory) → numbered_fault before n line ≡ Some e

@@ -1,8 +1,10 @@
 //! How far the beginning of a script goes, and whether it shows a fault of the whole.
 ghost use Rattle.std.specs.Prelude.{◌++◌, ◌∷◌, [], ℕ, List, IfSome, IsNone, MatchOption};
+ghost use Rattle.script_words.specs.Lines.{HasNoFeed};
 ghost use Rattle.scripts.specs.Beginnings.{HasExtent, HasPassedLimit, IsFaulty, IsWithinLimits};
 
 use crate::reader::{LINE, LINES};
+use script_words::ended_line;
 
 /// The number of ended lines of a text, and of the bytes behind the last of them.
 #[derive(Clone, Copy)]
@@ -20,29 +22,43 @@ impl Extent {
         Extent { lines: 0, line: 0 }
     }
 
-    /// The extent behind one more byte, unless a line is then too long, or one too many.
-    fn after_byte(self, byte: u8) -> Option<Extent>
+    /// The extent behind more bytes of a line, unless it is then too long.
+    fn after_part(self, part: &[u8]) -> Option<Extent>
+        requires { HasNoFeed part.now }
         ensures extent { (text : List ℕ) → HasExtent text self →
-            MatchOption result (IsFaulty (text ++ byte ∷ [])) (HasExtent (text ++ byte ∷ [])) }
+            MatchOption result (IsFaulty (text ++ part.now)) (HasExtent (text ++ part.now)) }
         ensures within { IsWithinLimits self → IfSome result IsWithinLimits }
         ensures refused { (text : List ℕ) → HasExtent text self →
-            IsNone result → HasPassedLimit (text ++ byte ∷ []) }
+            IsNone result → HasPassedLimit (text ++ part.now) }
     {
-        if byte == b'\n' {
-            if self.lines >= LINES {
-                return None;
-            }
-            return Some(Extent {
-                lines: self.lines + 1,
-                line: 0,
-            });
-        }
-        if self.line >= LINE {
+        let line = self.line.saturating_add(part.len());
+        if line > LINE {
             return None;
         }
         Some(Extent {
             lines: self.lines,
-            line: self.line + 1,
+            line,
+        })
+    }
+
+    /// The extent behind the last bytes of a line and its line feed, unless the line is then too
+    /// long, or one too many.
+    fn after_line(self, part: &[u8]) -> Option<Extent>
+        requires { HasNoFeed part.now }
+        ensures extent { (text : List ℕ) → HasExtent text self →
+            MatchOption result (IsFaulty (text ++ part.now ++ 10 ∷ []))
+            (HasExtent (text ++ part.now ++ 10 ∷ [])) }
+        ensures within { IsWithinLimits self → IfSome result IsWithinLimits }
+        ensures refused { (text : List ℕ) → HasExtent text self →
+            IsNone result → HasPassedLimit (text ++ part.now ++ 10 ∷ []) }
+    {
+        let extent = self.after_part(part)?;
+        if extent.lines >= LINES {
+            return None;
+        }
+        Some(Extent {
+            lines: extent.lines + 1,
+            line: 0,
         })
     }
 
@@ -55,9 +71,11 @@ impl Extent {
             IsNone result → HasPassedLimit (text ++ bytes.now) }
     {
         let mut extent = self;
-        for byte in bytes {
-            extent = extent.after_byte(*byte)?;
+        let mut rest = bytes;
+        while let Some((part, behind)) = ended_line(rest) {
+            extent = extent.after_line(part)?;
+            rest = behind;
         }
-        Some(extent)
+        extent.after_part(rest)
     }
 }

@@ -284,28 +284,22 @@ pub struct ScriptFault {
     pub error: ScriptError,
 }
 
-/// Adds what line `number` says, and answers what then stands before the next line.
+/// Adds what line `number` says, and its statement.
 fn read_line<'a>(
     alloc: Global,
-    before: ParserState,
+    before: &mut ParserState,
     number: u32,
     line: &'a [u8],
     words: &mut Vec<&'a [u8]>,
     statements: &mut Vec<Statement>,
-) -> Result<ParserState, ScriptError>
-    ensures { ReadsNext before number line.now statements.old.items statements.new.items result }
+) -> Result<(), ScriptError>
+    ensures { ReadsNext before.old before.new number line.now statements.old.items
+        statements.new.items result }
 {
-    match item_of(alloc, &before, line, words) {
-        Ok(item) if number <= LINES => Ok(before.after(statements, number, item)?),
-        Ok(item) => {
-            drop(item);
-            drop(before);
-            Err(ScriptError::TooManyLines)
-        }
-        Err(e) => {
-            drop(before);
-            Err(e)
-        }
+    match item_of(alloc, before, line, words) {
+        Ok(item) if number <= LINES => Ok(before.add(statements, number, item)?),
+        Ok(_) => Err(ScriptError::TooManyLines),
+        Err(e) => Err(e),
     }
 }
 
@@ -331,14 +325,20 @@ pub fn read_script(alloc: Global, text: &[u8], faults: bool) -> Result<Script, S
     let mut words = Vec::new(alloc);
     let mut number = 1u32;
     for line in ScriptLines(text) {
-        match read_line(alloc, before, number, line, &mut words, &mut statements) {
-            Ok(after) => before = after,
+        match read_line(
+            alloc,
+            &mut before,
+            number,
+            line,
+            &mut words,
+            &mut statements,
+        ) {
+            Ok(()) => number += 1,
             Err(error) => return Err(ScriptFault {
                 line: number,
                 error,
             }),
         }
-        number += 1;
     }
     let limits = before.limits;
     let Some(configs) = before.into_configs() else {

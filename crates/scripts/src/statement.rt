@@ -1,6 +1,6 @@
 //! The statements of a script, and what the reader knows between two lines.
 ghost use Rattle.std.specs.Prelude.{◌≡◌, ◌++◌, ℕ, true, false, Option, Some, None};
-ghost use Rattle.std.specs.Prelude.{IfOk, MatchOption, MatchResult};
+ghost use Rattle.std.specs.Prelude.{MatchOption, MatchResult, OnOk};
 ghost use Rattle.kv_types.specs.{has};
 ghost use Rattle.scripts.specs.Faults.{node_fault, place_fault};
 ghost use Rattle.scripts.specs.Reading.{HasEpoch, after_item, statements_of};
@@ -79,42 +79,27 @@ fn id_in(ids: &[NodeId], node: u64) -> Option<NodeId>
 }
 
 impl ParserState {
-    /// What stands before the line after this one, and the statement that was added.
-    pub fn after(
-        self,
+    /// Adds what this line says to what stands before the next one, and its statement.
+    pub fn add(
+        &mut self,
         statements: &mut Vec<Statement>,
         line: u32,
         item: LineItem,
-    ) -> Result<ParserState, AllocError>
-        ensures after { IfOk result (λ after. after ≡ after_item self item) }
-        ensures added { IfOk result (λ _.
-            statements.new.items ≡ statements.old.items ++ statements_of line item) }
+    ) -> Result<(), AllocError>
+        ensures after { OnOk result (self.new ≡ after_item self.old item) }
+        ensures added { OnOk result
+            (statements.new.items ≡ statements.old.items ++ statements_of line item) }
     {
         match item {
-            LineItem::Skipped => Ok(self),
-            LineItem::Limit(name, number) => Ok(ParserState {
-                configs: self.configs,
-                begun: self.begun,
-                limits: self.limits.with(name, number),
-                faults: self.faults,
-            }),
-            LineItem::Config(configs) => Ok(ParserState {
-                configs: Some(configs),
-                begun: self.begun,
-                limits: self.limits,
-                faults: self.faults,
-            }),
+            LineItem::Skipped => {}
+            LineItem::Limit(name, number) => self.limits = self.limits.with(name, number),
+            LineItem::Config(configs) => self.configs = Some(configs),
             LineItem::Asks(action) => {
-                let begun = self.begun || action.begins();
+                self.begun = self.begun || action.begins();
                 statements.push(Statement { line, action })?;
-                Ok(ParserState {
-                    configs: self.configs,
-                    begun,
-                    limits: self.limits,
-                    faults: self.faults,
-                })
             }
         }
+        Ok(())
     }
 
     /// The configurations, if there is one.

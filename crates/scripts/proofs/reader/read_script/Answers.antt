@@ -9,20 +9,20 @@ use Rattle.scripts.proofs.reader.read_script.Goals as goal
 
 pub loop-line-preserved : goal.loop-line-preserved
 loop-line-preserved c =
-    let before = c.loop-line.before in let n = c.loop-line.number in let line =
-    c.in-Some.line.now in
+    let before = c.loop-line.before in let after = c.read_line.new.before in
+    let n = c.loop-line.number in let line = c.in-Some.line.now in
     let lines = script_lines c.next.new.self.0.now in let old = c.loop-line.statements.items in
     let taken = rw c.in-Ok.is at c.read_line.ensures in
     record {
-      found = takes_on before c.in-Ok.after n line lines old _ (λ setup rest. IsScript 1
+      found = takes_on before after n line lines old _ (λ setup rest. IsScript 1
           (script_lines c.args.text.now) setup rest) taken (λ setup rest h.
           c.loop-line.invariant.found setup rest (rw c.in-Some.ensures.steps h));
-      fault = keeps_fault before c.in-Ok.after n line lines old _ taken
+      fault = keeps_fault before after n line lines old _ taken
           ∙ rw c.in-Some.ensures.steps at c.loop-line.invariant.fault;
       above = omega arith;
       count = omega (arith, c.loop-line.invariant.count, ap length c.in-Some.ensures.steps);
       few = omega (arith, taken.1);
-      ranges = ranged before c.in-Ok.after n line old _ taken c.loop-line.invariant.ranges;
+      ranges = ranged before after n line old _ taken c.loop-line.invariant.ranges;
     }
 
 pub returns-in-Err-clause-fault : goal.returns-in-Err-clause-fault
