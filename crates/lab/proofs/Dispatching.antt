@@ -30,7 +30,7 @@ use Rattle.lab.specs.Outcomes.{IsDrop, IsIgnored, IsOutcomeOf, MarksFit}
 use Rattle.lab.specs.Outcomes.{OutcomeRefines, Rests, RestsOn, StateFollows}
 use Rattle.lab.specs.Outcomes.{StopsByItself, TendsNot, has_struck_in, input_junk}
 use Rattle.lab.specs.SimNodes.{IsDown, StateIsReady, StateIsSound, StateRefines, disk_in}
-use Rattle.lab.specs.Stops.{GoesDown, StopsWithDisk}
+use Rattle.lab.specs.Stops.{IsDownAfter, StopsWithDisk}
 use Rattle.lab.proofs.Faults.{IsSpent, disk_fits, explained, grown_end, idle_in, marked_end, spent}
 use Rattle.lab.proofs.Faults.{stopped_so, struck_at}
 
@@ -203,8 +203,8 @@ module _ {D : Type 0} (g : Ghosts D) (it : Fault) (was new : NodeState D g) (did
         (same_test stops.struck b stops.strikes strikes) stops.told
 
     down : (b : Bool) → ((b ≡ true) ↔ HasStruck g.marks g.past left) →
-        GoesDown g left (junk_at_end it b) new
-    down b strikes = subst (λ (t : Bool). GoesDown g left (junk_at_end it t) new)
+        IsDownAfter g left (junk_at_end it b) new
+    down b strikes = subst (λ (t : Bool). IsDownAfter g left (junk_at_end it t) new)
         (same_test stops.struck b stops.strikes strikes) stops.down
 
     crashes : (b : Bool) → ((b ≡ true) ↔ HasStruck g.marks g.past left) → g.is_honest left →

@@ -20,8 +20,8 @@ use Rattle.lab.specs.Outcomes.{HasCrashed}
 use Rattle.lab.specs.SimNodes.{StateHasLimits, StateIsReady, StateRefines, disk_in}
 
 module _ {D : Type 0} (g : Ghosts D) (disk : D) where
-  -- a node that had this disk went down, and the disk crashed with this junk
-  pub record GoesDown (junk : Junk) (new : NodeState D g) : Type 0 where
+  -- a node that had this disk is down, and the disk crashed with this junk
+  pub record IsDownAfter (junk : Junk) (new : NodeState D g) : Type 0 where
     pub ready : StateIsReady new
     pub crashes : g.is_honest disk → HasCrashed g.state g.failures g.past junk disk new
     pub refines : (x : ℕ) (n : Machine) (a : Answer BatchContent) → g.is_honest disk →
@@ -39,5 +39,5 @@ module _ {D : Type 0} (g : Ghosts D) (disk : D) where
     pub struck : Bool
     pub strikes : (struck ≡ true) ↔ HasStruck g.marks g.past disk
     pub told : did ≡ done.Stopped (line_cause fault struck stop)
-    pub down : GoesDown (junk_at_end fault struck) new
+    pub down : IsDownAfter (junk_at_end fault struck) new
     pub last : g.is_honest disk → IsLastLeft (g.past disk) (g.state disk)

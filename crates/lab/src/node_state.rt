@@ -4,7 +4,7 @@ ghost use Rattle.node.specs.{IsReady, disk_of};
 ghost use Rattle.node.specs.Steps.{DiskAlwaysRefines, IfRefines};
 ghost use Rattle.lab.specs.Outcomes.{HasDispatched};
 ghost use Rattle.lab.specs.SimNodes.{StateIsReady};
-ghost use Rattle.lab.specs.Stops.{GoesDown, StopsWithDisk};
+ghost use Rattle.lab.specs.Stops.{IsDownAfter, StopsWithDisk};
 
 use crate::input::{StepOutcome, dropped, output_at_rest};
 use carriers::NodeInput;
@@ -37,7 +37,7 @@ fn crash<D: Crash + Drop>(
     mut disk: D,
     junk: Junk,
 ) -> Result<NodeState<D>, AllocError>
-    ensures { IfOk result (GoesDown D.Disk disk junk) }
+    ensures { IfOk result (IsDownAfter D.Disk disk junk) }
 {
     // laws: what a crash leaves is durable, and a crash leaves it again
     durable_is_left();

@@ -1,7 +1,7 @@
 use Rattle.std.proofs.Common.{List, ap, refl, inl, inr, subst, sym}
 use Rattle.disk.specs.{IsLastLeft, State, fault_of}
 use Rattle.lab.specs.declared.node_state.NodeState.TheVariants.{Down}
-use Rattle.lab.specs.Stops.{GoesDown}
+use Rattle.lab.specs.Stops.{IsDownAfter}
 use Rattle.lab.proofs.Dispatching.{holding, ready_down}
 use Rattle.lab.proofs.Rests.{rests_as}
 use Rattle.lab.proofs.node_state.crash.Goals as goal
@@ -12,7 +12,7 @@ returns g c =
     let e = c.crash.ensures in
     let left = c.crash.new.self in
     let boxed = c.in_ok-new in
-    subst (λ (d : _). GoesDown g.D.Disk c.args.disk c.args.junk (Down (holding boxed.field-0 d)))
+    subst (λ (d : _). IsDownAfter g.D.Disk c.args.disk c.args.junk (Down (holding boxed.field-0 d)))
     (sym boxed.ensures.ok)
     (record {
       ready = ready_down g.D.Disk (holding boxed.field-0 left);

@@ -2,7 +2,7 @@ use Rattle.std.proofs.Common.{◌≡◌, ap, rules, subst}
 use Rattle.lab.specs.declared.input.StepOutcome.TheVariants as done
 use Rattle.lab.specs.Disks.{junk_at_end}
 use Rattle.lab.specs.Events.{line_cause}
-use Rattle.lab.specs.Stops.{GoesDown}
+use Rattle.lab.specs.Stops.{IsDownAfter}
 use Rattle.lab.proofs.node_state.stop_by_itself.Goals as goal
 
 pub returns : goal.returns
@@ -14,7 +14,7 @@ returns g c =
       struck = struck;
       strikes = c.has_struck-has_struck.ensures.struck;
       told = ap done.Stopped cause;
-      down = subst (λ j. GoesDown g.D.Disk c.args.disk j c.in_ok-state.state) junk
+      down = subst (λ j. IsDownAfter g.D.Disk c.args.disk j c.in_ok-state.state) junk
           c.in_ok-state.ensures;
       last = c.has_struck-has_struck.ensures.last;
     }
