@@ -13,7 +13,7 @@ mod range;
 mod word;
 
 pub use bytes::Bytes;
-pub use edit::{RawEdit, RawEdits, raw_edits_of};
+pub use edit::{RawEdit, raw_edit_of};
 pub use error::ScriptError;
 pub use fault::{fault_behind, split_fault};
 pub use junk::junk_of;

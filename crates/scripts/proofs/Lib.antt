@@ -4,6 +4,7 @@ pub mod OneEvent
 pub mod ReadBack
 pub mod Placing
 pub mod Notices
+pub mod Submits
 pub mod NextConfig
 pub mod LimitLines
 pub mod Ids

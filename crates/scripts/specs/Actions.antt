@@ -33,6 +33,10 @@ abbrev pub edits_error : List Edit → Option KvError
 edits_error [] = None
 edits_error (edit ∷ edits) = option_or (edit_error edit) (edits_error edits)
 
+-- the first error of the edits of a batch, that of the batch last
+abbrev pub submit_error : List Edit → Option KvError
+submit_error edits = option_or (edits_error edits) (batch_error edits)
+
 -- what is wrong with an upper bound of keys, if anything is
 abbrev pub bound_error : Option (List ℕ) → Option KvError
 bound_error None = None
@@ -50,7 +54,7 @@ range_error range =
 
 -- the first error of a statement, that of the batch or range last
 abbrev pub error_of : EventKind → Option KvError
-error_of (Submit node edits) = option_or (edits_error edits) (batch_error edits)
+error_of (Submit node edits) = submit_error edits
 error_of (Get node key at) = key_error key
 error_of (Rows node range at) = range_error range
 error_of (Open node at) = None

@@ -5,17 +5,21 @@ use Rattle.std.specs.Fmt.{decimal}
 use Rattle.lab.specs.Fault.{Fault}
 use Rattle.lab.specs.EventKind.{EventKind}
 use Rattle.kv_types.specs.{has}
+use Rattle.kv_types.specs.Content.{BatchContent, edits_of}
+use Rattle.kv_types.specs.declared.Edit.{Edit}
+use Rattle.kv_types.specs.declared.KvError.{KvError}
 use Rattle.lab.specs.NodeLists.{Configurations, at_epoch}
 use Rattle.script_words.specs.declared.error.ScriptError.{ScriptError}
 use Rattle.script_words.specs.declared.error.ScriptError.TheVariants.{OutOfMemory}
 use Rattle.scripts.specs.declared.command.Command.{Command}
-use Rattle.scripts.specs.declared.command.Command.TheVariants.{Submit, Get, Tick, Tend, Stop, Start}
+use Rattle.scripts.specs.declared.command.Command.TheVariants.{Get, Tick, Tend, Stop, Start}
 use Rattle.scripts.specs.declared.command.Command.TheVariants.{Rows, Open, Close}
 use Rattle.scripts.specs.declared.statement.ParserState.{ParserState}
 use Rattle.scripts.specs.declared.statement.LineItem.{LineItem}
 use Rattle.scripts.specs.declared.statement.LineItem.TheVariants.{Skipped, Limit, Config, Asks}
 use Rattle.scripts.specs.declared.statement.Action.{Action}
 use Rattle.scripts.specs.declared.statement.Statement.{Statement}
+use Rattle.scripts.specs.Actions.{submit_error}
 use Rattle.scripts.specs.Statements.{CanBeSaid, IsSpelled, fault_of_words}
 use Rattle.script_words.specs.FaultWords.{fault_word, ReadsFaultAs}
 use Rattle.script_words.specs.Limits.{SetsLimit, limits_with}
@@ -28,7 +32,6 @@ use Rattle.lab.specs.EventKind.TheVariants as what
 
 -- the event that a command asks for
 abbrev pub what_of : Command → EventKind
-what_of (Submit node changes) = what.Submit node changes
 what_of (Get node key at) = what.Get node key at
 what_of (Rows node range at) = what.Rows node range at
 what_of (Open node at) = what.Open node at
@@ -43,6 +46,20 @@ abbrev pub ReadsCommand : List (List ℕ) → Result Command ScriptError → Typ
 ReadsCommand words (Ok command) =
     (fault_of_words words ≡ None) × CanBeSaid (what_of command) × IsSpelled (what_of command) words
 ReadsCommand words (Err e) = (e ≢ OutOfMemory) → fault_of_words words ≡ Some e
+
+-- what became of the edits of a batch: a batch, or their first error
+abbrev pub IsBatchOf : List Edit → Result BatchContent KvError → Type 0
+IsBatchOf edits (Ok batch) = (submit_error edits ≡ None) × (edits_of batch ≡ edits)
+IsBatchOf edits (Err e) = submit_error edits ≡ Some e
+
+-- a reader gives the node and the batch of the submit that is spelled, or the least fault, unless
+-- memory runs out
+abbrev pub ReadsSubmit : List (List ℕ) → Result (ℕ × Result BatchContent KvError) ScriptError
+    → Type 0
+ReadsSubmit words (Ok (node, batch)) =
+    (fault_of_words words ≡ None) × ((edits : List Edit) × CanBeSaid (what.Submit node edits)
+    × IsSpelled (what.Submit node edits) words × IsBatchOf edits batch)
+ReadsSubmit words (Err e) = (e ≢ OutOfMemory) → fault_of_words words ≡ Some e
 
 -- what a reader returned for what a statement bears besides its own words
 abbrev pub ReadsBorne : Bool → List ℕ → List (List ℕ) → List (List ℕ) → Result Fault ScriptError

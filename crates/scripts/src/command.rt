@@ -5,12 +5,11 @@ ghost use Rattle.scripts.specs.Reading.{what_of};
 
 use kv_types::Number;
 use lab::Junk;
-use script_words::{Bytes, RawEdits, RawRange};
+use script_words::{Bytes, RawRange};
 
-/// What a line asks for, before anything but its spelling is known.
+/// What a line other than a submit asks for, before anything but its spelling is known.
 #[derive(Drop)]
 pub enum Command {
-    Submit(u64, RawEdits),
     Get(u64, Bytes, Option<Number>),
     Rows(u64, RawRange, Option<Number>),
     Open(u64, Option<Number>),
@@ -27,7 +26,6 @@ impl Command {
         ensures { node_in (what_of self.now) ≡ Some result }
     {
         match self {
-            Command::Submit(node, _) => *node,
             Command::Get(node, _, _) => *node,
             Command::Rows(node, _, _) => *node,
             Command::Open(node, _) => *node,

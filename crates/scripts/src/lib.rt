@@ -10,6 +10,7 @@ mod reader;
 mod setup;
 mod statement;
 mod statements;
+mod submit;
 
 pub use extent::Extent;
 pub use laws::{faults_are_refused, scripts_are_read, spellings_differ};

@@ -16,6 +16,7 @@ use crate::configuration::config;
 use crate::setup::Setup;
 use crate::statement::{Action, LineItem, ParserState, Statement};
 use crate::statements::command_of;
+use crate::submit::submit;
 use lab::{Event, EventKind, Fault, NodeId};
 use script_words::{
     LimitName, ScriptError, ScriptLimits, ScriptLines, fault_behind, number, put_words, split_fault,
@@ -173,13 +174,14 @@ fn fault_borne(
     fault_behind(alloc, faults, name, behind)
 }
 
-/// What a statement with an event at a named node comes to, if it may stand here.
+/// What any other statement with an event at a named node comes to, if it may stand here.
 fn placed(
     alloc: Global,
     before: &ParserState,
     name: &[u8],
     args: &[&[u8]],
 ) -> Result<Action, ScriptError>
+    requires submit { bytes_eq name.now (codes "submit") ≡ false }
     requires deliver { bytes_eq name.now (codes "deliver") ≡ false }
     requires notice { bytes_eq name.now (codes "notice") ≡ false }
     requires flow { bytes_eq name.now (codes "flow") ≡ false }
@@ -215,7 +217,9 @@ fn statement(
 ) -> Result<Action, ScriptError>
     ensures { Places before.now name.now (map (λ w. w.now) args.now) result }
 {
-    if name == b"deliver".as_slice() {
+    if name == b"submit".as_slice() {
+        submit(alloc, before, args)
+    } else if name == b"deliver".as_slice() {
         deliver(alloc, before, args)
     } else if name == b"notice".as_slice() {
         notice(alloc, before, args)

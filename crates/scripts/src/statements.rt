@@ -7,7 +7,7 @@ ghost use Rattle.scripts.specs.Reading.{ReadsCommand};
 use crate::command::Command;
 use lab::Junk;
 use script_words::{
-    Bytes, RawRange, ScriptError, batch_number, bounds_of, bytes_of, junk_of, number, raw_edits_of,
+    Bytes, RawRange, ScriptError, batch_number, bounds_of, bytes_of, junk_of, number,
 };
 use std::alloc::Global;
 
@@ -130,21 +130,6 @@ fn start(args: &[&[u8]]) -> Result<Command, ScriptError>
     }
 }
 
-fn submit(alloc: Global, args: &[&[u8]]) -> Result<Command, ScriptError>
-    ensures { ReadsCommand (codes "submit" ∷ map (λ w. w.now) args.now) result }
-{
-    let [node, edits @ ..] = args else {
-        return Err(ScriptError::WrongNumberOfWords);
-    };
-    let Some(node) = number(node) else {
-        return Err(ScriptError::BadNumber);
-    };
-    match raw_edits_of(alloc, edits)? {
-        None => Err(ScriptError::BadBytes),
-        Some(changes) => Ok(Command::Submit(node, changes)),
-    }
-}
-
 fn stop(alloc: Global, args: &[&[u8]]) -> Result<Command, ScriptError>
     ensures { ReadsCommand (codes "stop" ∷ map (λ w. w.now) args.now) result }
 {
@@ -169,6 +154,7 @@ fn stop(alloc: Global, args: &[&[u8]]) -> Result<Command, ScriptError>
 /// What the words behind the name of a statement with an event at a node ask for, or their least
 /// fault.
 pub fn command_of(alloc: Global, name: &[u8], args: &[&[u8]]) -> Result<Command, ScriptError>
+    requires submit { bytes_eq name.now (codes "submit") ≡ false }
     requires deliver { bytes_eq name.now (codes "deliver") ≡ false }
     requires notice { bytes_eq name.now (codes "notice") ≡ false }
     requires flow { bytes_eq name.now (codes "flow") ≡ false }
@@ -176,9 +162,7 @@ pub fn command_of(alloc: Global, name: &[u8], args: &[&[u8]]) -> Result<Command,
     requires show { bytes_eq name.now (codes "show") ≡ false }
     ensures { ReadsCommand (name.now ∷ map (λ w. w.now) args.now) result }
 {
-    if name == b"submit".as_slice() {
-        submit(alloc, args)
-    } else if name == b"get".as_slice() {
+    if name == b"get".as_slice() {
         get(alloc, args)
     } else if name == b"rows".as_slice() {
         rows(alloc, false, args)
