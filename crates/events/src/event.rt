@@ -25,7 +25,7 @@ pub struct Lookup {
 #[derive(Drop)]
 pub enum EventForm {
     Deliver(u64),
-    Submit(NodeId, Batch),
+    Submit(NodeId, Rc<Batch>),
     Get(NodeId, Rc<Lookup>),
     Faultless(Rc<EventKind>),
     Faulty(Rc<EventContent>),
@@ -54,7 +54,7 @@ impl Event {
     {
         let form = match kind {
             EventKind::Deliver { place } => EventForm::Deliver(place),
-            EventKind::Submit { node, batch } => EventForm::Submit(node, batch),
+            EventKind::Submit { node, batch } => EventForm::Submit(node, Rc::new(alloc, batch)?),
             EventKind::Get { node, key, at } => {
                 EventForm::Get(node, Rc::new(alloc, Lookup { key, at })?)
             }
@@ -97,7 +97,7 @@ impl Event {
     {
         match &self.form {
             EventForm::Deliver(place) => LentKind::Deliver(*place),
-            EventForm::Submit(node, batch) => LentKind::Submit(*node, batch),
+            EventForm::Submit(node, batch) => LentKind::Submit(*node, batch.as_ref()),
             EventForm::Get(node, lookup) => {
                 let Lookup { key, at } = lookup.as_ref();
                 LentKind::Get(*node, key, *at)
