@@ -20,7 +20,7 @@ impl CoveredBytes {
     {
         match bytes {
             [one] => Ok(CoveredBytes::One([*one])),
-            _ => Ok(CoveredBytes::Many(bytes.to_vec(alloc)?)),
+            _ => Ok(CoveredBytes::Many(Vec::from_slice(alloc, bytes)?)),
         }
     }
 

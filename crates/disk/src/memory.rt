@@ -159,7 +159,7 @@ fn write_in(
         if at > 0 {
             return Err(DiskError::NoFile);
         }
-        put(slots, file, MemSlot::fresh(bytes.to_vec(alloc)?))?;
+        put(slots, file, MemSlot::fresh(Vec::from_slice(alloc, bytes)?))?;
         return Ok(());
     };
     let len = match slot.bytes() {

@@ -74,7 +74,7 @@ impl MemSlot {
     {
         match &mut self.held {
             Held::Absent(back) => {
-                let made = bytes.to_vec(alloc)?;
+                let made = Vec::from_slice(alloc, bytes)?;
                 let back = back.take();
                 self.held = Held::Fresh(made, back);
                 Ok(())

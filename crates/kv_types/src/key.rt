@@ -82,7 +82,7 @@ impl Key {
         let Some((text, rest)) = read_text(MAX_KEY, bytes) else {
             return Ok(None);
         };
-        let bytes = text.to_vec(alloc)?;
+        let bytes = Vec::from_slice(alloc, text)?;
         Ok(Some((Key { bytes }, rest)))
     }
 
@@ -96,7 +96,7 @@ impl Key {
         ensures { IfOk result (λ key. key ≡ self.now) }
     {
         Ok(Key {
-            bytes: self.bytes.clone()?,
+            bytes: Vec::from_slice(*self.bytes.allocator(), &self.bytes)?,
         })
     }
 }

@@ -67,7 +67,7 @@ impl Value {
         let Some((text, rest)) = read_text(MAX_VALUE, bytes) else {
             return Ok(None);
         };
-        let bytes = text.to_vec(alloc)?;
+        let bytes = Vec::from_slice(alloc, text)?;
         Ok(Some((Value { bytes }, rest)))
     }
 
@@ -75,7 +75,7 @@ impl Value {
         ensures { IfOk result (λ value. value ≡ self.now) }
     {
         Ok(Value {
-            bytes: self.bytes.clone()?,
+            bytes: Vec::from_slice(*self.bytes.allocator(), &self.bytes)?,
         })
     }
 }

@@ -19,7 +19,7 @@ pub fn version_of(alloc: Global, entry: LentEntry) -> Result<FoundVersion, Alloc
     ensures { IfOk result (IsVersionOf (lent_entry entry.entry)) }
 {
     let value = match entry.value {
-        Some(value) => Some(value.to_vec(alloc)?),
+        Some(value) => Some(Vec::from_slice(alloc, value)?),
         None => None,
     };
     Ok(FoundVersion {

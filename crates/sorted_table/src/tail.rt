@@ -157,5 +157,5 @@ pub fn parts_of(
     };
     let lines = lines_of(alloc, index, tail.place)?;
     let lines = RcSlice::from_vec(lines)?;
-    Ok((lines, filter.to_vec(alloc)?))
+    Ok((lines, Vec::from_slice(alloc, filter)?))
 }

@@ -32,7 +32,7 @@ returns-clause-parts c = λ all entries s is t.
     ∙ drop_at (filter_part s.filter) (index_part lines) len (sym t.filter_len) in
     let filter : s.filter ≡ c.in-Some.filter.now =
     c.in-Some.ensures.1 s.filter (filter_here all entries s c.split_at.result.0.now front) in
-    let copied : c.in_ok-to_vec.field-0.items ≡ c.in-Some.filter.now = search rules in (
+    let copied : c.in_ok-from_slice.field-0.items ≡ c.in-Some.filter.now = search rules in (
       c.in_ok-lines-2.ensures ∙ sym (c.in_ok-lines.ensures.1 lines
           (index_here all entries s c.split_at.result.1.now c.args.tail.place back t.place)),
       copied ∙ sym filter,
@@ -42,7 +42,7 @@ returns-clause-parts c = λ all entries s is t.
 pub returns-clause-checked : goal.returns-clause-checked
 returns-clause-checked c =
     let len = c.args.tail.filter_len in
-    let copied : c.in_ok-to_vec.field-0.items ≡ c.in-Some.filter.now = search rules in (
+    let copied : c.in_ok-from_slice.field-0.items ≡ c.in-Some.filter.now = search rules in (
       subst (λ (f : List ℕ). IsFilterPart (take len c.args.bytes.now) f) (sym copied)
           (subst (λ (p : List ℕ). IsFilterPart p c.in-Some.filter.now) c.split_at.ensures.front
           c.in-Some.ensures.0),
