@@ -1,5 +1,5 @@
 -- Requests that wait in order: those that are due are at the front.
-use Rattle.std.proofs.Common.{◌≡◌, ℕ, suc, ◌+◌, ◌≤◌, ◌<◌, List, [], ◌∷◌, ◌++◌, length, Bool, true}
+use Rattle.std.proofs.Common.{◌≡◌, ℕ, suc, ◌+◌, ◌≤◌, ◌<◌, List, [], ◌∷◌, ◌++◌, Bool, true}
 use Rattle.std.proofs.Common.{false, not, refl, ap, arith}
 use Rattle.std.specs.Prelude.{nat_le, if◌then◌else◌}
 use Rattle.std.proofs.lemmas.Bool.{leb-false, lt-leb}
@@ -82,37 +82,6 @@ waiting_push [] w = refl
 waiting_push (p ∷ ps) w =
     ap (λ (l : List (ℕ × ℕ)). (p.number, p.request) ∷ l) (waiting_push ps w)
 
--- no more are due than there are numbers
-pub front_few : (a m k : ℕ) (ps : List PendingSubmit) → IsInOrder a m ps → a ≤ m →
-    a + length (front k ps) ≤ m
-front_few a m k [] o le = omega (arith, le)
-front_few a m k (p ∷ ps) o le = go (nat_le p.number k) refl (front_few p.number m k ps o.2 o.1)
-  where
-    go : (b : Bool) → nat_le p.number k ≡ b → p.number + length (front k ps) ≤ m →
-        a + length (front k (p ∷ ps)) ≤ m
-    go true e rest = rw e (omega (arith, o.0, rest))
-    go false e rest = rw e (omega (arith, le))
-
--- with one more behind them no more are due but that one, if it is
-pub front_push : (k : ℕ) (ps : List PendingSubmit) (w : PendingSubmit) →
-    length (front k (ps ++ w ∷ []))
-    ≤ length (front k ps) + (if nat_le w.number k then 1 else 0)
-front_push k [] w = go (nat_le w.number k) refl
-  where
-    go : (b : Bool) → nat_le w.number k ≡ b →
-        length (front k (w ∷ [])) ≤ 0 + (if nat_le w.number k then 1 else 0)
-    go true e = rw e (omega arith)
-    go false e = rw e (omega arith)
-front_push k (p ∷ ps) w = go (nat_le p.number k) refl (front_push k ps w)
-  where
-    go : (b : Bool) → nat_le p.number k ≡ b →
-        length (front k (ps ++ w ∷ []))
-        ≤ length (front k ps) + (if nat_le w.number k then 1 else 0) →
-        length (front k (p ∷ ps ++ w ∷ []))
-        ≤ length (front k (p ∷ ps)) + (if nat_le w.number k then 1 else 0)
-    go true e rest = rw e (omega (arith, rest))
-    go false e rest = rw e (omega arith)
-
 -- forgotten where gone is to stay where not
 pub kept_where : (b : Bool) (ps : List PendingSubmit) →
     (if not b then [] else ps) ≡ (if b then ps else [])
@@ -124,9 +93,3 @@ pub where_in_order : (b : Bool) (m : ℕ) (ps : List PendingSubmit) → IsInOrde
     IsInOrder 0 m (if b then ps else [])
 where_in_order true m ps o = o
 where_in_order false m ps o = tt
-
--- no more are due of requests that are forgotten, or stay
-pub front_where : (b : Bool) (k : ℕ) (ps : List PendingSubmit) →
-    length (front k (if b then ps else [])) ≤ length (front k ps)
-front_where true k ps = omega arith
-front_where false k ps = omega arith

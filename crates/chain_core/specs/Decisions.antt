@@ -1,7 +1,6 @@
 -- Decisions on inputs, and their execution: the rules of the chain's model by name.
 use Rattle.std.specs.Prelude.{◌≡◌, ◌≤◌, ◌<◌, ℕ, suc, List, ◌∷◌, length, map, Option}
 use Rattle.std.specs.Prelude.{Some, None, Result, IfOk, OnErr, IsTrue, All}
-use Rattle.std.specs.Global.{Vec}
 use Rattle.kv_types.specs.declared.bounds.TheConstants.{MAX_NUMBER}
 use Rattle.kv_types.specs.{BatchContent}
 use Rattle.chain_model.specs as model_frame
@@ -161,10 +160,10 @@ pub record CoreFollows (new : Core) (answer : Answer BatchContent)
 -- The store's part of a step was applied to the state, which then follows the rule that was done.
 -- The committed number never falls, and for want of memory nothing changes.
 pub record CoreApplies (old new : Core) (done : Done)
-    (result : Result (Vec PendingSubmit) CoreError) : Type 0 where
+    (result : Result (List PendingSubmit) CoreError) : Type 0 where
   pub after : (n : Machine) (batch : BatchContent) → CoreRefines old n →
       IfOk result (λ due.
-      CoreFollows new (done_of old.id n batch done) (responses_after done due.items))
+      CoreFollows new (done_of old.id n batch done) (responses_after done due))
   pub rises : old.committed ≤ new.committed
   pub same : new.id ≡ old.id
   pub memory : OnErr result (new ≡ old)

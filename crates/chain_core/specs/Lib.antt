@@ -1,6 +1,7 @@
 pub mod States
 pub mod CoreState
 pub mod Queues
+pub mod ShortLists
 pub mod Decisions
 pub mod Steps
 -- What crates above name.
@@ -10,6 +11,7 @@ pub use Rattle.chain_core.specs.Decisions.{IsAdoptable}
 pub use Rattle.chain_core.specs.Decisions.{answer_to, done_of, frame_as, responses_after, rule_of}
 pub use Rattle.chain_core.specs.States.{AreSnapshots, Core, CoreRefines, HasOrderedNumbers}
 pub use Rattle.chain_core.specs.States.{Machine, committed_responses, waiting}
+pub use Rattle.chain_core.specs.ShortLists.{items_held}
 pub use Rattle.chain_core.specs.Steps.{StandsLast, StepLeaves, StepsLeave, epoch_after, floor_after}
 pub use Rattle.chain_core.specs.Steps.{frames_after, ids_after, kept_after, list_after}
 pub use Rattle.chain_core.specs.Steps.{snapshots_after}

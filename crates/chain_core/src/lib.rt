@@ -11,6 +11,7 @@ mod pending_submit;
 mod persistent_state;
 mod queue;
 mod sending;
+mod short_list;
 mod state;
 
 pub use chain_model::DropReason;
@@ -22,4 +23,5 @@ pub use input::Input;
 pub use pending_submit::PendingSubmit;
 pub use persistent_state::PersistentState;
 pub use sending::Sent;
+pub use short_list::{HeldItems, ShortList};
 pub use state::CoreState;

@@ -1,33 +1,46 @@
 // The queue of requests whose batches are not yet committed, in order of number.
-ghost use Rattle.std.specs.Prelude.{◌≡◌, ◌≤◌, ◌+◌, ◌++◌, [], length, if◌then◌else◌};
-ghost use Rattle.std.specs.Prelude.{nat_le};
-ghost use Rattle.std.specs.Vec.{vec_len, vec_capacity};
+ghost use Rattle.std.specs.Prelude.{◌≡◌, [], IfOk, if◌then◌else◌};
 ghost use Rattle.chain_core.specs.Queues.{front, behind};
 
-use crate::PendingSubmit;
+use crate::{PendingSubmit, ShortList};
 use kv_types::Number;
+use std::alloc::{AllocError, Global};
 use std::collections::VecDeque;
 
-// The number of requests at the front with numbers up to this one.
-pub(crate) fn count_due(pending: &VecDeque<PendingSubmit>, upto: Number) -> usize
-    ensures { result ≡ length (front upto pending.now.items) }
+// The requests at the front with numbers up to this one.
+pub(crate) fn due_of(
+    alloc: Global,
+    pending: &VecDeque<PendingSubmit>,
+    upto: Number,
+) -> Result<ShortList<PendingSubmit>, AllocError>
+    ensures { IfOk result (λ due. due ≡ front upto pending.now.items) }
 {
+    let mut due = ShortList::new();
     let mut count = 0;
     while let Some(it) = pending.get(count) {
         if it.number > upto {
-            return count;
+            return Ok(due);
         }
+        due.push(alloc, *it)?;
         count += 1;
     }
-    count
+    Ok(due)
 }
 
-// How many more are due with a request of this number behind all others: one, or none.
-pub(crate) fn count_if_due(number: Number, upto: Number) -> usize
-    ensures count { result ≡ (if nat_le number upto then 1 else 0) }
-    ensures limit { result ≤ 1 }
+// The requests at the front with numbers up to this one, if the node `stays`; else none.
+pub(crate) fn due_where(
+    alloc: Global,
+    pending: &VecDeque<PendingSubmit>,
+    upto: Number,
+    stays: bool,
+) -> Result<ShortList<PendingSubmit>, AllocError>
+    ensures { IfOk result (λ due. due ≡ front upto (if stays then pending.now.items else [])) }
 {
-    if number <= upto { 1 } else { 0 }
+    if stays {
+        due_of(alloc, pending, upto)
+    } else {
+        Ok(ShortList::new())
+    }
 }
 
 // Forgets all requests, if `gone`.
@@ -39,21 +52,14 @@ pub(crate) fn forget_where(pending: &mut VecDeque<PendingSubmit>, gone: bool)
     }
 }
 
-// Moves the requests at the front with numbers up to this one to the end of `due`.
-pub(crate) fn move_due(
-    pending: &mut VecDeque<PendingSubmit>,
-    due: &mut Vec<PendingSubmit>,
-    upto: Number,
-)
-    requires { vec_len due.old + length (front upto pending.old.items) ≤ vec_capacity due.old }
-    ensures due { due.new.items ≡ due.old.items ++ front upto pending.old.items }
-    ensures pending { pending.new.items ≡ behind upto pending.old.items }
+// Forgets the requests at the front with numbers up to this one.
+pub(crate) fn forget_due(pending: &mut VecDeque<PendingSubmit>, upto: Number)
+    ensures { pending.new.items ≡ behind upto pending.old.items }
 {
-    while let Some(&first) = pending.front() {
+    while let Some(first) = pending.front() {
         if first.number > upto {
             return;
         }
         pending.pop_front();
-        due.push_reserved(first);
     }
 }

@@ -14,8 +14,8 @@ ghost use Rattle.chain_core.specs.States.{HasOrderedNumbers};
 ghost use Rattle.chain_core.specs.Decisions.{CoreApplies, DoneFits, HasRoomAt, IsReport};
 ghost use Rattle.chain_core.specs.Decisions.{IsRiseOf};
 
-use crate::queue::{count_due, count_if_due, forget_where, move_due};
-use crate::{CoreError, Done, PendingSubmit, PersistentState};
+use crate::queue::{due_of, due_where, forget_due, forget_where};
+use crate::{CoreError, Done, PendingSubmit, PersistentState, ShortList};
 use configurations::{Config, Epoch, NodeId};
 use kv_types::Number;
 use std::alloc::Global;
@@ -247,19 +247,23 @@ impl CoreState {
         &mut self,
         alloc: Global,
         request: Number,
-    ) -> Result<Vec<PendingSubmit>, CoreError>
+    ) -> Result<ShortList<PendingSubmit>, CoreError>
         requires { self.old.count < MAX_NUMBER }
         ensures { CoreApplies self.old self.new (Done.Accepted request) result }
     {
         let number = self.count.next().unwrap();
         let committed = self.committed_with(number);
-        let mut due = Vec::new(alloc);
-        let own = count_if_due(number, committed);
-        due.reserve(count_due(&self.pending, committed) + own)?;
         self.pending.push_back(PendingSubmit { number, request })?;
+        let due = match due_of(alloc, &self.pending, committed) {
+            Ok(due) => due,
+            Err(e) => {
+                self.pending.pop_back();
+                return Err(CoreError::from(e));
+            }
+        };
         self.count = number;
         self.committed = committed;
-        move_due(&mut self.pending, &mut due, committed);
+        forget_due(&mut self.pending, committed);
         Ok(due)
     }
 
@@ -282,16 +286,15 @@ impl CoreState {
         alloc: Global,
         committed: Number,
         have: Number,
-    ) -> Result<Vec<PendingSubmit>, CoreError>
+    ) -> Result<ShortList<PendingSubmit>, CoreError>
         requires { IsReport self.old committed have }
         ensures { CoreApplies self.old self.new (Done.Acked committed have) result }
     {
         let committed = greater(self.committed, committed);
-        let mut due = Vec::new(alloc);
-        due.reserve(count_due(&self.pending, committed))?;
+        let due = due_of(alloc, &self.pending, committed)?;
         self.committed = committed;
         self.successor_has = greater(self.successor_has, have);
-        move_due(&mut self.pending, &mut due, committed);
+        forget_due(&mut self.pending, committed);
         Ok(due)
     }
 
@@ -314,18 +317,18 @@ impl CoreState {
         alloc: Global,
         epoch: Epoch,
         config: Config,
-    ) -> Result<Vec<PendingSubmit>, CoreError>
+    ) -> Result<ShortList<PendingSubmit>, CoreError>
         ensures { CoreApplies self.old self.new (Done.Adopted epoch config) result }
     {
         let committed = self.committed_under(&config);
-        let mut due = Vec::new(alloc);
-        due.reserve(count_due(&self.pending, committed))?;
-        forget_where(&mut self.pending, !config.has(self.id));
+        let stays = config.has(self.id);
+        let due = due_where(alloc, &self.pending, committed, stays)?;
+        forget_where(&mut self.pending, !stays);
         self.epoch = epoch;
         self.config = config;
         self.committed = committed;
         self.successor_has = committed;
-        move_due(&mut self.pending, &mut due, committed);
+        forget_due(&mut self.pending, committed);
         Ok(due)
     }
 
@@ -364,7 +367,11 @@ impl CoreState {
 
     /// Applies the store's part of a step to the state. Returns the requests whose batches are now
     /// committed, in order of number.
-    pub fn after(&mut self, alloc: Global, done: Done) -> Result<Vec<PendingSubmit>, CoreError>
+    pub fn after(
+        &mut self,
+        alloc: Global,
+        done: Done,
+    ) -> Result<ShortList<PendingSubmit>, CoreError>
         requires { DoneFits self.old done }
         ensures { CoreApplies self.old self.new done result }
     {
@@ -372,17 +379,17 @@ impl CoreState {
             Done::Accepted { request } => self.add_submit(alloc, request),
             Done::Appended => {
                 self.add_batch();
-                Ok(Vec::new(alloc))
+                Ok(ShortList::new())
             }
             Done::Acked { committed, have } => self.apply_ack(alloc, committed, have),
             Done::Adopted { epoch, config } => self.adopt(alloc, epoch, config),
             Done::Opened { number, .. } => {
                 self.open_snapshot(number)?;
-                Ok(Vec::new(alloc))
+                Ok(ShortList::new())
             }
             Done::Closed { number, .. } => {
                 self.close_snapshot(number);
-                Ok(Vec::new(alloc))
+                Ok(ShortList::new())
             }
         }
     }

@@ -47,10 +47,10 @@ pub outcome_are : (x : ℕ) (told : Option ℕ) (before : ℕ) (did : StepOutcom
 outcome_are x told before (done.Answered output) =
     let dropped = dropped_lines output.dropped in
     let adopted = adopted_lines x told output.dropped in
-    let sent = sent_lines before output.frames.items in
-    append_assoc dropped (adopted ++ sent) (replied output.replies.items)
+    let sent = sent_lines before output.frames in
+    append_assoc dropped (adopted ++ sent) (replied output.replies)
     ∙ ap (λ (l : List Line). dropped ++ l)
-    (append_assoc adopted sent (replied output.replies.items))
+    (append_assoc adopted sent (replied output.replies))
 outcome_are x told before (done.Started epoch count committed) = refl
 outcome_are x told before (done.Stopped cause) = refl
 outcome_are x told before (done.Tended answer) = refl
@@ -82,14 +82,14 @@ pub no_replies : (x : ℕ) (told : Option ℕ) (before : ℕ) (did : StepOutcome
     reply_count (own_lines x told before did) ≡ 0
 no_replies x told before (done.Answered output) =
     let adopted = adopted_lines x told output.dropped in
-    let sent = sent_lines before output.frames.items in
+    let sent = sent_lines before output.frames in
     omega (
       arith,
       count_both (dropped_lines output.dropped) (adopted ++ sent),
       count_both adopted sent,
       drop_count output.dropped,
       adoption_count x told output.dropped,
-      sent_count before output.frames.items,
+      sent_count before output.frames,
     )
 no_replies x told before (done.Started epoch count committed) = refl
 no_replies x told before (done.Stopped cause) = refl
@@ -209,7 +209,7 @@ notice_lines : (x epoch before : ℕ) (inp : Input) (did : StepOutcome) (more : 
     IsOutcomeOf (to_node.Step inp) did →
     BeginsWithLine (IsNoticeLine x epoch) (own_lines x (Some epoch) before did ++ more)
 notice_lines x epoch before inp (done.Answered output) more is =
-    notice_begins x epoch output.dropped (sent_lines before output.frames.items) more
+    notice_begins x epoch output.dropped (sent_lines before output.frames) more
 notice_lines x epoch before inp (done.Started e count committed) more is = absurd is
 notice_lines x epoch before inp (done.Stopped cause) more is = refl
 notice_lines x epoch before inp (done.Tended answer) more is = absurd is

@@ -179,8 +179,8 @@ module _ (x : ℕ) (event : EventContent) (inp : Input) (choice : Choice) (a : A
   answer_lines n =
       ap₂ (λ (d : Option DropReason) (f : List Line). dropped_lines d
       ++ (adopted_lines x (epoch_in event.kind) d
-      ++ (f ++ map (λ reply. line.Replied reply) output.replies.items)))
-      is.dropped (lines_same n output.frames.items a.frames is.frames)
+      ++ (f ++ map (λ reply. line.Replied reply) output.replies)))
+      is.dropped (lines_same n output.frames a.frames is.frames)
       ∙ ap (λ (rs : List Reply). answered_lines x (epoch_in event.kind) n a rs) is.replied
 
   answer_traced : TurnsSo x event.kind choice a →

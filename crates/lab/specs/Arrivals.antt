@@ -1,7 +1,7 @@
 -- What arrives of the lines of a node: its replies may be lost on their way to the client.
 use Rattle.std.specs.Prelude.{◌≡◌, ◌≤◌, ℕ, List, [], ◌∷◌, ◌++◌, All, Bool, Option, Some, None}
 use Rattle.std.specs.Prelude.{length, map, true}
-use Rattle.carriers.specs.{Transmission}
+use Rattle.carriers.specs.{HasCarriedMore, Transmission}
 use Rattle.node.specs.declared.Reply.{Reply}
 use Rattle.lab.specs.declared.report.Line.{Line}
 use Rattle.lab.specs.declared.report.Line.TheVariants as line
@@ -38,3 +38,14 @@ pub record RepliesFollow (faithful loses : Type 0) (asks : List Transmission →
   pub few : length heard ≤ length replies
   pub arrive : faithful → RepliesArrive loses asks node
       (map (λ reply. line.Replied reply) replies) (map (λ reply. line.Replied reply) heard)
+
+-- One more reply was carried: it follows those that were carried since a carrier that was faithful
+-- only where this one is.
+abbrev pub CarriesOneMore : {C : Type 0} → (is_faithful : C → Type 0) → (loses : Type 0)
+    → (has_carried : C → List Transmission → Type 0) → (node : ℕ) → Reply → (old new : C)
+    → (before now : List Line) → Type 0
+CarriesOneMore {C} is_faithful loses has_carried node reply old new before now =
+    (first : C) (given : List Reply) (begun : List Line) → (is_faithful first → is_faithful old) →
+    RepliesFollow (is_faithful first) loses (HasCarriedMore has_carried first old) node given begun
+    before → RepliesFollow (is_faithful first) loses (HasCarriedMore has_carried first new) node
+    (given ++ reply ∷ []) begun now

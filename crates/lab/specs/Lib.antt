@@ -1,5 +1,4 @@
 pub mod Events
-pub mod HeldLines
 pub mod SimNodes
 pub mod Traces
 pub mod Posting
@@ -33,11 +32,12 @@ pub use Rattle.events.specs.declared.kind.EventKind
 pub use Rattle.lab.specs.Events.{NamesNode, node_in}
 pub use Rattle.events.specs.{delivered_place, faultless}
 pub use Rattle.lab.specs.LinesSoFar.{AddsLines, AreEventLines, EventAddsLines, HasItsNodes}
-pub use Rattle.lab.specs.LinesSoFar.{configs_of, lines_so_far, nodes_of, sim_node_ids}
+pub use Rattle.lab.specs.LinesSoFar.{HasRunNothing, configs_of, events_so_far, lines_so_far}
+pub use Rattle.lab.specs.LinesSoFar.{lost_so_far, nodes_of, sent_so_far, sim_node_ids}
 pub use Rattle.lab.specs.History.{ClientHistory, DisksHold, OneHistory}
 pub use Rattle.lab.specs.Runs.{AreNumbersOf, IsRun, IsRunOver}
 pub use Rattle.lab.specs.SimNodes.{Arrives, Choice}
 pub use Rattle.lab.specs.Transmissions.{transmissions_of}
 pub use Rattle.lab.specs.Worlds.{AreNodesAfter, AreReportsAfter, HasRun, WorldHasLimits, WorldRun}
-pub use Rattle.lab.specs.Worlds.{IsReportOf, MemWorld, ShowsTables, direct_carrier}
+pub use Rattle.lab.specs.Worlds.{IsDownAmong, IsReportOf, MemWorld, ShowsNumbers, direct_carrier}
 pub use Rattle.lab.specs.Worlds.{frames_of_step, frames_in_steps}

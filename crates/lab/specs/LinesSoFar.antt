@@ -1,5 +1,5 @@
--- The lines of the events of a world so far, whatever the world has run before.
-use Rattle.std.specs.Prelude.{◌≡◌, ℕ, List, [], ◌∷◌, ◌++◌, All, None, length, map}
+-- The events of a world so far and their lines, whatever the world has run before.
+use Rattle.std.specs.Prelude.{◌≡◌, ℕ, Bool, List, [], ◌∷◌, ◌++◌, All, None, length, map}
 use Rattle.configurations.specs.{Configurations, at_epoch}
 use Rattle.disk.specs.declared.disk.Disk.{Ghosts}
 use Rattle.chain_model.specs.declared.DropReason.TheVariants as reason
@@ -74,6 +74,25 @@ module _ {D C : Type 0} {g : Ghosts D} where
   abbrev pub lines_so_far : World D C g → List (List Line)
   lines_so_far world = world.steps.items
 
+  -- the events so far
+  abbrev pub events_so_far : World D C g → List EventContent
+  events_so_far world = world.events.items
+
+  -- of each of them whether its request or frame was lost on its way
+  abbrev pub lost_so_far : World D C g → List Bool
+  lost_so_far world = world.lost.items
+
+  -- how many frames were sent so far
+  abbrev pub sent_so_far : World D C g → ℕ
+  sent_so_far world = length world.frames.items
+
+  -- no event was run, and no frame sent
+  pub record HasRunNothing (world : World D C g) : Type 0 where
+    pub lines : lines_so_far world ≡ []
+    pub events : events_so_far world ≡ []
+    pub lost : lost_so_far world ≡ []
+    pub sent : sent_so_far world ≡ 0
+
   -- the configurations of a world
   abbrev pub configs_of : World D C g → Configurations
   configs_of world = world.configs
@@ -86,11 +105,16 @@ module _ {D C : Type 0} {g : Ghosts D} where
   abbrev pub HasItsNodes : World D C g → Type 0
   HasItsNodes world = sim_node_ids (nodes_of world) ≡ at_epoch (configs_of world) 0
 
-  -- So many events were run. If they name nodes of the first configuration (`named`), the world has
-  -- a list of lines of each behind those that it had. If they name others, it is as it was. Each
-  -- list is such (`are_lines`), if the world has its nodes.
-  pub record AddsLines (named : Type 0) (are_lines : List Line → Type 0) (count : ℕ)
-      (old new : World D C g) : Type 0 where
+  -- So many events were run, each of them such (`is_own`). If they name nodes of the first
+  -- configuration (`named`), the world has them behind those that it had, and a list of lines of
+  -- each. If they name others, it is as it was. Each list is such (`are_lines`), if the world has
+  -- its nodes.
+  pub record AddsLines (named : Type 0) (is_own : EventContent → Type 0)
+      (are_lines : List Line → Type 0) (count : ℕ) (old new : World D C g) : Type 0 where
+    pub own : List EventContent
+    pub took : events_so_far new ≡ events_so_far old ++ own
+    pub all : named → length own ≡ count
+    pub of : All is_own own
     pub more : List (List Line)
     pub added : lines_so_far new ≡ lines_so_far old ++ more
     pub each : named → length more ≡ count
@@ -99,7 +123,7 @@ module _ {D C : Type 0} {g : Ghosts D} where
     pub configs : configs_of new ≡ configs_of old
     pub nodes : HasItsNodes old → HasItsNodes new
 
-  -- .. one event, which may name no node
+  -- .. this one event, which may name no node
   abbrev pub EventAddsLines : EventContent → World D C g → World D C g → Type 0
-  EventAddsLines event old new =
-      AddsLines (NamesNode (configs_of old) event.kind) (AreEventLines event.kind) 1 old new
+  EventAddsLines event old new = AddsLines (NamesNode (configs_of old) event.kind)
+      (λ it. it ≡ event) (AreEventLines event.kind) 1 old new

@@ -15,7 +15,7 @@ use Rattle.lab.specs.Events.{dropped_lines}
 
 -- the frames that a node sent
 abbrev pub sent_by : StepOutcome → List Sent
-sent_by (done.Answered output) = output.frames.items
+sent_by (done.Answered output) = output.frames
 sent_by (done.Started epoch count committed) = []
 sent_by (done.Stopped cause) = []
 sent_by (done.Tended answer) = []
@@ -47,7 +47,7 @@ adopted_lines x (Some epoch) (Some why) = []
 abbrev pub lines_before_replies : ℕ → Option ℕ → ℕ → Output → List Line
 lines_before_replies x told before output =
     dropped_lines output.dropped ++ (adopted_lines x told output.dropped
-    ++ sent_lines before output.frames.items)
+    ++ sent_lines before output.frames)
 
 -- the lines of an outcome of node x besides its replies, where it was told of an epoch or not
 abbrev pub own_lines : ℕ → Option ℕ → ℕ → StepOutcome → List Line
@@ -59,7 +59,7 @@ own_lines x told before (done.Tended answer) = line.Tended answer ∷ []
 
 -- the replies of an outcome
 abbrev pub replies_by : StepOutcome → List Reply
-replies_by (done.Answered output) = output.replies.items
+replies_by (done.Answered output) = output.replies
 replies_by (done.Started epoch count committed) = []
 replies_by (done.Stopped cause) = []
 replies_by (done.Tended answer) = []
@@ -68,8 +68,8 @@ replies_by (done.Tended answer) = []
 abbrev pub outcome_lines : ℕ → Option ℕ → ℕ → StepOutcome → List Line
 outcome_lines x told before (done.Answered output) =
     dropped_lines output.dropped ++ (adopted_lines x told output.dropped
-    ++ (sent_lines before output.frames.items
-    ++ map (λ reply. line.Replied reply) output.replies.items))
+    ++ (sent_lines before output.frames
+    ++ map (λ reply. line.Replied reply) output.replies))
 outcome_lines x told before (done.Started epoch count committed) =
     line.Started x epoch count committed ∷ []
 outcome_lines x told before (done.Stopped cause) = line.Stopped x cause ∷ []

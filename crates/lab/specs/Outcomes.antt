@@ -52,20 +52,20 @@ down_answer n input.Tick = dropped_for n reason.NotRunning
 -- the output has the drop, the frames and the replies of this answer of the machine
 pub record IsAnswer (inp : Input) (a : Answer BatchContent) (output : Output) : Type 0 where
   pub dropped : output.dropped ≡ a.dropped
-  pub frames : AreFrames output.frames.items a.frames
-  pub replied : output.replies.items ≡ replies_of inp a.replies
+  pub frames : AreFrames output.frames a.frames
+  pub replied : output.replies ≡ replies_of inp a.replies
 
 -- the input was dropped, and nothing else done
 pub record IsDrop (why : DropReason) (output : Output) : Type 0 where
   pub dropped : output.dropped ≡ Some why
-  pub frames : output.frames.items ≡ []
-  pub replied : output.replies.items ≡ []
+  pub frames : output.frames ≡ []
+  pub replied : output.replies ≡ []
 
 -- request i was refused as the node is down, and nothing else done
 pub record IsRefusal (i : ℕ) (output : Output) : Type 0 where
   pub dropped : output.dropped ≡ None
-  pub frames : output.frames.items ≡ []
-  pub replied : output.replies.items ≡ reply.Refused i refusal.NotRunning ∷ []
+  pub frames : output.frames ≡ []
+  pub replied : output.replies ≡ reply.Refused i refusal.NotRunning ∷ []
 
 -- a node that is down answered an input that does not start it
 abbrev pub IsAnswerAtRest : NodeInput → Output → Type 0

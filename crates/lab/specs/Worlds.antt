@@ -14,7 +14,7 @@ use Rattle.disk.specs.declared.disk.Disk.{Ghosts}
 use Rattle.disk.specs.{Slots}
 use Rattle.node.specs.declared.Node.{Node}
 use Rattle.engine.specs.{IsTendAnswer, facts_of, table_count}
-use Rattle.node.specs.{disk_of, engine_of, has_risen}
+use Rattle.node.specs.{AreOwnNumbers, disk_of, engine_of, has_risen, node_core}
 use Rattle.link_messages.specs.declared.Frame.{Frame}
 use Rattle.link_messages.specs.{IsFrame, frame_bytes}
 use Rattle.chain_core.specs.{frame_as, Machine}
@@ -144,17 +144,22 @@ module _ {D : Type 0} {g : Ghosts D} where
     pub each : All (IsCreated config) sims
     pub limits : HaveLimits sims given
 
-  -- the node is up, and the numbers say how many tables each level of its store has
-  abbrev pub HasTablesIn : NodeState D g → Numbers → Type 0
-  HasTablesIn (Up node) numbers = (level : ℕ) → level < 7 →
-      slice_index numbers.tables level ≡ table_count (engine_of node.value) level
-  HasTablesIn (Down disk) numbers = ⊥
+  -- the numbers are those of the node's state, and say how many tables each level of its store has
+  pub record AreItsNumbers (node : Node D g) (numbers : Numbers) : Type 0 where
+    pub own : AreOwnNumbers (node_core node) numbers
+    pub tables : (level : ℕ) → level < 7 →
+        slice_index numbers.tables level ≡ table_count (engine_of node) level
 
-  -- the numbers are those of node x, which is up: they say how many tables it has
-  pub record ShowsTables (sims : List (SimNode D g)) (x : ℕ) (numbers : Numbers) : Type 0 where
+  -- the node is up, and has these numbers
+  abbrev pub HasNumbersIn : NodeState D g → Numbers → Type 0
+  HasNumbersIn (Up node) numbers = AreItsNumbers node.value numbers
+  HasNumbersIn (Down disk) numbers = ⊥
+
+  -- the numbers are those of node x, which is up
+  pub record ShowsNumbers (sims : List (SimNode D g)) (x : ℕ) (numbers : Numbers) : Type 0 where
     pub index : ℕ
     pub at : IsIndexOf sims index x
-    pub tables : HoldsAt (λ sim. HasTablesIn sim.state numbers) sims index
+    pub own : HoldsAt (λ sim. HasNumbersIn sim.state numbers) sims index
 
   -- node x is none of these, or is down
   abbrev pub IsDownAmong : List (SimNode D g) → ℕ → Type 0
@@ -367,12 +372,11 @@ pub record IsLeft (n : Machine) (own : Slots) (left : NodeReport) : Type 0 where
   pub disk : IsDiskOf state left.id n left.disk own
   pub numbers : RunningRefines left.running n
 
--- the report of this node has its id and its very disk, and numbers where it is up: they say how
--- many tables its store has
+-- the report of this node has its id and its very disk, and its numbers where it is up
 pub record IsReportOf (sim : MemNode) (report : NodeReport) : Type 0 where
   pub id : report.id ≡ sim.id
   pub disk : report.disk ≡ disk_in sim.state
-  pub running : MatchOption report.running (IsDown sim.state) (HasTablesIn sim.state)
+  pub running : MatchOption report.running (IsDown sim.state) (HasNumbersIn sim.state)
 
 -- these reports are of these nodes, one of each in order, at the end of a run
 pub record AreLeft (sims : List MemNode) (nodes : List NodeReport) : Type 0 where

@@ -1,5 +1,4 @@
 // The outcomes of the steps of a simulated node, and what one answers that is down.
-ghost use Rattle.std.specs.Prelude.{IfOk};
 ghost use Rattle.chain_core.specs.{Machine};
 ghost use Rattle.lab.specs.Outcomes.{IsAnswer, IsAnswerAtRest, IsDrop, IsRefusal, down_answer};
 
@@ -8,8 +7,7 @@ use configurations::Epoch;
 use engine::Tended;
 use kv_types::Number;
 use link_messages::Refusal;
-use node::{DropReason, Frames, Input, Output, Reply, Stop};
-use std::alloc::{AllocError, Global};
+use node::{DropReason, Input, Output, Reply, ShortList, Stop};
 
 /// How a step of a node ended.
 #[derive(Drop)]
@@ -26,53 +24,51 @@ pub enum StepOutcome {
 }
 
 /// The output of a node that drops its input.
-pub fn dropped(alloc: Global, why: DropReason) -> Output
+pub fn dropped(why: DropReason) -> Output
     ensures { IsDrop why result }
 {
     Output {
         dropped: Some(why),
-        frames: Frames::new(),
-        replies: Vec::new(alloc),
+        frames: ShortList::new(),
+        replies: ShortList::new(),
     }
 }
 
 // The output of a node that is down, to a request.
-fn refused(alloc: Global, request: Number) -> Result<Output, AllocError>
-    ensures { IfOk result (IsRefusal request) }
+fn refused(request: Number) -> Output
+    ensures { IsRefusal request result }
 {
     let refusal = Refusal::NotRunning;
-    let mut replies = Vec::new(alloc);
-    replies.push(Reply::Refused { request, refusal })?;
-    Ok(Output {
+    Output {
         dropped: None,
-        frames: Frames::new(),
-        replies,
-    })
+        frames: ShortList::new(),
+        replies: ShortList::one(Reply::Refused { request, refusal }),
+    }
 }
 
 // The output of a node that is down, to the input of a step: a client is refused, all else is
 // dropped.
-fn output_down(alloc: Global, input: &Input) -> Result<Output, AllocError>
-    ensures { (n : Machine) → IfOk result (IsAnswer input.now (down_answer n input.now)) }
+fn output_down(input: &Input) -> Output
+    ensures { (n : Machine) → IsAnswer input.now (down_answer n input.now) result }
 {
     match input {
         Input::Submit { request, .. }
         | Input::Get { request, .. }
         | Input::Rows { request, .. }
         | Input::Open { request, .. }
-        | Input::Close { request, .. } => refused(alloc, *request),
+        | Input::Close { request, .. } => refused(*request),
         Input::Forward { .. } | Input::Ack { .. } | Input::Notice { .. } | Input::Tick => {
-            Ok(dropped(alloc, DropReason::NotRunning))
+            dropped(DropReason::NotRunning)
         }
     }
 }
 
 /// The output of a node that is down, to what does not start it.
-pub fn output_at_rest(alloc: Global, input: &NodeInput) -> Result<Output, AllocError>
-    ensures { IfOk result (IsAnswerAtRest input.now) }
+pub fn output_at_rest(input: &NodeInput) -> Output
+    ensures { IsAnswerAtRest input.now result }
 {
     match input {
-        NodeInput::Step(input) => output_down(alloc, input),
-        _ => Ok(dropped(alloc, DropReason::NotRunning)),
+        NodeInput::Step(input) => output_down(input),
+        _ => dropped(DropReason::NotRunning),
     }
 }

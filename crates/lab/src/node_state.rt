@@ -159,7 +159,7 @@ fn dispatch_down<D: Crash + Drop>(
         return start(alloc, boxed, fault, limits);
     }
     drop(fault);
-    let output = output_at_rest(alloc, input)?;
+    let output = output_at_rest(input);
     Ok((NodeState::Down(boxed), StepOutcome::Answered(output)))
 }
 
@@ -186,12 +186,12 @@ impl<D: Crash + Drop> NodeState<D> {
             NodeInput::Tend => tend(alloc, node, fault),
             NodeInput::BadFrame(why) => {
                 drop(fault);
-                let output = dropped(alloc, why);
+                let output = dropped(why);
                 Ok((NodeState::Up(node), StepOutcome::Answered(output)))
             }
             NodeInput::Start => {
                 drop(fault);
-                let output = dropped(alloc, DropReason::Running);
+                let output = dropped(DropReason::Running);
                 Ok((NodeState::Up(node), StepOutcome::Answered(output)))
             }
             NodeInput::Stop(junk) => {

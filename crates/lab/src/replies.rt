@@ -1,13 +1,13 @@
 // The replies of a step, as they are carried to the client.
 ghost use Rattle.std.specs.Prelude.{◌≡◌, ◌↔◌, ◌∷◌, ◌++◌, [], OnOk};
 ghost use Rattle.carriers.specs.{HasCarriedMore};
-ghost use Rattle.lab.specs.Arrivals.{RepliesFollow};
+ghost use Rattle.lab.specs.Arrivals.{CarriesOneMore, RepliesFollow};
 
 use crate::report::{Line, Lines};
 use crate::{Carrier, LabError};
 use carriers::{KeptReply, send_reply};
 use configurations::NodeId;
-use node::Reply;
+use node::{HeldItems, Reply, ShortList};
 use std::alloc::{AllocError, Global};
 
 // Adds the line of a reply that arrived.
@@ -15,12 +15,30 @@ fn push_reply(alloc: Global, lines: &mut Lines, reply: Reply) -> Result<(), Allo
     ensures { OnOk result (lines.new ≡ lines.old ++ Line.Replied reply ∷ []) }
 {
     let reply = KeptReply::new(alloc, reply)?;
-    lines.push(Line::Replied(reply))
+    lines.push(alloc, Line::Replied(reply))
 }
 
-/// Carries the replies of a node to the client, one after another. Each that arrives has a line
-/// behind those that there are.
-pub fn carry_replies<C: Carrier>(
+// Carries a reply of a node to the client. If it arrives, it has a line behind those that there
+// are.
+fn carry_reply<C: Carrier>(
+    alloc: Global,
+    carrier: &mut C,
+    from: NodeId,
+    lines: &mut Lines,
+    reply: Reply,
+) -> Result<(), LabError>
+    ensures faithful { C.is_faithful carrier.new ↔ C.is_faithful carrier.old }
+    ensures carries { OnOk result (CarriesOneMore C.is_faithful C.loses C.has_carried from reply
+        carrier.old carrier.new lines.old lines.new) }
+{
+    if let Some(reply) = send_reply(alloc, carrier, from, reply)? {
+        push_reply(alloc, lines, reply)?;
+    }
+    Ok(())
+}
+
+// Carries many replies of a node to the client, one after another.
+fn carry_all<C: Carrier>(
     alloc: Global,
     carrier: &mut C,
     from: NodeId,
@@ -33,9 +51,35 @@ pub fn carry_replies<C: Carrier>(
         lines.new) }
 {
     for reply in replies {
-        if let Some(reply) = send_reply(alloc, carrier, from, reply)? {
-            push_reply(alloc, lines, reply)?;
-        }
+        carry_reply(alloc, carrier, from, lines, reply)?;
     }
     Ok(())
+}
+
+fn only_reply(one: [Reply; 1]) -> Reply
+    ensures { result ∷ [] ≡ one }
+{
+    let [reply] = one;
+    reply
+}
+
+/// Carries the replies of a node to the client, one after another. Each that arrives has a line
+/// behind those that there are.
+pub fn carry_replies<C: Carrier>(
+    alloc: Global,
+    carrier: &mut C,
+    from: NodeId,
+    lines: &mut Lines,
+    replies: ShortList<Reply>,
+) -> Result<(), LabError>
+    ensures faithful { C.is_faithful carrier.new ↔ C.is_faithful carrier.old }
+    ensures lines { OnOk result (RepliesFollow (C.is_faithful carrier.old) C.loses
+        (HasCarriedMore C.has_carried carrier.old carrier.new) from replies lines.old
+        lines.new) }
+{
+    match replies.into_held() {
+        HeldItems::None => Ok(()),
+        HeldItems::One(one) => carry_reply(alloc, carrier, from, lines, only_reply(one)),
+        HeldItems::Many(replies) => carry_all(alloc, carrier, from, lines, replies),
+    }
 }

@@ -1,15 +1,10 @@
 // The report of a run: the lines of each event, and each node at the end.
-ghost use Rattle.std.specs.Prelude.{◌≡◌, ◌∷◌, ◌++◌, [], OnOk};
-
 use carriers::KeptReply;
 use configurations::{Epoch, NodeId};
 use disk::MemDisk;
 use engine::Tended;
 use kv_types::Number;
-use node::{DropReason, Numbers, Stop};
-use std::alloc::{AllocError, Global};
-use std::marker::Model;
-use std::{mem, slice};
+use node::{DropReason, Numbers, ShortList, Stop};
 
 /// One line of the trace of an event.
 #[derive(Drop)]
@@ -57,76 +52,8 @@ pub enum Line {
     Tended(Tended),
 }
 
-/// The lines of one event, in order. Most events have one, which needs no allocation.
-#[derive(Drop)]
-pub struct Lines {
-    alloc: Global,
-    held: HeldLines,
-}
-
-#[derive(Drop)]
-pub enum HeldLines {
-    None,
-    One(Line),
-    Many(Vec<Line>),
-}
-
-impl Model for Lines {
-    ghost use Rattle.std.specs.Prelude.{List};
-    ghost use Rattle.lab.specs.declared.report.Line.{Line};
-    ghost use Rattle.lab.specs.HeldLines.{lines_held};
-
-    ghost Value = { List Line };
-
-    ghost view = { λ lines. lines_held lines.held };
-}
-
-impl Lines {
-    pub(crate) fn new(alloc: Global) -> Lines
-        ensures { result ≡ [] }
-    {
-        let held = HeldLines::None;
-        Lines { alloc, held }
-    }
-
-    pub(crate) fn one(alloc: Global, line: Line) -> Lines
-        ensures { result ≡ line ∷ [] }
-    {
-        let held = HeldLines::One(line);
-        Lines { alloc, held }
-    }
-
-    pub(crate) fn push(&mut self, line: Line) -> Result<(), AllocError>
-        ensures { OnOk result (self.new ≡ self.old ++ line ∷ []) }
-    {
-        let held = mem::replace(&mut self.held, HeldLines::None);
-        self.held = match held {
-            HeldLines::None => HeldLines::One(line),
-            HeldLines::One(first) => {
-                let mut all = Vec::with_capacity(self.alloc, 2)?;
-                all.push(first)?;
-                all.push(line)?;
-                HeldLines::Many(all)
-            }
-            HeldLines::Many(mut all) => {
-                all.push(line)?;
-                HeldLines::Many(all)
-            }
-        };
-        Ok(())
-    }
-
-    /// The lines in order.
-    pub fn as_slice(&self) -> &[Line]
-        ensures { result.now ≡ self.now }
-    {
-        match &self.held {
-            HeldLines::None => &[],
-            HeldLines::One(line) => slice::from_ref(line),
-            HeldLines::Many(lines) => lines.as_slice(),
-        }
-    }
-}
+/// The lines of one event, in order. Most events have one.
+pub type Lines = ShortList<Line>;
 
 /// A node at the end of a run.
 #[derive(Drop)]

@@ -68,7 +68,7 @@ fn post(
     let bytes = write(alloc, &sent.frame)?;
     let to = sent.to;
     frames.push(Posted { from, to, bytes })?;
-    lines.push(line_of(frames.len() as u64, sent))?;
+    lines.push(alloc, line_of(frames.len() as u64, sent))?;
     Ok(())
 }
 
@@ -91,17 +91,22 @@ fn post_all(
 }
 
 // A drop has a line with its reason.
-fn trace_drop(lines: &mut Lines, dropped: Option<DropReason>) -> Result<(), AllocError>
+fn trace_drop(
+    alloc: Global,
+    lines: &mut Lines,
+    dropped: Option<DropReason>,
+) -> Result<(), AllocError>
     ensures { OnOk result (lines.new ≡ lines.old ++ dropped_lines dropped) }
 {
     match dropped {
-        Some(why) => lines.push(Line::Dropped(why)),
+        Some(why) => lines.push(alloc, Line::Dropped(why)),
         None => Ok(()),
     }
 }
 
 // A node that was told of an epoch, and did not drop that, has a line of it.
 fn trace_adoption(
+    alloc: Global,
     lines: &mut Lines,
     node: NodeId,
     told: Option<Epoch>,
@@ -111,7 +116,7 @@ fn trace_adoption(
         ≡ lines.old ++ adopted_lines node told dropped) }
 {
     match (told, dropped) {
-        (Some(epoch), None) => lines.push(Line::Adopted { node, epoch }),
+        (Some(epoch), None) => lines.push(alloc, Line::Adopted { node, epoch }),
         _ => Ok(()),
     }
 }
@@ -128,14 +133,14 @@ fn trace_output<C: Carrier>(
 ) -> Result<Lines, LabError>
     ensures faithful { C.is_faithful carrier.new ↔ C.is_faithful carrier.old }
     ensures posted { OnOk result
-        (HasPosted frames.old.items id output.frames.items frames.new.items) }
+        (HasPosted frames.old.items id output.frames frames.new.items) }
     ensures lines { IfOk result (RepliesFollow (C.is_faithful carrier.old) C.loses
-        (HasCarriedMore C.has_carried carrier.old carrier.new) id output.replies.items
+        (HasCarriedMore C.has_carried carrier.old carrier.new) id output.replies
         (lines_before_replies id told (length frames.old.items) output)) }
 {
-    let mut lines = Lines::new(alloc);
-    trace_drop(&mut lines, output.dropped)?;
-    trace_adoption(&mut lines, id, told, output.dropped)?;
+    let mut lines = Lines::new();
+    trace_drop(alloc, &mut lines, output.dropped)?;
+    trace_adoption(alloc, &mut lines, id, told, output.dropped)?;
     post_all(alloc, frames, &mut lines, id, &output.frames)?;
     carry_replies(alloc, carrier, id, &mut lines, output.replies)?;
     Ok(lines)
@@ -175,5 +180,5 @@ pub fn trace_of<C: Carrier>(
         },
         StepOutcome::Stopped(cause) => Line::Stopped { node: id, cause },
     };
-    Ok(Lines::one(alloc, line))
+    Ok(Lines::one(line))
 }

@@ -1,6 +1,6 @@
 // A world of simulated nodes, stepped event by event.
 ghost use Rattle.std.specs.Prelude.{◌≡◌, ℕ, IfOk, IfSome, IsErr, MatchOption, MatchResult};
-ghost use Rattle.std.specs.Prelude.{◌∷◌, ◌++◌, [], List, OnErr, OnOk, false, true};
+ghost use Rattle.std.specs.Prelude.{OnErr, OnOk, false, true};
 ghost use Rattle.std.specs.List.{AllZip};
 ghost use Rattle.configurations.specs.{Lawful, at_epoch};
 ghost use Rattle.kv_types.specs.{has};
@@ -9,10 +9,11 @@ ghost use Rattle.lab.specs.Runs.{AreNumbersOf, IsRunOver};
 ghost use Rattle.lab.specs.History.{OneHistory};
 ghost use Rattle.lab.specs.Worlds.{AreCreated, HasApplied, HasBegunEvent, HasHistory, HasKept};
 ghost use Rattle.lab.specs.Worlds.{HasMoved, HasNoNode, HasRun, HaveLimits, IsCreated, IsIndexOf};
-ghost use Rattle.lab.specs.Worlds.{IsDownAmong, IsReportOf, IsRunSoFar, ShowsTables, WorldHasEnded};
-ghost use Rattle.lab.specs.Worlds.{WorldHasLimits, WorldKeepsLimits, WorldRun, direct_carrier};
-ghost use Rattle.lab.specs.Worlds.{empty_run, frames_in_steps, losses_of};
-ghost use Rattle.lab.specs.LinesSoFar.{EventAddsLines, configs_of, lines_so_far, nodes_of};
+ghost use Rattle.lab.specs.Worlds.{IsDownAmong, IsReportOf, IsRunSoFar, ShowsNumbers};
+ghost use Rattle.lab.specs.Worlds.{WorldHasEnded, WorldHasLimits, WorldKeepsLimits, WorldRun};
+ghost use Rattle.lab.specs.Worlds.{direct_carrier, empty_run, frames_in_steps, losses_of};
+ghost use Rattle.lab.specs.LinesSoFar.{EventAddsLines, HasRunNothing, configs_of, events_so_far};
+ghost use Rattle.lab.specs.LinesSoFar.{lines_so_far, lost_so_far, nodes_of, sent_so_far};
 ghost use Rattle.lab.specs.Transmissions.{carrier_of};
 
 use crate::delivery::{Posted, delivery_of};
@@ -221,7 +222,7 @@ impl<D: Disk + Drop, C: Carrier + Drop> World<D, C> {
         ensures carrier { carrier_of result ≡ carrier }
         ensures goes_on { WorldHasEnded result → ⊥ }
         ensures limits { HaveLimits nodes.items limits.now → WorldHasLimits result limits.now }
-        ensures none { lines_so_far result ≡ [] }
+        ensures none { HasRunNothing result }
         ensures nodes { nodes_of result ≡ nodes.items }
         ensures configs { configs_of result ≡ configs }
     {
@@ -261,7 +262,8 @@ impl<D: Disk + Drop, C: Carrier + Drop> World<D, C> {
 
     /// How many frames were sent so far.
     pub fn sent(&self) -> u64
-        ensures { (run : WorldRun) → HasRun C.Carrier self.now run →
+        ensures kept { result ≡ sent_so_far self.now }
+        ensures run { (run : WorldRun) → HasRun C.Carrier self.now run →
             result ≡ frames_in_steps run.steps }
     {
         self.frames.len() as u64
@@ -272,8 +274,8 @@ impl<D: Disk + Drop, C: Carrier + Drop> World<D, C> {
         ensures run { (run : WorldRun) → HasRun C.Carrier self.now run →
             has (at_epoch run.configs 0) id ≡ true →
             AreNumbersOf run.configs run.events run.choices id result }
-        ensures tables { IfSome result (ShowsTables self.now.nodes.items id) }
-        ensures none { MatchOption result (IsDownAmong self.now.nodes.items id) (λ _. Unit {0}) }
+        ensures own { IfSome result (ShowsNumbers (nodes_of self.now) id) }
+        ensures none { MatchOption result (IsDownAmong (nodes_of self.now) id) (λ _. Unit {0}) }
     {
         let Some(index) = index_of(&self.nodes, id) else {
             return None;
@@ -306,14 +308,16 @@ impl<D: Disk + Drop, C: Carrier + Drop> World<D, C> {
 
     /// The events that were begun so far. A step that is refused may have begun one more.
     pub fn events(&self) -> &[Event]
-        ensures { (run : WorldRun) → HasRun C.Carrier self.now run → result.now ≡ run.events }
+        ensures kept { result.now ≡ events_so_far self.now }
+        ensures run { (run : WorldRun) → HasRun C.Carrier self.now run → result.now ≡ run.events }
     {
         &self.events
     }
 
     /// Of each event whether its request or frame was lost on its way.
     pub fn lost(&self) -> &[bool]
-        ensures { (run : WorldRun) → HasRun C.Carrier self.now run →
+        ensures kept { result.now ≡ lost_so_far self.now }
+        ensures run { (run : WorldRun) → HasRun C.Carrier self.now run →
             result.now ≡ losses_of run.choices }
     {
         &self.lost
@@ -360,13 +364,13 @@ impl<D: Crash + Drop, C: Carrier + Drop> World<D, C> {
             request,
             event,
         )? {
-            Delivery::Nothing => return self.keep(false, Lines::one(alloc, Line::Nothing)),
-            Delivery::Lost => return self.keep(true, Lines::one(alloc, Line::Lost)),
+            Delivery::Nothing => return self.keep(false, Lines::one(Line::Nothing)),
+            Delivery::Lost => return self.keep(true, Lines::one(Line::Lost)),
             Delivery::To(id, input) => (id, input),
         };
         let Some(at) = index_of(&self.nodes, id) else {
             drop(input);
-            return self.keep(false, Lines::one(alloc, Line::Nothing));
+            return self.keep(false, Lines::one(Line::Nothing));
         };
         let (nodes, limits) = (&mut self.nodes, &self.limits);
         let outcome = deliver(alloc, nodes, event, at, (id, input), limits)?;

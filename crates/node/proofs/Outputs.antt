@@ -67,7 +67,7 @@ pub tells_rule : (x : ℕ) (n : Machine) (input : Input) (batch : BatchContent) 
     IfOk result (OutputRefines input a)
 tells_rule x n input batch d a due sent (Ok output) leaves replied frames says = record {
   dropped = says.dropped ∙ sym leaves.dropped;
-  frames = subst (λ (f : List (Message BatchContent)). AreFrames output.frames.items f)
+  frames = subst (λ (f : List (Message BatchContent)). AreFrames output.frames f)
       (frames ∙ sym leaves.frames) says.frames;
   replied = says.replied ∙ replies_due input due ∙ ap (replies_of input) (sym replied);
 }

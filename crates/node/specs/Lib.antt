@@ -1,4 +1,3 @@
-pub mod Frames
 pub mod Stops
 pub mod Steps
 pub mod Outputs
@@ -8,6 +7,6 @@ pub mod Starts
 pub use Rattle.engine.specs.{HasLongFile, IsAdrift, IsNearlyFull, IsOwned}
 pub use Rattle.node.specs.Steps.{DiskAlwaysRefines, DiskRefines, DiskRepresents, IsReady}
 pub use Rattle.node.specs.Steps.{DiskRefinesOneOf, NodeRefines, NumbersRefine, StopRefines}
-pub use Rattle.node.specs.Steps.{disk_of, engine_of, facts_for, node_limits, replies_of}
-pub use Rattle.node.specs.Steps.{replies_to_response}
+pub use Rattle.node.specs.Steps.{AreOwnNumbers, disk_of, engine_of, facts_for, node_core}
+pub use Rattle.node.specs.Steps.{node_limits, replies_of, replies_to_response}
 pub use Rattle.node.specs.Tends.{TendRefines, answer_to_tend, has_risen}

@@ -32,8 +32,8 @@ committed_reply it = reply.Committed it.request it.number
 pub record OutputHas (dropped_for : Option DropReason) (sent : List (Message BatchContent))
     (told : List Reply) (output : Output) : Type 0 where
   pub dropped : output.dropped ≡ dropped_for
-  pub frames : AreFrames output.frames.items sent
-  pub replied : output.replies.items ≡ told
+  pub frames : AreFrames output.frames sent
+  pub replied : output.replies ≡ told
 
 -- the output has the drop, frames and replies of the machine's answer to an input
 abbrev pub OutputRefines : Input → Answer BatchContent → Output → Type 0

@@ -56,6 +56,10 @@ module _ {D : Type 0} {g : Ghosts D} where
   abbrev pub disk_of : Node D g → D
   disk_of node = engine_disk node.engine
 
+  -- its state besides its batches
+  abbrev pub node_core : Node D g → Core
+  node_core node = node.core
+
   -- the limits by which its store works
   abbrev pub node_limits : Node D g → Limits
   node_limits node = (look_ups node.engine).limits
@@ -89,6 +93,14 @@ pub record NumbersRefine (n : Machine) (numbers : Numbers) : Type 0 where
   pub committed : numbers.committed ≡ n.committed
   pub floor : numbers.floor ≡ n.floor
   pub kept : numbers.kept ≡ n.kept
+
+-- the numbers are those of a node's state
+pub record AreOwnNumbers (core : Core) (numbers : Numbers) : Type 0 where
+  pub epoch : numbers.epoch ≡ core.epoch
+  pub count : numbers.count ≡ core.count
+  pub committed : numbers.committed ≡ core.committed
+  pub floor : numbers.floor ≡ core.floor
+  pub kept : numbers.kept ≡ core.kept
 
 -- the engine works and has the configuration, the numbers and the open snapshots of the state
 pub record AreInStep {D : Type 0} {g : Ghosts D} (core : Core) (engine : Engine D g) : Type 0 where
@@ -143,8 +155,8 @@ pub record StepRefines {D : Type 0} {g : Ghosts D} (is_honest : D → Type 0) (s
     (output : Output) : Type 0 where
   pub runs : NodeRefines is_honest state new x a.node
   pub dropped : output.dropped ≡ a.dropped
-  pub frames : AreFrames output.frames.items a.frames
-  pub replied : AreReplies input a.replies output.replies.items
+  pub frames : AreFrames output.frames a.frames
+  pub replied : AreReplies input a.replies output.replies
 
 -- The disk of a node that stopped in a step represents the machine before the step or after it.
 abbrev pub StopRefines : State → ℕ → Machine → model.Answer BatchContent → Type 0

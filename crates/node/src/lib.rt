@@ -1,7 +1,6 @@
 //! One node of a chain: a store on a disk, and the rules of a step over it.
 #![tactic(auto)]
 
-mod frames;
 pub mod laws;
 mod node;
 mod numbers;
@@ -11,9 +10,8 @@ mod replying;
 mod starting;
 mod stop;
 
-pub use chain_core::{DropReason, Input, Sent};
+pub use chain_core::{DropReason, HeldItems, Input, Sent, ShortList};
 pub use engine::Tended;
-pub use frames::Frames;
 pub use node::Node;
 pub use numbers::Numbers;
 pub use output::{Output, Reply};

@@ -8,7 +8,8 @@ ghost use Rattle.engine.specs.{table_count};
 ghost use Rattle.engine.specs.Tended.TheVariants.{Idle};
 ghost use Rattle.node.specs.declared.stop.Stop.TheVariants.{Disk};
 ghost use Rattle.node.specs.Steps.{DiskAlwaysRefines, IfRefines, IsReady, NodeRefines};
-ghost use Rattle.node.specs.Steps.{NumbersRefine, disk_of, engine_of, node_limits};
+ghost use Rattle.node.specs.Steps.{AreOwnNumbers, NumbersRefine, disk_of, engine_of};
+ghost use Rattle.node.specs.Steps.{node_core, node_limits};
 ghost use Rattle.node.specs.Outputs.{KeepsNode, StepEnds};
 ghost use Rattle.node.specs.Tends.{TendRefines};
 
@@ -63,42 +64,48 @@ impl<D: Disk + Drop> Node<D> {
 
     /// Its id.
     pub fn id(&self) -> NodeId
-        ensures { IfRefines self.now (λ x n. result ≡ x) }
+        ensures own { result ≡ (node_core self.now).id }
+        ensures refines { IfRefines self.now (λ x n. result ≡ x) }
     {
         self.core.id()
     }
 
     /// The place of its configuration in the configuration service's list.
     pub fn epoch(&self) -> Epoch
-        ensures { IfRefines self.now (λ x n. result ≡ n.epoch) }
+        ensures own { result ≡ (node_core self.now).epoch }
+        ensures refines { IfRefines self.now (λ x n. result ≡ n.epoch) }
     {
         self.core.epoch()
     }
 
     /// Its configuration.
     pub fn config(&self) -> &Config
-        ensures { IfRefines self.now (λ x n. result.now ≡ n.ids) }
+        ensures own { result.now ≡ (node_core self.now).ids }
+        ensures refines { IfRefines self.now (λ x n. result.now ≡ n.ids) }
     {
         self.core.config()
     }
 
     /// The number of batches of the node.
     pub fn count(&self) -> Number
-        ensures { IfRefines self.now (λ x n. result ≡ length n.list) }
+        ensures own { result ≡ (node_core self.now).count }
+        ensures refines { IfRefines self.now (λ x n. result ≡ length n.list) }
     {
         self.core.count()
     }
 
     /// The number of batches that it knows to be committed.
     pub fn committed(&self) -> Number
-        ensures { IfRefines self.now (λ x n. result ≡ n.committed) }
+        ensures own { result ≡ (node_core self.now).committed }
+        ensures refines { IfRefines self.now (λ x n. result ≡ n.committed) }
     {
         self.core.committed()
     }
 
     /// The least number at which it can be read.
     pub fn floor(&self) -> Number
-        ensures { IfRefines self.now (λ x n. result ≡ n.floor) }
+        ensures own { result ≡ (node_core self.now).floor }
+        ensures refines { IfRefines self.now (λ x n. result ≡ n.floor) }
     {
         self.core.floor()
     }
@@ -106,7 +113,8 @@ impl<D: Disk + Drop> Node<D> {
     /// The number of batches trimmed from the front of its logs: those from `kept + 1` on can still
     /// be sent again.
     pub fn kept(&self) -> Number
-        ensures { IfRefines self.now (λ x n. result ≡ n.kept) }
+        ensures own { result ≡ (node_core self.now).kept }
+        ensures refines { IfRefines self.now (λ x n. result ≡ n.kept) }
     {
         self.core.kept()
     }
@@ -121,6 +129,7 @@ impl<D: Disk + Drop> Node<D> {
 
     /// Its numbers, as one value.
     pub fn numbers(&self) -> Numbers
+        ensures own { AreOwnNumbers (node_core self.now) result }
         ensures refines { IfRefines self.now (λ x n. NumbersRefine n result) }
         ensures tables { (level : ℕ) → level < 7 →
             slice_index result.tables level ≡ table_count (engine_of self.now) level }

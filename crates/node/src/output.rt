@@ -1,6 +1,5 @@
 // The outputs of a step: frames for other nodes, replies for clients.
-use crate::Frames;
-use chain_core::DropReason;
+use chain_core::{DropReason, Sent, ShortList};
 use kv_types::{Number, Page, Value};
 use link_messages::Refusal;
 
@@ -46,7 +45,7 @@ pub struct Output {
     /// Why the input was dropped, if it was.
     pub dropped: Option<DropReason>,
     /// The frames for other nodes, in order.
-    pub frames: Frames,
+    pub frames: ShortList<Sent>,
     /// The replies for clients, in order.
-    pub replies: Vec<Reply>,
+    pub replies: ShortList<Reply>,
 }

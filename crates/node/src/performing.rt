@@ -15,9 +15,9 @@ use crate::replying::{
     ack_duplicate, acks_after, output_of, output_of_append, output_of_drop, page_output, push_some,
     refuse, replying, value_output,
 };
-use crate::{Frames, Node, Output, Reply, Stop};
+use crate::{Node, Output, Reply, Stop};
 use chain_core::laws::{one_by_one, stands_last, steps_leave};
-use chain_core::{CoreState, Decision, Done};
+use chain_core::{CoreState, Decision, Done, Sent, ShortList};
 use configurations::{Config, Epoch};
 use disk::Disk;
 use engine::Engine;
@@ -29,18 +29,18 @@ fn resent<D: Disk + Drop>(
     alloc: Global,
     core: &CoreState,
     engine: &mut Engine<D>,
-) -> Result<Frames, Stop>
+) -> Result<ShortList<Sent>, Stop>
     requires { AreInStep core.now engine.old }
     ensures read { IsOnlyRead D.Disk engine.old engine.new result }
     ensures sent { (n : Machine) → CoreRefines core.now n →
         EngineHolds D.Disk engine.old n.list →
         MatchResult result (λ sent. EngineHolds D.Disk engine.new n.list
-        × AreFrames sent.items (forwards core.now.id n n.successor_has 16))
+        × AreFrames sent (forwards core.now.id n n.successor_has 16))
         (IsEnvironmental Disk Memory) }
 {
     one_by_one(); // law: frames are sent one by one
     let numbers = core.resends();
-    let mut sent = Frames::new();
+    let mut sent = ShortList::new();
     for number in numbers.start..numbers.end {
         let number = Number::new(number).unwrap();
         let batch = engine.batch(alloc, number)?;
@@ -81,7 +81,7 @@ impl<D: Disk + Drop> Node<D> {
         let grows = committed > self.core.committed();
         let due = self.core.after(alloc, Done::Acked { committed, have })?;
         self.engine.set_committed(self.core.committed());
-        output_of(alloc, &self.core, Frames::new(), grows, &due).map_err(Stop::from)
+        output_of(alloc, &self.core, ShortList::new(), grows, &due).map_err(Stop::from)
     }
 
     // Adopts a configuration, and acknowledges to the predecessor in it. The store has recorded it
@@ -95,7 +95,7 @@ impl<D: Disk + Drop> Node<D> {
         self.engine.adopt(alloc, epoch, &config)?;
         let due = self.core.after(alloc, Done::Adopted { epoch, config })?;
         self.engine.set_committed(self.core.committed());
-        output_of(alloc, &self.core, Frames::new(), true, &due).map_err(Stop::from)
+        output_of(alloc, &self.core, ShortList::new(), true, &due).map_err(Stop::from)
     }
 
     // Sends again the batches that the successor may lack, and acknowledges again.
@@ -113,7 +113,7 @@ impl<D: Disk + Drop> Node<D> {
         ensures { ExecutesDecision D.Disk self.old self.new (Decision.Read request key at) result }
     {
         let value = self.engine.get(alloc, at, &key)?;
-        value_output(alloc, request, at, value).map_err(Stop::from)
+        Ok(value_output(request, at, value))
     }
 
     // Answers the client with the page of a range at a number.
@@ -129,7 +129,7 @@ impl<D: Disk + Drop> Node<D> {
             (Decision.ReadRows request range at) result }
     {
         let page = self.engine.rows(alloc, at, &range)?;
-        page_output(alloc, request, at, page).map_err(Stop::from)
+        Ok(page_output(request, at, page))
     }
 
     // Opens one more snapshot at a number, in the store and in the node's state.
@@ -141,7 +141,7 @@ impl<D: Disk + Drop> Node<D> {
         steps_leave(); // law: what a step leaves of the machine
         self.engine.open_snapshot(number)?;
         self.core.after(alloc, Done::Opened { request, number })?;
-        replying(alloc, Reply::Opened { request, number }).map_err(Stop::from)
+        Ok(replying(Reply::Opened { request, number }))
     }
 
     // Closes one snapshot at a number, in the store and in the node's state.
@@ -154,7 +154,7 @@ impl<D: Disk + Drop> Node<D> {
         steps_leave(); // law: what a step leaves of the machine
         self.engine.close_snapshot(number)?;
         self.core.after(alloc, Done::Closed { request, number })?;
-        replying(alloc, Reply::Closed { request, number }).map_err(Stop::from)
+        Ok(replying(Reply::Closed { request, number }))
     }
 
     // Executes a decision.
@@ -176,10 +176,8 @@ impl<D: Disk + Drop> Node<D> {
             Decision::Open { request, number } => self.open(alloc, request, number),
             Decision::Close { request, number } => self.close(alloc, request, number),
             Decision::Resend => self.resend(alloc),
-            Decision::Refuse { request, refusal } => {
-                refuse(alloc, request, refusal).map_err(Stop::from)
-            }
-            Decision::Drop(reason) => Ok(output_of_drop(alloc, reason)),
+            Decision::Refuse { request, refusal } => Ok(refuse(request, refusal)),
+            Decision::Drop(reason) => Ok(output_of_drop(reason)),
         }
     }
 }

@@ -9,18 +9,18 @@ ghost use Rattle.chain_model.specs.{reply_read, ack_duplicate};
 ghost use Rattle.chain_core.specs.{Machine, CoreRefines, AreFrames};
 ghost use Rattle.node.specs.Outputs.{OutputHas, OutputRefines, acks_after, committed_reply};
 
-use crate::{Frames, Output, Reply};
-use chain_core::{CoreState, Done, DropReason, Input, PendingSubmit, Sent};
+use crate::{Output, Reply};
+use chain_core::{CoreState, Done, DropReason, Input, PendingSubmit, Sent, ShortList};
 use kv_types::{Batch, Number, Page, Value};
 use link_messages::Refusal;
 use std::alloc::{AllocError, Global};
 
 pub(crate) fn push_some(
     alloc: Global,
-    frames: &mut Frames,
+    frames: &mut ShortList<Sent>,
     sent: Option<Sent>,
 ) -> Result<(), AllocError>
-    ensures { OnOk result (frames.new.items ≡ frames.old.items ++ option_to_list sent) }
+    ensures { OnOk result (frames.new ≡ frames.old ++ option_to_list sent) }
 {
     if let Some(sent) = sent {
         frames.push(alloc, sent)?;
@@ -36,30 +36,29 @@ fn ack_where(core: &CoreState, acks: bool) -> Option<Sent>
 }
 
 // The acknowledgements of these requests, whose batches are committed.
-fn replies_to(alloc: Global, due: &[PendingSubmit]) -> Result<Vec<Reply>, AllocError>
-    ensures { IfOk result (λ replies. replies.items ≡ map committed_reply due.now) }
+fn replies_to(alloc: Global, due: &[PendingSubmit]) -> Result<ShortList<Reply>, AllocError>
+    ensures { IfOk result (λ replies. replies ≡ map committed_reply due.now) }
 {
-    let mut replies = Vec::with_capacity(alloc, due.len())?;
+    let mut replies = ShortList::new();
     for it in due {
-        replies.push(Reply::Committed {
+        let reply = Reply::Committed {
             request: it.request,
             number: it.number,
-        })?;
+        };
+        replies.push(alloc, reply)?;
     }
     Ok(replies)
 }
 
 /// The output with this reply alone.
-pub(crate) fn replying(alloc: Global, reply: Reply) -> Result<Output, AllocError>
-    ensures { IfOk result (OutputHas None [] (reply ∷ [])) }
+pub(crate) fn replying(reply: Reply) -> Output
+    ensures { OutputHas None [] (reply ∷ []) result }
 {
-    let mut replies = Vec::new(alloc);
-    replies.push(reply)?;
-    Ok(Output {
+    Output {
         dropped: None,
-        frames: Frames::new(),
-        replies,
-    })
+        frames: ShortList::new(),
+        replies: ShortList::one(reply),
+    }
 }
 
 /// The output of a step: these frames, where `acks` the acknowledgement for the predecessor, and a
@@ -67,12 +66,12 @@ pub(crate) fn replying(alloc: Global, reply: Reply) -> Result<Output, AllocError
 pub(crate) fn output_of(
     alloc: Global,
     core: &CoreState,
-    sent: Frames,
+    sent: ShortList<Sent>,
     acks: bool,
     due: &[PendingSubmit],
 ) -> Result<Output, AllocError>
     ensures { (n : Machine) (frames : List (Message BatchContent)) → CoreRefines core.now n →
-        AreFrames sent.items frames →
+        AreFrames sent frames →
         IfOk result (OutputHas None (frames ++ (if acks then ack core.now.id n else []))
         (map committed_reply due.now)) }
 {
@@ -105,7 +104,7 @@ pub(crate) fn output_of_append(
         IfOk result (OutputHas None (forward core.now.id n core.now.count
         ++ (if acks then ack core.now.id n else [])) (map committed_reply due.now)) }
 {
-    let mut sent = Frames::new();
+    let mut sent = ShortList::new();
     push_some(alloc, &mut sent, core.forward(core.count(), batch))?;
     output_of(alloc, core, sent, acks, due)
 }
@@ -116,72 +115,55 @@ pub(crate) fn ack_duplicate(alloc: Global, core: &CoreState) -> Result<Output, A
     ensures { (n : Machine) (input : Input) → CoreRefines core.now n →
         IfOk result (OutputRefines input (ack_duplicate core.now.id n)) }
 {
-    let mut frames = Frames::new();
+    let mut frames = ShortList::new();
     push_some(alloc, &mut frames, core.ack())?;
     Ok(Output {
         dropped: Some(DropReason::OtherNumber),
         frames,
-        replies: Vec::new(alloc),
+        replies: ShortList::new(),
     })
 }
 
 /// The output of a read: the value of the key at this number.
-pub(crate) fn value_output(
-    alloc: Global,
-    request: Number,
-    number: Number,
-    value: Option<Value>,
-) -> Result<Output, AllocError>
+pub(crate) fn value_output(request: Number, number: Number, value: Option<Value>) -> Output
     ensures { (n : Machine) (key : List ℕ) (asked : Option ℕ) →
         value ≡ map_of (take number n.list) key →
-        IfOk result (OutputRefines (Input.Get request key asked) (reply_read n request number)) }
+        OutputRefines (Input.Get request key asked) (reply_read n request number) result }
 {
-    replying(
-        alloc,
-        Reply::Value {
-            request,
-            number,
-            value,
-        },
-    )
+    replying(Reply::Value {
+        request,
+        number,
+        value,
+    })
 }
 
 /// The output of a read: the page of the range at this number.
-pub(crate) fn page_output(
-    alloc: Global,
-    request: Number,
-    number: Number,
-    page: Page,
-) -> Result<Output, AllocError>
+pub(crate) fn page_output(request: Number, number: Number, page: Page) -> Output
     ensures { (n : Machine) (range : Span) (asked : Option ℕ) →
         page ≡ page_of (take number n.list) range →
-        IfOk result (OutputRefines (Input.Rows request range asked)
-        (reply_read n request number)) }
+        OutputRefines (Input.Rows request range asked) (reply_read n request number) result }
 {
-    replying(
-        alloc,
-        Reply::Rows {
-            request,
-            number,
-            page,
-        },
-    )
+    replying(Reply::Rows {
+        request,
+        number,
+        page,
+    })
 }
 
-pub(crate) fn refuse(alloc: Global, request: Number, refusal: Refusal) -> Result<Output, AllocError>
+pub(crate) fn refuse(request: Number, refusal: Refusal) -> Output
     ensures { (n : Machine) (input : Input) →
-        IfOk result (OutputRefines input (refused n request refusal)) }
+        OutputRefines input (refused n request refusal) result }
 {
-    replying(alloc, Reply::Refused { request, refusal })
+    replying(Reply::Refused { request, refusal })
 }
 
-pub(crate) fn output_of_drop(alloc: Global, reason: DropReason) -> Output
+pub(crate) fn output_of_drop(reason: DropReason) -> Output
     ensures { (n : Machine) (input : Input) →
         OutputRefines input (dropped_for n reason) result }
 {
     Output {
         dropped: Some(reason),
-        frames: Frames::new(),
-        replies: Vec::new(alloc),
+        frames: ShortList::new(),
+        replies: ShortList::new(),
     }
 }

@@ -132,7 +132,14 @@ fn step(rt: &impl Abort, alloc: Global, state: &mut CoreState, comes: Comes) -> 
     let gives = given(&decision);
     drop(decision);
     match done {
-        Some(done) => (gives, state.after(alloc, done).expect(rt, "a state").len()),
+        Some(done) => (
+            gives,
+            state
+                .after(alloc, done)
+                .expect(rt, "a state")
+                .as_slice()
+                .len(),
+        ),
         None => (gives, 0),
     }
 }

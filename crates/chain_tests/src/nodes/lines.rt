@@ -137,7 +137,7 @@ fn put_output(text: &mut String, output: &Output) -> Result<(), AllocError> {
         part(text)?;
         put_frame(text, sent)?;
     }
-    for reply in &output.replies {
+    for reply in &*output.replies {
         part(text)?;
         put_reply(text, reply)?;
     }

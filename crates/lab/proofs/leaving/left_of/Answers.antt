@@ -5,7 +5,7 @@ use Rattle.node.specs.{NodeRefines, disk_of}
 use Rattle.lab.specs.declared.node_state.NodeState.{NodeState}
 use Rattle.lab.specs.declared.node_state.NodeState.TheVariants.{Up}
 use Rattle.lab.specs.SimNodes.{StateRefines, disk_in, in_memory}
-use Rattle.lab.specs.Worlds.{HasTablesIn}
+use Rattle.lab.specs.Worlds.{HasNumbersIn}
 use Rattle.lab.proofs.Dispatching.{holding}
 use Rattle.lab.proofs.leaving.left_of.Goals as goal
 
@@ -28,7 +28,7 @@ returns-in-Up-clause-left c = λ n disk is own.
       );
     }
 
--- it has the disk of the node, and its numbers tell how many tables that has
+-- it has the disk of the node, and its numbers where it is up
 pub returns-in-Up-clause-own : goal.returns-in-Up-clause-own
 returns-in-Up-clause-own c =
     let up = sym c.in-Up.is in
@@ -37,7 +37,10 @@ returns-in-Up-clause-own c =
       disk = c.into_disk-disk.ensures.disk
           ∙ (ap (λ (it : Node Slots _). disk_of it) c.into_inner.ensures
           ∙ ap (λ (m : NodeState Slots _). disk_in m) up);
-      running = subst (λ (m : NodeState Slots _). HasTablesIn m c.numbers.result) up
-          (subst (λ (it : Node Slots _). HasTablesIn (Up (holding c.in-Up.node it))
-          c.numbers.result) c.deref.ensures c.numbers.ensures.tables);
+      running = subst (λ (m : NodeState Slots _). HasNumbersIn m c.numbers.result) up
+          (subst (λ (it : Node Slots _). HasNumbersIn (Up (holding c.in-Up.node it))
+          c.numbers.result) c.deref.ensures (record {
+            own = c.numbers.ensures.own;
+            tables = c.numbers.ensures.tables;
+          }));
     }

@@ -14,7 +14,5 @@ returns-in-Start g c =
 
 pub returns : goal.returns
 returns g c =
-    let output = c.in_ok-output in
     answered_at_rest g.D.Disk c.args.limits.now c.args.fault c.args.input.now c.args.boxed
-    output.output
-    c.in_default.not-Start output.ensures
+    c.output_at_rest-output.result c.in_default.not-Start c.output_at_rest-output.ensures

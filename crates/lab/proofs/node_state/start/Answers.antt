@@ -31,9 +31,9 @@ returns-in_ok-new-in-Ok g c =
           (represents (contents disk) (λ file. read_is_outcome (disk file))) in
           let runs = c.arm-in-Ok.ensures.refines x (started x n) began in
           Starts r.2 runs (rw (
-            c.epoch-epoch.ensures x (started x n) runs,
-            c.count-count.ensures x (started x n) runs,
-            c.committed-committed.ensures x (started x n) runs,
+            c.epoch-epoch.ensures.refines x (started x n) runs,
+            c.count-count.ensures.refines x (started x n) runs,
+            c.committed-committed.ensures.refines x (started x n) runs,
           ) refl);
       disk = λ honest.
           let stays = stays_so g.D.Disk c.args.fault own c.arm.new.self _ _ c.arm.ensures

@@ -89,7 +89,7 @@ loop-number-init g c = record {
   sent = λ n is holds.
       let none : c.resends-numbers.result.start - c.resends-numbers.result.start ≡ 0 =
       omega arith in
-      (holds, rw (none, c.new-sent.ensures.items) refl);
+      (holds, rw (none, c.new-sent.ensures) refl);
 }
 
 -- the batch of one number more was sent
@@ -138,8 +138,8 @@ returns-clause-sent g c = λ n is holds.
     let was = at.invariant.sent n is holds in
     let all : at.number - numbers.start ≡ numbers.end - numbers.start =
     omega (arith, c.loop-number-test.false, at.invariant.reached) in
-    let sent = subst (λ m. AreFrames at.sent.items (forwards core.id n core.successor_has m)) all
+    let sent = subst (λ m. AreFrames at.sent (forwards core.id n core.successor_has m)) all
     was.1 in
     let whole = c.resends-numbers.ensures.all n is
     ∙ ap (λ k. forwards core.id n k (numbers.end - numbers.start)) is.successor_has in
-    (was.0, subst (AreFrames at.sent.items) (sym whole) sent)
+    (was.0, subst (AreFrames at.sent) (sym whole) sent)

@@ -11,6 +11,6 @@ invariant-loop-number g l = record {
   reached : l.number ≤ max l.initial.number l.number-end;
   read : IsOnlyRead g.D.Disk l.fn.engine l.engine (Ok l.sent);
   sent : (n : Machine) → CoreRefines l.core n → EngineHolds g.D.Disk l.fn.engine n.list →
-      EngineHolds g.D.Disk l.engine n.list × AreFrames l.sent.items
+      EngineHolds g.D.Disk l.engine n.list × AreFrames l.sent
       (forwards l.core.id n l.core.successor_has (l.number - l.initial.number));
 }

@@ -7,12 +7,12 @@ use Rattle.node.proofs.replying.replies_to.Goals as goal
 -- one request more has its reply
 pub loop-it-preserved : goal.loop-it-preserved
 loop-it-preserved c =
-    one_reply_more c.args.due.now c.loop-it.it-index c.it-item.result c.loop-it.replies.items
-    c.push.new.self.items c.loop-it-test.true c.it-item.is c.loop-it.invariant
-    c.in_ok-push.ensures.items
+    one_reply_more c.args.due.now c.loop-it.it-index c.it-item.result c.loop-it.replies
+    c.push.new.self c.loop-it-test.true c.it-item.is c.loop-it.invariant
+    c.in_ok-push.ensures
 
 pub loop-it-init : goal.loop-it-init
-loop-it-init c = c.in_ok-replies.ensures.items
+loop-it-init c = c.new-replies.ensures
 
 -- all of them have theirs
 pub returns : goal.returns

@@ -7,42 +7,11 @@ use Rattle.chain_core.specs.declared.pending_submit.PendingSubmit.{PendingSubmit
 use Rattle.chain_core.specs.States.{Core, IsInOrder, committed_responses}
 use Rattle.chain_core.specs.Queues.{front, behind}
 use Rattle.chain_core.specs.Decisions.{CoreFollows}
-use Rattle.chain_core.proofs.Queues.{behind_in_order, push_in_order, front_few, front_push}
+use Rattle.chain_core.proofs.Queues.{behind_in_order, push_in_order}
 use Rattle.chain_core.specs.CoreState.{core_value}
 use Rattle.chain_core.proofs.Orders.{ordered_longer}
 use Rattle.chain_core.proofs.After.{follows_accept, next_of}
 use Rattle.chain_core.proofs.state.CoreState.add_submit.Goals as goal
-
--- there are no more requests than numbers
-pub overflow_add-count_due : goal.overflow_add-count_due
-overflow_add-count_due c =
-    let inside = c.self.inside in
-    let few = front_few 0 inside.count c.committed_with-committed.result inside.pending.items
-    c.self.invariant.pending (omega arith) in
-    omega (
-      arith,
-      few,
-      ap (λ (v : Core). v.count) c.self.view_is,
-      c.requires,
-      c.count_due.ensures,
-      c.count_if_due-own.ensures.limit,
-    )
-
--- there is room for those that were due and for the new one
-pub move_due-requires : goal.move_due-requires
-move_due-requires c =
-    let asked : PendingSubmit = record { number = c.unwrap-number.result; request = c.args.request }
-    in
-    let committed = c.committed_with-committed.result in
-    let due = front_push committed c.self.inside.pending.items asked in
-    rw c.in_ok-push_back.ensures.items
-    (omega (
-      arith,
-      due,
-      c.in_ok-reserve.ensures.ok,
-      c.count_due.ensures,
-      c.count_if_due-own.ensures.count,
-    ))
 
 pub invariant_of-self-2 : goal.invariant_of-self-2
 invariant_of-self-2 c =
@@ -53,8 +22,8 @@ invariant_of-self-2 c =
     let next : number ≡ suc old =
     next_of c.next.result _ old old number c.next.ensures c.unwrap-number.ensures refl in
     let rises = push_in_order 0 old pending asked c.self.invariant.pending (omega arith) next in
-    let waits : IsInOrder 0 number c.move_due.new.pending.items =
-    rw (c.move_due.ensures.pending, c.in_ok-push_back.ensures.items)
+    let waits : IsInOrder 0 number c.forget_due.new.pending.items =
+    rw (c.forget_due.ensures, c.in_ok-push_back.ensures.items)
     (behind_in_order 0 number c.committed_with-committed.result (pending ++ asked ∷ []) rises) in
     let commits : c.committed_with-committed.result
     ≡ (if is_tail c.self.inside.config c.self.inside.id then number
@@ -62,7 +31,7 @@ invariant_of-self-2 c =
     c.committed_with-committed.ensures
     ∙ ap (λ (v : Core). if is_tail v.ids v.id then number else v.committed) (sym c.self.view_is) in
     ordered_longer (core_value c.self.inside) c.self.invariant number
-    c.committed_with-committed.result c.move_due.new.pending.items next commits waits
+    c.committed_with-committed.result c.forget_due.new.pending.items next commits waits
 
 pub returns : goal.returns
 returns c = record {
@@ -72,9 +41,8 @@ returns c = record {
       let number = c.unwrap-number.result in
       let asked : PendingSubmit = record { number = number; request = i } in
       let committed = c.committed_with-committed.result in
-      let pending = c.move_due.new.pending.items in
-      let due = c.move_due.new.due.items in
-      let empty = c.reserve.ensures.items ∙ c.new-due.ensures.items in
+      let pending = c.forget_due.new.pending.items in
+      let due = c.in-Ok.due in
       let same = c.self.view_is in
       let ordered = subst (λ (v : Core). IsInOrder 0 v.count v.pending) same
       c.self.invariant.pending in
@@ -85,11 +53,9 @@ returns c = record {
       ◌∙◌ {A = List PendingSubmit} c.in_ok-push_back.ensures.items
       (ap (λ (v : Core). v.pending ++ asked ∷ []) same) in
       let out : due ≡ front committed (now.pending ++ asked ∷ []) =
-      c.move_due.ensures.due
-      ∙ (ap (λ (l : List PendingSubmit). l ++ front committed c.push_back.new.self.items) empty
-      ∙ ap (front committed) all) in
+      c.in-Ok.ensures ∙ ap (front committed) all in
       let left : pending ≡ behind committed (now.pending ++ asked ∷ []) =
-      c.move_due.ensures.pending ∙ ap (behind committed) all in
+      c.forget_due.ensures ∙ ap (behind committed) all in
       let new : Core → Core = λ v. record v {
         count = number;
         committed = committed;

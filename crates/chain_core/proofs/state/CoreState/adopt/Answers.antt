@@ -1,10 +1,9 @@
-use Rattle.std.proofs.Common.{◌≡◌, ◌++◌, [], Bool, List, not, sym, ap, subst, ◌∙◌, rules}
+use Rattle.std.proofs.Common.{◌≡◌, [], Bool, not, sym, ap, subst, ◌∙◌, rules}
 use Rattle.std.proofs.Common.{refl}
 use Rattle.std.specs.Prelude.{if◌then◌else◌}
 use Rattle.configurations.specs.{is_tail}
 use Rattle.kv_types.specs.{has}
 use Rattle.chain_model.specs.Rules.{adopt}
-use Rattle.chain_core.specs.declared.pending_submit.PendingSubmit.{PendingSubmit}
 use Rattle.chain_core.specs.States.{Core, IsInOrder, committed_responses}
 use Rattle.chain_core.specs.Queues.{front, behind}
 use Rattle.chain_core.specs.Decisions.{CoreFollows}
@@ -21,13 +20,14 @@ invariant_of-self c =
     let stays = has c.args.config inside.id in
     let old = inside.pending.items in
     let left = c.forget_where.ensures
-    ∙ ap (λ (b : Bool). if b then [] else old) (ap not c.has.ensures) ∙ kept_where stays old in
+    ∙ ap (λ (b : Bool). if b then [] else old) (ap not c.has-stays.ensures)
+    ∙ kept_where stays old in
     let rises = where_in_order stays inside.count old c.self.invariant.pending in
-    let waits : IsInOrder 0 inside.count c.move_due.new.pending.items =
-    rw (c.move_due.ensures.pending, left)
+    let waits : IsInOrder 0 inside.count c.forget_due.new.pending.items =
+    rw (c.forget_due.ensures, left)
     (behind_in_order 0 inside.count committed (if stays then old else []) rises) in
     ordered_adopted (core_value inside) c.self.invariant c.args.epoch committed c.args.config
-    c.move_due.new.pending.items
+    c.forget_due.new.pending.items
     (c.committed_under-committed.ensures
     ∙ ap (λ (v : Core). if is_tail c.args.config v.id then v.count else v.committed)
     (sym c.self.view_is)) waits
@@ -39,9 +39,8 @@ returns c = record {
       let epoch = c.args.epoch in
       let ids = c.args.config in
       let committed = c.committed_under-committed.result in
-      let pending = c.move_due.new.pending.items in
-      let due = c.move_due.new.due.items in
-      let empty = c.reserve.ensures.items ∙ c.new-due.ensures.items in
+      let pending = c.forget_due.new.pending.items in
+      let due = c.in_ok-due.due in
       let same = c.self.view_is in
       let ordered = subst (λ (v : Core). IsInOrder 0 v.count v.pending) same
       c.self.invariant.pending in
@@ -49,16 +48,16 @@ returns c = record {
       let waits = if stays then now.pending else [] in
       let left : c.forget_where.new.pending.items ≡ waits =
       c.forget_where.ensures
-      ∙ ap (λ (b : Bool). if b then [] else c.self.inside.pending.items) (ap not c.has.ensures)
+      ∙ ap (λ (b : Bool). if b then [] else c.self.inside.pending.items)
+      (ap not c.has-stays.ensures)
       ∙ kept_where (has ids c.self.inside.id) c.self.inside.pending.items
       ∙ ap (λ (v : Core). if has ids v.id then v.pending else []) same in
-      let kept = c.forget_where.new.pending.items in
       let out : due ≡ front committed waits =
-      c.move_due.ensures.due
-      ∙ (ap (λ (l : List PendingSubmit). l ++ front committed kept) empty
-      ∙ ap (front committed) left) in
+      c.in_ok-due.ensures ∙ ap (λ (b : Bool). front committed
+      (if b then c.self.inside.pending.items else [])) c.has-stays.ensures
+      ∙ ap (λ (v : Core). front committed (if has ids v.id then v.pending else [])) same in
       let rest : pending ≡ behind committed waits =
-      c.move_due.ensures.pending ∙ ap (behind committed) left in
+      c.forget_due.ensures ∙ ap (behind committed) left in
       let new : Core → Core = λ v. record v {
         epoch = epoch;
         ids = ids;

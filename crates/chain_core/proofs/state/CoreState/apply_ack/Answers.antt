@@ -1,6 +1,5 @@
-use Rattle.std.proofs.Common.{◌≡◌, ◌≤◌, ◌++◌, List, sym, ap, subst, ◌∙◌, max, arith, rules}
+use Rattle.std.proofs.Common.{◌≡◌, ◌≤◌, sym, ap, subst, ◌∙◌, max, arith, rules}
 use Rattle.chain_model.specs.{on_ack}
-use Rattle.chain_core.specs.declared.pending_submit.PendingSubmit.{PendingSubmit}
 use Rattle.chain_core.specs.States.{Core, IsInOrder, committed_responses}
 use Rattle.chain_core.specs.Queues.{front, behind}
 use Rattle.chain_core.specs.Decisions.{CoreFollows}
@@ -14,8 +13,8 @@ pub invariant_of-self : goal.invariant_of-self
 invariant_of-self c =
     let inside = c.self.inside in
     let committed = c.greater-committed.result in
-    let pending = c.move_due.new.pending.items in
-    let waits : IsInOrder 0 inside.count pending = rw c.move_due.ensures.pending
+    let pending = c.forget_due.new.pending.items in
+    let waits : IsInOrder 0 inside.count pending = rw c.forget_due.ensures
     (behind_in_order 0 inside.count committed inside.pending.items c.self.invariant.pending) in
     let there : c.args.have ≤ inside.count =
     omega (arith, c.requires.there, ap (λ (v : Core). v.count) c.self.view_is) in
@@ -31,18 +30,15 @@ returns c = record {
       let have = c.args.have in
       let more = c.greater-committed.result in
       let has = c.greater-self-inside.result in
-      let pending = c.move_due.new.pending.items in
-      let due = c.move_due.new.due.items in
-      let empty = c.reserve.ensures.items ∙ c.new-due.ensures.items in
+      let pending = c.forget_due.new.pending.items in
+      let due = c.in_ok-due.due in
       let same = c.self.view_is in
       let ordered = subst (λ (v : Core). IsInOrder 0 v.count v.pending) same
       c.self.invariant.pending in
       let out : due ≡ front more now.pending =
-      c.move_due.ensures.due
-      ∙ (ap (λ (l : List PendingSubmit). l ++ front more c.self.inside.pending.items) empty
-      ∙ ap (λ (v : Core). front more v.pending) same) in
+      c.in_ok-due.ensures ∙ ap (λ (v : Core). front more v.pending) same in
       let left : pending ≡ behind more now.pending =
-      c.move_due.ensures.pending ∙ ap (λ (v : Core). behind more v.pending) same in
+      c.forget_due.ensures ∙ ap (λ (v : Core). behind more v.pending) same in
       let new : Core → Core = λ v. record v {
         committed = more;
         successor_has = has;

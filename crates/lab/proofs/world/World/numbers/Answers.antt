@@ -10,7 +10,7 @@ use Rattle.lab.specs.declared.node_state.NodeState.TheVariants.{Up}
 use Rattle.lab.specs.declared.sim_node.SimNode.{SimNode}
 use Rattle.lab.specs.SimNodes.{IsDown, StateRefines}
 use Rattle.lab.specs.Traces.{modelled_from}
-use Rattle.lab.specs.Worlds.{HasNoNode, HasTablesIn, IsIndexOf}
+use Rattle.lab.specs.Worlds.{HasNoNode, HasNumbersIn, IsIndexOf}
 use Rattle.lab.proofs.Dispatching.{holding}
 use Rattle.lab.proofs.SimNodes.{has_one, refined_of}
 use Rattle.lab.proofs.world.World.numbers.Goals as goal
@@ -43,8 +43,8 @@ returns-in-Up-clause-run g c = λ past run there.
           (sym c.deref-in-Up.ensures) up),
     )
 
-pub returns-in-Up-clause-tables : goal.returns-in-Up-clause-tables
-returns-in-Up-clause-tables g c =
+pub returns-in-Up-clause-own : goal.returns-in-Up-clause-own
+returns-in-Up-clause-own g c =
     let sims = c.args.self.now.nodes.items in
     let i = c.in-Some.index in
     let sim = c.index.result.now in
@@ -53,14 +53,14 @@ returns-in-Up-clause-tables g c =
     record {
       index = i;
       at = at;
-      tables = λ other. subst (λ (s : SimNode g.row.D.Denot g.D.Disk).
-          HasTablesIn s.state c.numbers.result)
+      own = λ other. subst (λ (s : SimNode g.row.D.Denot g.D.Disk).
+          HasNumbersIn s.state c.numbers.result)
           (c.index.ensures ∙ get_or_default sims i sim other at.within)
-          (subst (λ (m : NodeState g.row.D.Denot g.D.Disk). HasTablesIn m c.numbers.result)
+          (subst (λ (m : NodeState g.row.D.Denot g.D.Disk). HasNumbersIn m c.numbers.result)
           (sym c.in-Up.is)
-          (subst (λ (it : Node g.row.D.Denot g.D.Disk). HasTablesIn
+          (subst (λ (it : Node g.row.D.Denot g.D.Disk). HasNumbersIn
           (Up (holding c.in-Up.node it)) c.numbers.result) c.deref-in-Up.ensures
-          c.numbers.ensures.tables));
+          (record { own = c.numbers.ensures.own; tables = c.numbers.ensures.tables })));
     }
 
 pub returns-in-Down-clause-run : goal.returns-in-Down-clause-run

@@ -1,4 +1,4 @@
-use Rattle.std.proofs.Common.{List, [], refl, sym, subst}
+use Rattle.std.proofs.Common.{List, [], ap, length, refl, sym, subst}
 use Rattle.std.proofs.lemmas.List.Elements.{All-from_recursion}
 use Rattle.lab.specs.declared.delivery.Posted.{Posted}
 use Rattle.lab.specs.SimNodes.{HasArrived}
@@ -22,3 +22,11 @@ returns-clause-ran g c = λ lawful faithful are.
       carrier = faithful;
       arrives = λ loses_not. All-from_recursion HasArrived [] tt;
     }
+
+pub returns-clause-none : goal.returns-clause-none
+returns-clause-none g c = record {
+  lines = c.new-4.ensures.items;
+  events = c.new-2.ensures.items;
+  lost = c.new-3.ensures.items;
+  sent = ap length c.new.ensures.items;
+}

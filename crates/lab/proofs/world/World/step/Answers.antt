@@ -203,7 +203,7 @@ returns-in-Nothing-clause-adds g c =
     let i = c.in-Some.request in
     on_ok_weaker c.keep.result (adds_one c.args.self.now begun
     (record begun { carrier = c.delivery_of.new.carrier }) c.keep.new.self
-    c.args.event.now _ _ c.in_ok-begin.ensures.begun refl refl refl
+    c.args.event.now _ _ c.in_ok-begin.ensures.begun refl refl refl refl
     (c.names_node.ensures.0 c.if-not-names_node.false)
     (λ _. subst (AreEventLines kind) (sym c.one.ensures) (by_kind kind (line.Nothing ∷ [])
     (λ certain. nothing_lines begun.configs [] i kind
@@ -218,7 +218,7 @@ returns-in-Lost-clause-adds g c =
     let i = c.in-Some.request in
     on_ok_weaker c.keep-in-Lost.result (adds_one c.args.self.now begun
     (record begun { carrier = c.delivery_of.new.carrier }) c.keep-in-Lost.new.self
-    c.args.event.now _ _ c.in_ok-begin.ensures.begun refl refl refl
+    c.args.event.now _ _ c.in_ok-begin.ensures.begun refl refl refl refl
     (c.names_node.ensures.0 c.if-not-names_node.false)
     (λ _. subst (AreEventLines kind) (sym c.one-in-Lost.ensures) (by_kind kind (line.Lost ∷ [])
     (λ certain. lost_lines begun.configs [] i kind
@@ -240,7 +240,7 @@ returns-in_default-index_of-clause-adds g c =
     c.index_of.ensures) in
     on_ok_weaker c.keep-in_default-index_of.result (adds_one old begun
     (record begun { carrier = c.delivery_of.new.carrier }) c.keep-in_default-index_of.new.self
-    c.args.event.now _ _ c.in_ok-begin.ensures.begun refl refl refl named
+    c.args.event.now _ _ c.in_ok-begin.ensures.begun refl refl refl refl named
     (λ its. subst (AreEventLines kind) (sym c.one-in_default-index_of.ensures)
     (by_kind kind (line.Nothing ∷ []) (λ certain. absent_lines begun.configs [] i x c.in-To.input
     kind begun.nodes.items old.configs
@@ -257,7 +257,7 @@ returns-clause-adds g c =
     let i = c.in-Some.request in
     let took = c.in_ok-outcome.ensures in
     on_ok_weaker c.keep-2.result (adds_one c.args.self.now begun (mid g c) c.keep-2.new.self
-    event _ _ c.in_ok-begin.ensures.begun refl refl
+    event _ _ c.in_ok-begin.ensures.begun refl refl refl
     (same_ids begun.nodes.items c.in-To.id c.in-To.input event.fault begun.limits
     c.in_ok-outcome.outcome c.deliver.new.nodes.items took)
     (c.names_node.ensures.0 c.if-not-names_node.false)

@@ -1,4 +1,4 @@
-use Rattle.std.proofs.Common.{◌≡◌, ℕ, List, [], ap, arith, refl, sym, subst, ◌∙◌, inr}
+use Rattle.std.proofs.Common.{ℕ, List, [], ap, arith, refl, sym, subst, ◌∙◌, inr}
 use Rattle.std.proofs.lemmas.Result.{err_from_is_err_and}
 use Rattle.disk.specs.{IsEnvironmental}
 use Rattle.kv_types.specs.{BatchContent}
@@ -83,7 +83,7 @@ set_committed-requires g c =
     let known = ap (λ (l : LookUps). l.committed) told in
     let more = ap (λ (l : LookUps). l.count) told in
     let count = counts_same c.steps_leave.ensures old c.after.new.self
-    (done.Adopted c.args.epoch c.args.config) (committed_responses c.in_ok-due.due.items)
+    (done.Adopted c.args.epoch c.args.config) (committed_responses c.in_ok-due.due)
     (λ n. refl) c.in_ok-due.ensures.after in
     let ordered = c.committed.ensures.ordered.committed in (
       omega (arith, known, may.committed, c.in_ok-due.ensures.rises, c.committed.ensures.same),
@@ -96,7 +96,7 @@ returns g c =
     let may = c.requires.may in
     let old = c.args.self.now in
     let d = done.Adopted c.args.epoch c.args.config in
-    let due = c.in_ok-due.due.items in
+    let due = c.in_ok-due.due in
     let told = c.in_ok-adopt.ensures.told in
     let known = c.set_committed.ensures.told in
     let made = c.output_of.result in
@@ -150,13 +150,13 @@ returns g c =
           let runs = goes_on g.D.Disk old _ x n [] d a leaves r
           (c.set_committed.ensures.stays.holds n.list holds) facts follows.is
           (c.in_ok-due.ensures.same ∙ r.id) in
-          let none : AreFrames c.new.result.items [] = rw c.new.ensures.items refl in
+          let none : AreFrames c.new.result [] = rw c.new.ensures refl in
           let moments = subst (λ disk. AlwaysRefines g.D.Disk (disk_of old) disk x n a.node)
           (sym c.set_committed.ensures.disk)
           (adopts g.D.Disk old c.args.epoch c.args.config law x n r
           (engine_disk c.adopt.new.self) (c.adopt.ensures.changes.any_moment n.list r.store)) in
           let sent : ℕ → List (Message BatchContent) = λ y. ack y a.node in
           ends_rule g.D.Disk old _ x n input [] d a due c.deref.result.now sent made result moments
-          leaves runs follows.replied c.deref.ensures.value refl
+          leaves runs follows.replied c.deref.ensures refl
           (c.output_of.ensures a.node [] runs.core none) stops;
     }

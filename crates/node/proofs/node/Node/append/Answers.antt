@@ -85,7 +85,7 @@ set_committed-requires g c =
     let known = ap (λ (l : LookUps). l.committed) told in
     let more = ap (λ (l : LookUps). l.count) told in
     let count = counts_appended c.steps_leave.ensures old c.after.new.self c.args.done
-    (responses_after c.args.done c.in_ok-due.due.items) c.requires.done c.in_ok-due.ensures.after in
+    (responses_after c.args.done c.in_ok-due.due) c.requires.done c.in_ok-due.ensures.after in
     let ordered = c.committed.ensures.ordered.committed in (
       omega (arith, known, may.committed, c.in_ok-due.ensures.rises, c.committed.ensures.same),
       omega (arith, more, ordered, c.committed.ensures.same, count, may.count),
@@ -98,7 +98,7 @@ returns g c =
     let old = c.args.self.now in
     let batch = c.args.batch in
     let d = c.args.done in
-    let due = c.in_ok-due.due.items in
+    let due = c.in_ok-due.due in
     let told = c.in_ok-append.ensures.told.0 in
     let known = c.set_committed.ensures.told in
     let made = c.output_of_append.result in
@@ -176,6 +176,6 @@ returns g c =
           let frames = ap (λ k. forward x a.node k ++ (if acks then ack x a.node else [])) number
           ∙ frames_of x n a.node d acks has tail in
           ends_rule g.D.Disk old _ x n input batch d a due c.deref.result.now sent made result
-          moments leaves runs (follows.replied ∙ responses_due d due has) c.deref.ensures.value
+          moments leaves runs (follows.replied ∙ responses_due d due has) c.deref.ensures
           frames (c.output_of_append.ensures a.node follows.is there) stops;
     }

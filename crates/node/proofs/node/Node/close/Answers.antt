@@ -1,4 +1,4 @@
-use Rattle.std.proofs.Common.{◌≡◌, ◌∷◌, ℕ, List, Err, ap, refl, subst, true}
+use Rattle.std.proofs.Common.{◌≡◌, ◌∷◌, ℕ, List, Ok, Err, ap, refl, subst, true}
 use Rattle.chain_model.specs.{Closed}
 use Rattle.kv_types.specs.Snapshots.{is_open, without}
 use Rattle.chain_model.specs.Rules.{remove_snapshot}
@@ -37,9 +37,9 @@ returns g c =
     let s = c.args.number in
     let known = c.in_ok-close_snapshot.ensures in
     snapshots_changed g.D.Disk c.args.self.now _ c.close_snapshot.ensures.changes.disk _
-    c.map_err.result
+    (Ok c.replying.result)
     c.steps_leave.ensures (done.Closed i s) (λ (l : List ℕ). without s l)
-    (Closed i s ∷ committed_responses c.in_ok-after.field-0.items) may
+    (Closed i s ∷ committed_responses c.in_ok-after.field-0) may
     (record {
       list = λ n. refl;
       snapshots = λ n. refl;
@@ -48,5 +48,6 @@ returns g c =
     })
     c.in_ok-after.ensures.after c.in_ok-after.ensures.same
     (λ ended. still_works known.changes.keeps.ends may.works ended) known.changes.told
-    (λ list. (known.changes.kept list).holds) c.replying.result (λ x n input. c.replying.ensures)
-    c.map_err.ensures.cases
+    (λ list. (known.changes.kept list).holds) (Ok c.replying.result)
+    (λ x n input. c.replying.ensures)
+    refl

@@ -23,7 +23,7 @@ set_committed-requires g c =
     let may = c.requires.may in
     let old = c.args.self.now.core in
     let count = counts_same c.steps_leave.ensures old c.after.new.self
-    (done.Acked c.args.committed c.args.have) (committed_responses c.in_ok-due.due.items)
+    (done.Acked c.args.committed c.args.have) (committed_responses c.in_ok-due.due)
     (λ n. refl) c.in_ok-due.ensures.after in
     let ordered = c.committed-2.ensures.ordered.committed in (
       omega (arith, may.committed, c.in_ok-due.ensures.rises, c.committed-2.ensures.same),
@@ -59,7 +59,7 @@ returns-clause-followed g c = record {
         let may = c.requires.may in
         let old = c.args.self.now.core in
         let d = done.Acked c.args.committed c.args.have in
-        let replies = committed_responses c.in_ok-due.due.items in
+        let replies = committed_responses c.in_ok-due.due in
         let law = c.steps_leave.ensures in
         let new = c.after.new.self in
         let after = c.in_ok-due.ensures.after in
@@ -87,7 +87,7 @@ returns-clause-followed g c = record {
       let d = done.Acked c.args.committed c.args.have in
       let a = on_ack x n c.args.committed c.args.have in
       let leaves = c.steps_leave.ensures x n [] d in
-      let due = c.in_ok-due.due.items in
+      let due = c.in_ok-due.due in
       let follows = subst (λ (y : ℕ).
       core.CoreFollows c.after.new.self (done_of y n [] d) (committed_responses due)) r.id
       (c.in_ok-due.ensures.after n [] r.core) in
@@ -100,13 +100,13 @@ returns-clause-followed g c = record {
       let told : Bool → List (Message BatchContent) = λ acks. if acks then ack x a.node else [] in
       let sent : ℕ → List (Message BatchContent) =
       λ y. if c.gt-grows.result then ack y a.node else [] in
-      let none : AreFrames c.new.result.items [] = rw c.new.ensures.items refl in
+      let none : AreFrames c.new.result [] = rw c.new.ensures refl in
       let grows : c.gt-grows.result ≡ nat_lt n.committed c.args.committed =
       c.gt-grows.ensures ∙ greater c.args.committed c.committed.result
       ∙ ap (λ k. nat_lt k c.args.committed) (c.committed.ensures.same ∙ sym r.core.committed) in
       let moments = subst (λ disk. AlwaysRefines g.D.Disk (disk_of old) disk x n a.node)
       (sym c.set_committed.ensures.disk) (at_rest g.D.Disk old x n a.node r) in
       ends_rule g.D.Disk old _ x n input [] d a due c.deref.result.now sent c.output_of.result
-      c.map_err.result moments leaves runs follows.replied c.deref.ensures.value (ap told grows)
+      c.map_err.result moments leaves runs follows.replied c.deref.ensures (ap told grows)
       (c.output_of.ensures a.node [] runs.core none) c.map_err.ensures.cases;
 }

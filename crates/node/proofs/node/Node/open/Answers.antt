@@ -1,4 +1,4 @@
-use Rattle.std.proofs.Common.{◌≡◌, ◌∷◌, ℕ, List, Err, ap, arith, length, refl, subst}
+use Rattle.std.proofs.Common.{◌≡◌, ◌∷◌, ℕ, List, Ok, Err, ap, arith, length, refl, subst}
 use Rattle.std.specs.Prelude.{IsErrAnd}
 use Rattle.chain_model.specs.{Opened}
 use Rattle.chain_model.specs.Rules.{add_snapshot}
@@ -49,9 +49,9 @@ returns g c =
     let s = c.args.number in
     let known = c.in_ok-open_snapshot.ensures in
     snapshots_changed g.D.Disk c.args.self.now _ c.open_snapshot.ensures.changes.disk _
-    c.map_err.result
+    (Ok c.replying.result)
     c.steps_leave.ensures (done.Opened i s) (λ (l : List ℕ). s ∷ l)
-    (Opened i s ∷ committed_responses c.in_ok-after.field-0.items) may
+    (Opened i s ∷ committed_responses c.in_ok-after.field-0) may
     (record {
       list = λ n. refl;
       snapshots = λ n. refl;
@@ -60,5 +60,6 @@ returns g c =
     })
     c.in_ok-after.ensures.after c.in_ok-after.ensures.same
     (λ ended. still_works known.changes.keeps.ends may.works ended) known.changes.told
-    (λ list. (known.changes.kept list).holds) c.replying.result (λ x n input. c.replying.ensures)
-    c.map_err.ensures.cases
+    (λ list. (known.changes.kept list).holds) (Ok c.replying.result)
+    (λ x n input. c.replying.ensures)
+    refl

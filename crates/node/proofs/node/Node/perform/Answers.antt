@@ -74,9 +74,9 @@ pub returns-in-Refuse : goal.returns-in-Refuse
 returns-in-Refuse g c =
     let node = c.args.self.now in
     let known = decision.Refuse c.in-Refuse.request c.in-Refuse.refusal in
-    executes_as g.D.Disk node node c.args.decision known c.map_err-in-Refuse.result c.in-Refuse.is
-    (executes_at_rest g.D.Disk node known c.refuse.result c.map_err-in-Refuse.result c.requires.may
-    (λ x n. refl) (λ n input is. c.refuse.ensures n input) c.map_err-in-Refuse.ensures.cases)
+    executes_as g.D.Disk node node c.args.decision known (Ok c.refuse.result) c.in-Refuse.is
+    (executes_at_rest g.D.Disk node known (Ok c.refuse.result) (Ok c.refuse.result) c.requires.may
+    (λ x n. refl) (λ n input is. c.refuse.ensures n input) refl)
 
 pub returns-in-Drop : goal.returns-in-Drop
 returns-in-Drop g c =

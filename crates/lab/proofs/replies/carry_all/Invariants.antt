@@ -1,7 +1,7 @@
 use Rattle.std.specs.Prelude.{◌↔◌}
 use Rattle.carriers.specs.{HasCarriedMore}
 use Rattle.lab.specs.Arrivals.{RepliesFollow}
-use Rattle.lab.proofs.replies.carry_replies.Given as goal
+use Rattle.lab.proofs.replies.carry_all.Given as goal
 
 -- the replies so far were carried
 abbrev pub invariant-loop-reply : goal.invariant-loop-reply

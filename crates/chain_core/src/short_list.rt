@@ -1,0 +1,105 @@
+//! Lists that mostly have one item.
+ghost use Rattle.std.specs.Prelude.{◌≡◌, [], ◌∷◌, ◌++◌, OnOk};
+ghost use Rattle.chain_core.specs.ShortLists.{items_held};
+
+use std::alloc::{AllocError, Global};
+use std::marker::Model;
+use std::mem;
+use std::ops::DerefSlice;
+
+/// How a short list holds its items.
+#[derive(Drop)]
+pub enum HeldItems<T> {
+    None,
+    One([T; 1]),
+    Many(Vec<T>),
+}
+
+/// Items in order. One item, or none, takes no memory beside the value.
+#[derive(Drop)]
+pub struct ShortList<T> {
+    held: HeldItems<T>,
+}
+
+impl<T> Model for ShortList<T> {
+    ghost use Rattle.std.specs.Prelude.{List};
+    ghost use Rattle.chain_core.specs.ShortLists.{items_held};
+
+    ghost Value = { List T };
+
+    ghost view = { λ list. items_held list.held };
+}
+
+fn item_of<T>(one: [T; 1]) -> T
+    ensures { result ∷ [] ≡ one }
+{
+    let [item] = one;
+    item
+}
+
+impl<T: Drop> ShortList<T> {
+    /// No items.
+    pub fn new() -> ShortList<T>
+        ensures { result ≡ [] }
+    {
+        let held = HeldItems::None;
+        ShortList { held }
+    }
+
+    /// This item alone.
+    pub fn one(item: T) -> ShortList<T>
+        ensures { result ≡ item ∷ [] }
+    {
+        let held = HeldItems::One([item]);
+        ShortList { held }
+    }
+
+    /// Adds an item behind the others.
+    pub fn push(&mut self, alloc: Global, item: T) -> Result<(), AllocError>
+        ensures { OnOk result (self.new ≡ self.old ++ item ∷ []) }
+    {
+        let held = mem::replace(&mut self.held, HeldItems::None);
+        self.held = match held {
+            HeldItems::None => HeldItems::One([item]),
+            HeldItems::One(one) => {
+                let mut all = Vec::with_capacity(alloc, 2)?;
+                all.push(item_of(one))?;
+                all.push(item)?;
+                HeldItems::Many(all)
+            }
+            HeldItems::Many(mut all) => {
+                all.push(item)?;
+                HeldItems::Many(all)
+            }
+        };
+        Ok(())
+    }
+
+    /// The items, in order.
+    pub fn as_slice(&self) -> &[T]
+        ensures { result.now ≡ self.now }
+    {
+        match &self.held {
+            HeldItems::None => &[],
+            HeldItems::One(one) => one.as_slice(),
+            HeldItems::Many(all) => all.as_slice(),
+        }
+    }
+
+    /// The items as they are held, for those who take them one by one.
+    pub fn into_held(self) -> HeldItems<T>
+        ensures { items_held result ≡ self }
+    {
+        self.held
+    }
+}
+
+impl<T: Drop> DerefSlice for ShortList<T> {
+    type Elem = T;
+
+    ghost deref_gives = { λ list items. items ≡ list };
+
+    fn deref(&self) -> &[T] {
+        self.as_slice()
+    }
+}
