@@ -239,7 +239,7 @@ pub record IsNewEngine {D : Type 0} {g : Ghosts D} (x : ℕ) (ids : List ℕ) (l
   pub rests : HasNoMerge engine
 
 -- an opened engine has these limits, no open snapshot and no merge, and knows only the batches
--- below the floor to be committed; its disk has no file that its version does not name
+-- up to the floor to be committed; its disk has no file that its version does not name
 pub record IsJustOpened {D : Type 0} {g : Ghosts D} (given : Limits) (engine : Engine D g) : Type 0
   where
     pub works : HasEnded engine → ⊥

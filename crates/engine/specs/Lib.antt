@@ -31,6 +31,7 @@ pub use Rattle.store_tables.specs.declared.error.EngineError
 pub use Rattle.store_files.specs.declared.tended.Tended
 pub use Rattle.store_tables.specs.KeepingLemmas
 pub use Rattle.store_tables.specs.Errors.{EndsEngine, IsEnd}
+pub use Rattle.store_tables.specs.TableReads.{OneNamedLacksBlock}
 pub use Rattle.store_files.specs.Adopting.{IsLaterConfig, facts_with_config}
 pub use Rattle.store_files.specs.Files.{Facts, IsOwned, first_facts}
 pub use Rattle.store_files.specs.StoreFiles.{FilesRepresent, HasFirstFiles, IsDamaged, IsOneOf}

@@ -12,10 +12,10 @@ use store_files::laws::{held_files_are_left, open_files_are_apart};
 
 impl<D: Disk + Drop> Engine<D> {
     ghost use Rattle.std.specs.Prelude.{◌≡◌, IfErr, MatchResult};
-    ghost use Rattle.disk.specs.{IsEnvironmental, IsSameBut};
+    ghost use Rattle.disk.specs.{IsEnvironmental, IsSameBut, MakesCalls};
     ghost use Rattle.engine.specs.Calls.{ChangesList, MergeStays, OfEachList};
     ghost use Rattle.engine.specs.Engines.{HasNearlyFullSlot, counting_slot_file, facts_of};
-    ghost use Rattle.engine.specs.Engines.{look_ups, with_facts};
+    ghost use Rattle.engine.specs.Engines.{engine_disk, look_ups, with_facts};
     ghost use Rattle.store_files.specs.Adopting.{IsLaterConfig, facts_with_config};
 
     /// Adopts a later configuration, of this place in the list of configurations. It needs four
@@ -32,6 +32,7 @@ impl<D: Disk + Drop> Engine<D> {
         ensures merging { MergeStays self.old self.new }
         ensures met { OfEachList D.Disk self.old (λ list.
             IfErr result (IsEnvironmental Disk Memory)) }
+        ensures calls { MakesCalls D.Disk 4 (engine_disk self.old) (engine_disk self.new) result }
     {
         held_files_are_left(); // law: what the disk of open files reads as, and leaves
         merges_outlive_calls::<D>(); // law: a merge outlives calls that leave its files

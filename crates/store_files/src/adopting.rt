@@ -1,5 +1,6 @@
 // An adoption of a later configuration, which the manifest records.
 ghost use Rattle.std.specs.Prelude.{IfErr, IfOk, List};
+ghost use Rattle.disk.specs.{MakesCalls};
 ghost use Rattle.store_files.specs.Adopting.{AdoptsConfig, IsConfigEdit, MayAdopt};
 ghost use Rattle.store_files.specs.OpenFiles.{HasSameFacts};
 ghost use Rattle.store_files.specs.Plans.{KeepsPlans};
@@ -57,6 +58,7 @@ impl StoreFiles {
         ensures refused { IfErr result (λ _. HasSameFacts self.old self.new) }
         ensures plans { KeepsPlans D.Disk (λ list. list) disk.old disk.new self.old self.new
             result }
+        ensures calls { MakesCalls D.Disk 4 disk.old disk.new result }
     {
         // laws: what a crash leaves of the files that are named; that a manifest has the slots,
         // and an edit gives a version
