@@ -16,11 +16,15 @@ use Rattle.kv_types.specs.Order.{IsBelow}
 use Rattle.kv_types.specs.ByteOrderLemmas.{below_is_strict}
 use Rattle.kv_types.specs.OrderLemmas.{Among, Contains-among, among_from_Contains, among_of_All}
 use Rattle.kv_types.specs.Pages.{IsRowOf, IsWithin, Map, PrecedesRow}
+use Rattle.disk.specs.declared.Disk.{Ghosts}
+use Rattle.engine.specs.EngineError.{EngineError}
 use Rattle.embedded_store.specs.Cursors.{AreNeighbours, CursorIsOf, FindsRow, HasRow, IsAnyRow}
-use Rattle.embedded_store.specs.Cursors.{IsAtOrBehind, IsOnPage, StepsRow, cursor_map, cursor_row}
+use Rattle.embedded_store.specs.Cursors.{IsAtOrBehind, IsOnPage, MovesRowCursor, ReadsUnless}
+use Rattle.embedded_store.specs.Cursors.{StepsRow, cursor_map, cursor_number, cursor_row}
 use Rattle.embedded_store.specs.Cursors.{place_in_span, span_before, span_beside, span_from}
 use Rattle.embedded_store.specs.Stores.{first_batches}
 use Rattle.embedded_store.specs.declared.cursor.RowCursor.{RowCursor}
+use Rattle.embedded_store.specs.declared.store.EmbeddedStore.{EmbeddedStore}
 use Rattle.embedded_store.proofs.PageRows.{are_neighbours, few_are_all, found_first, found_second}
 
 -- ---- rows fit pages
@@ -217,3 +221,25 @@ first_found list before now key none found = (
       (λ row so. subst (λ (k : List ℕ). IsAtOrBehind k row) (sym none) (least_key row.key))
       (cursor_row now) found.1,
 )
+
+-- ---- what moves promise
+
+-- rows were read at a number, or the answer is another one too
+reads_more : {D : Type 0} {g : Ghosts D} (unread : Type 0) (at : ℕ) (old new : EmbeddedStore D g)
+    (result : Result (Unit {0}) EngineError) → ReadsUnless g ⊥ at old new result →
+    ReadsUnless g unread at old new result
+reads_more unread at old new result (inr rows) = inr rows
+reads_more unread at old new (Ok x) (inl none) = absurd none.1
+reads_more unread at old new (Err e) (inl none) = inl none
+
+-- a move that answers behind a read alone is one that may answer without
+pub moves_more : {D : Type 0} {g : Ghosts D} (unread : Type 0) (old new : EmbeddedStore D g)
+    (before now : RowCursor) (result : Result (Unit {0}) EngineError) →
+    MovesRowCursor g old new before now ⊥ result →
+    MovesRowCursor g old new before now unread result
+moves_more unread old new before now result moves = record {
+  reads = reads_more unread (cursor_number before) old new result moves.reads;
+  number = moves.number;
+  kept = moves.kept;
+  refused = moves.refused;
+}

@@ -3,6 +3,7 @@ use Rattle.std.proofs.Common.{◌≡◌, ◌<◌, ◌≤◌, ◌+◌, ◌⊎◌,
 use Rattle.std.proofs.Common.{List, [], ◌∷◌, ◌++◌, length, Option, Some, None, arith, refl, sym}
 use Rattle.std.proofs.Common.{subst, ◌∙◌, ap}
 use Rattle.std.specs.List.{slice_get}
+use Rattle.std.specs.Prelude.{IsSome}
 use Rattle.std.proofs.lemmas.Option.{slice_get_cases}
 use Rattle.kv_types.specs.declared.row.Row.{Row}
 use Rattle.kv_types.specs.{Span, row_size}
@@ -103,6 +104,12 @@ none_between R never through (z ∷ zs) rises (suc n) x y other at then (inl is)
     (rises.0 x (among_place zs n x at))))
 none_between R never through (z ∷ zs) rises (suc n) x y other at then (inr one) behind =
     none_between R never through zs rises.1 n x y other at then one behind
+
+-- something stands at each place of it
+pub is_place : {X : Type 0} (xs : List X) (n : ℕ) → n < length xs → IsSome (slice_get xs n)
+is_place [] n inside = absurd (omega (arith, inside))
+is_place (x ∷ xs) zero inside = refl
+is_place (x ∷ xs) (suc n) inside = is_place xs n (omega (arith, inside))
 
 -- ---- pages
 

@@ -1,7 +1,7 @@
 -- A cursor over the map of a store at a number: on which row it stands, and what its moves promise.
 use Rattle.std.specs.Prelude.{◌≡◌, ◌⊎◌, ◌+◌, ◌≤◌, ◌++◌, ℕ, suc, List, [], Option, Some, None}
 use Rattle.std.specs.Prelude.{Bool, true, false, length}
-use Rattle.std.specs.Prelude.{Result, IfErr, IfOk}
+use Rattle.std.specs.Prelude.{IsSome, Result, IfErr, IfOk, MatchResult}
 use Rattle.std.specs.List.{slice_get}
 use Rattle.kv_types.specs.{BatchContent, Rows, Span, map_of, row_size}
 use Rattle.kv_types.specs.declared.row.Row.{Row}
@@ -89,24 +89,42 @@ pub record ReadsRows {D : Type 0} (g : Ghosts D) (at : ℕ) (old new : EmbeddedS
   pub readable : IsReadableAnswer (look_ups (store_engine old)) at answer
   pub same : result ≡ whether answer
 
--- nothing was read, and at most memory was wanting; or rows were read at this number
-abbrev pub ReadsAtMost : {D : Type 0} (g : Ghosts D) → ℕ → (old new : EmbeddedStore D g) →
+-- rows were read at this number; or nothing was read, since memory was wanting, or it was answered
+-- in this case
+abbrev pub ReadsUnless : {D : Type 0} (g : Ghosts D) → Type 0 → ℕ → (old new : EmbeddedStore D g) →
     Result (Unit {0}) EngineError → Type 0
-ReadsAtMost g at old new result =
-    ((new ≡ old) × IfErr result (λ e. e ≡ engine.Memory)) ⊎ ReadsRows g at old new result
+ReadsUnless g unread at old new result =
+    ((new ≡ old) × MatchResult result (λ _. unread) (λ e. e ≡ engine.Memory))
+    ⊎ ReadsRows g at old new result
 
 -- what a move of a cursor promises, whatever it finds
 pub record MovesRowCursor {D : Type 0} (g : Ghosts D) (old new : EmbeddedStore D g)
-    (before now : RowCursor) (result : Result (Unit {0}) EngineError) : Type 0 where
-  -- the store is read at most, at the cursor's number
-  pub reads : ReadsAtMost g (cursor_number before) old new result
-  -- the number stays
+    (before now : RowCursor) (unread : Type 0) (result : Result (Unit {0}) EngineError) : Type 0
+  where
+    -- the store is read at the cursor's number; it answers without a read in this case alone
+    pub reads : ReadsUnless g unread (cursor_number before) old new result
+    -- the number stays
+    pub number : cursor_number now ≡ cursor_number before
+    -- a move that is refused leaves the cursor where it stood
+    pub kept : IfErr result (λ _. now ≡ before)
+    -- and is refused as a read at its number
+    pub refused : (list : List BatchContent) → HoldsBatches g old list →
+        IfErr result (IsReadRefusal (look_ups (store_engine old)) (Some (cursor_number before)))
+
+-- The cursor stands on one of the rows that it had read. In the map of each list of which these
+-- are, that is the row behind the one on which it stood.
+pub record StepsAmongRead (backward : Bool) (before now : RowCursor) : Type 0 where
+  pub on : IsSome (cursor_row now)
+  pub rows : now.page ≡ before.page
   pub number : cursor_number now ≡ cursor_number before
-  -- a move that is refused leaves the cursor where it stood
-  pub kept : IfErr result (λ _. now ≡ before)
-  -- and is refused as a read at its number
-  pub refused : (list : List BatchContent) → HoldsBatches g old list →
-      IfErr result (IsReadRefusal (look_ups (store_engine old)) (Some (cursor_number before)))
+  pub follows : (list : List BatchContent) → CursorIsOf list before → CursorIsOf list now
+      × StepsRow backward (cursor_map before list) (cursor_row before) (cursor_row now)
+
+-- a step without a read: the cursor steps among the rows that it has read, or it stands on none and
+-- stays so
+abbrev pub StepsUnread : Bool → (before now : RowCursor) → Type 0
+StepsUnread backward before now =
+    ((cursor_row before ≡ None) × (now ≡ before)) ⊎ StepsAmongRead backward before now
 
 -- a move that answers leaves the cursor on the row of its map that is said, or on none, and what it
 -- has read is of that map
@@ -158,9 +176,6 @@ pub record IsOnPage (list : List BatchContent) (span : Span) (place : ℕ) (befo
 
 -- the cursor stands on the row that follows among those that it has read; or none does, and it
 -- stands where it stood
-abbrev pub StepsAmongRead : Bool → (before now : RowCursor) → Bool → Type 0
-StepsAmongRead backward before now true =
-    (cursor_number now ≡ cursor_number before) × ((list : List BatchContent) →
-    CursorIsOf list before → CursorIsOf list now
-    × StepsRow backward (cursor_map before list) (cursor_row before) (cursor_row now))
-StepsAmongRead backward before now false = now ≡ before
+abbrev pub StepsWhereRead : Bool → (before now : RowCursor) → Bool → Type 0
+StepsWhereRead backward before now true = StepsAmongRead backward before now
+StepsWhereRead backward before now false = now ≡ before

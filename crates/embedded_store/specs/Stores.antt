@@ -11,8 +11,8 @@ use Rattle.engine.specs.EngineError.TheVariants as engine
 use Rattle.engine.specs.declared.Engine.{Engine}
 use Rattle.engine.specs.declared.snapshots.TheConstants.{MAX_SNAPSHOTS}
 use Rattle.engine.specs.{EngineHolds, EngineWasMeant, HasNearlyFullLog, IsOldOrNewSince}
-use Rattle.engine.specs.{HasEnded, KeepsEngine, LookUps, WereOneOf, engine_disk, facts_of}
-use Rattle.engine.specs.{look_ups, newest_log_file}
+use Rattle.engine.specs.{HasEnded, KeepsEngine, LookUps, MergeStays, WereOneOf, engine_disk}
+use Rattle.engine.specs.{facts_of, look_ups, newest_log_file}
 use Rattle.embedded_store.specs.declared.store.EmbeddedStore.{EmbeddedStore}
 
 module _ {D : Type 0} {g : Ghosts D} where
@@ -59,6 +59,8 @@ pub record WritesBatch {D : Type 0} (g : Ghosts D) (old new : EmbeddedStore D g)
   -- no file but the newest log changes, and a device that works fails only where that is full
   pub keeps : KeepsEngine g (store_engine old) (store_engine new) result
       (HasNearlyFullLog (store_engine old)) (IsSameBut (newest_log_file (store_engine old)))
+  -- the merge that is under way stays
+  pub merging : MergeStays (store_engine old) (store_engine new)
   -- behind an answer the store holds one batch more
   pub list : (list : List BatchContent) → HoldsBatches g old list →
       OnOk result (HoldsBatches g new (list ++ batch ∷ []))
@@ -96,11 +98,11 @@ abbrev pub whether : {T : Type 0} → Result T EngineError → Result (Unit {0})
 whether (Ok answer) = Ok tt
 whether (Err e) = Err e
 
--- why a snapshot at the newest number is refused: an earlier call ended the store, as many are open
--- as may be, or memory was wanting
+-- why a snapshot at the newest number is refused: an earlier call ended the store; as many are open
+-- as may be; or fewer are, and memory was wanting
 abbrev pub IsSnapshotRefusal : LookUps → EngineError → Type 0
 IsSnapshotRefusal told e =
-    (e ≡ engine.Failed) ⊎ (e ≡ engine.Memory)
+    (e ≡ engine.Failed) ⊎ ((e ≡ engine.Memory) × (length told.snapshots < MAX_SNAPSHOTS))
     ⊎ ((e ≡ engine.TooManySnapshots) × (length told.snapshots ≡ MAX_SNAPSHOTS))
 
 -- ---- an opening

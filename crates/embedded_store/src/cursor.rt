@@ -5,7 +5,8 @@ ghost use Rattle.kv_types.specs.{BatchContent};
 ghost use Rattle.engine.specs.EngineError.TheVariants.{Memory};
 ghost use Rattle.embedded_store.specs.Cursors.{CursorIsOf, FindsIn, FindsRow, IsAnyRow};
 ghost use Rattle.embedded_store.specs.Cursors.{IsAtOrBehind, IsOnPage, MovesRowCursor};
-ghost use Rattle.embedded_store.specs.Cursors.{StepsAmongRead, StepsIn, cursor_number, cursor_row};
+ghost use Rattle.embedded_store.specs.Cursors.{StepsIn, StepsUnread, StepsWhereRead};
+ghost use Rattle.embedded_store.specs.Cursors.{cursor_number, cursor_row};
 ghost use Rattle.embedded_store.specs.Cursors.{place_in_span, span_before, span_beside, span_from};
 ghost use Rattle.embedded_store.specs.Stores.{ShowsBatches};
 
@@ -119,7 +120,7 @@ impl RowCursor {
         range: &Range,
         place: usize,
     ) -> Result<(), EngineError>
-        ensures moves { MovesRowCursor D.Disk store.old store.new self.old self.new result }
+        ensures moves { MovesRowCursor D.Disk store.old store.new self.old self.new ⊥ result }
         ensures finds { (list : List BatchContent) → ShowsBatches D.Disk store.old list →
             IfOk result (λ _. IsOnPage list range.now place self.old self.new) }
     {
@@ -143,7 +144,7 @@ impl RowCursor {
         store: &mut EmbeddedStore<D>,
         key: &Key,
     ) -> Result<(), EngineError>
-        ensures moves { MovesRowCursor D.Disk store.old store.new self.old self.new result }
+        ensures moves { MovesRowCursor D.Disk store.old store.new self.old self.new ⊥ result }
         ensures finds { FindsIn D.Disk store.old self.old self.new
             (λ map. FindsRow false map (IsAtOrBehind key.now)) result }
     {
@@ -162,7 +163,7 @@ impl RowCursor {
         alloc: Global,
         store: &mut EmbeddedStore<D>,
     ) -> Result<(), EngineError>
-        ensures moves { MovesRowCursor D.Disk store.old store.new self.old self.new result }
+        ensures moves { MovesRowCursor D.Disk store.old store.new self.old self.new ⊥ result }
         ensures finds { FindsIn D.Disk store.old self.old self.new
             (λ map. FindsRow false map IsAnyRow) result }
     {
@@ -178,7 +179,7 @@ impl RowCursor {
         alloc: Global,
         store: &mut EmbeddedStore<D>,
     ) -> Result<(), EngineError>
-        ensures moves { MovesRowCursor D.Disk store.old store.new self.old self.new result }
+        ensures moves { MovesRowCursor D.Disk store.old store.new self.old self.new ⊥ result }
         ensures finds { FindsIn D.Disk store.old self.old self.new
             (λ map. FindsRow true map IsAnyRow) result }
     {
@@ -190,7 +191,7 @@ impl RowCursor {
 
     // Steps to a row that is at hand, and answers whether there is one.
     fn steps(&mut self, backward: bool) -> bool
-        ensures { StepsAmongRead backward self.old self.new result }
+        ensures { StepsWhereRead backward self.old self.new result }
     {
         let count = self.page.rows().len();
         if self.place >= count {
@@ -217,7 +218,8 @@ impl RowCursor {
         store: &mut EmbeddedStore<D>,
         backward: bool,
     ) -> Result<(), EngineError>
-        ensures moves { MovesRowCursor D.Disk store.old store.new self.old self.new result }
+        ensures moves { MovesRowCursor D.Disk store.old store.new self.old self.new
+            (StepsUnread backward self.old self.new) result }
         ensures finds { StepsIn D.Disk store.old self.old self.new backward result }
     {
         if self.steps(backward) {
@@ -238,7 +240,8 @@ impl RowCursor {
         alloc: Global,
         store: &mut EmbeddedStore<D>,
     ) -> Result<(), EngineError>
-        ensures moves { MovesRowCursor D.Disk store.old store.new self.old self.new result }
+        ensures moves { MovesRowCursor D.Disk store.old store.new self.old self.new
+            (StepsUnread false self.old self.new) result }
         ensures finds { StepsIn D.Disk store.old self.old self.new false result }
     {
         self.step(alloc, store, false)
@@ -250,7 +253,8 @@ impl RowCursor {
         alloc: Global,
         store: &mut EmbeddedStore<D>,
     ) -> Result<(), EngineError>
-        ensures moves { MovesRowCursor D.Disk store.old store.new self.old self.new result }
+        ensures moves { MovesRowCursor D.Disk store.old store.new self.old self.new
+            (StepsUnread true self.old self.new) result }
         ensures finds { StepsIn D.Disk store.old self.old self.new true result }
     {
         self.step(alloc, store, true)

@@ -11,8 +11,9 @@ use std::alloc::Global;
 /// A store that stands alone: a list of batches on a disk, which it owns, and the maps of its
 /// beginnings. Every batch is committed as soon as it is durable.
 ///
-/// A call that is refused for `Disk`, `Damaged` or `Memory` ends the store: each later one is
-/// refused for `Failed`, and an opening tells what there is.
+/// A call that is refused for `Disk`, `Damaged` or `Memory` ends the store: each later one that
+/// reads or changes it is refused for `Failed`, and an opening tells what there is. But a cursor
+/// still steps among rows at hand, and one that wants memory before it reads ends nothing.
 #[derive(Drop)]
 pub struct EmbeddedStore<D: Disk + Drop> {
     pub(crate) engine: Engine<D>,
@@ -21,7 +22,7 @@ pub struct EmbeddedStore<D: Disk + Drop> {
 
 impl<D: Disk + Drop> EmbeddedStore<D> {
     ghost use Rattle.std.specs.Prelude.{◌≡◌, ◌⊎◌, ◌≤◌, ◌∷◌, ◌++◌, [], List, None, length};
-    ghost use Rattle.std.specs.Prelude.{IfErr, IfOk, MatchResult};
+    ghost use Rattle.std.specs.Prelude.{IfErr, IfOk, IsErrOf, MatchResult};
     ghost use Rattle.kv_types.specs.declared.bounds.TheConstants.{MAX_NUMBER};
     ghost use Rattle.kv_types.specs.{BatchContent, map_of};
     ghost use Rattle.kv_types.specs.Pages.{page_of};
@@ -30,10 +31,11 @@ impl<D: Disk + Drop> EmbeddedStore<D> {
     ghost use Rattle.engine.specs.{IsCloseAnswer, IsNearlyFull, IsReadableAnswer, IsTendFile};
     ghost use Rattle.engine.specs.{IsTendOf, RaisesFactsAtMost, ReadsEngine, raised_facts};
     ghost use Rattle.disk.specs.{MakesCalls};
+    ghost use Rattle.engine.specs.{OneNamedLacksBlock, engine_version};
     ghost use Rattle.engine.specs.{look_ups, with_opened, with_closed};
     ghost use Rattle.engine.specs.Calls.{TendsAsDue};
     ghost use Rattle.compaction.specs.Outputs.{IsSameBeyond};
-    ghost use Rattle.engine.specs.EngineError.TheVariants.{Disk, Exhausted, Memory};
+    ghost use Rattle.engine.specs.EngineError.TheVariants.{Damaged, Disk, Exhausted, Memory};
     ghost use Rattle.engine.specs.Tended.TheVariants.{Idle};
     ghost use Rattle.embedded_store.specs.Cursors.{CursorIsOf, cursor_number, cursor_row};
     ghost use Rattle.embedded_store.specs.Stores.{HoldsBatches, IsReadRefusal, IsSnapshotRefusal};
@@ -73,7 +75,8 @@ impl<D: Disk + Drop> EmbeddedStore<D> {
         Ok(number)
     }
 
-    /// The value of a key at a number, or at the newest one.
+    /// The value of a key at a number, or at the newest one. `Damaged` only where a table whose
+    /// range holds the key lacks the block in which the key would be.
     pub fn get(
         &mut self,
         alloc: Global,
@@ -87,6 +90,10 @@ impl<D: Disk + Drop> EmbeddedStore<D> {
             (read_number (look_ups (store_engine self.old)) at) result }
         ensures refused { (list : List BatchContent) → HoldsBatches D.Disk self.old list →
             IfErr result (IsReadRefusal (look_ups (store_engine self.old)) at) }
+        ensures damaged { (list : List BatchContent) → ShowsBatches D.Disk self.old list →
+            IsErrOf result Damaged → OneNamedLacksBlock (D.state (store_disk self.old))
+            (engine_version (store_engine self.old)).version.tables key.now
+            (read_number (look_ups (store_engine self.old)) at) }
     {
         let at = self.number_of(at);
         self.engine.get(alloc, at, key)

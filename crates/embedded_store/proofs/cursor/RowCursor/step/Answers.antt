@@ -1,7 +1,7 @@
 use Rattle.std.proofs.Common.{◌≡◌, Some, subst, sym}
-use Rattle.embedded_store.specs.Cursors.{IsOnPage, cursor_row}
+use Rattle.embedded_store.specs.Cursors.{IsOnPage, MovesRowCursor, StepsUnread, cursor_row}
 use Rattle.embedded_store.specs.declared.cursor.RowCursor.{RowCursor}
-use Rattle.embedded_store.proofs.Cursors.{if_ok, steps_found}
+use Rattle.embedded_store.proofs.Cursors.{if_ok, moves_more, steps_found}
 use Rattle.embedded_store.proofs.cursor.RowCursor.step.Goals as goal
 
 -- the row behind stands on the page beside the one on which it stood
@@ -15,3 +15,14 @@ returns-in-Ok-clause-finds g c = λ list holds are.
     (sym c.in-Some.ensures)) c.in-Ok.ensures c.place_beside.ensures are
     (subst (λ (b : RowCursor). IsOnPage list c.in-Ok.range place b c.read.new.self) same on))
     (c.read.ensures.finds list holds)
+
+-- and was read
+pub returns-in-Ok-clause-moves : goal.returns-in-Ok-clause-moves
+returns-in-Ok-clause-moves g c =
+    let same : c.steps.new.self ≡ c.args.self.now = c.if-steps.ensures in
+    let old = c.args.store.now in
+    let new = c.read.new.store in
+    let now = c.read.new.self in
+    moves_more (StepsUnread c.args.backward c.args.self.now now) old new c.args.self.now now
+    c.read.result (subst (λ (b : RowCursor). MovesRowCursor g.D.Disk old new b now ⊥ c.read.result)
+    same c.read.ensures.moves)

@@ -4,7 +4,7 @@ use Rattle.engine.specs.{IsOldOrNewSince, LookUps, WereOneOf, facts_of, look_ups
 use Rattle.engine.specs.{with_committed, with_one_more}
 use Rattle.embedded_store.specs.Stores.{store_disk, store_engine}
 use Rattle.embedded_store.proofs.StoreReads.{write_refused}
-use Rattle.embedded_store.proofs.StoreWrites.{kept_on}
+use Rattle.embedded_store.proofs.StoreWrites.{kept_on, merge_stays}
 use Rattle.embedded_store.proofs.store.EmbeddedStore.write.Goals as goal
 
 -- what the engine says of each list is said of the one that is shown
@@ -52,6 +52,7 @@ returns-clause-changes g c =
         );
         refusal = λ none. absurd none;
       };
+      merging = merge_stays (store_engine old) _ _ c.in_ok-number.ensures.merging said.stays.work;
       list = λ list holds.
           said.stays.holds (list ++ c.args.batch.now ∷ []) ((did.list list).holds holds);
       any_moment = λ list holds.
