@@ -1,3 +1,4 @@
+mod Looks
 mod NamesLemmas
 mod OpenFilesLemmas
 mod ShownFiles

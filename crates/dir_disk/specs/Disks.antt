@@ -1,11 +1,12 @@
 -- Disks over a folder and over another disk, as callers see them.
 use Rattle.std.specs.Prelude.{◌≡◌, ◌==◌, ℕ, List, Bool, IsSome, None, cond, true}
 use Rattle.std.specs.Prelude.{[], ◌∷◌, is_some, string_bytes}
-use Rattle.std.specs.Prelude.{Result, IsErrOf, MatchResult, ◌-◌, ◌^◌, ◌≤◌}
+use Rattle.std.specs.Prelude.{Result, IsErrOf, MatchResult, ◌-◌, ◌^◌, ◌<◌, ◌≤◌}
 use Rattle.std.specs.List.{list_any}
 use Rattle.std.specs.declared.alloc.Global.{Global}
 use Rattle.std.specs.declared.string.String.{String}
-use Rattle.disk.specs.{Absent, IsSame, Marks, RisesByOne, State, seen}
+use Rattle.disk.specs.{Absent, CallsAtMost, IsSame, IsStill, KeepsDisk, Marks, RisesByOne, State}
+use Rattle.disk.specs.{seen}
 use Rattle.disk.specs.Calls.{IsRefusalOf}
 use Rattle.disk.specs.declared.Disk.{Ghosts}
 use Rattle.disk.specs.declared.error.DiskError.{DiskError}
@@ -96,13 +97,28 @@ pub record KeepsFolder {R T : Type 0} (old new : DirDisk R) (result : Result T D
   pub counts : CountsFailure result old.failures.count new.failures.count
   pub same : IsSetUpAs old new
 
--- a disk that was honest still is, and its files are the same
-abbrev pub LeavesFiles : {D : Type 0} → Ghosts D → (old new : D) → Type 0
-LeavesFiles g old new = g.is_honest old → g.is_honest new × IsSame (g.state old) (g.state new)
+-- What a call keeps of the disk inside that only looks at it: the files of an honest disk, and the
+-- marks of any. That disk has failed exactly where the call is `Failed` below the last count.
+abbrev pub KeepsInner : {D T : Type 0} → Ghosts D → (old new : Unchanged D) → Result T DiskError →
+    Type 0
+KeepsInner g old new result =
+    KeepsDisk g (disk_below old) (disk_below new)
+    (IsErrOf result Failed × (old.failures.count < 2 ^ 64 - 1)) ⊥ IsSame
 
--- what each call keeps of a disk that changes nothing: failures are counted, and an honest disk
--- inside keeps its files
+-- what a call that only looks keeps: failures are counted, and the disk inside is only looked at
 pub record KeepsBelow {D T : Type 0} (g : Ghosts D) (old new : Unchanged D)
     (result : Result T DiskError) : Type 0 where
   pub counts : CountsFailure result old.failures.count new.failures.count
-  pub same : LeavesFiles g (disk_below old) (disk_below new)
+  pub same : KeepsInner g old new result
+
+-- an honest disk was called once at most, and a crash at any moment since then leaves only what it
+-- might have left before
+pub record LooksOnce {D : Type 0} (g : Ghosts D) (old new : D) : Type 0 where
+  pub still : IsStill g old new
+  pub calls : CallsAtMost g 1 old new
+
+-- what a call keeps that only fails: failures are counted, and the disk inside stays as it is
+pub record LeavesBelow {D T : Type 0} (old new : Unchanged D) (result : Result T DiskError)
+    : Type 0 where
+  pub counts : CountsFailure result old.failures.count new.failures.count
+  pub same : disk_below new ≡ disk_below old

@@ -1,7 +1,7 @@
 // A folder as a disk. No contract says what the system does with its files, so this disk claims
 // neither that it is honest nor that it is reliable.
 ghost use Rattle.std.specs.Prelude.{◌≡◌, ◌≤◌, ◌<◌, ◌^◌, ◌-◌, [], None, IfErr, IfOk, IsErrOf, OnOk};
-ghost use Rattle.std.specs.Prelude.{IsErr, IsOk, IsSome, false, length, string_bytes, true};
+ghost use Rattle.std.specs.Prelude.{IsErr, IsOk, IsSome, false, length, string_bytes, true, ℕ};
 ghost use Rattle.std.specs.List.Sorted.{IsNonDecreasing};
 ghost use Rattle.disk.specs.{Absent};
 ghost use Rattle.disk.specs.Calls.{EndsOutOfRange};
@@ -30,7 +30,7 @@ pub struct DirDisk<R> {
 
 impl<R: Files<File = File> + Alloc<A = Global> + Clone + Drop> DirDisk<R> {
     ghost use Rattle.dir_disk.specs.Disks.{HasLock, IsFolderAt, IsUncounted, disk_folder};
-    ghost use Rattle.dir_disk.specs.Disks.{may_change};
+    ghost use Rattle.dir_disk.specs.Disks.{may_change, open_files};
     ghost use Rattle.dir_disk.specs.Open.{IsLatest, IsNotOpen, IsSetUpAs};
 
     /// The folder at this path. It need not be there, and is not made.
@@ -38,6 +38,8 @@ impl<R: Files<File = File> + Alloc<A = Global> + Clone + Drop> DirDisk<R> {
         ensures count { IfOk result (λ disk. ⟦<DirDisk<R> as Disk>⟧.failures disk ≡ 0) }
         ensures folder { IfOk result (IsFolderAt folder.now) }
         ensures writes { IfOk result (λ disk. may_change disk ≡ true) }
+        ensures unlocked { IfOk result (λ disk. HasLock disk → ⊥) }
+        ensures closed { IfOk result (λ disk. (file : ℕ) → IsNotOpen file (open_files disk)) }
     {
         DirDisk::over(rt, folder, true)
     }
@@ -48,13 +50,16 @@ impl<R: Files<File = File> + Alloc<A = Global> + Clone + Drop> DirDisk<R> {
         ensures count { IfOk result (λ disk. ⟦<DirDisk<R> as Disk>⟧.failures disk ≡ 0) }
         ensures folder { IfOk result (IsFolderAt folder.now) }
         ensures reads { IfOk result (λ disk. may_change disk ≡ false) }
+        ensures unlocked { IfOk result (λ disk. HasLock disk → ⊥) }
+        ensures closed { IfOk result (λ disk. (file : ℕ) → IsNotOpen file (open_files disk)) }
     {
         DirDisk::over(rt, folder, false)
     }
 
     fn over(rt: R, folder: &str, writes: bool) -> Result<DirDisk<R>, AllocError>
         ensures { IfOk result (λ disk. (disk.failures.count ≡ 0) × (disk.writes ≡ writes)
-            × (string_bytes disk.folder ≡ folder.now)) }
+            × (string_bytes disk.folder ≡ folder.now) × (disk.lock ≡ None)
+            × (disk.files.files.items ≡ [])) }
     {
         let alloc = rt.alloc();
         Ok(DirDisk {

@@ -10,8 +10,8 @@ use disk::{Disk, DiskError};
 use std::alloc::Global;
 
 /// A disk of which no call changes anything. A file that is removed is only left out from then on,
-/// and one that is synced only has to be there. What would write or cut fails. It promises nothing
-/// else of its answers.
+/// and one that is synced only has to be there. What would write or cut fails. What it lists,
+/// measures and reads is what an honest disk inside has, without the files that were removed.
 #[derive(Drop)]
 pub struct Unchanged<D: Disk> {
     inner: ReadOnly<D>,
@@ -20,8 +20,8 @@ pub struct Unchanged<D: Disk> {
 }
 
 impl<D: Disk + Drop> Unchanged<D> {
-    ghost use Rattle.dir_disk.specs.Disks.{FindsFile, IsUncounted, LeavesFiles, disk_below};
-    ghost use Rattle.dir_disk.specs.Disks.{files_left_out, is_left_out, shown_state};
+    ghost use Rattle.dir_disk.specs.Disks.{FindsFile, IsUncounted, KeepsInner, LooksOnce};
+    ghost use Rattle.dir_disk.specs.Disks.{disk_below, files_left_out, is_left_out, shown_state};
 
     /// A disk over this one, none of whose files is left out.
     pub fn new(alloc: Global, disk: D) -> Unchanged<D>
@@ -47,8 +47,8 @@ impl<D: Disk + Drop> Unchanged<D> {
     fn may_look(&self, file: u64) -> Result<(), DiskError>
         ensures last { 2 ^ 64 - 1 ≤ self.now.failures.count → IsErrOf result DiskError.Failed }
         ensures looks { MatchResult result (λ _. is_left_out self.now.removed.items file ≡ false)
-            (λ e. (e ≡ DiskError.Failed) ⊎ ((e ≡ DiskError.NoFile)
-            × (is_left_out self.now.removed.items file ≡ true))) }
+            (λ e. ((e ≡ DiskError.Failed) × (2 ^ 64 - 1 ≤ self.now.failures.count))
+            ⊎ ((e ≡ DiskError.NoFile) × (is_left_out self.now.removed.items file ≡ true))) }
     {
         self.failures.works()?;
         if self.removed.contains(&file) {
@@ -57,9 +57,11 @@ impl<D: Disk + Drop> Unchanged<D> {
         Ok(())
     }
 
+    #[tactic(auto, using(crate::proofs::Looks::looks_never))]
     fn numbers(&mut self) -> Result<Vec<u64>, DiskError>
         ensures counts { IsUncounted result self.old.failures.count self.new.failures.count }
-        ensures same { LeavesFiles D.Disk self.old.inner.disk self.new.inner.disk }
+        ensures same { KeepsInner D.Disk self.old self.new result }
+        ensures once { LooksOnce D.Disk (disk_below self.old) (disk_below self.new) }
         ensures left_out { self.new.removed.items ≡ self.old.removed.items }
         ensures files { D.is_honest self.old.inner.disk → FilesAnswer
             (shown_state self.old.removed.items (D.state self.old.inner.disk)) result }
@@ -71,10 +73,13 @@ impl<D: Disk + Drop> Unchanged<D> {
         Ok(numbers)
     }
 
+    #[tactic(auto, using(crate::proofs::Looks::looks_never))]
     fn measure(&mut self, file: u64) -> Result<u64, DiskError>
         ensures counts { IsUncounted result self.old.failures.count self.new.failures.count }
-        ensures same { LeavesFiles D.Disk self.old.inner.disk self.new.inner.disk }
+        ensures same { KeepsInner D.Disk self.old self.new result }
+        ensures once { LooksOnce D.Disk (disk_below self.old) (disk_below self.new) }
         ensures left_out { self.new.removed.items ≡ self.old.removed.items }
+        ensures memory { IsErrOf result DiskError.Memory → D.allocates }
         ensures length { D.is_honest self.old.inner.disk → LengthAnswer
             (shown_state self.old.removed.items (D.state self.old.inner.disk)) file result }
     {
@@ -82,10 +87,13 @@ impl<D: Disk + Drop> Unchanged<D> {
         self.inner.length(file)
     }
 
+    #[tactic(auto, using(crate::proofs::Looks::looks_never))]
     fn fill(&mut self, file: u64, at: u64, into: &mut [u8]) -> Result<(), DiskError>
         ensures counts { IsUncounted result self.old.failures.count self.new.failures.count }
-        ensures same { LeavesFiles D.Disk self.old.inner.disk self.new.inner.disk }
+        ensures same { KeepsInner D.Disk self.old self.new result }
+        ensures once { LooksOnce D.Disk (disk_below self.old) (disk_below self.new) }
         ensures left_out { self.new.removed.items ≡ self.old.removed.items }
+        ensures memory { IsErrOf result DiskError.Memory → D.allocates }
         ensures read { D.is_honest self.old.inner.disk → ReadAnswer
             (shown_state self.old.removed.items (D.state self.old.inner.disk)) file at
             (length into.old) result into.new }
@@ -94,10 +102,13 @@ impl<D: Disk + Drop> Unchanged<D> {
         self.inner.read(file, at, into)
     }
 
+    #[tactic(auto, using(crate::proofs::Looks::looks_never))]
     fn look_for(&mut self, file: u64) -> Result<(), DiskError>
         ensures counts { IsUncounted result self.old.failures.count self.new.failures.count }
-        ensures same { LeavesFiles D.Disk self.old.inner.disk self.new.inner.disk }
+        ensures same { KeepsInner D.Disk self.old self.new result }
+        ensures once { LooksOnce D.Disk (disk_below self.old) (disk_below self.new) }
         ensures left_out { self.new.removed.items ≡ self.old.removed.items }
+        ensures memory { IsErrOf result DiskError.Memory → D.allocates }
         ensures found { D.is_honest self.old.inner.disk → FindsFile
             (shown_state self.old.removed.items (D.state self.old.inner.disk)) file result }
     {
@@ -108,7 +119,8 @@ impl<D: Disk + Drop> Unchanged<D> {
 
     fn leave_out(&mut self, file: u64) -> Result<(), DiskError>
         ensures counts { IsUncounted result self.old.failures.count self.new.failures.count }
-        ensures same { LeavesFiles D.Disk self.old.inner.disk self.new.inner.disk }
+        ensures same { KeepsInner D.Disk self.old self.new result }
+        ensures once { LooksOnce D.Disk (disk_below self.old) (disk_below self.new) }
         ensures left_out { MatchResult result
             (λ _. self.new.removed.items ≡ self.old.removed.items ++ file ∷ [])
             (λ _. self.new.removed.items ≡ self.old.removed.items) }
@@ -122,8 +134,8 @@ impl<D: Disk + Drop> Unchanged<D> {
 }
 
 impl<D: Disk + Drop> Disk for Unchanged<D> {
-    ghost use Rattle.dir_disk.specs.Disks.{FindsFile, KeepsBelow, disk_below, files_left_out};
-    ghost use Rattle.dir_disk.specs.Disks.{shown_state};
+    ghost use Rattle.dir_disk.specs.Disks.{FindsFile, KeepsBelow, LeavesBelow, LooksOnce};
+    ghost use Rattle.dir_disk.specs.Disks.{disk_below, files_left_out, shown_state};
 
     ghost is_honest = { λ disk. ⊥ };
 
@@ -141,6 +153,7 @@ impl<D: Disk + Drop> Disk for Unchanged<D> {
 
     fn files(&mut self) -> Result<Vec<u64>, DiskError>
         ensures kept { KeepsBelow D.Disk self.old self.new result }
+        ensures once { LooksOnce D.Disk (disk_below self.old) (disk_below self.new) }
         ensures left_out { files_left_out self.new ≡ files_left_out self.old }
         ensures files { D.is_honest (disk_below self.old) → FilesAnswer
             (shown_state (files_left_out self.old) (D.state (disk_below self.old)))
@@ -152,7 +165,9 @@ impl<D: Disk + Drop> Disk for Unchanged<D> {
 
     fn length(&mut self, file: u64) -> Result<u64, DiskError>
         ensures kept { KeepsBelow D.Disk self.old self.new result }
+        ensures once { LooksOnce D.Disk (disk_below self.old) (disk_below self.new) }
         ensures left_out { files_left_out self.new ≡ files_left_out self.old }
+        ensures memory { IsErrOf result DiskError.Memory → D.allocates }
         ensures length { D.is_honest (disk_below self.old) → LengthAnswer
             (shown_state (files_left_out self.old) (D.state (disk_below self.old)))
             file result }
@@ -163,7 +178,9 @@ impl<D: Disk + Drop> Disk for Unchanged<D> {
 
     fn read(&mut self, file: u64, at: u64, into: &mut [u8]) -> Result<(), DiskError>
         ensures kept { KeepsBelow D.Disk self.old self.new result }
+        ensures once { LooksOnce D.Disk (disk_below self.old) (disk_below self.new) }
         ensures left_out { files_left_out self.new ≡ files_left_out self.old }
+        ensures memory { IsErrOf result DiskError.Memory → D.allocates }
         ensures read { D.is_honest (disk_below self.old) → ReadAnswer
             (shown_state (files_left_out self.old) (D.state (disk_below self.old)))
             file at (length into.old) result into.new }
@@ -173,7 +190,7 @@ impl<D: Disk + Drop> Disk for Unchanged<D> {
     }
 
     fn write_at(&mut self, _file: u64, _at: u64, _bytes: &[u8]) -> Result<(), DiskError>
-        ensures kept { KeepsBelow D.Disk self.old self.new result }
+        ensures kept { LeavesBelow self.old self.new result }
         ensures left_out { files_left_out self.new ≡ files_left_out self.old }
         ensures fails { result ≡ Err DiskError.Failed }
     {
@@ -181,7 +198,7 @@ impl<D: Disk + Drop> Disk for Unchanged<D> {
     }
 
     fn cut(&mut self, _file: u64, _length: u64) -> Result<(), DiskError>
-        ensures kept { KeepsBelow D.Disk self.old self.new result }
+        ensures kept { LeavesBelow self.old self.new result }
         ensures left_out { files_left_out self.new ≡ files_left_out self.old }
         ensures fails { result ≡ Err DiskError.Failed }
     {
@@ -191,7 +208,9 @@ impl<D: Disk + Drop> Disk for Unchanged<D> {
 
     fn sync(&mut self, file: u64) -> Result<(), DiskError>
         ensures kept { KeepsBelow D.Disk self.old self.new result }
+        ensures once { LooksOnce D.Disk (disk_below self.old) (disk_below self.new) }
         ensures left_out { files_left_out self.new ≡ files_left_out self.old }
+        ensures memory { IsErrOf result DiskError.Memory → D.allocates }
         ensures found { D.is_honest (disk_below self.old) → FindsFile
             (shown_state (files_left_out self.old) (D.state (disk_below self.old)))
             file result }
@@ -202,6 +221,7 @@ impl<D: Disk + Drop> Disk for Unchanged<D> {
 
     fn remove(&mut self, file: u64) -> Result<(), DiskError>
         ensures kept { KeepsBelow D.Disk self.old self.new result }
+        ensures once { LooksOnce D.Disk (disk_below self.old) (disk_below self.new) }
         ensures left_out { MatchResult result
             (λ _. files_left_out self.new ≡ files_left_out self.old ++ file ∷ [])
             (λ _. files_left_out self.new ≡ files_left_out self.old) }
