@@ -1,6 +1,6 @@
 // Pseudo-random numbers, the same ones in each run.
 ghost use Rattle.std.specs.Prelude.{◌≡◌, ◌<◌, ◌%◌, max};
-ghost use Rattle.benchmarks.specs.Keys.{next_seed};
+ghost use Rattle.benchmarks.specs.Keys.{first_seed, next_seed};
 
 use std::marker::Model;
 
@@ -28,15 +28,16 @@ impl Model for Random {
 }
 
 impl Random {
-    /// The generator that begins with this seed, or with 1 in place of 0.
+    /// The generator that begins with the low 31 bits of this seed. It begins with 1 where none of
+    /// them is set, or all are: else it would draw nothing but 0.
     pub fn new(seed: u32) -> Random
-        ensures zero { seed ≡ 0 → result ≡ 1 }
-        ensures same { 0 < seed → result ≡ seed }
+        ensures { result ≡ first_seed seed }
     {
-        if seed == 0 {
+        let low = seed & 0x7fff_ffff;
+        if low == 0 || low == 0x7fff_ffff {
             return Random { seed: 1 };
         }
-        Random { seed }
+        Random { seed: low }
     }
 
     /// The next number, below 2^31 - 1.

@@ -76,7 +76,7 @@ impl Values {
         ensures value { IfOk result (λ value. value ≡ next_stretch self.old) }
         ensures size { IfOk result (λ value. length value ≡ self.old.size) }
         ensures behind { OnOk result (self.new ≡ behind_stretch self.old) }
-        ensures same { self.new.size ≡ self.old.size }
+        ensures same { self.new ≡ record self.old { place = self.new.place } }
         ensures refused { IfErr result
             (λ e. (e ≡ KvError.Memory)
             ⊎ ((e ≡ KvError.ValueTooLong) × (MAX_VALUE < self.old.size))) }

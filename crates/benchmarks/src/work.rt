@@ -1,6 +1,10 @@
 // The numbers of keys that a benchmark uses, batches of puts to them, and its walk.
-ghost use Rattle.std.specs.Prelude.{◌≡◌, ◌<◌, ◌⊎◌, IfErr, IfOk, OnOk, OnErr, max};
+ghost use Rattle.std.specs.Prelude.{◌≡◌, ◌<◌, ◌⊎◌, IfErr, IfOk, OnOk, OnErr};
+ghost use Rattle.std.specs.Borrow.{sem};
 ghost use Rattle.kv_types.specs.Content.{edits_of};
+ghost use Rattle.benchmarks.specs.Keys.{first_seed};
+ghost use Rattle.benchmarks.specs.Lending.{LendsWalk};
+ghost use Rattle.benchmarks.specs.Stretches.{text_len};
 ghost use Rattle.benchmarks.specs.Walks.{first_range};
 ghost use Rattle.benchmarks.specs.Works.{behind_number, behind_puts, is_backward, key_read};
 ghost use Rattle.benchmarks.specs.Works.{drawn_number, next_puts, range_walked};
@@ -31,9 +35,11 @@ fn is_backward(benchmark: Benchmark) -> bool
 }
 
 impl Work {
-    /// Values of this length, for so many keys.
+    /// Values of this length, from their text's beginning on, for so many keys.
     pub fn new(alloc: Global, length: usize, keys: u64) -> Result<Work, KvError>
         ensures made { IfOk result (λ work. (work.values.size ≡ length) × (work.keys ≡ keys)) }
+        ensures text { IfOk result
+            (λ work. (text_len work.values ≡ 1048600) × (work.values.place ≡ 0)) }
         ensures refused { IfErr result (λ e. (e ≡ KvError.Memory)
             ⊎ ((e ≡ KvError.ValueTooLong) × (1048600 < length))) }
     {
@@ -54,7 +60,7 @@ impl Work {
           benchmark = benchmark;
           walk = record { range = first_range (is_backward benchmark) };
           next = 0;
-          random = max seed 1;
+          random = first_seed seed;
         }) }
         ensures err { OnErr result (self.new ≡ self.old) }
         ensures refused { IfErr result (λ e. e ≡ KvError.Memory) }
@@ -108,8 +114,10 @@ impl Work {
         Batch::new(edits)
     }
 
-    /// The walk. In `seekrandom` it begins again, at the next number's key.
+    /// The walk. In `seekrandom` it begins again, at the next number's key. The walk is lent, and
+    /// nothing else changes but that this number is drawn.
     pub fn walk(&mut self, alloc: Global) -> Result<&mut Walk, KvError>
+        ensures* lent { sem 𝓛 (LendsWalk self.entry result) }
         ensures range { IfOk result (λ walk. walk.now.range ≡ range_walked self.old) }
         ensures refused { IfErr result (λ e. e ≡ KvError.Memory) }
     {
