@@ -28,7 +28,8 @@ pub enum Carried {
 
 /// Carries bytes between the nodes of a chain and their client.
 pub trait Carrier {
-    /// What arrives is what was sent. Without this fact `carry` promises only `lost` and `asked`.
+    /// What arrives is what was sent. Without this fact `carry` promises only `faithful`, `lost`
+    /// and `asked`.
     ghost is_faithful: { Self → Type 0 };
 
     /// Whether anything may be lost.

@@ -1,37 +1,56 @@
 -- Byte strings.
 use Rattle.std.proofs.lemmas.Bool.{cases_eq}
-use Rattle.std.proofs.Common.{inl, inr, ◌≡◌, ℕ, List, ◌+◌, ◌-◌, ◌*◌, ◌/◌, ◌%◌, ◌<◌, ◌≤◌, length}
+use Rattle.std.proofs.Common.{inl, inr, ◌≡◌, ℕ, List, ◌-◌, ◌/◌, ◌%◌, ◌<◌, ◌≤◌, length}
 use Rattle.std.proofs.Common.{get_or, take, drop, true, false, arith, refl, ap, [], ◌∷◌, ◌++◌}
 use Rattle.script_words.specs.Words.{is_byte_string, is_plain, byte_text, are_bytes, is_hex}
 use Rattle.script_words.specs.Words.{hex_value, escaped}
+use Rattle.script_words.specs.Junks.{are_pairs, hex_text}
 use Rattle.std.proofs.Math.Seq.{take-length}
 use Rattle.std.proofs.lemmas.List.{length-drop}
 use Rattle.std.specs.Char.{digit_char}
 use Rattle.std.proofs.lemmas.Bool.Decides.{nat_tests}
 
--- a hex digit is the glyph of its value
-glyph : (h : ℕ) → is_hex h ≡ true → (digit_char (hex_value h) ≡ h) × (hex_value h < 16)
-glyph h e = grind (arith, nat_tests)
+-- a digit has its value
+digit_is : (d : ℕ) → d < 16 → hex_value (digit_char d) ≡ d
+digit_is d small = grind (arith, nat_tests)
+
+-- two digits that spell a byte are hex digits, and stand for it
+digits_are : (y z b : ℕ) → b < 256 → are_pairs (y ∷ z ∷ []) ≡ true
+    → y ∷ z ∷ [] ≡ hex_text (b ∷ [])
+    → (is_hex y ≡ true) × (is_hex z ≡ true) × (y ≡ digit_char (b / 16))
+    × (z ≡ digit_char (b % 16)) × (escaped y z ≡ b)
+digits_are y z b small pairs spelled =
+    let high : y ≡ digit_char (b / 16) = cc in
+    let low : z ≡ digit_char (b % 16) = cc in
+    let first : hex_value y ≡ b / 16 = rw high (digit_is (b / 16) (omega arith)) in
+    let second : hex_value z ≡ b % 16 = rw low (digit_is (b % 16) (omega arith)) in
+    (grind (arith, nat_tests), grind (arith, nat_tests), high, low, omega (arith, first, second))
 
 -- what an escape at the front spells
-pub escape_at : (t : List ℕ) (a b : ℕ) → 3 ≤ length t → get_or t 0 0 ≡ 37
-    → is_hex (get_or t 1 0) ≡ true → a ≡ hex_value (get_or t 1 0) → a < 16
-    → is_hex (get_or t 2 0) ≡ true → b ≡ hex_value (get_or t 2 0) → b < 16
-    → is_plain (a * 16 + b) ≡ false
-    → (t ≡ byte_text (a * 16 + b) ++ drop 3 t) × (are_bytes t ≡ are_bytes (drop 3 t))
-    × (a * 16 + b < 256)
-escape_at [] a b n p h va sa l vb sb np = absurd (omega arith)
-escape_at (x ∷ []) a b n p h va sa l vb sb np = absurd (omega arith)
-escape_at (x ∷ y ∷ []) a b n p h va sa l vb sb np = absurd (omega arith)
-escape_at (x ∷ y ∷ z ∷ t) a b n p h va sa l vb sb np =
-    let high : (a * 16 + b) / 16 ≡ a = omega arith in
-    let low : (a * 16 + b) % 16 ≡ b = omega arith in
-    let joined : a * 16 + b ≡ escaped y z = omega (arith, va, vb) in
-    let np' : is_plain (escaped y z) ≡ false = rw (← joined) np in (
-      rw (np, high, low, va, vb, (glyph y h).0, (glyph z l).0, p) refl,
-      rw (p, h, l, np') refl,
-      omega arith,
+pub escape_at : (t : List ℕ) (b : ℕ) → 3 ≤ length t → get_or t 0 0 ≡ 37 → b < 256
+    → are_pairs (get_or t 1 0 ∷ get_or t 2 0 ∷ []) ≡ true
+    → get_or t 1 0 ∷ get_or t 2 0 ∷ [] ≡ hex_text (b ∷ []) → is_plain b ≡ false
+    → (t ≡ byte_text b ++ drop 3 t) × (are_bytes t ≡ are_bytes (drop 3 t))
+escape_at [] b n p small pairs spelled np = absurd (omega arith)
+escape_at (x ∷ []) b n p small pairs spelled np = absurd (omega arith)
+escape_at (x ∷ y ∷ []) b n p small pairs spelled np = absurd (omega arith)
+escape_at (x ∷ y ∷ z ∷ t) b n p small pairs spelled np =
+    let it = digits_are y z b small pairs spelled in (
+      rw (np, p, it.2, it.3) refl,
+      rw (p, it.0, it.1, it.4, np) refl,
     )
+
+-- .. and what one spells that stands for itself
+pub escape_refused : (t : List ℕ) (b : ℕ) → 3 ≤ length t → get_or t 0 0 ≡ 37 → b < 256
+    → are_pairs (get_or t 1 0 ∷ get_or t 2 0 ∷ []) ≡ true
+    → get_or t 1 0 ∷ get_or t 2 0 ∷ [] ≡ hex_text (b ∷ []) → is_plain b ≡ true
+    → are_bytes t ≡ false
+escape_refused [] b n p small pairs spelled is = absurd (omega arith)
+escape_refused (x ∷ []) b n p small pairs spelled is = absurd (omega arith)
+escape_refused (x ∷ y ∷ []) b n p small pairs spelled is = absurd (omega arith)
+escape_refused (x ∷ y ∷ z ∷ t) b n p small pairs spelled is =
+    let it = digits_are y z b small pairs spelled in
+    rw (p, it.0, it.1, it.4, is) refl
 
 pub tail3 : (t : List ℕ) → take (length t - 3) (drop 3 t) ≡ drop 3 t
 tail3 t = rw (← length-drop 3 t) (take-length (drop 3 t))

@@ -42,11 +42,11 @@ impl LimitName {
         ensures { result ≡ is_allowed self number }
     {
         match self {
-            LimitName::Log => number >= 16 && number <= 1 << 30,
+            LimitName::Log => (16..=1 << 30).contains(&number),
             LimitName::L0 => number <= 64,
-            LimitName::Table => number >= 64 && number <= 1 << 30,
-            LimitName::Level => number >= 64 && number <= 1 << 40,
-            LimitName::Cache => number >= 1 && number <= MAX_CACHE,
+            LimitName::Table => (64..=1 << 30).contains(&number),
+            LimitName::Level => (64..=1 << 40).contains(&number),
+            LimitName::Cache => (1..=MAX_CACHE).contains(&number),
         }
     }
 }

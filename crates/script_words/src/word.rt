@@ -68,7 +68,7 @@ fn first_byte(text: &[u8]) -> Option<(u8, &[u8])>
 {
     match text {
         [b'%', high, low, rest @ ..] => {
-            let byte = hex_digit(*high)? * 16 + hex_digit(*low)?;
+            let byte = byte_of(*high, *low)?;
             if is_itself(byte) {
                 return None;
             }
