@@ -2,14 +2,16 @@
 use Rattle.std.proofs.Common.{◌≡◌, ◌≤◌, ◌+◌, ◌<◌, ℕ, suc, List, [], ◌∷◌, ◌++◌, Option, length}
 use Rattle.std.proofs.Common.{take, drop, replicate, get_or, append_assoc, append-nil, ap, arith}
 use Rattle.std.proofs.Common.{length-append, refl, subst, sym, ◌∙◌, ◌-◌, ◌⊎◌, inl, inr, Bool}
-use Rattle.std.specs.Prelude.{if◌then◌else◌}
+use Rattle.std.specs.Prelude.{IfSome, MatchOption, Some, None, if◌then◌else◌, true, false}
 use Rattle.std.proofs.Math.Seq.{take-suc}
-use Rattle.std.proofs.lemmas.List.Elements.{All-append, All-from_recursion}
+use Rattle.std.proofs.lemmas.List.Elements.{All-append, All-from_recursion, All-weaker}
 use Rattle.std.specs.Io.KnownBytes.{Appends}
 use Rattle.disk.specs.declared.disk.Disk.{Ghosts}
 use Rattle.lab.specs.declared.Line.{Line}
+use Rattle.lab.specs.declared.SimNode.{SimNode}
 use Rattle.lab.specs.declared.world.World.{World}
-use Rattle.lab.specs.{AddsLines, EventAddsLines, HasItsNodes, configs_of, lines_so_far}
+use Rattle.lab.specs.{AddsLines, EventAddsLines, HasItsNodes, IsDownAmong, ShowsNumbers}
+use Rattle.lab.specs.{configs_of, events_so_far, lines_so_far, nodes_of}
 use Rattle.lab.specs.NodeLists.{Configurations}
 use Rattle.kv_types.specs.declared.KvError.{KvError}
 use Rattle.lab.specs.EventContent as lab
@@ -21,22 +23,27 @@ use Rattle.scripts.specs.declared.statement.Action.TheVariants.{Settle, Show}
 use Rattle.scripts.specs.declared.statement.Statement.{Statement}
 use Rattle.client.specs.declared.run_error.RunError.TheVariants.{Memory, Write}
 use Rattle.client.specs.declared.statement_result.Note.TheVariants as note
-use Rattle.client.specs.ScriptRuns.{busy, most, shown}
+use Rattle.client.specs.ScriptRuns.{busy, delivery, most, shown}
 use Rattle.client.specs.declared.statement_result.StatementResult.{StatementResult}
 use Rattle.client.specs.PrintedRuns.{AppendsPart}
 use Rattle.client.specs.ReportedRuns.{ActionAddsLines, AreActionLines, AreLinesOf, AreReported}
-use Rattle.client.specs.ReportedRuns.{IsReportedIn, ReportIsCut, ReportIsPrinted}
+use Rattle.client.specs.ReportedRuns.{IsActionEvent, IsReportedIn, ReportIsCut, ReportIsPrinted}
+use Rattle.client.specs.ReportedRuns.{ShowsNow}
 use Rattle.client.specs.ReportedRuns.AreReported.{NoStatement, OneMore}
 use Rattle.client.specs.Text.{result_text}
 use Rattle.client.proofs.Printed.{appends_more, appends_none}
 use Rattle.client.proofs.Tends.{HasTendedOn, TellsWhetherWorked, ends_own, same_more, shows_last}
 
--- ---- lines
+-- ---- events and lines
 
 module _ {D C : Type 0} {g : Ghosts D} where
   -- no event
   pub adds_nothing : (action : Action) (world : World D C g) → ActionAddsLines action 0 world world
   adds_nothing action world = record {
+    own = [];
+    took = sym (append-nil (events_so_far world));
+    all = λ _. refl;
+    of = All-from_recursion (IsActionEvent action) [] tt;
     more = [];
     added = sym (append-nil (lines_so_far world));
     each = λ _. refl;
@@ -52,8 +59,19 @@ module _ {D C : Type 0} {g : Ghosts D} where
       ActionAddsLines action (count + 1) old new
   adds_more action old mid new count before after =
       let next = subst (λ (cs : Configurations).
-      AddsLines (Names cs action) (AreActionLines action) 1 mid new) before.configs after in
+      AddsLines (Names cs action) (IsActionEvent action) (AreActionLines action) 1 mid new)
+      before.configs after in
       record {
+        own = before.own ++ next.own;
+        took = next.took ∙ ap (λ (l : List lab.EventContent). l ++ next.own) before.took
+            ∙ append_assoc (events_so_far old) before.own next.own;
+        all = λ named. omega (
+          arith,
+          length-append before.own next.own,
+          before.all named,
+          next.all named,
+        );
+        of = All-append (IsActionEvent action) before.own next.own before.of next.of;
         more = before.more ++ next.more;
         added = next.added ∙ ap (λ (l : List (List Line)). l ++ next.more) before.added
             ∙ append_assoc (lines_so_far old) before.more next.more;
@@ -70,6 +88,24 @@ module _ {D C : Type 0} {g : Ghosts D} where
         nodes = λ its. next.nodes (before.nodes its);
       }
 
+  -- a flow delivers a frame
+  pub adds_delivery : (place : ℕ) (old new : World D C g) →
+      EventAddsLines (delivery place) old new → ActionAddsLines Flow 1 old new
+  adds_delivery place old new adds = record {
+    own = adds.own;
+    took = adds.took;
+    all = adds.all;
+    of = All-weaker (λ (it : lab.EventContent). it ≡ delivery place) (IsActionEvent Flow)
+        (λ it is. (place, is)) adds.own adds.of;
+    more = adds.more;
+    added = adds.added;
+    each = adds.each;
+    are = adds.are;
+    unknown = adds.unknown;
+    configs = adds.configs;
+    nodes = adds.nodes;
+  }
+
 -- nothing more than there was
 no_more : (first more : List (List Line)) → first ≡ first ++ more → more ≡ []
 no_more first [] is = refl
@@ -84,6 +120,23 @@ busy_or_not [] count ends = inl refl
 busy_or_not (place ∷ left) count (inl none) = absurd (omega (arith, ap length none))
 busy_or_not (place ∷ left) count (inr all) = inr (refl, all)
 
+-- what is said of a node, by what a world tells of it
+module _ {D : Type 0} {g : Ghosts D} (sims : List (SimNode D g)) where
+  shows_now : (node : ℕ) (numbers : Option Numbers) → IfSome numbers (ShowsNumbers sims node) →
+      MatchOption numbers (IsDownAmong sims node) (λ _. Unit {0}) →
+      ShowsNow sims (shown node numbers)
+  shows_now node None own none = none
+  shows_now node (Some numbers) own none = own
+
+  -- a flow and a settle say nothing of a node
+  shows_busy : (left : List ℕ) → ShowsNow sims (busy left)
+  shows_busy [] = tt
+  shows_busy (place ∷ left) = tt
+
+  shows_more : (more : Bool) → ShowsNow sims (if more then note.Busy else note.Nothing)
+  shows_more true = tt
+  shows_more false = tt
+
 module _ {D C : Type 0} {g : Ghosts D} (old new : World D C g) (it : Statement)
     (turn : StatementResult) where
   pub reported_event : (event : lab.EventContent) → it.action ≡ Event event →
@@ -91,6 +144,7 @@ module _ {D C : Type 0} {g : Ghosts D} (old new : World D C g) (it : Statement)
       EventAddsLines event old new → IsReportedIn old new it turn
   reported_event event is made adds = rw made (record {
     answered = record { line = refl; did = rw is (refl, refl, refl) };
+    shown = tt;
     adds = rw is adds;
     ends = rw is (λ named. (adds.more, adds.added, tt));
   })
@@ -101,6 +155,7 @@ module _ {D C : Type 0} {g : Ghosts D} (old new : World D C g) (it : Statement)
       IsReportedIn old new it turn
   reported_flow count left is made few adds ends = rw made (record {
     answered = record { line = refl; did = rw is (few, refl, busy_or_not left count ends) };
+    shown = shows_busy (nodes_of old) left;
     adds = rw is adds;
     ends = rw is (λ named. (adds.more, adds.added, tt));
   })
@@ -116,6 +171,7 @@ module _ {D C : Type 0} {g : Ghosts D} (old new : World D C g) (it : Statement)
       TellsWhetherWorked (lines_so_far new) more → IsReportedIn old new it turn
   reported_settle node count more is made few adds tends told = rw made (record {
     answered = record { line = refl; did = rw is (few, (more, refl, refl)) };
+    shown = shows_more (nodes_of old) more;
     adds = rw is adds;
     ends = rw is (λ named.
         let t = tends named in
@@ -137,15 +193,19 @@ module _ {D C : Type 0} {g : Ghosts D} (world : World D C g) (it : Statement)
       IsReportedIn world world it turn
   reported_invalid e is made = rw made (record {
     answered = record { line = refl; did = rw is (refl, refl, refl) };
+    shown = tt;
     adds = adds_nothing it.action world;
     ends = rw is (λ named. ([], sym (append-nil (lines_so_far world)), tt));
   })
 
   pub reported_show : (node : ℕ) (numbers : Option Numbers) → it.action ≡ Show node →
       turn ≡ record { line = it.line; events = 0; silent = 0; note = shown node numbers } →
+      IfSome numbers (ShowsNumbers (nodes_of world) node) →
+      MatchOption numbers (IsDownAmong (nodes_of world) node) (λ _. Unit {0}) →
       IsReportedIn world world it turn
-  reported_show node numbers is made = rw made (record {
+  reported_show node numbers is made own none = rw made (record {
     answered = record { line = refl; did = rw is (refl, refl, (numbers, refl)) };
+    shown = shows_now (nodes_of world) node numbers own none;
     adds = adds_nothing it.action world;
     ends = rw is (λ named. ([], sym (append-nil (lines_so_far world)), tt));
   })

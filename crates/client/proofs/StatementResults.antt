@@ -13,7 +13,7 @@ use Rattle.lab.specs.EventKind.TheVariants.{Rows, Open, Close, Notice}
 use Rattle.lab.specs.declared.Line.{Line}
 use Rattle.lab.specs.declared.world.World.{World}
 use Rattle.lab.specs.Numbers.{Numbers}
-use Rattle.lab.specs.{AreNumbersOf, Choice, ShowsTables, frames_in_steps, frames_of_step}
+use Rattle.lab.specs.{AreNumbersOf, Choice, ShowsNumbers, frames_in_steps, frames_of_step}
 use Rattle.lab.specs.{delivered_place}
 use Rattle.scripts.specs.declared.setup.Setup.{Setup}
 use Rattle.scripts.specs.declared.statement.Statement.{Statement}
@@ -89,7 +89,7 @@ left_delivered what place left mid new is same cut = cut
 is_shown : {D C : Type 0} {g : Ghosts D}
     (world : World D C g) (setup : Setup) (past : Stretch) (node : ℕ)
     (numbers : Option Numbers) → AreNumbersOf setup.configs past.events past.choices node numbers →
-    IfSome numbers (ShowsTables world.nodes.items node) →
+    IfSome numbers (ShowsNumbers world.nodes.items node) →
     HasShownNumbers world setup.configs past (shown node numbers)
 is_shown world setup past node None told tables = told
 is_shown world setup past node (Some numbers) told tables = (told, tables)
@@ -207,7 +207,7 @@ module _ {D C : Type 0} {g : Ghosts D} {h : Carriers C} (setup : Setup) (past : 
   pub turned_by_show : (node : ℕ) (numbers : Option Numbers) (said : Note) →
       it.action ≡ Show node → said ≡ shown node numbers → HasRunTo h world setup past →
       AreNumbersOf setup.configs past.events past.choices node numbers →
-      IfSome numbers (ShowsTables world.nodes.items node) → HasTurned h setup past it
+      IfSome numbers (ShowsNumbers world.nodes.items node) → HasTurned h setup past it
       (record { line = it.line; events = 0; silent = 0; note = said }) world world left left
   turned_by_show node numbers said is same run shows tables =
       turned_without said run (rw is (refl, refl, (numbers, same)))

@@ -5,10 +5,13 @@ use Rattle.std.specs.Prelude.{All, Bool, if◌then◌else◌, replicate}
 use Rattle.std.specs.Io.KnownBytes.{Appends}
 use Rattle.disk.specs.declared.disk.Disk.{Ghosts}
 use Rattle.lab.specs.declared.Line.{Line}
+use Rattle.lab.specs.declared.SimNode.{SimNode}
 use Rattle.lab.specs.declared.world.World.{World}
+use Rattle.lab.specs.EventContent.{EventContent}
 use Rattle.lab.specs.Numbers.{Numbers}
 use Rattle.lab.specs.EventKind.TheVariants.{Tend}
-use Rattle.lab.specs.{AddsLines, AreEventLines, HasItsNodes, configs_of, lines_so_far}
+use Rattle.lab.specs.{AddsLines, AreEventLines, HasItsNodes, IsDownAmong, ShowsNumbers}
+use Rattle.lab.specs.{configs_of, lines_so_far, nodes_of}
 use Rattle.lab.specs.NodeLists.{Configurations}
 use Rattle.scripts.specs.Scripts.{Names}
 use Rattle.scripts.specs.declared.statement.Action.{Action}
@@ -21,7 +24,7 @@ use Rattle.client.specs.declared.statement_result.Note.TheVariants as note
 use Rattle.client.specs.PrintedRuns.{AppendsPart}
 use Rattle.client.specs.declared.run_error.RunError.{RunError}
 use Rattle.client.specs.declared.run_error.RunError.TheVariants.{Memory, Write}
-use Rattle.client.specs.ScriptRuns.{HasSettled, ShowsLast, most, shown}
+use Rattle.client.specs.ScriptRuns.{HasSettled, ShowsLast, delivery, most, shown, tending}
 use Rattle.client.specs.Text.{result_text}
 
 -- how a statement is answered in any world: so many events, of which so many are silent, and what
@@ -45,6 +48,14 @@ pub record IsAnswered (it : Statement) (turn : StatementResult) : Type 0 where
   pub line : turn.line ≡ it.line
   pub did : IsAnswerTo it.action turn.events turn.silent turn.note
 
+-- this is an event of such a statement
+abbrev pub IsActionEvent : Action → EventContent → Type 0
+IsActionEvent (Event event) it = it ≡ event
+IsActionEvent (Invalid e) it = ⊥
+IsActionEvent Flow it = (place : ℕ) × (it ≡ delivery place)
+IsActionEvent (Settle node) it = it ≡ tending node
+IsActionEvent (Show node) it = ⊥
+
 -- these are lines of one event of such a statement, whatever its node is
 abbrev pub AreActionLines : Action → List Line → Type 0
 AreActionLines (Event event) lines = AreEventLines event.kind lines
@@ -62,17 +73,27 @@ EndsSo action turn own = Unit {0}
 abbrev pub EndsIn : Action → StatementResult → (old new : List (List Line)) → Type 0
 EndsIn action turn old new = (own : List (List Line)) × (new ≡ old ++ own) × EndsSo action turn own
 
+-- what is said of a node is so of these: it is down or unknown, or it is up and has these numbers
+abbrev pub ShowsNow : {D : Type 0} {g : Ghosts D} → List (SimNode D g) → Note → Type 0
+ShowsNow sims note.Nothing = Unit {0}
+ShowsNow sims (note.Invalid e) = Unit {0}
+ShowsNow sims note.Busy = Unit {0}
+ShowsNow sims (note.Running node numbers) = ShowsNumbers sims node numbers
+ShowsNow sims (note.Down node) = IsDownAmong sims node
+
 module _ {D C : Type 0} {g : Ghosts D} where
-  -- so many events of a statement were run in a world: it has a list of lines of each behind those
-  -- that it had, if the statement names a node of the first configuration, or none
+  -- so many events of a statement were run in a world: it has each and a list of its lines behind
+  -- those that it had, if the statement names a node of the first configuration, or none
   abbrev pub ActionAddsLines : Action → ℕ → World D C g → World D C g → Type 0
   ActionAddsLines action count old new =
-      AddsLines (Names (configs_of old) action) (AreActionLines action) count old new
+      AddsLines (Names (configs_of old) action) (IsActionEvent action) (AreActionLines action) count
+      old new
 
   -- a statement was run so, and this is what it answered
   pub record IsReportedIn (old new : World D C g) (it : Statement) (turn : StatementResult) : Type 0
     where
       pub answered : IsAnswered it turn
+      pub shown : ShowsNow (nodes_of old) turn.note
       pub adds : ActionAddsLines it.action turn.events old new
       pub ends : Names (configs_of old) it.action →
           EndsIn it.action turn (lines_so_far old) (lines_so_far new)

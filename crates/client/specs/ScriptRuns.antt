@@ -16,7 +16,7 @@ use Rattle.lab.specs.declared.Line.TheVariants as line
 use Rattle.lab.specs.Numbers.{Numbers}
 use Rattle.lab.specs.declared.world.World.{World}
 use Rattle.lab.specs.Tended.TheVariants as tended
-use Rattle.lab.specs.{AreNumbersOf, Choice, HasRun, ShowsTables, WorldHasLimits, WorldRun}
+use Rattle.lab.specs.{AreNumbersOf, Choice, HasRun, ShowsNumbers, WorldHasLimits, WorldRun}
 use Rattle.lab.specs.{faultless, frames_in_steps}
 use Rattle.scripts.specs.declared.setup.Setup.{Setup}
 use Rattle.scripts.specs.declared.statement.Action.{Action}
@@ -179,7 +179,7 @@ module _ {D C : Type 0} {g : Ghosts D} where
   HasShownNumbers world cs past note.Busy = Unit {0}
   HasShownNumbers world cs past (note.Running node numbers) =
       AreNumbersOf cs past.events past.choices node (Some numbers)
-      × ShowsTables world.nodes.items node numbers
+      × ShowsNumbers world.nodes.items node numbers
   HasShownNumbers world cs past (note.Down node) =
       AreNumbersOf cs past.events past.choices node None
 

@@ -1,7 +1,7 @@
 use Rattle.std.proofs.Common.{ℕ, List, subst, add-one, arith, inl, inr}
 use Rattle.client.specs.ScriptRuns.{followed_by}
 use Rattle.client.proofs.Flowing.{Flows, flows_none, flows_on, flowed_all, flowed_most, emptied}
-use Rattle.client.proofs.ReportedLemmas.{adds_more, adds_nothing}
+use Rattle.client.proofs.ReportedLemmas.{adds_delivery, adds_more, adds_nothing}
 use Rattle.scripts.specs.declared.statement.Action.TheVariants.{Flow}
 use Rattle.client.proofs.script_run.flow.Goals as goal
 
@@ -36,7 +36,9 @@ loop-count-preserved g c = (
   (
     omega (arith, c.loop-count-test.true),
     adds_more Flow c.args.world.now c.loop-count.world c.happen.new.world
-        c.loop-count.count c.loop-count.invariant.1.1 c.in_ok-happen.ensures.adds,
+        c.loop-count.count c.loop-count.invariant.1.1
+        (adds_delivery c.in-Some.place c.loop-count.world c.happen.new.world
+        c.in_ok-happen.ensures.adds),
   ),
 )
 

@@ -54,7 +54,7 @@ returns-in-Show-clause-ran g c = λ setup past run named up.
     c.args.left.now.items c.in-Show.node c.numbers.result c.shown-note.result c.in-Show.is
     c.shown-note.ensures run
     (c.numbers.ensures.run (run_of setup past) run.run (rw c.in-Show.is at named))
-    c.numbers.ensures.tables)
+    c.numbers.ensures.own)
 
 -- ---- in any world
 
@@ -88,3 +88,4 @@ pub returns-in-Show-clause-reported : goal.returns-in-Show-clause-reported
 returns-in-Show-clause-reported g c =
     reported_show c.args.world.now c.args.statement.now c.result_of-in-Show.result c.in-Show.node
     c.numbers.result c.in-Show.is (rw c.shown-note.ensures at c.result_of-in-Show.ensures)
+    c.numbers.ensures.own c.numbers.ensures.none

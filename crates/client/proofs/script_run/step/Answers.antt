@@ -12,8 +12,8 @@ returns-clause-ran g c = λ setup past run named.
         limits = c.in_ok-step.ensures.limits setup.limits run.limits;
       },
       added c.sent-before.result c.sent.result _ c.args.left.now.items past.steps ran.lines
-          (c.sent-before.ensures (run_of setup past) run.run)
-          (c.sent.ensures (run_of setup
+          (c.sent-before.ensures.run (run_of setup past) run.run)
+          (c.sent.ensures.run (run_of setup
           (followed_by past (one_step c.args.event.now ran.choice ran.lines))) ran.run)
           c.in_ok-add_places.ensures,
     )
