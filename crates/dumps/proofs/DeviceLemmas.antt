@@ -1,6 +1,6 @@
 -- What is kept of a device, and which refusals are of it.
 use Rattle.std.proofs.Common.{◌≡◌, ◌∙◌, ◌↔◌, ◌⊎◌, ℕ, List, Option, ap, inl, inr, refl, subst, sym}
-use Rattle.std.specs.Prelude.{IsErrAnd, IsErrOf, IsNone, MatchResult, Result, Ok, Err}
+use Rattle.std.specs.Prelude.{IfErr, IsErrAnd, IsErrOf, IsNone, MatchResult, Result, Ok, Err}
 use Rattle.disk.specs.{Contents, IsEnvironmental, IsSame, KeepsDisk, contents, seen}
 use Rattle.disk.specs.declared.Disk.{Ghosts}
 use Rattle.engine.specs.EngineError.{EngineError}
@@ -8,14 +8,15 @@ use Rattle.engine.specs.EngineError.TheVariants as engine
 use Rattle.engine.specs.KeepingLemmas.{kept_as, kept_behind, neither, same_files, same_then_same}
 use Rattle.engine.specs.KeepingLemmas.{unchanged}
 use Rattle.engine.specs.declared.Engine.{Engine}
-use Rattle.engine.specs.{AreAlone, ExplainsRefusal, HasOpened, IsOwned, engine_disk, engine_files}
-use Rattle.engine.specs.{SparesFound, engine_version}
+use Rattle.engine.specs.{AreAlone, ExplainsRefusal, HasOpened, IsOwned, IsReadableAnswer, LookUps}
+use Rattle.engine.specs.{SparesFound, engine_disk, engine_files, engine_version}
 use Rattle.node.specs.Stops.{engine_stop}
 use Rattle.node.specs.declared.stop.Stop.TheVariants as stop
 use Rattle.dumps.specs.declared.dump_error.DumpError.{DumpError}
 use Rattle.dumps.specs.declared.dump_error.DumpError.TheVariants.{Store}
-use Rattle.dumps.specs.Dumped.{AreOpenedFiles, IsDumpRefusal, IsNotOpened, LeavesDevice}
-use Rattle.dumps.specs.Dumped.{ReturnsFiles, UnopenedRefusal}
+use Rattle.dumps.specs.Dumped.{AreOpenedFiles, IsDumpRefusal, IsNotOpened, IsOfOpened}
+use Rattle.dumps.specs.Dumped.{IsOfOutput, LeavesDevice, ReturnsFiles, UnopenedRefusal}
+use Rattle.dumps.specs.Dumped.{WritesText}
 
 -- ---- errors
 
@@ -28,6 +29,43 @@ pub of_engine : (e : EngineError) → IsEnvironmental engine.Disk engine.Memory 
     IsDumpRefusal (Store (engine_stop e))
 of_engine e (inl is) = inl (ap (λ (x : EngineError). Store (engine_stop x)) is)
 of_engine e (inr is) = inr (inl (ap (λ (x : EngineError). Store (engine_stop x)) is))
+
+-- a read that is refused is so of a store that was created
+pub read_of_opened : (T : Type 0) (told : LookUps) (at : ℕ) (e : EngineError) →
+    IsReadableAnswer {T = T} told at (Err e) → IsOfOpened (Store (engine_stop e))
+read_of_opened T told at engine.Disk answer is = cc
+read_of_opened T told at engine.Damaged answer is = cc
+read_of_opened T told at engine.Memory answer is = cc
+read_of_opened T told at engine.NotCreated answer is = absurd answer
+read_of_opened T told at engine.Failed answer is = cc
+read_of_opened T told at engine.TooOld answer is = cc
+read_of_opened T told at engine.NotCommitted answer is = cc
+read_of_opened T told at engine.NoSuchSnapshot answer is = absurd answer
+read_of_opened T told at engine.TooManySnapshots answer is = absurd answer
+read_of_opened T told at engine.Exhausted answer is = absurd answer
+
+-- so is a refusal for memory, or of the output
+pub output_of_opened : (error : DumpError) → IsOfOutput error → IsOfOpened error
+output_of_opened error (inl is) none = cc
+output_of_opened error (inr is) none = cc
+
+-- and one for a last row
+pub last_of_opened : {P : Type 0} (error : DumpError) →
+    (error ≡ Store stop.Memory) ⊎ ((error ≡ Store stop.Damaged) × P) → IsOfOpened error
+last_of_opened error (inl is) none = cc
+last_of_opened error (inr is) none = let damaged = is.0 in cc
+
+-- so is one that is passed on
+pub opened_as_passed : {T : Type 0} (result : Result T DumpError) (error : DumpError) →
+    IsErrAnd result (λ x. x ≡ error) → IsOfOpened error → IfErr result IsOfOpened
+opened_as_passed (Ok x) error same is = tt
+opened_as_passed (Err x) error same is = λ none. is (sym same ∙ none)
+
+-- and one of a text
+pub text_of_opened : {T : Type 0} (text : List ℕ) (old new : Option (List ℕ))
+    (result : Result T DumpError) → WritesText text old new result → IfErr result IsOfOpened
+text_of_opened text old new (Ok x) writes = tt
+text_of_opened text old new (Err error) writes = output_of_opened error writes.0
 
 -- a refusal for a last row is one for memory, where there is a row
 pub of_last_row : {P : Type 0} (error : DumpError) →
@@ -192,11 +230,14 @@ module _ {D : Type 0} (g : Ghosts D) where
 
   pub files_passed_on : {disk left : D} (old new : Option (List ℕ))
       (written : Result (Unit {0}) DumpError) (own : D) (result : Result D (DumpError × D)) →
-      IsPassedOn written own result → own ≡ left →
+      IsPassedOn written own result → own ≡ left → IfErr written IsOfOpened →
       AreOpenedFiles (g.state disk) (g.state left) → ReturnsFiles g disk old new result
-  files_passed_on {disk} {left} old new (Ok x) own result is same files =
+  files_passed_on {disk} {left} old new (Ok x) own result is same created files =
       subst (ReturnsFiles g disk old new) (sym is)
       (subst (λ (d : D). AreOpenedFiles (g.state disk) (g.state d)) (sym same) files)
-  files_passed_on {disk} {left} old new (Err e) own result is same files =
+  files_passed_on {disk} {left} old new (Err e) own result is same created files =
       subst (ReturnsFiles g disk old new) (sym is)
-      (inl (subst (λ (d : D). AreOpenedFiles (g.state disk) (g.state d)) (sym same) files))
+      (inl (
+        subst (λ (d : D). AreOpenedFiles (g.state disk) (g.state d)) (sym same) files,
+        created,
+      ))

@@ -169,6 +169,10 @@ IsOfOutput error = (error ≡ Store stop.Memory) ⊎ (error ≡ Write)
 abbrev pub IsDumpRefusal : DumpError → Type 0
 IsDumpRefusal error = (error ≡ Store stop.Disk) ⊎ IsOfOutput error
 
+-- refused for anything but that no store was created
+abbrev pub IsOfOpened : DumpError → Type 0
+IsOfOpened error = error ≡ Store stop.NotCreated → ⊥
+
 -- a text was written, or a beginning of it where memory was short or the output took no more
 abbrev pub WritesText : {T : Type 0} → List ℕ → (old new : Option (List ℕ)) → Result T DumpError
     → Type 0
@@ -218,9 +222,10 @@ pub record AreOpenedFiles (old new : State) : Type 0 where
   pub alike : AreReadAlike (kept_files version.version) old new
   pub alone : AreAlone (kept_files version.version) new
 
--- the disk that is returned has these files, unless no store was opened
+-- the disk that is returned has these files, and a store was created; or no store was opened
 abbrev pub ReturnsFiles : {D : Type 0} → Ghosts D → D → (old new : Option (List ℕ)) →
     Result D (DumpError × D) → Type 0
 ReturnsFiles g disk old new (Ok left) = AreOpenedFiles (g.state disk) (g.state left)
-ReturnsFiles g disk old new (Err refused) = AreOpenedFiles (g.state disk) (g.state refused.1)
+ReturnsFiles g disk old new (Err refused) =
+    (AreOpenedFiles (g.state disk) (g.state refused.1) × IsOfOpened refused.0)
     ⊎ IsNotOpened g disk old new (Err refused)

@@ -9,8 +9,8 @@ ghost use Rattle.engine.specs.{EngineReads, IsReadable, engine_disk, look_ups};
 ghost use Rattle.node.specs.declared.stop.Stop.TheVariants as stop;
 ghost use Rattle.dumps.specs.declared.dump_error.DumpError.TheVariants.{Store};
 ghost use Rattle.dumps.specs.Walks.{all_from};
-ghost use Rattle.dumps.specs.Dumped.{AreAllWritten, AreBegun, IsDumpRefusal, ShowsList};
-ghost use Rattle.dumps.specs.Dumped.{StillShows, row_line};
+ghost use Rattle.dumps.specs.Dumped.{AreAllWritten, AreBegun, IsDumpRefusal, IsOfOpened};
+ghost use Rattle.dumps.specs.Dumped.{ShowsList, StillShows, row_line};
 
 use crate::dump_error::DumpError;
 use client::{RowText, print};
@@ -52,6 +52,7 @@ fn page_from<D: Disk + Drop>(
     ensures refused { (list : List BatchContent) → EngineReads D.Disk engine.old list →
         IsReadable (look_ups engine.old).facts.floor (look_ups engine.old).committed at →
         IfErr result IsDumpRefusal }
+    ensures created { IfErr result IsOfOpened }
 {
     let Ok(range) = Range::new(from, None, false, MAX_ROWS) else {
         return Err(DumpError::Store(Stop::Memory));
@@ -118,6 +119,7 @@ pub fn write_rows<D: Disk + Drop, W: Write>(
         IfErr result IsDumpRefusal }
     ensures device { KeepsDisk D.Disk (engine_disk engine.old) (engine_disk engine.new)
         (IsErrOf result (Store stop.Disk)) ⊥ IsSame }
+    ensures created { IfErr result IsOfOpened }
 {
     byte_order_is_strict(); // law: byte order is a strict order of all keys
     pages_agree(); // law: the page as a function is the page of a map

@@ -8,8 +8,8 @@ ghost use Rattle.node.specs.declared.stop.Stop.TheVariants as stop;
 ghost use Rattle.dumps.specs.declared.dump_error.DumpError.TheVariants.{Store};
 ghost use Rattle.dumps.specs.Dumped.{AreTableCounts};
 ghost use Rattle.dumps.specs.Dumped.{IsBegunDump, IsBegunFor, IsCutDump, IsDumpFor, IsDumpOf};
-ghost use Rattle.dumps.specs.Dumped.{IsDumpRefusal, IsNotOpened, IsSomeBegun, IsSomeDump};
-ghost use Rattle.dumps.specs.Dumped.{LeavesDevice, ReturnsFiles, ShowsList};
+ghost use Rattle.dumps.specs.Dumped.{IsDumpRefusal, IsNotOpened, IsOfOpened, IsSomeBegun};
+ghost use Rattle.dumps.specs.Dumped.{IsSomeDump, LeavesDevice, ReturnsFiles, ShowsList};
 ghost use Rattle.dumps.specs.Dumped.{WritesText, count_line, store_line};
 
 use crate::dump_error::DumpError;
@@ -104,6 +104,7 @@ fn write_store<D: Disk + Drop, W: Write>(
         IfErr result IsDumpRefusal }
     ensures device { KeepsDisk D.Disk (engine_disk engine.old) (engine_disk engine.new)
         (IsErrOf result (Store stop.Disk)) ⊥ IsSame }
+    ensures created { IfErr result IsOfOpened }
 {
     pages_agree(); // law: a map has a page in each range
     write_numbers(alloc, engine, out)?;
@@ -145,7 +146,8 @@ pub fn dump_store<D: Disk + Drop, W: Write>(
         (λ _. IsSomeBegun (W.contents out.old) (W.contents out.new)) }
     ensures device { LeavesDevice D.Disk disk result }
 
-    // No file is changed behind the opening.
+    // No file is changed behind the opening, and a store that was opened is not refused as one that
+    // was not created.
     ensures files { D.is_honest disk → ReturnsFiles D.Disk disk (W.contents out.old)
         (W.contents out.new) result }
 {

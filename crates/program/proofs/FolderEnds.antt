@@ -1,6 +1,6 @@
 -- How a run in folders ends.
 use Rattle.std.proofs.Common.{◌≡◌, ◌⊎◌, inl, inr, ℕ, Bool, Option, None, Some, refl, sym, subst}
-use Rattle.std.proofs.Common.{false, List, [], ◌++◌, ap, append-nil, ◌∙◌}
+use Rattle.std.proofs.Common.{true, false, List, [], ◌++◌, ap, append-nil, ◌∙◌, arith}
 use Rattle.std.specs.Prelude.{Result, Ok, Err, IfErr, IfOk, IfSome, MatchResult, All}
 use Rattle.std.specs.Io.KnownBytes.{Appends}
 use Rattle.disk.specs.declared.disk.Disk.{Ghosts}
@@ -226,6 +226,20 @@ loop_reported folder failure out old_err new_err answer none one told = inr (rec
   failed = record { cause = tt; did = inl (none, refl) };
   told = told;
 })
+
+-- the status of a run is not that of the usage
+stopped_not_usage : (stopped : Bool) → stopped_status stopped ≡ 2 → ⊥
+stopped_not_usage true two = omega (arith, two)
+stopped_not_usage false two = omega (arith, two)
+
+-- nor is that of a run in folders
+pub loop_not_usage : {R : Type 0} {g : Ghosts (DirDisk R)} (folder : List ℕ)
+    (text old_out new_out old_err new_err : Option (List ℕ)) (answer : ℕ) →
+    LoopEnds g folder text old_out new_out old_err new_err answer → answer ≡ 2 → ⊥
+loop_not_usage folder text old_out new_out old_err new_err answer (inl ran) two =
+    stopped_not_usage ran.stopped (sym ran.status ∙ two)
+loop_not_usage folder text old_out new_out old_err new_err answer (inr fails) two =
+    omega (arith, fails.status, two)
 
 -- ---- what is written of a folder
 

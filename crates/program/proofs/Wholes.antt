@@ -1,7 +1,7 @@
 -- How a whole run ends.
 use Rattle.std.proofs.Common.{◌≡◌, ℕ, List, [], ◌∷◌, Option, None, Some, refl, sym, ap, subst, inl}
 use Rattle.std.proofs.Common.{inr, true}
-use Rattle.std.proofs.Common.{length, take}
+use Rattle.std.proofs.Common.{length, take, arith}
 use Rattle.std.specs.Prelude.{true, ◌⊎◌, Result, Ok, Err, OnErr, IfErr, IfOk}
 use Rattle.std.specs.Prelude.{IfSome, MatchResult}
 use Rattle.std.specs.Io.KnownBytes.{Appends}
@@ -206,3 +206,11 @@ reported failure out old_err new_err answer is one told = inr (record {
   failed = failed_reading None out failure is tt;
   told = told;
 })
+
+-- a run does not end with the status of the usage
+pub not_usage : (text old_out new_out old_err new_err : Option (List ℕ)) (answer : ℕ)
+    → RunEndsAs text old_out new_out old_err new_err answer → answer ≡ 2 → ⊥
+not_usage text old_out new_out old_err new_err answer (inl prints) two =
+    omega (arith, prints.status, two)
+not_usage text old_out new_out old_err new_err answer (inr fails) two =
+    omega (arith, fails.status, two)

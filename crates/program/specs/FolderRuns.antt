@@ -261,3 +261,9 @@ pub record ProgramEnds {R : Type 0} (g : Ghosts (DirDisk R)) (words : List (List
       DumpOrUsage old_out new_out old_err new_err answer
   pub other : is_named (codes "loop") words ≡ false → is_named (codes "dump") words ≡ false →
       LabOrUsage old_out new_out old_err new_err answer
+
+-- standard input is left as it was by words that name `dump`, and by all that end with the usage
+pub record LeavesInput {I : Type 0} (words : List (List ℕ)) (old_input new_input : I) (answer : ℕ)
+    : Type 0 where
+  pub dump : is_named (codes "dump") words ≡ true → new_input ≡ old_input
+  pub usage : answer ≡ 2 → new_input ≡ old_input

@@ -1,7 +1,7 @@
 //! From the program's words and streams to its exit status.
 ghost use Rattle.std.specs.Prelude.{◌≡◌, ◌≢◌, ℕ, List, map, codes, Some, None};
 ghost use Rattle.program.specs.FolderDumps.{DumpEndsFor};
-ghost use Rattle.program.specs.FolderRuns.{LoopEndsFor, ProgramEnds};
+ghost use Rattle.program.specs.FolderRuns.{LeavesInput, LoopEndsFor, ProgramEnds};
 ghost use Rattle.program.specs.Invocations.{AsksForNothing, dump_folder, lab_script, loop_paths};
 ghost use Rattle.program.specs.Runs.{RunEndsAs, UsageIsReported};
 
@@ -55,6 +55,7 @@ where
     ensures ends { ProgramEnds ⟦<DirDisk<F> as Disk>⟧ (map (λ w. w.now) words.now)
         (O.contents out.old) (O.contents out.new) (E.contents err.old) (E.contents err.new)
         result }
+    ensures left { LeavesInput (map (λ w. w.now) words.now) input.old input.new result }
 {
     if is_named("loop", words) {
         return serve_loop(rt, words, input, out, err);

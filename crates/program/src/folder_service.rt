@@ -144,6 +144,7 @@ where
         has_option (codes "loop") (map (λ w. w.now) words.now) ≡ false → (input.new ≡ input.old)
         × UsageIsReported (O.contents out.old) (O.contents out.new) (E.contents err.old)
         (E.contents err.new) result }
+    ensures usage { result ≡ 2 → input.new ≡ input.old }
     ensures ends { LoopOrUsage ⟦<DirDisk<F> as Disk>⟧ (O.contents out.old)
         (O.contents out.new) (E.contents err.old) (E.contents err.new) result }
 {

@@ -1,4 +1,5 @@
-//! What the program does: it reads a script, runs it at a chain's nodes, and prints what happens.
+//! What the program does: it reads a script, runs it at a chain's nodes, and prints what happens;
+//! or it prints what a folder's store has.
 #![tactic(auto)]
 
 mod dispatch;

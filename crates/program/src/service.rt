@@ -44,6 +44,7 @@ pub fn serve_lab<F: Files + Alloc<A = Global>, R: Read, O: Write, E: Write>(
         has_option (codes "lab") (map (λ w. w.now) words.now) ≡ false → (input.new ≡ input.old)
         × UsageIsReported (O.contents out.old) (O.contents out.new) (E.contents err.old)
         (E.contents err.new) result }
+    ensures usage { result ≡ 2 → input.new ≡ input.old }
     ensures ends { LabOrUsage (O.contents out.old) (O.contents out.new)
         (E.contents err.old) (E.contents err.new) result }
 {

@@ -1,5 +1,9 @@
-use Rattle.std.proofs.Common.{ap, inl, inr, take, ◌∙◌}
+use Rattle.std.proofs.Common.{ap, inl, inr, subst, sym, take, ◌∙◌}
 use Rattle.kv_types.specs.Pages.{page_of}
+use Rattle.kv_types.specs.Spans.{Rows}
+use Rattle.engine.specs.{look_ups}
+use Rattle.dumps.specs.Dumped.{IsOfOpened}
+use Rattle.dumps.proofs.DeviceLemmas.{read_of_opened}
 use Rattle.dumps.proofs.row_walk.page_from.Goals as goal
 
 -- the engine's page is that of this range
@@ -17,3 +21,10 @@ returns-in-Ok-rows-clause-shows g c = λ list. record {
   reads = (c.in-Ok-rows.ensures.reads.kept list).reads;
   meant = (c.in-Ok-rows.ensures.reads.kept list).meant;
 }
+
+-- a read says nothing of a creation
+pub returns-clause-created : goal.returns-clause-created
+returns-clause-created g c =
+    subst IsOfOpened (sym c.from.ensures)
+    (read_of_opened Rows (look_ups c.args.engine.now) c.args.at c.in-Err.e
+    c.in-Err.ensures.readable)

@@ -10,7 +10,8 @@ use Rattle.client.specs.PrintedRuns.{AppendsPart}
 use Rattle.dumps.specs.Dumped.{AreWritten, ShowsList, row_line}
 use Rattle.dumps.specs.Walks.{all_from}
 use Rattle.dumps.proofs.DeviceLemmas.{answers, kept_as_passed, kept_as_told, kept_more, kept_then}
-use Rattle.dumps.proofs.DeviceLemmas.{not_of_device, of_last_row, untouched}
+use Rattle.dumps.proofs.DeviceLemmas.{last_of_opened, not_of_device, of_last_row}
+use Rattle.dumps.proofs.DeviceLemmas.{opened_as_passed, untouched}
 use Rattle.dumps.proofs.PageRowsLemmas.{has_row}
 use Rattle.dumps.proofs.RowWalkLemmas.{all_written, begun_none, begun_so_far, begun_with_page}
 use Rattle.dumps.proofs.RowWalkLemmas.{more_written, none_written, shown_still, shows_on}
@@ -54,6 +55,11 @@ returns-in_err-page-clause-device g c =
     kept_as_passed g.D.Disk c.from_residual-in_err-page.result c.in_err-page.field-0.0
     c.from_residual-in_err-page.ensures.1
     (kept_then g.D.Disk c.loop.invariant.0.kept c.in_err-page.ensures.device)
+
+pub returns-in_err-page-clause-created : goal.returns-in_err-page-clause-created
+returns-in_err-page-clause-created g c =
+    opened_as_passed c.from_residual-in_err-page.result c.in_err-page.field-0.0
+    c.from_residual-in_err-page.ensures.1 c.in_err-page.ensures.created
 
 -- memory was wanted for its text
 pub returns-in_err-make_text-clause-rows : goal.returns-in_err-make_text-clause-rows
@@ -190,6 +196,12 @@ returns-in_err-from-2-clause-device g c =
     (kept_more g.D.Disk c.loop.invariant.0.kept c.in_ok-page.ensures.device answers)
     (not_of_device c.from_residual-in_err-from-2.result c.in_err-from-2.field-0.0
     c.from_residual-in_err-from-2.ensures.1 c.in_err-from-2.ensures.refused)
+
+pub returns-in_err-from-2-clause-created : goal.returns-in_err-from-2-clause-created
+returns-in_err-from-2-clause-created g c =
+    opened_as_passed c.from_residual-in_err-from-2.result c.in_err-from-2.field-0.0
+    c.from_residual-in_err-from-2.ensures.1
+    (last_of_opened c.in_err-from-2.field-0.0 c.in_err-from-2.ensures.refused)
 
 pub loop-preserved : goal.loop-preserved
 loop-preserved g c =

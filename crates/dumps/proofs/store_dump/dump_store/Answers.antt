@@ -112,6 +112,7 @@ returns-clause-files g c = λ honest.
     files_passed_on g.D.Disk (g.W.Write.contents c.args.out.now)
     (g.W.Write.contents c.write_store-written.new.out) c.write_store-written.result
     c.into_disk.result c.with_disk.result c.with_disk.ensures c.into_disk.ensures
+    c.write_store-written.ensures.created
     (opened_files g.D.Disk c.args.disk (engine_disk c.write_store-written.new.engine)
     c.in-Ok.engine (c.in-Ok.ensures.alike honest) (c.in-Ok.ensures.fresh.swept works)
     (c.write_store-written.ensures.device.files works))

@@ -1,7 +1,8 @@
 use Rattle.std.proofs.Common.{inr, rules, subst}
 use Rattle.std.specs.Prelude.{MatchResult}
 use Rattle.engine.specs.{facts_of, look_ups}
-use Rattle.dumps.specs.Dumped.{IsBegunFor, IsDumpFor, IsDumpRefusal, ShowsList}
+use Rattle.dumps.specs.Dumped.{IsBegunFor, IsDumpFor, IsDumpRefusal, IsOfOpened, ShowsList}
+use Rattle.dumps.proofs.DeviceLemmas.{output_of_opened, text_of_opened}
 use Rattle.dumps.proofs.RowWalkLemmas.{all_for, begun_for, shown_still}
 use Rattle.dumps.proofs.StoreDumpLemmas.{all_readable, cut_in_numbers, cut_in_rows, dumped}
 use Rattle.dumps.proofs.StoreDumpLemmas.{of_output}
@@ -76,4 +77,21 @@ returns-clause-dump g c =
 pub returns-clause-refused : goal.returns-clause-refused
 returns-clause-refused g c = λ list reads.
     of_output _ (g.W.Write.contents c.write_rows.new.out)
+    (g.W.Write.contents c.write_count.new.out) c.write_count.result c.write_count.ensures
+
+-- no refusal says that nothing was created
+pub returns-in_err-write_numbers-clause-created : goal.returns-in_err-write_numbers-clause-created
+returns-in_err-write_numbers-clause-created g c =
+    let created : IsOfOpened c.in_err-write_numbers.field-0.0 =
+    output_of_opened c.in_err-write_numbers.field-0.0 c.in_err-write_numbers.ensures.1.0 in
+    search (rules, created)
+
+pub returns-in_err-count-clause-created : goal.returns-in_err-count-clause-created
+returns-in_err-count-clause-created g c =
+    let created = c.in_err-count.ensures.created in
+    search (rules, created)
+
+pub returns-clause-created : goal.returns-clause-created
+returns-clause-created g c =
+    text_of_opened _ (g.W.Write.contents c.write_rows.new.out)
     (g.W.Write.contents c.write_count.new.out) c.write_count.result c.write_count.ensures

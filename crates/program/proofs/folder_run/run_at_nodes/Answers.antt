@@ -9,8 +9,8 @@ returns-clause-printed g c = record {
   is = world_of_found c.args.folder.now c.args.script.now.setup _ c.in_ok-nodes.nodes.items
       c.in-Ok.ensures c.in_ok-nodes.ensures.nodes c.in_ok-nodes.ensures.found
       c.over-world.result c.over-world.ensures.nodes c.over-world.ensures.configs
-      c.over-world.ensures.none;
-  printed = c.in_ok-run_world.ensures.printed c.over-world.ensures.none;
+      c.over-world.ensures.none.lines;
+  printed = c.in_ok-run_world.ensures.printed c.over-world.ensures.none.lines;
 }
 
 -- a folder has no node
@@ -41,7 +41,7 @@ returns-in_err-run_world-clause-failed g c =
       is = world_of_found c.args.folder.now c.args.script.now.setup _ c.in_ok-nodes.nodes.items
           c.in-Ok.ensures c.in_ok-nodes.ensures.nodes c.in_ok-nodes.ensures.found
           c.over-world.result c.over-world.ensures.nodes c.over-world.ensures.configs
-          c.over-world.ensures.none;
-      begun = c.in_err-run_world.ensures.printed c.over-world.ensures.none;
+          c.over-world.ensures.none.lines;
+      begun = c.in_err-run_world.ensures.printed c.over-world.ensures.none.lines;
     }) in
     search (rules, failed)

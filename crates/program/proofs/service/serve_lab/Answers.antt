@@ -1,6 +1,6 @@
-use Rattle.std.proofs.Common.{inl, refl}
+use Rattle.std.proofs.Common.{None, inl, refl}
 use Rattle.program.specs.declared.failure.Failure.TheVariants.{Memory, Unreadable}
-use Rattle.program.proofs.Wholes.{answered, answered_any, reported}
+use Rattle.program.proofs.Wholes.{answered, answered_any, not_usage, reported}
 use Rattle.program.proofs.service.serve_lab.Goals as goal
 
 pub returns-in-Ok-Input-clause-input : goal.returns-in-Ok-Input-clause-input
@@ -16,6 +16,17 @@ returns-in-Ok-Input-clause-ends g c = inl
     (g.O.Write.contents c.args.out.now) (g.O.Write.contents c.serve_script.new.out)
     (g.E.Write.contents c.args.err.now) (g.E.Write.contents c.serve_script.new.err) c.end.ensures
     c.serve_script.ensures.ended c.serve_script.ensures.refused)
+
+-- a run does not end with the usage
+pub returns-in-Ok-Input-clause-usage : goal.returns-in-Ok-Input-clause-usage
+returns-in-Ok-Input-clause-usage g c = λ two.
+    absurd (not_usage None (g.O.Write.contents c.args.out.now)
+    (g.O.Write.contents c.serve_script.new.out) (g.E.Write.contents c.args.err.now)
+    (g.E.Write.contents c.serve_script.new.err) c.end.result
+    (answered_any c.serve_script.result c.end.result (g.R.Read.remaining c.args.input.now)
+    (g.O.Write.contents c.args.out.now) (g.O.Write.contents c.serve_script.new.out)
+    (g.E.Write.contents c.args.err.now) (g.E.Write.contents c.serve_script.new.err) c.end.ensures
+    c.serve_script.ensures.ended c.serve_script.ensures.refused) two)
 
 pub returns-in-Err-Memory-clause-ends : goal.returns-in-Err-Memory-clause-ends
 returns-in-Err-Memory-clause-ends g c = inl
