@@ -1,4 +1,4 @@
-// The parts of the smallest table, written and read, and each of their bytes damaged.
+// The parts of the table of one put, written and read, and each of their bytes damaged.
 use crate::sequence::{copy_of, key_of};
 use kv_types::LentKey;
 use std::alloc::Global;

@@ -77,7 +77,7 @@ fn is_damaged(rt: &impl Abort, alloc: Global, bytes: &[u8]) -> bool {
     refusal_of(alloc, &mut files_with(rt, alloc, bytes)) == Some(FileError::Damaged)
 }
 
-/// The smallest table with a bit of one byte turned.
+/// The table of one put with a bit of one byte turned.
 fn turned(rt: &impl Abort, alloc: Global, at: usize) -> Vec<u8> {
     let mut bytes = smallest(rt, alloc);
     if let Some(byte) = bytes.get_mut(at) {

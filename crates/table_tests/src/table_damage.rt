@@ -286,7 +286,7 @@ fn a_view_that_returns_to_damage(rt: HostRuntime) {
     }
 }
 
-/// The smallest table, but for its index: the line says that the block ends with `b`.
+/// The table of one put, but for its index: the line says that the block ends with `b`.
 fn ends_too_early(rt: &impl Abort, alloc: Global) -> CachedDisk<MemDisk> {
     let mut index = copy_of(rt, alloc, &[0, 0, 0, 1]);
     let line = IndexLine {
