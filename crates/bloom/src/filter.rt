@@ -4,7 +4,6 @@ ghost use Rattle.std.specs.Prelude.{IsTrue};
 ghost use Rattle.bloom.specs.Filters.{HasBit, IsProbeOf, IsFilter, bytes_for, hashes_of};
 ghost use Rattle.bloom.specs.Filters.{Covers, CoversAll, CoversHashed};
 
-use crate::BloomError;
 use crate::bits::{bits_of, has_bit, set_bit};
 use crate::hashes::{KeyHashes, Probes};
 use kv_types::Key;
@@ -37,7 +36,7 @@ fn put(filter: &mut [u8], hashes: KeyHashes)
 
 /// Builds the filter of these keys. Its size follows from their number, so no key should occur
 /// twice.
-pub fn build(alloc: Global, keys: &[Key]) -> Result<Vec<u8>, BloomError>
+pub fn build(alloc: Global, keys: &[Key]) -> Result<Vec<u8>, AllocError>
     ensures filter { IfOk result (λ filter. IsFilter keys.now filter.items) }
     ensures covers { IfOk result (λ filter. CoversAll filter.items keys.now) }
 {

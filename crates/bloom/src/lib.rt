@@ -2,11 +2,9 @@
 #![tactic(auto)]
 
 mod bits;
-mod error;
 mod filter;
 mod hashes;
 pub mod laws;
 
-pub use error::BloomError;
 pub use filter::{build, build_hashed, may_hold, may_hold_hashed};
 pub use hashes::KeyHashes;

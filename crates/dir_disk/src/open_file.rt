@@ -1,23 +1,13 @@
 // One file that is open. No call here makes more than two system calls, as long as the system
 // reads and writes at once what it is asked for.
-ghost use Rattle.std.specs.Prelude.{◌≡◌, ◌↔◌, ◌+◌, ◌<◌, ◌≤◌, ◌^◌, IsErrOf, IsOk};
-ghost use Rattle.std.specs.Prelude.{IsSomeAnd, IsTrue, MatchResult, None, OnOk, Some, length};
+ghost use Rattle.std.specs.Prelude.{◌≡◌, ◌+◌, ◌<◌, ◌≤◌, ◌^◌, IsErrOf, IsOk};
+ghost use Rattle.std.specs.Prelude.{IsSomeAnd, MatchResult, None, OnOk, Some, length};
 ghost use Rattle.disk.specs.Calls.{EndsOutOfRange};
 
-use disk::DiskError;
+use disk::{DiskError, ends_out_of_range};
 use std::fs::File;
 use std::io::{self, ErrorKind};
 use std::os::unix::fs::FileExt;
-
-/// The greatest place where a file may end.
-const MAX_LEN: u64 = (1 << 63) - 1;
-
-/// Whether so many bytes from this place on end past the greatest place of a file.
-pub fn ends_out_of_range(at: u64, len: usize) -> bool
-    ensures { IsTrue result ↔ EndsOutOfRange at len }
-{
-    at > MAX_LEN || len as u64 > MAX_LEN - at
-}
 
 /// A file that is open, and its length where that is known: this disk alone writes to it.
 #[derive(Drop)]

@@ -1,6 +1,6 @@
 // The interface of a disk, by the behaviour of an honest one. Whether a given disk is honest is an
 // assumption of its user.
-ghost use Rattle.std.specs.Prelude.{ℕ, List, length, IsErrOf};
+ghost use Rattle.std.specs.Prelude.{ℕ, List, length, IsErrOf, IsTrue, ◌↔◌};
 ghost use Rattle.disk.specs.States.{State, IsSame, IsSameBut};
 ghost use Rattle.disk.specs.Calls.{BegunWrite, CallKeeps, EndsOutOfRange};
 ghost use Rattle.disk.specs.Calls.{FilesAnswer, LengthAnswer, ReadAnswer};
@@ -8,6 +8,14 @@ ghost use Rattle.disk.specs.Faults.{CallPasses, Marks, fault_of};
 ghost use Rattle.disk.specs.Calls.{WriteOutcome, CutOutcome, SyncOutcome, RemoveOutcome};
 
 use crate::DiskError;
+
+/// Whether bytes of this length, from this place on, would end past place 2^63 - 1, the greatest
+/// where a file may end.
+pub fn ends_out_of_range(at: u64, len: usize) -> bool
+    ensures { IsTrue result ↔ EndsOutOfRange at len }
+{
+    at.saturating_add(len as u64) >= 1 << 63
+}
 
 /// A device with numbered files, and the outcomes that a crash may leave of them.
 pub trait Disk {

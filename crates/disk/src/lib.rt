@@ -18,7 +18,7 @@ mod slot;
 mod tear;
 
 pub use crash::Crash;
-pub use disk::Disk;
+pub use disk::{Disk, ends_out_of_range};
 pub use error::DiskError;
 pub use fault::Fault;
 pub use junk::{Junk, JunkBytes};

@@ -1,10 +1,10 @@
 // A disk in memory.
 ghost use Rattle.std.specs.Prelude.{◌≡◌, ◌≢◌, ℕ, ◌+◌, ◌-◌, ◌^◌, ◌<◌, ◌≤◌, length, min};
-ghost use Rattle.std.specs.Prelude.{◌↔◌, IfOk, OnOk, OnErr, Err, Some, None, [], ◌∷◌, IsTrue};
+ghost use Rattle.std.specs.Prelude.{IfOk, OnOk, OnErr, Err, Some, None, [], ◌∷◌};
 ghost use Rattle.std.specs.BTreeMap.{insert_entry};
 ghost use Rattle.std.specs.Ordering.{nat_cmp};
 ghost use Rattle.disk.specs.States.{Absent, ChangesSlot, IsSame, seen};
-ghost use Rattle.disk.specs.Calls.{CutOutcome, EndsOutOfRange, LengthAnswer, ListsFiles};
+ghost use Rattle.disk.specs.Calls.{CutOutcome, LengthAnswer, ListsFiles};
 ghost use Rattle.disk.specs.Calls.{ReadAnswer, RemoveOutcome, SyncOutcome, WriteOutcome};
 ghost use Rattle.disk.specs.Faults.{WasMade};
 ghost use Rattle.disk.specs.Crashes.{CrashOutcome};
@@ -12,7 +12,7 @@ ghost use Rattle.disk.specs.Memory.{state_of, past_states, IsReliable};
 
 use crate::device::Device;
 use crate::slot::MemSlot;
-use crate::{Crash, Disk, DiskError, Fault, Junk};
+use crate::{Crash, Disk, DiskError, Fault, Junk, ends_out_of_range};
 use std::alloc::{AllocError, Global};
 use std::collections::BTreeMap;
 use std::marker::Model;
@@ -43,15 +43,6 @@ impl Model for MemDisk {
       past = disk.device.past;
       marks = disk.device.marks;
     }) };
-}
-
-// The greatest place where a file may end.
-const MAX_LEN: u64 = (1 << 63) - 1;
-
-fn ends_out_of_range(at: u64, len: usize) -> bool
-    ensures { IsTrue result ↔ EndsOutOfRange at len }
-{
-    at > MAX_LEN || len as u64 > MAX_LEN - at
 }
 
 impl MemDisk {

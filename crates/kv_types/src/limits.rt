@@ -2,8 +2,7 @@
 ghost use Rattle.std.specs.Prelude.{◌≡◌, IfOk, IfErr};
 ghost use Rattle.kv_types.specs.Limits.{IsInRange};
 
-use crate::KvError;
-use crate::bounds::MAX_CACHE;
+use crate::{KvError, LimitName};
 
 /// Limits of a store: when it flushes and merges, and how many blocks it keeps in memory.
 #[derive(Clone, Copy, Debug)]
@@ -30,10 +29,12 @@ impl Limits {
         ensures refused { IfErr result (λ e. (e ≡ KvError.BadLimit)
             × (IsInRange log l0 table level cache → ⊥)) }
     {
-        if !(16..=1 << 30).contains(&log) || l0 > 64 || !(64..=1 << 30).contains(&table) {
-            return Err(KvError::BadLimit);
-        }
-        if !(64..=1 << 40).contains(&level) || !(1..=MAX_CACHE).contains(&cache) {
+        let are_allowed = LimitName::Log.allows(log)
+            && LimitName::L0.allows(l0)
+            && LimitName::Table.allows(table)
+            && LimitName::Level.allows(level)
+            && LimitName::Cache.allows(cache);
+        if !are_allowed {
             return Err(KvError::BadLimit);
         }
         Ok(Limits {

@@ -4,7 +4,7 @@ use Rattle.std.proofs.Common.{suc}
 use Rattle.std.proofs.Common.{List, [], ◌∷◌, slice_set, Some, None, Result, Ok, Err, OnOk, arith}
 use Rattle.std.proofs.Common.{length-set}
 use Rattle.std.specs.List.{slice_get, sum_by}
-use Rattle.std.proofs.lemmas.List.Sums.{sum_by-le-sum_by, sum_by-cons}
+use Rattle.std.proofs.lemmas.List.Sums.{sum_by-cons}
 use Rattle.merge_iter.specs.declared.direction.Direction.{Direction}
 use Rattle.merge_iter.specs.declared.error.CursorError.{CursorError}
 use Rattle.kv_types.specs.{Entry}
@@ -163,10 +163,6 @@ module _ {C S : Type 0} (holds : C → S → Entry → Type 0) (sound : C → S 
               (past_others way (holds c before) entry (position c)
               (λ p h eq. q.0 (apart j k c x p entry q.1 at h here.0.0 eq)) (first j c q.1))
         ]
-
-  pub left_most : IsLawful holds sound suits keeps left most → (way : Direction) (xs : List C)
-      → sum_by (λ c. left c way) xs ≤ sum_by most xs
-  left_most laws way xs = sum_by-le-sum_by (λ c. left c way) most xs (λ c. laws.within c way)
 
 -- a step from an entry
 pub tells_on : {A : Type 0} (S T : Type 0) (s : Position) (f h : ℕ)

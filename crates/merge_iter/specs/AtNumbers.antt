@@ -12,18 +12,21 @@ use Rattle.kv_types.specs.{IsShown}
 use Rattle.merge_iter.specs.ShownEntries.{IfKept, IsSettled, left_in, view_position}
 use Rattle.merge_iter.specs.AlikeViews.{all_shown_alike, settled_alike}
 
+module _ {C : Type 0} (left : C → Direction → ℕ) (most : C → ℕ)
+    (within : (c : C) (way : Direction) → left c way ≤ most c) where
+  -- no more steps are left than from end to end
+  shown_within : (c : C) (m : Mode) (way : Direction) → left_in (left c) (most c) m way ≤ most c + 2
+  shown_within c mode.Inner Forward = let h = within c Forward in omega (arith, h)
+  shown_within c mode.Inner Backward = omega arith
+  shown_within c mode.Kept Forward = omega arith
+  shown_within c mode.Kept Backward = let h = within c Backward in omega (arith, h)
+  shown_within c mode.Off way = omega arith
+  shown_within c mode.Broken way = omega arith
+
 module _ {C S : Type 0} (holds : C → S → Entry → Type 0) (sound : C → S → Type 0) (suits : C → S →
     S → Type 0)
     (keeps : S → S → Type 0) (left : C → Direction → ℕ) (most : C → ℕ) (position : C → Position)
     (laws : IsLawful holds sound suits keeps left most) where
-  within : (c : C) (m : Mode) (way : Direction) → left_in (left c) (most c) m way ≤ most c + 2
-  within c mode.Inner Forward = let h = laws.within c Forward in omega (arith, h)
-  within c mode.Inner Backward = omega arith
-  within c mode.Kept Forward = omega arith
-  within c mode.Kept Backward = let h = laws.within c Backward in omega (arith, h)
-  within c mode.Off way = omega arith
-  within c mode.Broken way = omega arith
-
   -- the laws of a cursor hold of a view of one
   pub at_laws : {M : Type 0} (inner : M → C) (at : M → ℕ) (m : M → Mode) (kept : M → Entry)
       → IsLawful {C = M} (λ a s. IsShown (at a) (holds (inner a) s)) (λ a s. sound (inner a) s
@@ -54,7 +57,7 @@ module _ {C S : Type 0} (holds : C → S → Entry → Type 0) (sound : C → S 
           z.2,
         );
     apart = λ a s h p q hp hq e. laws.apart (inner a) s h.0 p q hp.newest.seen.0 hq.newest.seen.0 e;
-    within = λ a way. within (inner a) (m a) way;
+    within = λ a way. shown_within left most laws.within (inner a) (m a) way;
   }
 
 module _ {C S K : Type 0} {as_is : S → K} {is_intact : K → S → Type 0}
@@ -63,15 +66,6 @@ module _ {C S K : Type 0} {as_is : S → K} {is_intact : K → S → Type 0}
     {makes : Bool → S → S → Type 0}
     (laws : AreCursorLaws as_is is_intact holds sound suits keeps makes
     left most) where
-  -- no more steps are left than from end to end
-  all_within : (c : C) (m : Mode) (way : Direction) → left_in (left c) (most c) m way ≤ most c + 2
-  all_within c mode.Inner Forward = let h = laws.within c Forward in omega (arith, h)
-  all_within c mode.Inner Backward = omega arith
-  all_within c mode.Kept Forward = omega arith
-  all_within c mode.Kept Backward = let h = laws.within c Backward in omega (arith, h)
-  all_within c mode.Off way = omega arith
-  all_within c mode.Broken way = omega arith
-
   -- what a view keeps, whatever its inner cursor's source was meant to hold
   pub view_laws : {M : Type 0} (inner : M → C) (at : M → ℕ) (m : M → Mode) (kept : M → Entry)
       → AreCursorLaws {C = M} as_is is_intact (λ w a s. IsShown (at a) (holds w (inner a) s))
@@ -91,7 +85,7 @@ module _ {C S K : Type 0} {as_is : S → K} {is_intact : K → S → Type 0}
         at m kept).suited;
     apart = λ w. (at_laws (holds w) (sound w) suits keeps left most position (law_at laws w) inner
         at m kept).apart;
-    within = λ a way. all_within (inner a) (m a) way;
+    within = λ a way. shown_within left most laws.within (inner a) (m a) way;
   }
 
 -- ---- the entry of a view

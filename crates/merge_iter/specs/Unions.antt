@@ -46,6 +46,24 @@ pub one : {C : Type 0} (xs : List C) (i : ℕ) (c d : C) → slice_get xs i ≡ 
     Some d → d ≡ c
 one xs i c d p q = let h : Some d ≡ Some c = sym q ∙ p in cc
 
+module _ {C : Type 0} (left : C → Direction → ℕ) (most : C → ℕ)
+    (within : (c : C) (way : Direction) → left c way ≤ most c) where
+  -- no children have more steps left than from end to end
+  pub left_all : (way : Direction) (xs : List C) → sum_by (λ c. left c way) xs ≤ sum_by most xs
+  left_all way xs = sum_by-le-sum_by (λ c. left c way) most xs (λ c. within c way)
+
+  -- nor has their union
+  merged_within : (xs : List C) (at : Place) (way : Direction) → merged_left left most xs at way ≤
+      merged_most most xs
+  merged_within xs (place.On Forward k second) Forward =
+      let h = left_all Forward xs in omega (arith, h)
+  merged_within xs (place.On Forward k second) Backward = omega arith
+  merged_within xs (place.On Backward k second) Forward = omega arith
+  merged_within xs (place.On Backward k second) Backward =
+      let h = left_all Backward xs in omega (arith, h)
+  merged_within xs place.Off way = omega arith
+  merged_within xs place.Broken way = omega arith
+
 module _ {C S : Type 0} (holds : C → S → Entry → Type 0) (sound : C → S → Type 0)
     (suits : C → S → S → Type 0) where
   -- entries stay where nothing changes
@@ -174,20 +192,6 @@ module _ {C S : Type 0} (holds : C → S → Entry → Type 0) (sound : C → S 
         hp.2) in
         laws.apart hq.1 a (m.each hq.0 hq.1 hq.2) p q (subst (λ d. holds d a p) c hp.3) hq.3 e
 
-    left_all : (way : Direction) (xs : List C) → sum_by (λ c. left c way) xs ≤ sum_by most xs
-    left_all way xs = sum_by-le-sum_by (λ c. left c way) most xs (λ c. laws.within c way)
-
-    merged_within : (xs : List C) (at : Place) (way : Direction) → merged_left left most xs at way ≤
-        merged_most most xs
-    merged_within xs (place.On Forward k second) Forward =
-        let h = left_all Forward xs in omega (arith, h)
-    merged_within xs (place.On Forward k second) Backward = omega arith
-    merged_within xs (place.On Backward k second) Forward = omega arith
-    merged_within xs (place.On Backward k second) Backward = let h = left_all Backward xs in
-        omega (arith, h)
-    merged_within xs place.Off way = omega arith
-    merged_within xs place.Broken way = omega arith
-
     -- the laws of a cursor hold of a union
     pub merged_laws : {M : Type 0} (children : M → List C) (at : M → Place)
         → IsLawful {C = M} (λ m s. UnionHolds (λ c. holds c s) (children m))
@@ -201,7 +205,7 @@ module _ {C S : Type 0} (holds : C → S → Entry → Type 0) (sound : C → S 
       suited = λ m a b all s. merged_on (children m) (at m) a b
           (λ i c e. laws.suited c a b (all i c e)) s;
       apart = λ m a s. merged_apart (children m) (at m) a s;
-      within = λ m way. merged_within (children m) (at m) way;
+      within = λ m way. merged_within left most laws.within (children m) (at m) way;
     }
 
 module _ {C S K : Type 0} {as_is : S → K} {is_intact : K → S → Type 0}
@@ -210,22 +214,6 @@ module _ {C S K : Type 0} {as_is : S → K} {is_intact : K → S → Type 0}
     {makes : Bool → S → S → Type 0}
     (laws : AreCursorLaws as_is is_intact holds sound suits keeps makes
     left most) where
-  -- no child has more steps left than from end to end
-  every_left : (way : Direction) (xs : List C) → sum_by (λ c. left c way) xs ≤ sum_by most xs
-  every_left way xs = sum_by-le-sum_by (λ c. left c way) most xs (λ c. laws.within c way)
-
-  -- nor has the union
-  all_within : (xs : List C) (at : Place) (way : Direction) → merged_left left most xs at way ≤
-      merged_most most xs
-  all_within xs (place.On Forward k second) Forward =
-      let h = every_left Forward xs in omega (arith, h)
-  all_within xs (place.On Forward k second) Backward = omega arith
-  all_within xs (place.On Backward k second) Forward = omega arith
-  all_within xs (place.On Backward k second) Backward =
-      let h = every_left Backward xs in omega (arith, h)
-  all_within xs place.Off way = omega arith
-  all_within xs place.Broken way = omega arith
-
   -- what a union keeps, whatever its children's source was meant to hold
   pub union_laws : {M : Type 0} (children : M → List C) (at : M → Place)
       → AreCursorLaws {C = M} as_is is_intact (λ w m s. UnionHolds (λ c. holds w c s) (children m))
@@ -245,7 +233,7 @@ module _ {C S K : Type 0} {as_is : S → K} {is_intact : K → S → Type 0}
         children at).suited;
     apart = λ w. (merged_laws (holds w) (sound w) suits keeps most left position (law_at laws w)
         children at).apart;
-    within = λ m way. all_within (children m) (at m) way;
+    within = λ m way. merged_within left most laws.within (children m) (at m) way;
   }
 
 -- ---- the entry of a union

@@ -19,6 +19,7 @@ mod shown;
 mod turns;
 
 pub use at_number::AtNumber;
+pub use child::step;
 pub use cursor::Cursor;
 pub use direction::Direction;
 pub use error::CursorError;

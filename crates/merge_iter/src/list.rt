@@ -119,8 +119,7 @@ impl Cursor for ListCursor {
     }
 
     fn last(&mut self, _source: &mut ()) -> Result<(), CursorError> {
-        let len = self.entries.len();
-        self.at = if len == 0 { 0 } else { len - 1 };
+        self.at = self.entries.len().saturating_sub(1);
         Ok(())
     }
 

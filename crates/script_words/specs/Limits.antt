@@ -1,13 +1,11 @@
--- The limits that a script may set: their words, the numbers that they may be, their defaults.
-use Rattle.std.specs.Prelude.{◌≡◌, ◌^◌, ◌&&◌, ℕ, Bool, true, nat_le, List, [], ◌∷◌, codes, find}
-use Rattle.std.specs.Prelude.{Option}
+-- The limits that a script may set: their words and defaults.
+use Rattle.std.specs.Prelude.{◌≡◌, ℕ, true, List, [], ◌∷◌, codes, find, Option}
 use Rattle.std.specs.Fmt.{decimal}
 use Rattle.std.specs.Str.{bytes_eq}
 use Rattle.kv_types.specs.declared.Limits.{Limits}
-use Rattle.kv_types.specs.declared.bounds.TheConstants.{MAX_CACHE}
-use Rattle.script_words.specs.declared.limits.LimitName.{LimitName}
-use Rattle.script_words.specs.declared.limits.LimitName.TheVariants.{Log, L0, Table, Level}
-use Rattle.script_words.specs.declared.limits.LimitName.TheVariants.{Cache}
+use Rattle.kv_types.specs.declared.LimitName.{LimitName}
+use Rattle.kv_types.specs.declared.LimitName.TheVariants.{Log, L0, Table, Level, Cache}
+use Rattle.kv_types.specs.Limits.{is_allowed}
 use Rattle.script_words.specs.declared.limits.ScriptLimits.{ScriptLimits}
 
 -- the word of a limit
@@ -22,19 +20,6 @@ limit_word Cache = codes "cache"
 abbrev pub limit_named : List ℕ → Option LimitName
 limit_named word =
     find (λ name. bytes_eq word (limit_word name)) (Log ∷ L0 ∷ Table ∷ Level ∷ Cache ∷ [])
-
--- the least and the greatest number that a limit may be
-abbrev pub limit_range : LimitName → ℕ × ℕ
-limit_range Log = (16, 2 ^ 30)
-limit_range L0 = (0, 64)
-limit_range Table = (64, 2 ^ 30)
-limit_range Level = (64, 2 ^ 40)
-limit_range Cache = (1, MAX_CACHE)
-
--- a limit may be this number
-abbrev pub is_allowed : LimitName → ℕ → Bool
-is_allowed name number =
-    nat_le (limit_range name).0 number && nat_le number (limit_range name).1
 
 -- the limits of a script that sets none
 abbrev pub default_limits : ScriptLimits

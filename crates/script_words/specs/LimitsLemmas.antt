@@ -1,8 +1,8 @@
--- The words of limits, and the ranges that they keep.
+-- The words of limits, and the numbers that they may be.
 use Rattle.std.specs.Prelude.{Bool, find, nat_le}
-use Rattle.kv_types.specs.Limits.{IsInRange}
-use Rattle.script_words.specs.declared.limits.LimitName.TheVariants.{Cache, L0, Level, Log, Table}
-use Rattle.script_words.specs.declared.limits.LimitName.{LimitName}
+use Rattle.kv_types.specs.Limits.{IsInRange, is_allowed, limit_range}
+use Rattle.kv_types.specs.declared.LimitName.TheVariants.{Cache, L0, Level, Log, Table}
+use Rattle.kv_types.specs.declared.LimitName.{LimitName}
 use Rattle.std.proofs.Common.{List, Some, ap, arith, inl, inr, refl, subst, true, ℕ, ◌<◌, ◌^◌, ◌∷◌}
 use Rattle.std.proofs.Common.{◌≡◌, ◌≤◌, []}
 use Rattle.script_words.specs.declared.limits.ScriptLimits.{ScriptLimits}
@@ -10,7 +10,7 @@ use Rattle.std.proofs.lemmas.Bool.{and_parts, cases_Bool}
 use Rattle.std.specs.Str.{bytes_eq}
 use Rattle.std.proofs.lemmas.Slice.Eq.{bytes_eq-Decides}
 use Rattle.std.proofs.lemmas.Grind.{common_steps}
-use Rattle.script_words.specs.Limits.{is_allowed, limit_named, limit_range, limit_word, limits_with}
+use Rattle.script_words.specs.Limits.{limit_named, limit_word, limits_with}
 use Rattle.std.proofs.lemmas.Bool.Decides.{nat_tests}
 use Rattle.std.specs.Option.{option_map_or}
 
@@ -42,14 +42,13 @@ word_of_limit word name is =
     (found_passes (λ it. bytes_eq word (limit_word it))
     (Log ∷ L0 ∷ Table ∷ Level ∷ Cache ∷ []) name is)
 
-at_least : (a b : ℕ) → nat_le a b ≡ true → a ≤ b
-at_least a b is = grind (arith, nat_tests)
-
--- a number that a limit may be lies in its range
+-- a number that a limit may be is not above its range
 within : (name : LimitName) (number : ℕ) → is_allowed name number ≡ true
-    → ((limit_range name).0 ≤ number) × (number ≤ (limit_range name).1)
+    → number ≤ (limit_range name).1
 within name number allowed =
-    let both = and_parts _ _ allowed in (at_least _ _ both.0, at_least _ _ both.1)
+    let both = and_parts (nat_le (limit_range name).0 number) (nat_le number (limit_range name).1)
+    allowed in
+    grind (arith, nat_tests, both.1)
 
 greatest_is_small : (name : LimitName) → (limit_range name).1 < 2 ^ 63
 greatest_is_small Log = omega arith
@@ -61,18 +60,18 @@ greatest_is_small Cache = omega arith
 -- a number that a limit may be is one that a script may name
 pub is_small : (name : LimitName) (number : ℕ) → is_allowed name number ≡ true → number < 2 ^ 63
 is_small name number allowed =
-    omega (arith, (within name number allowed).1, greatest_is_small name)
+    omega (arith, within name number allowed, greatest_is_small name)
 
--- each of the limits lies in its range
+-- each of the limits may be its number
 abbrev pub HasRanges : ScriptLimits → Type 0
 HasRanges limits = IsInRange limits.log limits.l0 limits.table limits.level limits.cache
 
--- each of the limits lies in its range where one is set
+-- each of the limits may be its number where one is set
 pub with_ranges : (limits : ScriptLimits) (name : LimitName) (number : ℕ)
     → is_allowed name number ≡ true → HasRanges limits
     → HasRanges (limits_with limits name number)
 with_ranges limits Log number allowed are = record {
-  log_range = within Log number allowed;
+  log_range = allowed;
   l0_range = are.l0_range;
   table_range = are.table_range;
   level_range = are.level_range;
@@ -80,7 +79,7 @@ with_ranges limits Log number allowed are = record {
 }
 with_ranges limits L0 number allowed are = record {
   log_range = are.log_range;
-  l0_range = (within L0 number allowed).1;
+  l0_range = allowed;
   table_range = are.table_range;
   level_range = are.level_range;
   cache_range = are.cache_range;
@@ -88,7 +87,7 @@ with_ranges limits L0 number allowed are = record {
 with_ranges limits Table number allowed are = record {
   log_range = are.log_range;
   l0_range = are.l0_range;
-  table_range = within Table number allowed;
+  table_range = allowed;
   level_range = are.level_range;
   cache_range = are.cache_range;
 }
@@ -96,7 +95,7 @@ with_ranges limits Level number allowed are = record {
   log_range = are.log_range;
   l0_range = are.l0_range;
   table_range = are.table_range;
-  level_range = within Level number allowed;
+  level_range = allowed;
   cache_range = are.cache_range;
 }
 with_ranges limits Cache number allowed are = record {
@@ -104,5 +103,5 @@ with_ranges limits Cache number allowed are = record {
   l0_range = are.l0_range;
   table_range = are.table_range;
   level_range = are.level_range;
-  cache_range = within Cache number allowed;
+  cache_range = allowed;
 }

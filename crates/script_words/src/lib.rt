@@ -17,7 +17,7 @@ pub use edit::{RawEdit, raw_edit_of};
 pub use error::ScriptError;
 pub use fault::{fault_behind, split_fault};
 pub use junk::junk_of;
-pub use limits::{LimitName, ScriptLimits};
+pub use limits::{ScriptLimits, limit_of};
 pub use lines::{ScriptLines, ended_line, put_words};
 pub use plain::{is_itself, split_plain};
 pub use range::{RawRange, bounds_of};

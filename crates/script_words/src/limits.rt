@@ -1,53 +1,21 @@
 //! The limits that a script may set for the stores of its nodes.
 ghost use Rattle.std.specs.Prelude.{◌≡◌};
 ghost use Rattle.kv_types.specs.Limits.{IsInRange};
-ghost use Rattle.script_words.specs.Limits.{default_limits, is_allowed, limit_named, limits_with};
-ghost use Rattle.script_words.specs.Limits.{AreLimits};
+ghost use Rattle.script_words.specs.Limits.{AreLimits, default_limits, limit_named, limits_with};
 
-use kv_types::Limits;
-use kv_types::bounds::MAX_CACHE;
+use kv_types::{LimitName, Limits};
 
-/// The name of a limit.
-#[derive(Clone, Copy)]
-pub enum LimitName {
-    /// Bytes of a log.
-    Log,
-    /// Tables of level 0.
-    L0,
-    /// Bytes of a table's data.
-    Table,
-    /// Bytes of level 1; each deeper level has ten times the limit of the one above it.
-    Level,
-    /// Blocks of tables that a store keeps in memory.
-    Cache,
-}
-
-impl LimitName {
-    /// The name that a word spells.
-    pub fn of(word: &[u8]) -> Option<LimitName>
-        ensures { result ≡ limit_named word.now }
-    {
-        match word {
-            b"log" => Some(LimitName::Log),
-            b"l0" => Some(LimitName::L0),
-            b"table" => Some(LimitName::Table),
-            b"level" => Some(LimitName::Level),
-            b"cache" => Some(LimitName::Cache),
-            _ => None,
-        }
-    }
-
-    /// Whether the limit may be this number.
-    pub fn allows(self, number: u64) -> bool
-        ensures { result ≡ is_allowed self number }
-    {
-        match self {
-            LimitName::Log => (16..=1 << 30).contains(&number),
-            LimitName::L0 => number <= 64,
-            LimitName::Table => (64..=1 << 30).contains(&number),
-            LimitName::Level => (64..=1 << 40).contains(&number),
-            LimitName::Cache => (1..=MAX_CACHE).contains(&number),
-        }
+/// The limit that a word names.
+pub fn limit_of(word: &[u8]) -> Option<LimitName>
+    ensures { result ≡ limit_named word.now }
+{
+    match word {
+        b"log" => Some(LimitName::Log),
+        b"l0" => Some(LimitName::L0),
+        b"table" => Some(LimitName::Table),
+        b"level" => Some(LimitName::Level),
+        b"cache" => Some(LimitName::Cache),
+        _ => None,
     }
 }
 

@@ -3,10 +3,11 @@ use Rattle.std.proofs.Common.{◌≡◌, ◌∙◌, ◌<◌, ◌^◌, ℕ, List,
 use Rattle.std.proofs.Common.{Option, Some, ap, arith, codes, false, refl, true}
 use Rattle.std.specs.Prelude.{is_some}
 use Rattle.std.specs.Fmt.{decimal}
-use Rattle.script_words.specs.declared.limits.LimitName.{LimitName}
+use Rattle.kv_types.specs.declared.LimitName.{LimitName}
 use Rattle.scripts.specs.declared.statement.ParserState.{ParserState}
 use Rattle.script_words.specs.Words.{before_fault, has_fault}
-use Rattle.script_words.specs.Limits.{SetsLimit, is_allowed, limit_named, limit_word, limits_with}
+use Rattle.kv_types.specs.Limits.{is_allowed}
+use Rattle.script_words.specs.Limits.{SetsLimit, limit_named, limit_word, limits_with}
 use Rattle.scripts.specs.Faults.{after_words, limit_fault, limits_after, words_fault}
 use Rattle.script_words.specs.LimitsLemmas.{word_of_limit}
 use Rattle.script_words.specs.WordsLemmas.{number_back, number_word}

@@ -6,7 +6,7 @@ use Rattle.std.specs.Str.{bytes_eq}
 use Rattle.std.specs.Fmt.{decimal}
 use Rattle.lab.specs.EventKind.{EventKind}
 use Rattle.lab.specs.NodeLists.{Configurations}
-use Rattle.script_words.specs.declared.limits.LimitName.{LimitName}
+use Rattle.kv_types.specs.declared.LimitName.{LimitName}
 use Rattle.script_words.specs.declared.limits.ScriptLimits.{ScriptLimits}
 use Rattle.scripts.specs.declared.setup.Setup.{Setup}
 use Rattle.scripts.specs.declared.statement.Action.{Action}

@@ -16,8 +16,8 @@ use Rattle.lab.specs.Configs.{TestDecidesConfig}
 use Rattle.scripts.specs.declared.statement.Action.{Action}
 use Rattle.scripts.specs.declared.statement.Action.TheVariants.{Settle, Show}
 use Rattle.scripts.specs.Reading.{IsOfOneNode}
-use Rattle.script_words.specs.declared.limits.LimitName.{LimitName}
-use Rattle.script_words.specs.declared.limits.LimitName.TheVariants.{Cache, Log, L0, Table, Level}
+use Rattle.kv_types.specs.declared.LimitName.{LimitName}
+use Rattle.kv_types.specs.declared.LimitName.TheVariants.{Cache, Log, L0, Table, Level}
 use Rattle.script_words.specs.declared.limits.ScriptLimits.{ScriptLimits}
 use Rattle.scripts.specs.declared.setup.Setup.{Setup}
 use Rattle.scripts.specs.declared.statement.ParserState.{ParserState}

@@ -21,7 +21,8 @@ use Rattle.scripts.specs.declared.statement.ParserState.{ParserState}
 use Rattle.script_words.specs.Words.{is_number, has_fault, before_fault, from_fault}
 use Rattle.scripts.specs.Statements.{fault_of_words}
 use Rattle.script_words.specs.FaultWords.{fault_word}
-use Rattle.script_words.specs.Limits.{default_limits, is_allowed, limit_named, limits_with}
+use Rattle.kv_types.specs.Limits.{is_allowed}
+use Rattle.script_words.specs.Limits.{default_limits, limit_named, limits_with}
 use Rattle.scripts.specs.Scripts.{is_skipped, up_to}
 use Rattle.script_words.specs.Lines.{words_of}
 

@@ -8,7 +8,7 @@ use Rattle.lab.specs.EventKind.{EventKind}
 use Rattle.lab.specs.Events.{epoch_in}
 use Rattle.lab.specs.Configs.{IsConfig}
 use Rattle.lab.specs.{NamesNode}
-use Rattle.script_words.specs.declared.limits.LimitName.{LimitName}
+use Rattle.kv_types.specs.declared.LimitName.{LimitName}
 use Rattle.script_words.specs.declared.limits.ScriptLimits.{ScriptLimits}
 use Rattle.scripts.specs.declared.setup.Setup.{Setup}
 use Rattle.scripts.specs.declared.statement.Statement.{Statement}

@@ -17,9 +17,10 @@ use crate::setup::Setup;
 use crate::statement::{Action, LineItem, ParserState, Statement};
 use crate::statements::command_of;
 use crate::submit::submit;
+use kv_types::LimitName;
 use lab::{Event, EventKind, Fault, NodeId};
 use script_words::{
-    LimitName, ScriptError, ScriptLimits, ScriptLines, fault_behind, number, put_words, split_fault,
+    ScriptError, ScriptLimits, ScriptLines, fault_behind, limit_of, number, put_words, split_fault,
 };
 use std::alloc::Global;
 
@@ -60,7 +61,7 @@ fn limit(before: &ParserState, args: &[&[u8]]) -> Result<(LimitName, u64), Scrip
     if before.configs.is_some() {
         return Err(ScriptError::OutOfPlace);
     }
-    match LimitName::of(name) {
+    match limit_of(name) {
         Some(limit) if limit.allows(number) => Ok((limit, number)),
         _ => Err(ScriptError::BadLimit),
     }

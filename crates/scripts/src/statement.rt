@@ -6,9 +6,9 @@ ghost use Rattle.scripts.specs.Faults.{node_fault, place_fault};
 ghost use Rattle.scripts.specs.Reading.{HasEpoch, after_item, statements_of};
 ghost use Rattle.scripts.specs.Scripts.{begins};
 
-use kv_types::KvError;
+use kv_types::{KvError, LimitName};
 use lab::{Configs, Epoch, Event, NodeId};
-use script_words::{LimitName, ScriptError, ScriptLimits};
+use script_words::{ScriptError, ScriptLimits};
 use std::alloc::AllocError;
 
 /// What a statement comes to.

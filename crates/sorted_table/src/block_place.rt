@@ -107,11 +107,6 @@ impl BlockPlace {
     {
         let block = &self.block;
         let at = count_before(&block.bytes, &block.starts, key, number);
-        let count = block.starts.len();
-        if at < count {
-            self.at = at;
-            return;
-        }
-        self.at = count - 1;
+        self.at = at.min(block.starts.len() - 1);
     }
 }

@@ -4,7 +4,6 @@ ghost use Rattle.std.specs.List.{slice_get};
 ghost use Rattle.kv_types.specs.{Entry, lent_key};
 ghost use Rattle.merge_iter.specs.{AreSound, CanStep, EachChild, EntryPrecedes, IsAlike, Off};
 ghost use Rattle.merge_iter.specs.{spot, union_of};
-ghost use Rattle.merge_iter.specs.LentCursors.{StepsCursor};
 ghost use Rattle.merge_iter.specs.declared.Direction.TheVariants.{Forward};
 ghost use Rattle.sorted_table.specs.{EndsBefore};
 ghost use Rattle.store_cursors.specs.Concatenation.{AreConcatenated, EntersChildren};
@@ -15,7 +14,7 @@ use crate::child_place::ChildPlace;
 use crate::start::{Start, rank};
 use disk::Disk;
 use kv_types::LentKey;
-use merge_iter::{Cursor, CursorError, Direction};
+use merge_iter::{Cursor, CursorError, Direction, step};
 use sorted_table::TableCursor;
 
 /// A cursor that can tell, without a move, of some keys that they come behind all its entries.
@@ -74,21 +73,6 @@ pub fn enter_from<C: Cursor>(
         }
     }
     Ok(ChildPlace::Off)
-}
-
-// Steps a cursor to the next entry in this direction.
-fn step<C: Cursor>(
-    cursor: &mut C,
-    way: Direction,
-    source: &mut C::Source,
-) -> Result<(), CursorError>
-    requires { CanStep (C.position cursor.old) }
-    ensures { StepsCursor C.Cursor way cursor.old source.old cursor.new source.new result }
-{
-    match way {
-        Direction::Forward => cursor.next(source),
-        Direction::Backward => cursor.prev(source),
-    }
 }
 
 /// Steps child `k` in this direction, and where that leads off its end, enters those behind it.

@@ -30,19 +30,13 @@ pub fn entries_of(part: &[u8]) -> Option<&[u8]>
     ensures one { (entries : List Entry) → IsBlock part.now entries →
         MatchOption result ⊥ (λ text. text.now ≡ entries_bytes entries) }
 {
-    let Some(content) = unsealed(part) else {
-        return None;
-    };
-    let Some((count, entries)) = read_u32(content) else {
-        return None;
-    };
+    let content = unsealed(part)?;
+    let (count, entries) = read_u32(content)?;
     let mut last: Option<LentEntry> = None;
     let mut seen = 0u32;
     let mut rest = entries;
     while !rest.is_empty() {
-        let Some((entry, after)) = entry_of(rest) else {
-            return None;
-        };
+        let (entry, after) = entry_of(rest)?;
         if seen == count || !follows(last, entry) {
             return None;
         }

@@ -1,7 +1,7 @@
 // The bytes of complete filters, and the keys that they deny.
 use crate::counts::is_count;
 use crate::sequence::key_of;
-use bloom::{BloomError, KeyHashes, build, may_hold, may_hold_hashed};
+use bloom::{KeyHashes, build, may_hold, may_hold_hashed};
 use kv_types::Key;
 use std::alloc::Global;
 use std::process::Abort;
@@ -98,9 +98,4 @@ fn the_filter_of_many_keys(rt: HostRuntime) {
     let filter = build(alloc, &keys).expect(&rt, "memory");
     is_count(&rt, filter.len(), 1_250);
     is_count(&rt, held_of(&filter, &keys), 1_000);
-}
-
-#[test]
-fn the_refusal_has_its_number(rt: HostRuntime) {
-    assert!(rt; BloomError::Memory as u8 == 1);
 }

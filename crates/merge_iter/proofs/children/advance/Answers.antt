@@ -1,8 +1,8 @@
 use Rattle.std.proofs.Common.{◌<◌, subst, sym, IsTrue, arith}
 use Rattle.std.specs.List.{sum_by}
 use Rattle.merge_iter.specs.LentCursors.{StepsChildren}
-use Rattle.merge_iter.specs.Moves.{law_at}
-use Rattle.merge_iter.proofs.Loops.{across, left_most, always_ok}
+use Rattle.merge_iter.proofs.Loops.{across, always_ok}
+use Rattle.merge_iter.specs.Unions.{left_all}
 use Rattle.merge_iter.proofs.children.advance.Goals as goal
 
 pub returns-then-is_same-clause-steps : goal.returns-then-is_same-clause-steps
@@ -18,10 +18,7 @@ returns-else-is_same-clause-steps g c = record {
       let e = across g.C.Cursor.left g.C.Cursor.most c.args.was c.args.way c.args.children.now.items
       (λ h. let f = c.if-is_same.false in let t : IsTrue c.is_same.result =
       c.is_same.ensures.same.1 h in cc) in
-      let l = left_most (g.C.Cursor.holds (g.C.Cursor.as_is c.args.source.now))
-      (g.C.Cursor.is_sound (g.C.Cursor.as_is c.args.source.now)) g.C.Cursor.suits g.C.Cursor.keeps
-      g.C.Cursor.left
-      g.C.Cursor.most (law_at g.met.C.Cursor.laws (g.C.Cursor.as_is c.args.source.now)) c.args.way
+      let l = left_all g.C.Cursor.left g.C.Cursor.most g.met.C.Cursor.laws.within c.args.way
       c.turn_all.new.children.items in
       let z = (c.turn_all.ensures.moved.moves (g.C.Cursor.as_is c.args.source.now)).size in
       always_ok c.turn_all.result

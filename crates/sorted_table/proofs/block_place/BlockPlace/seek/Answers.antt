@@ -1,4 +1,6 @@
-use Rattle.std.proofs.Common.{arith, subst}
+use Rattle.std.proofs.Common.{arith, inl, inr, subst, sym, ◌∙◌, length}
+use Rattle.std.proofs.Math.Nat.{min-eq_left}
+use Rattle.std.proofs.lemmas.Bool.{cases_lt}
 use Rattle.std.specs.Rc.{rc_slice_items}
 use Rattle.kv_types.specs.{lent_key}
 use Rattle.merge_iter.specs.{spot}
@@ -13,9 +15,14 @@ returns-clause-found c = λ entries rising reads some.
     let old = c.args.self.now in
     let bytes = rc_slice_items old.block.bytes in
     let starts = rc_slice_items old.block.starts in
+    let place = spot (lent_key c.args.key) c.args.number in
     let split = c.count_before-at.ensures.splits entries rising
     (lent_reads entries bytes starts c.deref.result.now c.deref-2.result.now
     c.deref.ensures.value c.deref-2.ensures.value reads) in
     let len = count_read bytes starts entries reads in
-    absurd (some (subst (SplitsEntries entries (spot (lent_key c.args.key) c.args.number))
-    (search (arith, len, split.within, c.if-at-count.false, c.len-count.ensures)) split))
+    elim (cases_lt c.count_before-at.result (length entries)) [
+      | inl early ↦ subst (SplitsEntries entries place)
+          (sym (c.min-self.ensures ∙ min-eq_left (omega (arith, early, len, c.len.ensures)))) split
+      | inr late ↦ absurd (some (subst (SplitsEntries entries place)
+          (omega (arith, late, split.within)) split))
+    ]
