@@ -1,6 +1,7 @@
 -- Calls that write to some files alone, one behind another.
-use Rattle.std.proofs.Common.{◌≡◌, ◌↔◌, ℕ, Result, Ok, Err, refl, sym, ap, subst, ◌∙◌}
-use Rattle.std.specs.Prelude.{IsErrAnd, IsErrOf, MatchResult}
+use Rattle.std.proofs.Common.{◌≡◌, ◌↔◌, ℕ, Result, Ok, Err, Option, Some, None, refl, sym, ap}
+use Rattle.std.proofs.Common.{subst, ◌∙◌}
+use Rattle.std.specs.Prelude.{IsErrAnd, IsErrOf, ok_or}
 use Rattle.disk.specs.declared.Disk.{Ghosts}
 use Rattle.disk.specs.{AlwaysLeaves, IsFileOutcome, IsLeftAt, IsSameBut, KeepsDisk}
 use Rattle.disk.specs.{RisesByOne, Slot}
@@ -208,13 +209,10 @@ pub table_answered : {T : Type 0} (result : Result T TableError) {x : T} → res
 table_answered result ok fails = cc
 
 -- nor is a line that a manifest may not have
-pub line_refused : (P : TableLine → Type 0) (Q : Type 0) (result : Result TableLine MergeError)
-    → MatchResult result P (λ e. (e ≡ merge.Damaged) × Q) → IsErrOf result merge.Disk → ⊥
-line_refused P Q (Ok line) told fails = cc
-line_refused P Q (Err e) told fails =
-    let is : e ≡ merge.Disk = cc in
-    let both : merge.Damaged ≡ merge.Disk = sym told.0 ∙ is in
-    cc
+pub line_refused : (found : Option TableLine) (result : Result TableLine MergeError)
+    → result ≡ ok_or found merge.Damaged → IsErrOf result merge.Disk → ⊥
+line_refused (Some line) result is fails = cc
+line_refused None result is fails = cc
 
 -- of the files of a table's builder, by its own number
 pub writes_builder : {D : Type 0} (g : Ghosts D) (builder file : ℕ) → builder ≡ file

@@ -21,7 +21,8 @@ use Rattle.compaction.specs.WrittenTables.{has_new_key, is_cut, nothing_written,
 use Rattle.compaction.specs.WrittenTables.{tables_of}
 use Rattle.compaction.specs.WrittenTables.{with_written, with_next, written_of}
 use Rattle.compaction.proofs.Dropping.{IsUpTo}
-use Rattle.compaction.proofs.Orders.{less_parts, not_behind}
+use Rattle.compaction.specs.OutputsLemmas.{not_behind}
+use Rattle.compaction.proofs.Orders.{less_parts}
 
 -- ---- table after table
 

@@ -16,7 +16,7 @@ use Rattle.compaction.specs.declared.writer.OutputWriter.{OutputWriter}
 use Rattle.compaction.specs.Outputs.{IsOwnFile, open_file}
 use Rattle.compaction.specs.Walks.{IsWalking}
 use Rattle.compaction.proofs.Numbers.{begun_more, edits_beside}
-use Rattle.compaction.proofs.Walks.{alike_through}
+use Rattle.compaction.specs.WalksLemmas.{alike_through}
 use Rattle.compaction.proofs.Writing.{outputs_kept}
 use Rattle.std.proofs.lemmas.List.Elements.{All-weaker}
 use Rattle.std.specs.Option.{option_map}

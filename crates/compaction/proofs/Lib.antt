@@ -7,7 +7,6 @@ mod OutputOrder
 mod JointRanges
 mod Planning
 mod Calls
-mod Finished
 mod Writing
 mod Walks
 mod Steps

@@ -51,7 +51,8 @@ use Rattle.compaction.specs.WrittenTables.{IsTableOver, Written, nothing_written
 use Rattle.compaction.proofs.Lists.{among_filter, filter_among, zip_back, zip_there}
 use Rattle.compaction.proofs.Once.{map_among}
 use Rattle.compaction.proofs.Steps.{intact_moved}
-use Rattle.compaction.proofs.Walks.{alike_through, walk_begins, walk_done}
+use Rattle.compaction.specs.WalksLemmas.{alike_through, walk_begins}
+use Rattle.compaction.proofs.Walks.{walk_done}
 use Rattle.compaction.proofs.Writing.{same_unused}
 use Rattle.std.proofs.Common.{◌⊎◌}
 

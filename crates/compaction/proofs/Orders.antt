@@ -2,8 +2,7 @@
 use Rattle.std.proofs.Common.{◌≡◌, ◌<◌, ℕ, ◌⊎◌, inl, inr, refl, sym, ◌∙◌, ap}
 use Rattle.std.specs.declared.cmp.Ordering.{Ordering}
 use Rattle.std.specs.declared.cmp.Ordering.TheVariants.{Less, Equal, Greater}
-use Rattle.std.specs.Ordering.{nat_cmp, ordering_reverse, ordering_then, is_eq}
-use Rattle.std.specs.Cmp.Lexicographic.{nat_list_cmp_total}
+use Rattle.std.specs.Ordering.{nat_cmp, ordering_then, is_eq}
 use Rattle.std.proofs.lemmas.Cmp.{ranked, by_ranked}
 use Rattle.std.proofs.lemmas.Map.Text.{is_eq-slice_cmp}
 use Rattle.std.proofs.lemmas.Slice.Eq.{bytes_eq-Decides}
@@ -38,12 +37,3 @@ split a b Greater is h =
 pub less_parts : (a b : Entry) → EntryPrecedes Forward a b
     → KeyPrecedes a.key b.key ⊎ ((a.key ≡ b.key) × (b.number < a.number))
 less_parts a b h = split a b (stored_cmp a.key b.key) refl h
-
--- an entry's key is not behind those of the entries that follow it
-pub not_behind : (a b : Entry) → EntryPrecedes Forward a b → KeyPrecedes b.key a.key → ⊥
-not_behind a b less back =
-    let turned : stored_cmp a.key b.key ≡ Greater =
-    nat_list_cmp_total.antisymm a.key b.key ∙ ap ordering_reverse back in
-    let wrong : Greater ≡ Less =
-    sym (ap (λ o. ordering_then o (nat_cmp b.number a.number)) turned) ∙ less in
-    cc

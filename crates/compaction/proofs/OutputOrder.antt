@@ -20,7 +20,7 @@ use Rattle.compaction.specs.WrittenTables.{IsTableOver, Written, WrittenAreMerge
 use Rattle.compaction.specs.WrittenTables.{open_table, tables_of}
 use Rattle.compaction.specs.WrittenTables.{written_of}
 use Rattle.compaction.proofs.Lists.{zip_back, zip_there}
-use Rattle.compaction.proofs.Orders.{not_behind}
+use Rattle.compaction.specs.OutputsLemmas.{not_behind}
 use Rattle.compaction.proofs.Cutting.{ComesFirst, IsInTurn, among_append, among_flat, flat}
 use Rattle.compaction.proofs.Cutting.{flat_among, in_turn, joined_tables, rises_last, rises_part}
 use Rattle.compaction.proofs.Cutting.{written_are_survivors}

@@ -33,8 +33,8 @@ use Rattle.compaction.specs.Walks.{HasSameFiles, HasWalked, IsIntactOn, IsWalkin
 use Rattle.compaction.specs.Walks.{StepRefusal, table_files, written_by}
 use Rattle.compaction.specs.WrittenTables.{Written, cut_before, nothing_written, with_next}
 use Rattle.compaction.specs.WrittenTables.{written_of}
-use Rattle.compaction.proofs.Walks.{alike_through, apart_like, follows_open, walk_goes}
-use Rattle.compaction.proofs.Walks.{walk_here}
+use Rattle.compaction.specs.WalksLemmas.{alike_through, walk_advances, walk_here}
+use Rattle.compaction.proofs.Walks.{apart_like, follows_open}
 use Rattle.compaction.proofs.Writing.{same_unused, same_writes}
 
 -- ---- the device
@@ -272,7 +272,7 @@ module _ {U F : Type 0} (u : CursorGhosts U F) (d : Ghosts F)
             reads = reads;
             apart = λ file there mine. w.apart file there (own file mine);
             met = w.met ++ entry ∷ [];
-            walked = walk_goes has (apart_like (u.holds meant union old) has w.alike
+            walked = walk_advances has (apart_like (u.holds meant union old) has w.alike
                 (laws.apart meant union old w.sound)) w.met (u.holds meant union mid) alike x
                 result (u.position union) (u.position moved) entry on is w.walked ok
                 (finds meant stay.0);

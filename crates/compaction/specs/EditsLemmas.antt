@@ -1,7 +1,7 @@
 -- Items beside tables of the model stay beside them through an edit, and the ends of outputs.
 use Rattle.std.proofs.Common.{◌≡◌, inl, inr, ℕ, ◌<◌, List, [], ◌∷◌, Bool, Option, Some, IfSome}
-use Rattle.std.proofs.Common.{length, sym, subst, ◌∙◌, ap, arith}
-use Rattle.std.specs.Prelude.{◌==◌, ◌&&◌, not}
+use Rattle.std.proofs.Common.{None, Result, length, sym, subst, ◌∙◌, ap, arith}
+use Rattle.std.specs.Prelude.{◌==◌, ◌&&◌, not, MatchOption, MatchResult, ok_or}
 use Rattle.std.specs.List.{AllZip, filter, fold, list_any}
 use Rattle.std.specs.Option.{option_map}
 use Rattle.std.proofs.lemmas.Bool.{cases_Bool}
@@ -10,6 +10,7 @@ use Rattle.kv_types.specs.{Entry}
 use Rattle.version_edits.specs.declared.TableLine.{TableLine}
 use Rattle.version_edits.specs.declared.TableName.{TableName}
 use Rattle.version_edits.specs.Versions.{placed, table_is_before}
+use Rattle.version_edits.specs.{IsTableLine}
 use Rattle.table_builder.specs.{first_entry}
 use Rattle.table_format.specs.RisingLemmas.{last_of_some}
 use Rattle.table_format.specs.{last_entry}
@@ -104,6 +105,15 @@ zip_after {A} line_of R lined gone items tables added outputs old new =
     items tables old) new
 
 -- ---- outputs
+
+-- of a finished table the line is found, where a manifest may have it
+pub line_found : {E : Type 0} (P : TableLine → Type 0) (Q : E → Type 0) (line : TableLine)
+    (found : Option TableLine) (e : E) (result : Result TableLine E) → result ≡ ok_or found e
+    → MatchOption found (IsTableLine line → ⊥) (λ one. (one ≡ line) × IsTableLine one)
+    → IsTableLine line → P line → MatchResult result P Q
+line_found P Q line (Some one) e result is told proper has =
+    subst (λ r. MatchResult r P Q) (sym is) (subst P (sym told.0) has)
+line_found P Q line None e result is told proper has = absurd (told proper)
 
 -- an output has entries, and its line's keys are those of the first and of the last
 pub output_ends : (disk : State) (level : ℕ) (line : TableLine) (table : LevelTable)

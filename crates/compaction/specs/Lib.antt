@@ -4,7 +4,9 @@ pub mod Survivors
 pub mod WrittenTables
 pub mod Errors
 pub mod Outputs
+pub mod OutputsLemmas
 pub mod Walks
+pub mod WalksLemmas
 pub mod Leftovers
 pub mod Merges
 pub mod Plans
@@ -20,7 +22,7 @@ pub use Rattle.compaction.specs.Inputs.{lent_range, line_name}
 pub use Rattle.compaction.specs.Merges.{IsFitMergeEdit, IsMergeEdit, IsNumberedFrom}
 pub use Rattle.compaction.specs.Merges.{IsMergeOutput, MergeEditsFit, MergeEditsKeep, MergeIsBeside}
 pub use Rattle.compaction.specs.Merges.{MergesStayBeside}
-pub use Rattle.compaction.specs.Outputs.{IsOutputFile, UsesNumbers}
+pub use Rattle.compaction.specs.Outputs.{IsOutputFile, UsesNumbers, finished_line}
 pub use Rattle.compaction.specs.Plans.{IsLineOf, PicksArePlanned, is_input, is_line_input}
 pub use Rattle.compaction.specs.Plans.{model_plan, range_of}
 pub use Rattle.compaction.specs.Survivors.{AreDeeperLines, AreSurvivors, IsSortedUnion, key_range}

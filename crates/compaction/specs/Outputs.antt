@@ -49,9 +49,9 @@ pub record KeepsRules (old new : OutputWriter) : Type 0 where
 
 -- ---- complete tables
 
--- the line of a finished table in this file
-abbrev pub output_line : ℕ → ℕ → Finished → TableLine
-output_line level file done = record {
+-- the line of a finished table of this level in this file
+abbrev pub finished_line : ℕ → ℕ → Finished → TableLine
+finished_line level file done = record {
   level = level;
   file = file;
   length = done.length;

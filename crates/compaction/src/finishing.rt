@@ -1,12 +1,13 @@
 // Finishing an output.
-ghost use Rattle.std.specs.Prelude.{◌≡◌, ◌≤◌, ◌<◌, IsErrOf, List, IfOk, MatchResult, length};
+ghost use Rattle.std.specs.Prelude.{◌≡◌, ◌≤◌, ◌<◌, IsErrOf, List, IfOk, MatchOption, MatchResult};
+ghost use Rattle.std.specs.Prelude.{length};
 ghost use Rattle.disk.specs.{IsEnvironmental};
 ghost use Rattle.kv_types.specs.declared.bounds.TheConstants.{MAX_NUMBER};
 ghost use Rattle.kv_types.specs.{Entry};
 ghost use Rattle.version_edits.specs.{IsTableLine};
 ghost use Rattle.table_builder.specs.{Builds, BuildsNothing};
 ghost use Rattle.compaction.specs.declared.error.MergeError.TheVariants.{Disk, Memory};
-ghost use Rattle.compaction.specs.Outputs.{IsOutput, WritesOnly, output_line};
+ghost use Rattle.compaction.specs.Outputs.{IsOutput, WritesOnly, finished_line};
 
 use crate::error::MergeError;
 use crate::open_output::OpenOutput;
@@ -16,19 +17,18 @@ use std::alloc::Global;
 use table_builder::Finished;
 use version_edits::TableLine;
 
-// The line of a finished output in this file. `Damaged` where a manifest may not have it, which
-// only a disk that is not honest brings about.
-fn line_of(level: u8, file: u64, done: Finished) -> Result<TableLine, MergeError>
+/// The line of a finished table of this level in this file. `None` where a manifest may not have
+/// it, which only a disk that is not honest brings about.
+pub fn finished_line(level: u8, file: u64, done: Finished) -> Option<TableLine>
     requires merged { level ≤ 6 }
     requires named { file ≤ MAX_NUMBER }
-    ensures { MatchResult result
-        (λ line. (line ≡ output_line level file done) × IsTableLine line)
-        (λ e. (e ≡ MergeError.Damaged) × (IsTableLine (output_line level file done) → ⊥)) }
+    ensures { MatchOption result (IsTableLine (finished_line level file done) → ⊥)
+        (λ line. (line ≡ finished_line level file done) × IsTableLine line) }
 {
     if done.length > MAX_NUMBER || done.greatest.is_below(&done.least) {
-        return Err(MergeError::Damaged);
+        return None;
     }
-    Ok(TableLine {
+    Some(TableLine {
         level,
         file,
         length: done.length,
@@ -59,5 +59,5 @@ pub(crate) fn finish_output<D: Disk>(
         return Err(MergeError::Damaged);
     }
     let done = builder.finish(alloc, disk)?;
-    line_of(level, file, done)
+    finished_line(level, file, done).ok_or(MergeError::Damaged)
 }

@@ -1,13 +1,12 @@
 // The inputs of a plan, among the tables of a version.
 ghost use Rattle.std.specs.Prelude.{◌≡◌, IfOk, filter, map, option_map, Some};
-ghost use Rattle.std.specs.Ordering.{is_lt};
-ghost use Rattle.kv_types.specs.{lent_key, stored_cmp};
 ghost use Rattle.compaction.specs.Inputs.{lent_range, line_name};
 ghost use Rattle.compaction.specs.Plans.{is_line_input, joint, names_line, overlaps, range_of};
 ghost use Rattle.compaction.specs.Plans.{with_range};
 ghost use Rattle.compaction.specs.Survivors.{key_range};
 
 use crate::plan::Plan;
+use crate::ranges::is_below;
 use kv_types::LentKey;
 use std::alloc::{AllocError, Global};
 use version_edits::{TableLine, TableName};
@@ -27,13 +26,6 @@ fn line_range(line: &TableLine) -> LentRange<'_>
         least: line.least.lent(),
         greatest: line.greatest.lent(),
     }
-}
-
-// Whether the first key is below the second.
-fn is_below(a: LentKey, b: LentKey) -> bool
-    ensures { result ≡ is_lt (stored_cmp (lent_key a.entry) (lent_key b.entry)) }
-{
-    a.cmp(b).is_lt()
 }
 
 // The joint range of two.

@@ -1,28 +1,13 @@
 // Files that a merge leaves where it is abandoned.
 ghost use Rattle.std.specs.Prelude.{◌≡◌, IsErrOf, IsNone, MatchResult};
 ghost use Rattle.disk.specs.{IsEnvironmental, seen};
-ghost use Rattle.version_edits.specs.Versions.{names_file, names_log};
 ghost use Rattle.compaction.specs.declared.error.MergeError.TheVariants.{Disk, Memory};
 ghost use Rattle.compaction.specs.Leftovers.{IsBesideVersion, RemovesLeftovers};
 ghost use Rattle.compaction.specs.Outputs.{WritesOnly};
 
 use crate::error::MergeError;
 use disk::{Disk, DiskError};
-use version_edits::{LogLine, StoreVersion, TableLine};
-
-// Whether one of the logs has the file.
-fn has_log(logs: &[LogLine], file: u64) -> bool
-    ensures { result ≡ names_log logs.now file }
-{
-    logs.iter().any(|line| line.file == file)
-}
-
-// Whether one of the tables has the file.
-fn has_table(tables: &[TableLine], file: u64) -> bool
-    ensures { result ≡ names_file tables.now file }
-{
-    tables.iter().any(|line| line.file == file)
-}
+use version_edits::{StoreVersion, names_file, names_log};
 
 // Removes a file, if there is one.
 fn remove_file<D: Disk>(disk: &mut D, file: u64) -> Result<(), MergeError>
@@ -53,10 +38,10 @@ fn remove_unnamed<D: Disk>(
         (λ _. IsBesideVersion version.now.version file → IsNone (seen (D.state disk.new file)))
         (IsEnvironmental Disk Memory) }
 {
-    if has_log(&version.logs, file) {
+    if names_log(&version.logs, file) {
         return Ok(());
     }
-    if has_table(&version.tables, file) {
+    if names_file(&version.tables, file) {
         return Ok(());
     }
     remove_file(disk, file)

@@ -17,6 +17,7 @@ mod walking;
 mod writer;
 
 pub use error::MergeError;
+pub use finishing::finished_line;
 pub use inputs::LentRange;
 pub use merge::Merge;
 pub use picking::pick;

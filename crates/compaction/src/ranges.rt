@@ -1,4 +1,4 @@
-// Which tables' ranges hold a key.
+// The order of keys, and which tables' ranges hold a key.
 ghost use Rattle.std.specs.Prelude.{◌≡◌};
 ghost use Rattle.std.specs.List.{list_any};
 ghost use Rattle.std.specs.Ordering.{is_lt};
@@ -9,7 +9,7 @@ use kv_types::LentKey;
 use version_edits::TableLine;
 
 // Whether the first key is below the second.
-fn precedes(a: LentKey, b: LentKey) -> bool
+pub(crate) fn is_below(a: LentKey, b: LentKey) -> bool
     ensures { result ≡ is_lt (stored_cmp (lent_key a.entry) (lent_key b.entry)) }
 {
     a.cmp(b).is_lt()
@@ -19,17 +19,12 @@ fn precedes(a: LentKey, b: LentKey) -> bool
 fn line_holds(key: LentKey, line: &TableLine) -> bool
     ensures { result ≡ line_holds (lent_key key.entry) line.now }
 {
-    !precedes(key, line.least.lent()) && !precedes(line.greatest.lent(), key)
+    !is_below(key, line.least.lent()) && !is_below(line.greatest.lent(), key)
 }
 
 // Whether the range of one of these tables does.
 pub(crate) fn any_holds(key: LentKey, lines: &[TableLine]) -> bool
     ensures { result ≡ list_any (line_holds (lent_key key.entry)) lines.now }
 {
-    for line in lines {
-        if line_holds(key, line) {
-            return true;
-        }
-    }
-    false
+    lines.iter().any(|line| line_holds(key, line))
 }

@@ -37,7 +37,7 @@ use Rattle.store_files.proofs.MergeEdits.{all_merged, input_no_slot, log_no_inpu
 use Rattle.store_files.proofs.MergeEdits.{table_no_input}
 use Rattle.store_files.proofs.Merged.{AreMerged, after, after_is, free_stays, known, log_stays}
 use Rattle.store_files.proofs.Merged.{merged_hold, named_after, slots_after, table_stays}
-use Rattle.store_files.proofs.Merged.{tables_after, usable_after}
+use Rattle.store_files.proofs.Merged.{merged_tables, usable_after}
 use Rattle.store_files.proofs.NamedFiles.{tables_same}
 use Rattle.store_files.proofs.NamedHolds.{NamedHold, log_no_slot, named_in, table_no_slot}
 use Rattle.store_files.proofs.StillFiles.{still_keeps}
@@ -100,7 +100,7 @@ module _ {files : StoreFiles} {edit : Change} (may : MayMerge files edit)
 
   -- the tables then
   abbrev pub tables_were : List LevelTable
-  tables_were = tables_after may m1 tables list named outputs names
+  tables_were = merged_tables may m1 tables list named outputs names
 
   named_then : NamedHold m1 (after may) files.logs (trimmed_count files) tables_were list
   named_then = named_after may m1 tables list named outputs names

@@ -28,7 +28,7 @@ use Rattle.store_files.proofs.MeantTends.{named_of}
 use Rattle.store_files.proofs.MergeEdits.{input_no_slot, log_no_input, table_no_input}
 use Rattle.store_files.proofs.Merged.{AreMerged, after, after_is, free_stays, known, log_stays}
 use Rattle.store_files.proofs.Merged.{merged_hold, named_after, outputs_stay, slots_after}
-use Rattle.store_files.proofs.Merged.{table_stays, tables_after, usable_after}
+use Rattle.store_files.proofs.Merged.{table_stays, merged_tables, usable_after}
 use Rattle.store_files.proofs.NamedHolds.{NamedHold, log_no_slot, named_in, named_left}
 use Rattle.store_files.proofs.NamedHolds.{table_no_slot}
 use Rattle.store_files.proofs.StillFiles.{still_keeps}
@@ -77,7 +77,7 @@ module _ {files : StoreFiles} {edit : Change} (may : MayMerge files edit)
 
     -- the tables then
     abbrev pub tables_then : List LevelTable
-    tables_then = tables_after may s2 tables list named outputs names
+    tables_then = merged_tables may s2 tables list named outputs names
 
     named_then : NamedHold s2 (after may) files.logs (trimmed_count files) tables_then list
     named_then = named_after may s2 tables list named outputs names

@@ -16,14 +16,14 @@ use Rattle.manifest.specs.{Change, EditsKeepVersions, IsSlotFile, IsVersion, Man
 use Rattle.manifest.specs.{ManifestHolds, ManifestRepresents, NodeVersion, StoreVersion, changed}
 use Rattle.manifest.specs.{counting_file, node_version_after}
 use Rattle.store_model.specs.PlacesLemmas.{contains_cases, contains_next}
-use Rattle.compaction.specs.{IsLineOf}
+use Rattle.compaction.specs.{IsLineOf, tables_after}
 use Rattle.version_edits.specs.declared.line.TableName.{TableName}
 use Rattle.store_tables.specs.declared.levels.LevelTables.{LevelTables}
 use Rattle.store_tables.specs.declared.levels.OpenTable.{OpenTable}
 use Rattle.store_tables.specs.LevelTables.{AreServed, AreTablesOf, WasServed, WereServed}
 use Rattle.store_tables.specs.LevelTables.{table_lines}
 use Rattle.store_tables.specs.MergeTables.{ReplacedLinesName, ReplacesTables, open_lines}
-use Rattle.store_tables.specs.MergeTables.{replaced_lines, replaced_tables}
+use Rattle.store_tables.specs.MergeTables.{replaced_lines}
 use Rattle.batch_logs.specs.declared.batch_logs.BatchLogs.{BatchLogs}
 use Rattle.store_files.specs.declared.store_files.StoreFiles.{StoreFiles}
 use Rattle.batch_logs.specs.BatchLogs.{AreUsable, LogsHold, first_number, lines_of, next_number}
@@ -111,11 +111,11 @@ module _ {files : StoreFiles} {edit : Change} (may : MayMerge files edit) where
       (h : NamedHold disk version files.logs trimmed tables list)
       (o : HasOutputs disk (known_store files tables) list edit) (names : ReplacedLinesName) where
     -- the tables after the edit
-    abbrev pub tables_after : List LevelTable
-    tables_after = replaced_tables edit.tables_gone o.outputs tables
+    abbrev pub merged_tables : List LevelTable
+    merged_tables = tables_after edit.tables_gone o.outputs tables
 
     -- what the new version names is held
-    pub named_after : NamedHold disk after files.logs trimmed tables_after list
+    pub named_after : NamedHold disk after files.logs trimmed merged_tables list
     named_after = record {
       lines = h.lines;
       held = h.held;
@@ -307,9 +307,9 @@ module _ (old new opened : LevelTables) (gone names : List TableName) (items : L
       (tables outputs : List LevelTable) → AreTablesOf left lines tables
       → AreTablesOf right added outputs → WereServed disk meant old tables
       → WereServed disk meant opened outputs
-      → WereServed disk meant new (replaced_tables names outputs tables)
+      → WereServed disk meant new (tables_after names outputs tables)
   tables_replaced disk meant left right tables outputs read new_read were opens =
-      subst (λ (l : List TableName). WereServed disk meant new (replaced_tables l outputs tables))
+      subst (λ (l : List TableName). WereServed disk meant new (tables_after l outputs tables))
       same_names (r.served disk meant tables outputs
       (subst (λ (l : List TableLine). AllZip IsLineOf l tables) (sym lines_are)
       (tables_named left lines tables read))

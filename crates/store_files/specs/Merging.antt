@@ -7,9 +7,9 @@ use Rattle.store_model.specs.{LevelTable, StoreRepresents, StoreState, with_tabl
 use Rattle.manifest.specs.{Change, HasFullSlot, HasSameSlots, IsChange, IsFit, counting_file}
 use Rattle.manifest.specs.{node_version_after}
 use Rattle.compaction.specs.Merges.{merge_change}
+use Rattle.compaction.specs.{tables_after}
 use Rattle.store_tables.specs.declared.error.EngineError.{EngineError}
 use Rattle.store_tables.specs.LevelTables.{AreTablesOf}
-use Rattle.store_tables.specs.MergeTables.{replaced_tables}
 use Rattle.store_files.specs.declared.store_files.StoreFiles.{StoreFiles}
 use Rattle.store_files.specs.OpenFiles.{AreUsableFiles, FilesHold, WereMeantToHold, known_facts}
 use Rattle.store_files.specs.OpenFiles.{known_store, known_version}
@@ -34,7 +34,7 @@ pub record HasOutputs (disk : State) (store : StoreState) (list : List BatchCont
   pub read : AreTablesOf (contents disk) edit.tables_added outputs
   pub durable : All (λ line. IsDurable (disk line.file)) edit.tables_added
   pub represents : StoreRepresents list
-      (with_tables store (replaced_tables edit.tables_gone outputs store.tables))
+      (with_tables store (tables_after edit.tables_gone outputs store.tables))
 
 -- the files hold a list, and the disk has the outputs of a merge
 pub record HeldWithOutputs (disk : State) (files : StoreFiles) (list : List BatchContent)

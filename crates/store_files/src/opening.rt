@@ -31,6 +31,7 @@ use record_log::Log;
 use std::alloc::{AllocError, Global};
 use store_model::{empty_represents, replays_agree};
 use store_tables::LevelTables;
+use version_edits::files_of;
 
 // The slots, and the files that a version names.
 fn named_files(alloc: Global, version: &StoreVersion) -> Result<Vec<u64>, AllocError>
@@ -39,12 +40,7 @@ fn named_files(alloc: Global, version: &StoreVersion) -> Result<Vec<u64>, AllocE
     let mut files = Vec::new(alloc);
     files.push(1)?;
     files.push(2)?;
-    for line in &version.logs {
-        files.push(line.file)?;
-    }
-    for line in &version.tables {
-        files.push(line.file)?;
-    }
+    files.extend_from_slice(&files_of(alloc, &version.logs, &version.tables)?)?;
     Ok(files)
 }
 

@@ -9,10 +9,10 @@ use Rattle.store_model.specs.{LevelTable}
 use Rattle.store_model.specs.PlacesLemmas.{contains_cases, contains_head, contains_next}
 use Rattle.store_model.specs.PlacesLemmas.{contains_none}
 use Rattle.version_edits.specs.declared.TableName.{TableName}
-use Rattle.version_edits.specs.Versions.{placed}
+use Rattle.version_edits.specs.Versions.{placed, table_is_before}
+use Rattle.compaction.specs.Edits.{line_of_table}
 use Rattle.compaction.specs.Merges.{table_name}
-use Rattle.store_tables.specs.MergeTables.{ReplacedTablesAreEdited, level_table_is_before}
-use Rattle.store_tables.specs.MergeTables.{level_tables_left}
+use Rattle.store_tables.specs.MergeTables.{ReplacedTablesAreEdited}
 use Rattle.store_tables.specs.RangeReads.{HaveOwnFiles}
 use Rattle.store_tables.proofs.LevelLemmas.{either}
 use Rattle.store_tables.proofs.RangeTables.{index_of, is_kept, kept_was, place_of}
@@ -171,9 +171,10 @@ pub replaced_tables_are_edited : ReplacedTablesAreEdited
 replaced_tables_are_edited inputs outputs tables own there =
     let gone = map table_name inputs in
     let test = λ (t : LevelTable). not (list_any (names t) gone) in
-    let left = level_tables_left gone tables in
+    let left = filter test tables in
+    let before = λ (t u : LevelTable). table_is_before (line_of_table t) (line_of_table u) in
     record {
-      stays = λ t has. elim (fold_has level_table_is_before left outputs t has) [
+      stays = λ t has. elim (fold_has before left outputs t has) [
         | inl kept ↦ inl (
           kept_was test tables t kept,
           λ is.
@@ -189,8 +190,8 @@ replaced_tables_are_edited inputs outputs tables own there =
             let it = gone_is_named inputs t named in
             inl (subst (Contains inputs)
             (same_file tables own it.0 t (there it.0 it.1) has it.2) it.1)
-        | inr other ↦ inr (fold_old level_table_is_before left outputs t
+        | inr other ↦ inr (fold_old before left outputs t
             (is_kept test tables t has (ap not other)))
       ];
-      new = λ t has. fold_new level_table_is_before left outputs t has;
+      new = λ t has. fold_new before left outputs t has;
     }

@@ -13,6 +13,7 @@ use Rattle.store_model.specs.{AreLeveled, KeyRange, LevelTable}
 use Rattle.store_model.specs.PlacesLemmas.{contains_cases, contains_head, contains_next}
 use Rattle.store_model.specs.PlacesLemmas.{contains_none}
 use Rattle.version_edits.specs.declared.TableLine.{TableLine}
+use Rattle.compaction.specs.EditsLemmas.{zip_filter}
 use Rattle.compaction.specs.Merges.{AreCursorsOf, AreIntactCursors}
 use Rattle.compaction.specs.Plans.{IsLineOf, is_input, is_line_input, model_plan}
 use Rattle.compaction.specs.Walks.{table_files}
@@ -25,7 +26,7 @@ use Rattle.store_tables.specs.MergeTables.{HaveInputs}
 use Rattle.store_tables.specs.RangeReads.{HasTable, HaveOwnFiles}
 use Rattle.store_tables.proofs.RangeTables.{all_apart, all_entries_of, at_place, beside_left}
 use Rattle.store_tables.proofs.RangeTables.{each_sound, kept_was}
-use Rattle.store_tables.proofs.ZipLemmas.{zip_among, zip_both, zip_filter, zip_mapped, zip_through}
+use Rattle.store_tables.proofs.ZipLemmas.{zip_among, zip_both, zip_mapped, zip_through}
 
 -- a table's file is one of the tables' files
 file_of : (tables : List LevelTable) (t : LevelTable) → Contains tables t

@@ -8,13 +8,14 @@ use Rattle.store_model.specs.{LevelTable}
 use Rattle.version_edits.specs.declared.TableLine.{TableLine}
 use Rattle.version_edits.specs.declared.TableName.{TableName}
 use Rattle.version_edits.specs.Versions.{placed, table_is_before}
-use Rattle.compaction.specs.Plans.{IsLineOf}
+use Rattle.compaction.specs.{IsLineOf, tables_after}
+use Rattle.compaction.specs.EditsLemmas.{zip_after, zip_filter, zip_fold}
 use Rattle.store_tables.specs.declared.levels.OpenTable.{OpenTable}
 use Rattle.store_tables.specs.LevelTables.{IsTableOf, WasServed}
-use Rattle.store_tables.specs.MergeTables.{ReplacedLinesName, level_table_is_before, open_lines}
-use Rattle.store_tables.specs.MergeTables.{replaced_lines, replaced_tables}
+use Rattle.store_tables.specs.MergeTables.{ReplacedLinesName, open_lines}
+use Rattle.store_tables.specs.MergeTables.{replaced_lines}
 use Rattle.store_tables.proofs.LevelLemmas.{either}
-use Rattle.store_tables.proofs.ZipLemmas.{zip_among, zip_both, zip_filter, zip_fold, zip_mapped}
+use Rattle.store_tables.proofs.ZipLemmas.{zip_among, zip_both, zip_mapped}
 
 -- one of these names is that of the line's table
 abbrev pub is_gone : List TableName → TableLine → Bool
@@ -46,38 +47,10 @@ place_is {A} before (y ∷ ys) x = elim (either (before x y)) [
 
 -- ---- the tables beside their lines
 
-module _ {A : Type 0} (line_of : A → TableLine) (R : A → LevelTable → Type 0)
-    (named : (x : A) (t : LevelTable) → R x t → IsLineOf (line_of x) t) where
-  abbrev before : A → A → Bool
-  before x z = table_is_before (line_of x) (line_of z)
-
-  gone_alike : (gone : List TableName) (x : A) (t : LevelTable) → R x t
-      → not (is_gone gone (line_of x))
-      ≡ not (list_any (λ one. one.level == t.level && one.file == t.file) gone)
-  gone_alike gone x t r = let is = named x t r in rw (is.level, is.file) refl
-
-  before_alike : (x z : A) (t u : LevelTable) → R x t → R z u
-      → before x z ≡ level_table_is_before t u
-  before_alike x z t u r s =
-      let is = named x t r in
-      let also = named z u s in
-      rw (is.level, is.file, is.range, also.level, also.file, also.range) refl
-
-  pub replaced_beside : (gone : List TableName) (xs : List A) (tables : List LevelTable)
-      (added : List A) (outputs : List LevelTable) → AllZip R xs tables → AllZip R added outputs
-      → AllZip R (fold (placed before) (filter (λ x. not (is_gone gone (line_of x))) xs) added)
-      (replaced_tables gone outputs tables)
-  replaced_beside gone xs tables added outputs zip more =
-      let p = λ (x : A). not (is_gone gone (line_of x)) in
-      let q = λ (t : LevelTable).
-      not (list_any (λ (one : TableName). one.level == t.level && one.file == t.file) gone) in
-      zip_fold R before level_table_is_before before_alike (filter p xs) (filter q tables) added
-      outputs (zip_filter R p q (gone_alike gone) xs tables zip) more
-
 -- the lines of an edited version name the tables that are left and those that were added
 pub replaced_lines_name : ReplacedLinesName
 replaced_lines_name left gone lines added tables outputs are more =
-    replaced_beside (λ (l : TableLine). l) (IsTableOf left)
+    zip_after (λ (l : TableLine). l) (IsTableOf left)
     (λ l t is. record { level = is.level; file = is.file; range = is.range }) gone lines tables
     added outputs are more
 
@@ -87,15 +60,15 @@ pub replaced_served : (disk meant : State) (gone : List TableName) (items added 
     → AllZip IsLineOf (open_lines added) outputs → AllZip (WasServed disk meant) items tables
     → AllZip (WasServed disk meant) added outputs
     → AllZip (WasServed disk meant) (open_replaced gone added items)
-    (replaced_tables gone outputs tables)
+    (tables_after gone outputs tables)
 replaced_served disk meant gone items added tables outputs named also served more =
     let line_of = λ (one : OpenTable). one.line in
     let N = λ (one : OpenTable) (t : LevelTable). IsLineOf one.line t in
     let W = WasServed disk meant in
     let B = λ (one : OpenTable) (t : LevelTable). W one t × IsLineOf one.line t in
-    zip_among B W (open_replaced gone added items) (replaced_tables gone outputs tables)
+    zip_among B W (open_replaced gone added items) (tables_after gone outputs tables)
     (λ x y there r. r.0)
-    (replaced_beside line_of B (λ x t r. r.1) gone items tables added outputs
+    (zip_after line_of B (λ x t r. r.1) gone items tables added outputs
     (zip_both W N items tables served (zip_mapped IsLineOf line_of items tables named))
     (zip_both W N added outputs more (zip_mapped IsLineOf line_of added outputs also)))
 

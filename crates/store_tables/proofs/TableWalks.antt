@@ -1,68 +1,31 @@
 -- What a walk over sorted entries has added to a table.
-use Rattle.std.proofs.Common.{◌≡◌, ◌<◌, List, [], ◌∷◌, ◌++◌, All, Contains, IfSome, sym, subst}
-use Rattle.std.proofs.Common.{inl, inr, Result, Ok, Err, arith, refl}
-use Rattle.std.proofs.Common.{◌∙◌, ap}
+use Rattle.std.proofs.Common.{◌≡◌, ◌<◌, List, [], ◌∷◌, ◌++◌, Contains, subst, Result, Ok, Err}
+use Rattle.std.proofs.Common.{arith, refl, sym, ◌∙◌, ap}
 use Rattle.std.specs.Prelude.{Bool, true, false, IfOk, IsErr, IsErrAnd, IsErrOf, MatchResult}
-use Rattle.std.proofs.lemmas.List.Elements.{All-contains, All-nil, All-push, Contains-append_left}
-use Rattle.std.proofs.lemmas.List.Elements.{Contains-push}
+use Rattle.std.proofs.lemmas.List.Elements.{All-push}
 use Rattle.kv_types.specs.{Entry}
 use Rattle.merge_iter.specs.declared.CursorError.{CursorError}
-use Rattle.merge_iter.specs.declared.Direction.TheVariants.{Forward}
-use Rattle.merge_iter.specs.EntryOrder.{cases}
-use Rattle.merge_iter.specs.{After, AtEnd, Broken, EntryPrecedes, IfOn, IsAlike, IsApart, IsFirst}
 use Rattle.merge_iter.specs.declared.CursorError.TheVariants as cursor
-use Rattle.merge_iter.specs.{ErrorCauses, IsOn, MoveFinds, Off, On, Position, WalkMeets}
-use Rattle.merge_iter.specs.{WalkStart}
+use Rattle.merge_iter.specs.{Broken, ErrorCauses, IfOn, IsAlike, IsOn, Off, On, Position}
 use Rattle.table_format.specs.declared.sizes.TheConstants.{MAX_DATA}
-use Rattle.table_format.specs.RisingLemmas.{last_push, rising_push}
+use Rattle.table_format.specs.RisingLemmas.{rising_push}
 use Rattle.table_format.specs.{AreRising, CanFollow}
 use Rattle.disk.specs.{IsEnvironmental, Slot}
 use Rattle.table_builder.specs.declared.Builder.{Builder}
 use Rattle.table_builder.specs.{Builds, HoldsEntries, data_size}
+use Rattle.compaction.specs.Walks.{HasWalked}
+use Rattle.compaction.specs.WalksLemmas.{alike_through, walk_here}
 use Rattle.store_tables.specs.declared.error.EngineError.{EngineError}
 use Rattle.store_tables.specs.declared.error.EngineError.TheVariants as engine
 use Rattle.store_tables.specs.Errors.{error_of_cursor}
 use Rattle.store_tables.specs.TableWriting.{HasAddedAll, PassesLimit, IsRoomAnswer}
-
--- the entries are those of the set that a walk meets before this position
-abbrev pub AreBefore : (Entry → Type 0) → List Entry → Position → Type 0
-AreBefore has entries (On here) =
-    has here × CanFollow entries here
-    × ((other : Entry) → has other → EntryPrecedes Forward other here → Contains entries other)
-AreBefore has entries Off = (other : Entry) → has other → Contains entries other
-AreBefore has entries Broken = ⊥
-
-pub record Walked (has : Entry → Type 0) (entries : List Entry) (at : Position) : Type 0 where
-  pub each : All has entries
-  pub before : AreBefore has entries at
-
--- the first of a set is that of another with the same entries
-first_like : (own has : Entry → Type 0) → IsAlike own has → (start : WalkStart) (at : Position)
-    → IsFirst Forward (λ e. own e × WalkMeets Forward start e) at
-    → IsFirst Forward (λ e. has e × WalkMeets Forward start e) at
-first_like own has alike start (On here) first = (
-  ((alike here).0 first.0.0, first.0.1),
-  λ other there. first.1 other ((alike other).1 there.0, there.1),
-)
-first_like own has alike start Off none = λ other there.
-    none other ((alike other).1 there.0, there.1)
-first_like own has alike start Broken never = never
-
-pub alike_through : (P Q R : Entry → Type 0) → IsAlike P Q → IsAlike Q R → IsAlike P R
-alike_through P Q R first next = λ entry. (
-  (λ p. (next entry).0 ((first entry).0 p)),
-  (λ r. (first entry).1 ((next entry).1 r)),
-)
-
-pub alike_itself : (P : Entry → Type 0) → IsAlike P P
-alike_itself P = λ entry. ((λ p. p), (λ p. p))
 
 -- what was added to a table of a set's entries, where the table was one to begin with; and what a
 -- builder has in memory, where it had none
 pub record AddsUpTo (has : Entry → Type 0) (at : Position) (is_begun is_empty : Type 0)
     (slot : Slot) (builder : Builder) : Type 0 where
   pub entries : List Entry
-  pub walked : Walked has entries at
+  pub walked : HasWalked has entries at
   pub built : is_begun → Builds slot builder entries
   pub held : is_empty → HoldsEntries builder entries
 
@@ -89,108 +52,26 @@ pub is_answer : {R : Type 0} (x : R) (result : Result R CursorError) → result 
 is_answer x (Ok y) is err = cc
 is_answer x (Err e) is err = cc
 
-module _ (has : Entry → Type 0) where
-  begins : (at : Position) → IsFirst Forward (λ e. has e × WalkMeets Forward AtEnd e) at
-      → AreBefore has [] at
-  begins (On here) first = (
-    first.0.0,
-    tt,
-    λ other there before. absurd (first.1 other (there, tt) before),
-  )
-  begins Off none = λ other there. absurd (none other (there, tt))
-  begins Broken never = never
-
-  -- no entry was added
-  pub walk_begins : {R : Type 0} (x : R) (result : Result R CursorError) (at : Position)
-      → result ≡ Ok x → MoveFinds Forward AtEnd has result at → Walked has [] at
-  walk_begins x (Ok y) at is finds = record { each = All-nil has; before = begins at finds }
-  walk_begins x (Err e) at is finds = absurd cc
-
-  module _ (apart : IsApart has) (entries : List Entry) where
-    -- an entry of the set that is not behind this one was added
-    added : (here other : Entry) → AreBefore has entries (On here) → has other
-        → (EntryPrecedes Forward here other → ⊥) → Contains (entries ++ here ∷ []) other
-    added here other before there not_behind = elim (cases Forward other here) [
-      | inl less ↦ Contains-append_left entries (here ∷ []) other (before.2 other there less)
-      | inr rest ↦ elim rest [
-        | inl equal ↦ subst (λ (e : Entry). Contains (entries ++ here ∷ []) e)
-            (sym (apart other here there before.0 equal)) (Contains-push entries here)
-        | inr more ↦ absurd (not_behind more)
-      ]
-    ]
-
-    follows : (here next : Entry) → EntryPrecedes Forward here next
-        → CanFollow (entries ++ here ∷ []) next
-    follows here next less = subst
-        (λ (o : _). IfSome o (λ last. EntryPrecedes Forward last next))
-        (sym (last_push entries here)) less
-
-    goes : (here : Entry) (new : Position) → AreBefore has entries (On here)
-        → IsFirst Forward (λ e. has e × WalkMeets Forward (After here) e) new
-        → AreBefore has (entries ++ here ∷ []) new
-    goes here (On next) before first = (
-      first.0.0,
-      follows here next first.0.1,
-      λ other there less. added here other before there
-          (λ behind. first.1 other (there, behind) less),
-    )
-    goes here Off before none = λ other there.
-        added here other before there (λ behind. none other (there, behind))
-    goes here Broken before never = never
-
-    -- one entry more was added, and the cursor, which has the same entries, was moved
-    pub walk_goes : (own : Entry → Type 0) → IsAlike own has → {R : Type 0} (x : R)
-        (result : Result R CursorError) (at new : Position) (entry : Entry) → IsOn at
-        → IfOn at (λ here. entry ≡ here) → Walked has entries at → result ≡ Ok x
-        → IfOn at (λ here. MoveFinds Forward (After here) own result new)
-        → Walked has (entries ++ entry ∷ []) new
-    walk_goes own alike x (Ok y) (On here) new entry on is walked ok finds =
-        subst (λ (e : Entry). Walked has (entries ++ e ∷ []) new) (sym is) (record {
-          each = All-push has entries here walked.each walked.before.0;
-          before = goes here new walked.before (first_like own has alike (After here) new finds);
-        })
-    walk_goes own alike x (Err e) (On here) new entry on is walked ok finds = absurd cc
-    walk_goes own alike x result Off new entry on is walked ok finds = absurd on
-    walk_goes own alike x result Broken new entry on is walked ok finds = absurd on
-
-  module _ (entries : List Entry) where
-    -- the entry at hand is one of the set, and may be added
-    pub walk_here : (at : Position) (entry : Entry) → IsOn at → IfOn at (λ here. entry ≡ here)
-        → Walked has entries at → has entry × CanFollow entries entry
-    walk_here (On here) entry on is walked = subst (λ (e : Entry). has e × CanFollow entries e)
-        (sym is) (walked.before.0, walked.before.1)
-    walk_here Off entry on is walked = absurd on
-    walk_here Broken entry on is walked = absurd on
-
-    -- all entries were added
-    pub walk_ends : (at : Position) → (IsOn at → ⊥) → Walked has entries at
-        → IsAlike (Contains entries) has
-    walk_ends (On here) off walked = absurd (off tt)
-    walk_ends Off off walked = λ entry. (
-      (λ there. All-contains has entries entry walked.each there),
-      (λ there. walked.before entry there),
-    )
-    walk_ends Broken off walked = absurd walked.before
-
-    -- there is no room for the entry at hand
-    pub walk_limit : (at : Position) (entry : Entry) → IsOn at → IfOn at (λ here. entry ≡ here)
-        → Walked has entries at → AreRising entries
-        → MAX_DATA < data_size (entries ++ entry ∷ []) → PassesLimit has
-    walk_limit at entry on is walked rising large =
-        let here = walk_here at entry on is walked in
-        record {
-          some = entries ++ entry ∷ [];
-          each = All-push has entries entry walked.each here.0;
-          rising = rising_push entries entry rising here.1;
-          large = large;
-        }
+-- there is no room for the entry at hand
+pub walk_limit : (has : Entry → Type 0) (entries : List Entry) (at : Position) (entry : Entry)
+    → IsOn at → IfOn at (λ here. entry ≡ here) → HasWalked has entries at → AreRising entries
+    → MAX_DATA < data_size (entries ++ entry ∷ []) → PassesLimit has
+walk_limit has entries at entry on is walked rising large =
+    let here = walk_here has entries at entry on is walked in
+    record {
+      some = entries ++ entry ∷ [];
+      each = All-push has entries entry walked.each here.0;
+      rising = rising_push entries entry rising here.1;
+      large = large;
+    }
 
 -- where the cursor stands, its entry is one of the set
 pub added_here : (has : Entry → Type 0) (at : Position) (is_begun is_empty : Type 0) (slot : Slot)
     (builder : Builder) (entry : Entry) → IsOn at → IfOn at (λ here. entry ≡ here)
     → (a : AddsUpTo has at is_begun is_empty slot builder) → has entry × CanFollow a.entries entry
 added_here has at is_begun is_empty slot builder entry on is a =
-    walk_here has a.entries at entry on is a.walked
+    let here = walk_here has a.entries at entry on is a.walked in
+    (here.0, here.1)
 
 -- what is true where the cursor stands is true of its entry
 pub true_here : (at : Position) (P : Entry → Type 0) (entry : Entry) → IsOn at

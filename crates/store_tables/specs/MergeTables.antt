@@ -1,15 +1,13 @@
 -- The tables of a merge: its inputs among the open ones, and its outputs in their places.
-use Rattle.std.specs.Prelude.{◌≡◌, ℕ, List, map, not, nat_lt, ◌&&◌, ◌||◌, ◌==◌, Bool, Result}
-use Rattle.std.specs.Prelude.{if◌then◌else◌, Contains, OnErr, OnOk, Some}
-use Rattle.std.specs.List.{AllZip, filter, fold, list_any}
-use Rattle.std.specs.Ordering.{is_lt}
+use Rattle.std.specs.Prelude.{◌≡◌, ℕ, List, map, Contains, OnErr, OnOk, Result, Some}
+use Rattle.std.specs.List.{AllZip, fold}
 use Rattle.disk.specs.{Contents, State}
-use Rattle.kv_types.specs.{stored_cmp}
 use Rattle.store_model.specs.{AreEdited, AreLeveled, KeyRange, LevelTable}
 use Rattle.version_edits.specs.declared.TableLine.{TableLine}
 use Rattle.version_edits.specs.declared.TableName.{TableName}
-use Rattle.version_edits.specs.Versions.{placed, tables_left, with_table}
+use Rattle.version_edits.specs.Versions.{tables_left, with_table}
 use Rattle.compaction.specs.Merges.{table_name}
+use Rattle.compaction.specs.{tables_after}
 use Rattle.compaction.specs.Plans.{IsLineOf, range_of}
 use Rattle.compaction.specs.declared.plan.Plan.{Plan}
 use Rattle.std.specs.declared.alloc.AllocError.{AllocError}
@@ -38,23 +36,8 @@ pub record HaveInputs (plan : Plan) (range : KeyRange) (lines : List TableLine) 
 
 -- ---- the outputs in the places of the inputs
 
--- the first table stands before the second, as their lines do in a version
-abbrev pub level_table_is_before : LevelTable → LevelTable → Bool
-level_table_is_before a b = nat_lt a.level b.level || (a.level == b.level &&
-    (if a.level == 0 then nat_lt a.file b.file
-    else is_lt (stored_cmp a.range.least b.range.least)))
-
--- the tables that are left when those of these names are given up
-abbrev pub level_tables_left : List TableName → List LevelTable → List LevelTable
-level_tables_left gone tables = filter
-    (λ t. not (list_any (λ one. one.level == t.level && one.file == t.file) gone)) tables
-
--- the tables when those of these names are given up and others are added, each at its place
-abbrev pub replaced_tables : List TableName → List LevelTable → List LevelTable → List LevelTable
-replaced_tables gone added tables =
-    fold (placed level_table_is_before) (level_tables_left gone tables) added
-
--- their lines, as an edit of a version has them
+-- the lines of tables when those of these names are given up and others are added, as an edit of a
+-- version has them
 abbrev pub replaced_lines : List TableName → List TableLine → List TableLine → List TableLine
 replaced_lines gone added lines = fold with_table (tables_left gone lines) added
 
@@ -72,7 +55,7 @@ pub record ReplacesTables (old new : LevelTables) (gone : List TableName) (opene
   pub served : (disk meant : State) (tables outputs : List LevelTable) →
       AllZip IsLineOf (table_lines old) tables → AllZip IsLineOf (open_lines opened) outputs →
       WereServed disk meant old tables → AllZip (WasServed disk meant) opened outputs →
-      OnOk result (WereServed disk meant new (replaced_tables gone outputs tables))
+      OnOk result (WereServed disk meant new (tables_after gone outputs tables))
   -- a refusal changes nothing
   pub unchanged : OnErr result (new.tables.items ≡ old.tables.items)
 
@@ -81,7 +64,7 @@ abbrev pub ReplacedTablesAreEdited : Type 0
 ReplacedTablesAreEdited =
     (inputs outputs tables : List LevelTable) → HaveOwnFiles tables
     → ((t : LevelTable) → Contains inputs t → Contains tables t)
-    → AreEdited inputs outputs tables (replaced_tables (map table_name inputs) outputs tables)
+    → AreEdited inputs outputs tables (tables_after (map table_name inputs) outputs tables)
 
 -- the lines of an edited version name the tables that are left and those that were added
 abbrev pub ReplacedLinesName : Type 0
@@ -89,4 +72,4 @@ ReplacedLinesName =
     (left : Contents) (gone : List TableName) (lines added : List TableLine)
     (tables outputs : List LevelTable) → AreTablesOf left lines tables
     → AreTablesOf left added outputs
-    → AreTablesOf left (replaced_lines gone added lines) (replaced_tables gone outputs tables)
+    → AreTablesOf left (replaced_lines gone added lines) (tables_after gone outputs tables)

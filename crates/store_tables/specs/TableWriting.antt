@@ -16,7 +16,6 @@ use Rattle.manifest.specs.declared.TableLine.{TableLine}
 use Rattle.manifest.specs.{IsTableLine}
 use Rattle.store_model.specs.{FitsRange, LevelTable}
 use Rattle.table_builder.specs.declared.Builder.{Builder}
-use Rattle.table_builder.specs.declared.Finished.{Finished}
 use Rattle.table_builder.specs.{Builds, HoldsEntries, builder_file, data_size}
 use Rattle.store_tables.specs.declared.error.EngineError.{EngineError}
 use Rattle.store_tables.specs.declared.error.EngineError.TheVariants as engine
@@ -35,16 +34,6 @@ error_of_writing table.TooLarge = engine.Damaged
 error_of_writing table.Failed = engine.Damaged
 
 -- ---- the line of a table
-
--- the line of a finished table of level 0 in this file
-abbrev pub finished_line : ℕ → Finished → TableLine
-finished_line file done = record {
-  level = 0;
-  file = file;
-  length = done.length;
-  least = done.least;
-  greatest = done.greatest;
-}
 
 -- the line is that of a table of level 0 in the file of this number
 pub record IsNewLine (number : ℕ) (line : TableLine) : Type 0 where

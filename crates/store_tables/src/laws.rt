@@ -31,7 +31,7 @@ pub fn versions_name_own_files()
 
 /// With some tables given up and others added, each at its place, tables are edited as the model
 /// has it, and the lines of a version that is edited so name them.
-// law: of `replaced_tables`
+// law: of `tables_after`
 pub fn replaced_tables_are_edited()
     ensures edited { ReplacedTablesAreEdited }
     ensures lines { ReplacedLinesName }

@@ -5,7 +5,6 @@ ghost use Rattle.disk.specs.{IsEnvironmental, WritesInto, seen};
 ghost use Rattle.kv_types.specs.declared.bounds.TheConstants.{MAX_NUMBER};
 ghost use Rattle.kv_types.specs.{Entry};
 ghost use Rattle.merge_iter.specs.{IfOn, IsOn};
-ghost use Rattle.manifest.specs.{IsTableLine};
 ghost use Rattle.memtable.specs.declared.Memtable.{Memtable};
 ghost use Rattle.memtable.specs.{HasFailedAdd, TableHolds};
 ghost use Rattle.table_format.specs.{CanFollow, IsTableEntry, lent_entry};
@@ -15,16 +14,15 @@ ghost use Rattle.store_tables.specs.Errors.{IsEnd};
 ghost use Rattle.store_tables.specs.TableWriting.{AddsAll, BuildsAll, HasAddedOne, HasEntry};
 ghost use Rattle.store_tables.specs.TableWriting.{HoldsOneMore, IsNewLine, IsTooLarge};
 ghost use Rattle.store_tables.specs.TableWriting.{IsWrittenTable, error_of_writing};
-ghost use Rattle.store_tables.specs.TableWriting.{finished_line};
 
 use crate::EngineError;
+use compaction::finished_line;
 use disk::{Disk, DiskError};
-use kv_types::bounds::MAX_NUMBER;
 use manifest::TableLine;
 use memtable::{MemCursor, Memtable};
 use merge_iter::Cursor;
 use std::alloc::Global;
-use table_builder::{Builder, Finished};
+use table_builder::Builder;
 use table_format::{LentEntry, TableError};
 
 // Why a table could not be written. A builder refuses an entry for its order, or has failed
@@ -118,26 +116,6 @@ fn add_memtable<D: Disk>(
     add_all(alloc, disk, builder, &mut cursor)
 }
 
-// The line of a finished table of level 0 in this file. `Damaged` where a manifest may not have
-// it, which only a disk that is not honest brings about.
-fn line_of(file: u64, done: Finished) -> Result<TableLine, EngineError>
-    requires named { file ≤ MAX_NUMBER }
-    ensures { MatchResult result
-        (λ line. (line ≡ finished_line file done) × IsTableLine line)
-        (λ e. (e ≡ EngineError.Damaged) × (IsTableLine (finished_line file done) → ⊥)) }
-{
-    if done.length > MAX_NUMBER || done.greatest.is_below(&done.least) {
-        return Err(EngineError::Damaged);
-    }
-    Ok(TableLine {
-        level: 0,
-        file,
-        length: done.length,
-        least: done.least,
-        greatest: done.greatest,
-    })
-}
-
 // Finishes a table of level 0 in this file, which has all entries of a memtable.
 fn finish_table<D: Disk>(
     alloc: Global,
@@ -160,7 +138,7 @@ fn finish_table<D: Disk>(
         return Err(EngineError::Damaged);
     }
     match builder.finish(alloc, disk) {
-        Ok(done) => line_of(file, done),
+        Ok(done) => finished_line(0, file, done).ok_or(EngineError::Damaged),
         Err(e) => Err(refusal_of(e)),
     }
 }

@@ -23,40 +23,30 @@ pub fn are_once(numbers: &[u64]) -> bool
     true
 }
 
+/// Whether one of the logs has the file.
 pub fn names_log(logs: &[LogLine], file: u64) -> bool
     ensures { result ≡ names_log logs.now file }
 {
-    for line in logs {
-        if line.file == file {
-            return true;
-        }
-    }
-    false
+    logs.iter().any(|line| line.file == file)
 }
 
+// Whether one of the tables has this level and this file.
 pub fn names_table(tables: &[TableLine], one: &TableName) -> bool
     ensures { result ≡ names_table tables.now one.now }
 {
-    for line in tables {
-        if line.level == one.level && line.file == one.file {
-            return true;
-        }
-    }
-    false
+    tables
+        .iter()
+        .any(|line| line.level == one.level && line.file == one.file)
 }
 
+/// Whether one of the tables has the file.
 pub fn names_file(tables: &[TableLine], file: u64) -> bool
     ensures { result ≡ names_file tables.now file }
 {
-    for line in tables {
-        if line.file == file {
-            return true;
-        }
-    }
-    false
+    tables.iter().any(|line| line.file == file)
 }
 
-/// The files of logs and tables.
+/// The files of logs and tables, in order.
 pub fn files_of(
     alloc: Global,
     logs: &[LogLine],
@@ -95,12 +85,7 @@ fn are_apart(a: &TableLine, b: &TableLine) -> bool
 fn is_apart(line: &TableLine, others: &[TableLine]) -> bool
     ensures { result ≡ list_all (λ other. are_apart line.now other) others.now }
 {
-    for other in others {
-        if !are_apart(line, other) {
-            return false;
-        }
-    }
-    true
+    others.iter().all(|other| are_apart(line, other))
 }
 
 /// Whether no two ranges of a level below level 0 share a key.

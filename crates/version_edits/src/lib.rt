@@ -17,7 +17,7 @@ mod version;
 pub use changed::{is_removed, table_is_before, version_after};
 pub use edit::VersionEdit;
 pub use error::EditError;
-pub use fits::removed_files;
+pub use fits::{files_of, names_file, names_log, removed_files};
 pub use line::{LogLine, MAX_LINES, MAX_NEXT, TableLine, TableName};
 pub use next::is_fit;
 pub use replaying::replay;

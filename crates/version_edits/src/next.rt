@@ -62,23 +62,13 @@ fn keeps_ids(old: Option<&StoreVersion>, config: &Config) -> bool
 fn logs_there(logs: &[LogLine], gone: &[u64]) -> bool
     ensures { result ≡ list_all (λ file. names_log logs.now file) gone.now }
 {
-    for file in gone {
-        if !names_log(logs, *file) {
-            return false;
-        }
-    }
-    true
+    gone.iter().all(|file| names_log(logs, *file))
 }
 
 fn tables_there(tables: &[TableLine], gone: &[TableName]) -> bool
     ensures { result ≡ list_all (λ one. names_table tables.now one) gone.now }
 {
-    for one in gone {
-        if !names_table(tables, one) {
-            return false;
-        }
-    }
-    true
+    gone.iter().all(|one| names_table(tables, one))
 }
 
 fn is_there(
@@ -112,12 +102,9 @@ fn logs_are_new(old: Option<&StoreVersion>, edit: &VersionEdit) -> bool
         (λ line. is_new_file (version_in (option_copied old.entry)) edit.now line.file)
         edit.now.logs_added }
 {
-    for line in &edit.logs_added {
-        if !is_new_file(old, edit, line.file) {
-            return false;
-        }
-    }
-    true
+    edit.logs_added
+        .iter()
+        .all(|line| is_new_file(old, edit, line.file))
 }
 
 fn tables_are_new(old: Option<&StoreVersion>, edit: &VersionEdit) -> bool
@@ -125,12 +112,9 @@ fn tables_are_new(old: Option<&StoreVersion>, edit: &VersionEdit) -> bool
         (λ line. is_new_file (version_in (option_copied old.entry)) edit.now line.file)
         edit.now.tables_added }
 {
-    for line in &edit.tables_added {
-        if !is_new_file(old, edit, line.file) {
-            return false;
-        }
-    }
-    true
+    edit.tables_added
+        .iter()
+        .all(|line| is_new_file(old, edit, line.file))
 }
 
 fn are_lawful(alloc: Global, logs: &[LogLine], tables: &[TableLine]) -> Result<bool, AllocError>

@@ -11,9 +11,9 @@ use Rattle.store_tables.specs.TableWriting.{HasAddedAll, HasAddedOne, HoldsOneMo
 use Rattle.store_tables.specs.RefusalLemmas.{done, passed_on}
 use Rattle.store_tables.specs.RefusalLemmas.{refuses}
 use Rattle.disk.specs.WritesLemmas.{writes_as, writes_behind, writes_done, writes_nothing}
-use Rattle.store_tables.proofs.TableWalks.{added_here, alike_through, for_memory, is_answer}
-use Rattle.store_tables.proofs.TableWalks.{memory_answer, true_here, walk_begins, walk_ends}
-use Rattle.store_tables.proofs.TableWalks.{walk_goes, walk_limit}
+use Rattle.compaction.specs.WalksLemmas.{alike_through, walk_begins, walk_ends, walk_advances}
+use Rattle.store_tables.proofs.TableWalks.{added_here, for_memory, is_answer, memory_answer}
+use Rattle.store_tables.proofs.TableWalks.{true_here, walk_limit}
 use Rattle.store_tables.proofs.table_writing.add_all.Goals as goal
 
 -- ---- the first entry
@@ -44,8 +44,8 @@ loop-alloc-init g c =
           (c.first.ensures.broken.1 broken);
       added = record {
         entries = [];
-        walked = walk_begins has tt c.first.result (mem_position c.first.new.self)
-            c.in_ok-first.was (c.first.ensures.finds tt tt);
+        walked = walk_begins has has (λ e. ((λ p. p), (λ p. p))) tt c.first.result
+            (mem_position c.first.new.self) c.in_ok-first.was (c.first.ensures.finds tt tt);
         built = λ begun. begun.1;
         held = λ empty. empty;
       };
@@ -168,7 +168,7 @@ loop-alloc-preserved g c =
           (c.next.ensures.broken.1 broken);
       added = record {
         entries = entries ++ entry ∷ [];
-        walked = walk_goes has (cursor_laws.apart tt c.args.cursor.now tt tt) entries
+        walked = walk_advances has (cursor_laws.apart tt c.args.cursor.now tt tt) entries
             (MemCursorHolds c.loop-alloc.cursor) i.holds tt c.next.result at
             (mem_position c.next.new.self) entry on c.entry_at.ensures i.added.walked
             c.in_ok-next.was (c.next.ensures.finds tt tt);

@@ -1,8 +1,11 @@
 use Rattle.std.proofs.Common.{ℕ, subst, sym}
+use Rattle.disk.specs.{IsEnvironmental}
 use Rattle.table_builder.specs.{Builds, IsFinishedTable}
 use Rattle.store_tables.specs.TableWriting.{IsWrittenTable}
-use Rattle.store_tables.specs.TableWriting.{finished_line}
-use Rattle.store_tables.proofs.FinishedTables.{line_told, written_table}
+use Rattle.compaction.specs.{finished_line}
+use Rattle.compaction.specs.EditsLemmas.{line_found}
+use Rattle.store_tables.specs.declared.error.EngineError.TheVariants.{Damaged, Disk, Memory}
+use Rattle.store_tables.proofs.FinishedTables.{written_table}
 use Rattle.store_tables.specs.RefusalLemmas.{refused_otherwise}
 use Rattle.disk.specs.WritesLemmas.{writes_nothing}
 use Rattle.store_tables.proofs.table_writing.finish_table.Goals as goal
@@ -20,5 +23,6 @@ returns-in-Ok-clause-written g c = λ memtable some honest all.
     c.requires.file (c.in-Ok.ensures.finished all.entries honest builds) in
     let written = written_table new memtable c.args.file all.entries c.in-Ok.done c.requires.named
     finished all.alike in
-    line_told (IsWrittenTable new memtable c.args.file) (finished_line c.args.file c.in-Ok.done)
-    c.line_of.result c.line_of.ensures written.proper written
+    line_found (IsWrittenTable new memtable c.args.file) (IsEnvironmental Disk Memory)
+    (finished_line 0 c.args.file c.in-Ok.done) c.finished_line.result Damaged c.ok_or.result
+    c.ok_or.ensures.value c.finished_line.ensures written.proper written

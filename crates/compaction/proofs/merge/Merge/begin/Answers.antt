@@ -14,7 +14,7 @@ use Rattle.compaction.specs.Survivors.{AreDeeperLines}
 use Rattle.compaction.proofs.Merging.{begin_stops, deeper_zip, inputs_early, names_zip, walk_first}
 use Rattle.compaction.proofs.Numbers.{begins, no_outputs}
 use Rattle.compaction.proofs.Shapes.{names_proper}
-use Rattle.compaction.proofs.Walks.{alike_through}
+use Rattle.compaction.specs.WalksLemmas.{alike_through}
 use Rattle.compaction.proofs.Writing.{refuses}
 use Rattle.compaction.proofs.merge.Merge.begin.Goals as goal
 

@@ -5,6 +5,7 @@ use Rattle.disk.specs.{AlwaysLeaves, IsEnvironmental, contents}
 use Rattle.manifest.specs.{Change, ManifestHolds}
 use Rattle.version_edits.specs.declared.line.TableLine.{TableLine}
 use Rattle.version_edits.specs.declared.line.TableName.{TableName}
+use Rattle.compaction.specs.{tables_after}
 use Rattle.store_tables.specs.declared.error.EngineError.TheVariants as engine
 use Rattle.store_tables.specs.Errors.{IsEnd}
 use Rattle.store_tables.specs.KeepingLemmas.{answered, kept_as, kept_behind, kept_but, neither}
@@ -20,7 +21,6 @@ use Rattle.store_files.proofs.MeantMerges.{merge_was_recorded, outputs_were_serv
 use Rattle.store_files.proofs.MeantMerges.{still_were_served}
 use Rattle.store_files.proofs.Meant.{own_blocks, zip_was}
 use Rattle.store_files.proofs.MeantOpenings.{zip_serves}
-use Rattle.store_tables.specs.MergeTables.{replaced_tables}
 use Rattle.store_files.proofs.Merged.{AreMerged, count_after, facts_after, facts_recorded}
 use Rattle.store_files.proofs.Merged.{lines_replaced, slot_alone, slot_then_inputs}
 use Rattle.store_files.proofs.Merged.{slots_stay_behind, tables_replaced, usable_after}
@@ -298,7 +298,7 @@ returns-clause-merges g c =
                 (held.same s3 s4 new.manifest (known_version new) recorded
                 (slots_stay_behind may s3 s4 removed))
                 (zip_serves s2 s2 replaced.tables.items
-                (replaced_tables edit.tables_gone outputs tables) served))
+                (tables_after edit.tables_gone outputs tables) served))
                 (c.remove_files.ensures.gone honest3);
             any_moment = join (OfStore may names law held.left versions list s1 hs) s1 s3 s4 p1 p3
                 p4 (merge_is_recorded may names law held.left versions list s1 hs s2 same p1 p2 p3

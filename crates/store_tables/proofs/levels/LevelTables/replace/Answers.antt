@@ -7,9 +7,10 @@ use Rattle.std.proofs.lemmas.Iterator.Consumers.{YieldsList-end}
 use Rattle.std.proofs.lemmas.List.{length_push, map-id}
 use Rattle.std.proofs.lemmas.List.Sums.{fold_push, prefix_len-le-length}
 use Rattle.version_edits.specs.Versions.{placed, table_is_before}
+use Rattle.compaction.specs.{tables_after}
 use Rattle.store_tables.specs.declared.levels.OpenTable.{OpenTable}
 use Rattle.store_tables.specs.LevelTables.{WasServed}
-use Rattle.store_tables.specs.MergeTables.{open_lines, replaced_tables}
+use Rattle.store_tables.specs.MergeTables.{open_lines}
 use Rattle.store_tables.proofs.Replaced.{is_gone, open_is_before, open_left, open_replaced}
 use Rattle.store_tables.proofs.Replaced.{place_is, replaced_lines_are, replaced_served}
 use Rattle.store_tables.proofs.levels.LevelTables.replace.Goals as goal
@@ -75,7 +76,7 @@ returns c =
       lines = ap open_lines ended ∙ replaced_lines_are gone items opened;
       served = λ disk meant tables outputs named also was more.
           subst (λ (l : List OpenTable).
-          AllZip (WasServed disk meant) l (replaced_tables gone outputs tables)) (sym ended)
+          AllZip (WasServed disk meant) l (tables_after gone outputs tables)) (sym ended)
           (replaced_served disk meant gone items opened tables outputs named also was more);
       unchanged = tt;
     }

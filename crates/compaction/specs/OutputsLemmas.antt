@@ -1,13 +1,14 @@
--- A finished output, and its line.
+-- A finished table, and its line.
 use Rattle.std.proofs.Common.{◌≡◌, ◌≤◌, ◌<◌, ◌^◌, ℕ, List, [], ◌∷◌, ◌++◌, length, Option, All}
-use Rattle.std.proofs.Common.{IfSome, inl, inr, refl, sym, ap, subst, arith, length-append}
-use Rattle.std.proofs.Common.{Result, Ok, Err}
-use Rattle.std.specs.Prelude.{MatchResult}
-use Rattle.disk.specs.{IsEnvironmental, State}
+use Rattle.std.proofs.Common.{IfSome, inl, inr, refl, sym, ap, subst, ◌∙◌, arith, length-append}
+use Rattle.std.specs.declared.cmp.Ordering.TheVariants.{Greater, Less}
+use Rattle.std.specs.Ordering.{nat_cmp, ordering_reverse, ordering_then}
+use Rattle.std.specs.Cmp.Lexicographic.{nat_list_cmp_total}
+use Rattle.disk.specs.{State}
 use Rattle.kv_types.specs.declared.bounds.TheConstants.{MAX_KEY, MAX_NUMBER}
 use Rattle.kv_types.specs.ByteOrderLemmas.{Less-below}
 use Rattle.kv_types.specs.OrderLemmas.{Among, Rises, among_of_All, rises_from_AllPairs}
-use Rattle.kv_types.specs.{Entry}
+use Rattle.kv_types.specs.{Entry, stored_cmp}
 use Rattle.merge_iter.specs.declared.Direction.TheVariants.{Forward}
 use Rattle.merge_iter.specs.{EntryPrecedes}
 use Rattle.table_format.specs.RisingLemmas.{last_among, last_of_some}
@@ -18,31 +19,37 @@ use Rattle.table_builder.specs.declared.Finished.{Finished}
 use Rattle.table_builder.specs.{IsFinishedTable, first_entry}
 use Rattle.store_model.specs.{KeyPrecedes}
 use Rattle.store_model.specs.KeysLemmas.{key_never}
-use Rattle.version_edits.specs.declared.TableLine.{TableLine}
-use Rattle.version_edits.specs.{IsTableLine}
-use Rattle.compaction.specs.declared.error.MergeError.{MergeError}
-use Rattle.compaction.specs.declared.error.MergeError.TheVariants as merge
-use Rattle.compaction.specs.Outputs.{IsOutput, output_line}
-use Rattle.compaction.proofs.Orders.{not_behind}
+use Rattle.compaction.specs.Outputs.{IsOutput, finished_line}
 
 -- ---- the ends of entries in order
 
-first_least : (x : Entry) (xs : List Entry) → Rises (EntryPrecedes Forward) (x ∷ xs)
+-- an entry's key is not behind those of the entries that follow it
+pub not_behind : (a b : Entry) → EntryPrecedes Forward a b → KeyPrecedes b.key a.key → ⊥
+not_behind a b less back =
+    let turned : stored_cmp a.key b.key ≡ Greater =
+    nat_list_cmp_total.antisymm a.key b.key ∙ ap ordering_reverse back in
+    let wrong : Greater ≡ Less =
+    sym (ap (λ o. ordering_then o (nat_cmp b.number a.number)) turned) ∙ less in
+    cc
+
+-- of entries in order, none has a lesser key than the first
+pub first_least : (x : Entry) (xs : List Entry) → Rises (EntryPrecedes Forward) (x ∷ xs)
     → (e : Entry) → Among e (x ∷ xs) → KeyPrecedes e.key x.key → ⊥
 first_least x xs rises e (inl is) before =
     key_never x.key (subst (λ (z : Entry). KeyPrecedes z.key x.key) (sym is) before)
 first_least x xs rises e (inr later) before = not_behind x e (rises.0 e later) before
 
 -- the ends of entries, by the keys that a finished table names
-record HasEnds (least greatest : List ℕ) : Type 0 where
+record HasProperEnds (least greatest : List ℕ) : Type 0 where
   short_least : length least ≤ MAX_KEY
   short_greatest : length greatest ≤ MAX_KEY
   proper : KeyPrecedes greatest least → ⊥
 
+-- entries of a table have such ends
 has_ends : (entries : List Entry) (least greatest : List ℕ) → All IsTableEntry entries
     → AreRising entries → 1 ≤ length entries
     → IfSome (first_entry entries) (λ entry. least ≡ entry.key)
-    → IfSome (last_entry entries) (λ entry. greatest ≡ entry.key) → HasEnds least greatest
+    → IfSome (last_entry entries) (λ entry. greatest ≡ entry.key) → HasProperEnds least greatest
 has_ends [] least greatest each rising some first end = absurd (omega (arith, some))
 has_ends (x ∷ xs) least greatest each rising some first end =
     let last = last_of_some (x ∷ xs) (omega arith) in
@@ -60,6 +67,7 @@ has_ends (x ∷ xs) least greatest each rising some first end =
           (subst (λ k. KeyPrecedes greatest k) first before));
     }
 
+-- the bytes of a table are fewer than a manifest may have
 short_table : (bytes : List ℕ) (entries : List Entry) → TableRepresents bytes entries
     → length bytes < 2 ^ 63
 short_table bytes entries r =
@@ -81,9 +89,10 @@ short_table bytes entries r =
 
 -- ---- its line
 
+-- a finished table is an output of its line
 pub finished_output : (disk : State) (level file : ℕ) (entries : List Entry) (done : Finished)
     → level ≤ 6 → file ≤ MAX_NUMBER → IsFinishedTable (disk file) entries done
-    → IsOutput disk level (output_line level file done) entries
+    → IsOutput disk level (finished_line level file done) entries
 finished_output disk level file entries done merged named f =
     let r = f.holds.represents in
     let ends = has_ends entries done.least done.greatest r.each r.rising r.some f.least
@@ -105,11 +114,3 @@ finished_output disk level file entries done merged named f =
         proper = λ below. ends.proper (Less-below done.greatest done.least below);
       };
     }
-
--- what a manifest may have is told
-pub line_told : (P : TableLine → Type 0) (line : TableLine) (result : Result TableLine MergeError)
-    → MatchResult result (λ told. (told ≡ line) × IsTableLine told)
-    (λ e. (e ≡ merge.Damaged) × (IsTableLine line → ⊥)) → IsTableLine line → P line
-    → MatchResult result P (IsEnvironmental merge.Disk merge.Memory)
-line_told P line (Ok one) told proper has = subst P (sym told.0) has
-line_told P line (Err e) told proper has = absurd (told.1 proper)
