@@ -3,18 +3,25 @@ use Rattle.std.proofs.Common.{◌≡◌, ◌+◌, ◌*◌, ◌≤◌, ◌<◌}
 use Rattle.disk.specs.{IsEnvironmental}
 use Rattle.std.proofs.Common.{List, [], ◌∷◌, ◌++◌, length, Option, IfSome}
 use Rattle.std.proofs.Common.{inl, inr, sym, ap, subst, ◌∙◌, arith, length-append}
+use Rattle.std.proofs.Common.{Result, Ok, Err}
+use Rattle.std.specs.Prelude.{IsErrAnd}
+use Rattle.disk.specs.{Slot}
 use Rattle.std.proofs.lemmas.List.Elements.{All-push, recursion_from_All}
 use Rattle.kv_types.specs.{Entry}
 use Rattle.table_format.specs.declared.FileError.TheVariants as reading
 use Rattle.table_format.specs.declared.FileError.{FileError}
+use Rattle.table_format.specs.declared.TableError.{TableError}
+use Rattle.table_format.specs.declared.TableError.TheVariants as table
 use Rattle.table_format.specs.declared.sizes.TheConstants.{BLOCK_SIZE, MAX_DATA}
 use Rattle.table_format.specs.{IsTableEntry, block_content, table_error}
 use Rattle.table_format.specs.{block_lines, entries_of_blocks, entry_bytes, line_bytes}
 use Rattle.table_format.specs.FrontsLemmas.{length-block_content, length-block_part}
 use Rattle.table_format.specs.RisingLemmas.{last_push, rising_push}
 use Rattle.table_builder.specs.declared.builder.Builder.{Builder}
-use Rattle.table_builder.specs.Builders.{AddRefusal, HasBuilderFailed, HoldsDivision, HoldsEntries}
-use Rattle.table_builder.specs.Closing.{CanAdd, CanClose}
+use Rattle.table_builder.specs.Builders.{AddOutcome, AddRefusal, CanAdd, HasBuilderFailed}
+use Rattle.table_builder.specs.Builders.{HeldOutcome, HeldRefusal, HoldsDivision, HoldsEntries}
+use Rattle.table_builder.specs.Builders.{NeedsNoDevice}
+use Rattle.table_builder.specs.Closing.{CanClose, CheckStatus}
 use Rattle.table_builder.specs.Divisions.{division, with_entry}
 use Rattle.table_builder.specs.Keys.{KnowsKeys}
 use Rattle.table_builder.specs.OpenParts.{HoldsItems}
@@ -115,11 +122,56 @@ held_more old new entries entry h is can knows parts works = record {
   works = works;
 }
 
--- an error of the environment refuses any entry
-pub refused : (e : FileError) (entries : List Entry) (entry : Entry) →
+-- an error of the environment refuses an entry that can be added
+pub refused : (e : FileError) (entries : List Entry) (entry : Entry) → CanAdd entries entry →
     IsEnvironmental reading.Disk reading.Memory e
     → AddRefusal (table_error e) entries entry
-refused e entries entry (inl is) =
-    subst (λ (x : FileError). AddRefusal (table_error x) entries entry) (sym is) tt
-refused e entries entry (inr is) =
-    subst (λ (x : FileError). AddRefusal (table_error x) entries entry) (sym is) tt
+refused e entries entry can (inl is) =
+    subst (λ (x : FileError). AddRefusal (table_error x) entries entry) (sym is) can
+refused e entries entry can (inr is) =
+    subst (λ (x : FileError). AddRefusal (table_error x) entries entry) (sym is) can
+
+-- .. and damage too
+pub held_refused : (e : FileError) (entries : List Entry) (entry : Entry) → CanAdd entries entry →
+    HeldRefusal (table_error e) entries entry
+held_refused reading.Disk entries entry can = can
+held_refused reading.Damaged entries entry can = can
+held_refused reading.Memory entries entry can = can
+
+-- what refuses the entry is the answer
+pub answers_refusal : {T : Type 0} (entries : List Entry) (entry : Entry)
+    (result : Result T TableError) (slot : Slot) (new : Builder) (e : TableError) →
+    IsErrAnd result (λ s. s ≡ e) → AddRefusal e entries entry →
+    AddOutcome entries entry result slot new
+answers_refusal entries entry (Ok x) slot new e reported why = absurd reported
+answers_refusal entries entry (Err s) slot new e reported why =
+    subst (λ (x : TableError). AddRefusal x entries entry) (sym reported) why
+
+pub answers_held_refusal : {T : Type 0} (entries : List Entry) (entry : Entry)
+    (result : Result T TableError) (new : Builder) (e : TableError) →
+    IsErrAnd result (λ s. s ≡ e) → HeldRefusal e entries entry →
+    HeldOutcome entries entry result new
+answers_held_refusal entries entry (Ok x) new e reported why = absurd reported
+answers_held_refusal entries entry (Err s) new e reported why =
+    subst (λ (x : TableError). HeldRefusal x entries entry) (sym reported) why
+
+-- a refusal of the check needs no device
+pub checked_quietly : {T U : Type 0} (called : Result T TableError) (it : Builder) (e : TableError)
+    (result : Result U TableError) → CheckStatus called it → called ≡ Err e →
+    IsErrAnd result (λ s. s ≡ e) → NeedsNoDevice result
+checked_quietly called it e (Ok x) status is reported = absurd reported
+checked_quietly called it e (Err table.Disk) status is reported =
+    absurd (subst (λ r. CheckStatus r it) (is ∙ ap (λ x. Err x) (sym reported)) status)
+checked_quietly called it e (Err table.Damaged) status is reported =
+    absurd (subst (λ r. CheckStatus r it) (is ∙ ap (λ x. Err x) (sym reported)) status)
+checked_quietly called it e (Err table.Order) status is reported = tt
+checked_quietly called it e (Err table.Memory) status is reported = tt
+checked_quietly called it e (Err table.TooLarge) status is reported = tt
+checked_quietly called it e (Err table.Failed) status is reported = tt
+
+-- .. and so does one for memory
+pub needs_memory : {T : Type 0} (result : Result T TableError) →
+    IsErrAnd result (λ s. s ≡ table.Memory) → NeedsNoDevice result
+needs_memory (Ok x) reported = absurd reported
+needs_memory {T = T} (Err e) reported = subst
+    (λ (x : TableError). NeedsNoDevice {T = T} (Err x)) (sym reported) tt

@@ -1,6 +1,6 @@
 -- How the calls of a builder report the failures of those that they make.
 use Rattle.std.proofs.Common.{◌≡◌, ◌↔◌, ℕ, List, Result, Ok, Err, inl, inr, ap, sym, subst}
-use Rattle.std.specs.Prelude.{IsErrAnd, IsErrOf, MatchResult}
+use Rattle.std.specs.Prelude.{IsErrAnd, IsErrOf, IsOk, MatchResult}
 use Rattle.disk.specs.declared.Disk.{Ghosts}
 use Rattle.disk.specs.{IsEnvironmental, Slot, WritesInto}
 use Rattle.disk.specs.WritesLemmas.{writes_behind, writes_nothing}
@@ -41,6 +41,12 @@ passed_up called reading.Memory (Err s) is told = (λ f. cc, λ f. cc)
 pub works : {T : Type 0} (called : Result T FileError) {x : T} → called ≡ Ok x →
     IsErrOf called reading.Disk → ⊥
 works called is fails = absurd cc
+
+-- .. and was not refused
+pub not_refused : {T : Type 0} (called : Result T FileError) (e : FileError) → called ≡ Err e →
+    IsOk called → ⊥
+not_refused (Ok x) e is done = absurd cc
+not_refused (Err s) e is done = absurd cc
 
 -- an answer is no refusal
 pub no_refusal : {T E : Type 0} {x : T} {e : E} → IsErrOf (Ok x) e → ⊥

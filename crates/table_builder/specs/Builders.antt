@@ -3,11 +3,12 @@ use Rattle.std.specs.Prelude.{◌≡◌, ℕ, ◌<◌, ◌≤◌, List, [], ◌�
 use Rattle.std.specs.Prelude.{IfSome, IsTrue, Result, Ok, Err}
 use Rattle.disk.specs.{Kept, Slot}
 use Rattle.kv_types.specs.{Entry}
-use Rattle.table_format.specs.declared.sizes.TheConstants.{MAX_DATA}
+use Rattle.table_format.specs.declared.sizes.TheConstants.{BLOCK_SIZE, MAX_DATA}
 use Rattle.table_format.specs.declared.TableError.{TableError}
 use Rattle.table_format.specs.declared.TableError.TheVariants as table
 use Rattle.table_format.specs.{AreRising, Block, CanFollow, IsTableEntry, TableRepresents}
-use Rattle.table_format.specs.{block_lines, data_bytes, entry_bytes, last_entry, line_bytes}
+use Rattle.table_format.specs.{block_content, block_lines, data_bytes, entry_bytes, last_entry}
+use Rattle.table_format.specs.{line_bytes}
 use Rattle.table_builder.specs.declared.builder.Builder.{Builder}
 use Rattle.table_builder.specs.declared.builder.Finished.{Finished}
 use Rattle.table_builder.specs.Divisions.{Division, data_size, division, finished_blocks}
@@ -59,15 +60,43 @@ BuildsNothing it = (slot : Slot) (entries : List Entry) → Builds slot it entri
 
 -- ---- the answers of `add`
 
--- why an entry is not added to these
+-- the entry stands behind these, and the blocks have room for it
+pub record CanAdd (entries : List Entry) (entry : Entry) : Type 0 where
+  pub follows : CanFollow entries entry
+  pub fits : data_size (entries ++ entry ∷ []) ≤ MAX_DATA
+
+-- why an entry is not added to these: device and memory are wanting only for one that can be
 abbrev pub AddRefusal : TableError → List Entry → Entry → Type 0
-AddRefusal table.Disk entries entry = Unit {0}
+AddRefusal table.Disk entries entry = CanAdd entries entry
 AddRefusal table.Damaged entries entry = ⊥
 AddRefusal table.Order entries entry = CanFollow entries entry → ⊥
-AddRefusal table.Memory entries entry = Unit {0}
+AddRefusal table.Memory entries entry = CanAdd entries entry
 AddRefusal table.TooLarge entries entry =
     CanFollow entries entry × (MAX_DATA < data_size (entries ++ entry ∷ []))
 AddRefusal table.Failed entries entry = ⊥
+
+-- .. on any disk, which may be damaged
+abbrev pub HeldRefusal : TableError → List Entry → Entry → Type 0
+HeldRefusal table.Damaged entries entry = CanAdd entries entry
+HeldRefusal e entries entry = AddRefusal e entries entry
+
+-- these do not fill a block
+abbrev pub IsPartOfBlock : List Entry → Type 0
+IsPartOfBlock entries = length (block_content entries) < BLOCK_SIZE
+
+-- the block that is open behind these entries is open behind this one too
+abbrev pub LeavesBlockOpen : List Entry → Entry → Type 0
+LeavesBlockOpen entries entry = IsPartOfBlock ((division entries).opened ++ entry ∷ [])
+
+-- no call of a device is why
+abbrev pub NeedsNoDevice : {T : Type 0} → Result T TableError → Type 0
+NeedsNoDevice (Ok _) = Unit {0}
+NeedsNoDevice (Err table.Disk) = ⊥
+NeedsNoDevice (Err table.Damaged) = ⊥
+NeedsNoDevice (Err table.Order) = Unit {0}
+NeedsNoDevice (Err table.Memory) = Unit {0}
+NeedsNoDevice (Err table.TooLarge) = Unit {0}
+NeedsNoDevice (Err table.Failed) = Unit {0}
 
 -- the answers of `add`, and the builder after it
 abbrev pub AddOutcome : {T : Type 0} → List Entry → Entry → Result T TableError → Slot → Builder →
@@ -79,7 +108,7 @@ AddOutcome entries entry (Err e) slot new = AddRefusal e entries entry
 -- this one behind them. It is refused as on an honest disk, or for damage.
 abbrev pub HeldOutcome : {T : Type 0} → List Entry → Entry → Result T TableError → Builder → Type 0
 HeldOutcome entries entry (Ok _) new = HoldsEntries new (entries ++ entry ∷ [])
-HeldOutcome entries entry (Err e) new = (e ≡ table.Damaged → ⊥) → AddRefusal e entries entry
+HeldOutcome entries entry (Err e) new = HeldRefusal e entries entry
 
 -- The answers of `add` by the builder alone, which stays with its file. Where the entry is refused,
 -- and after a failure, builder and disk are the same.
@@ -87,8 +116,11 @@ abbrev pub AddStatus : {T : Type 0} → Result T TableError → Builder → Buil
 AddStatus (Ok _) old new untouched = (HasBuilderFailed old → ⊥) × (HasBuilderFailed new → ⊥)
     × (builder_file new ≡ builder_file old)
 AddStatus (Err table.Disk) old new untouched = (HasBuilderFailed old → ⊥) × HasBuilderFailed new
+    × (builder_file new ≡ builder_file old)
 AddStatus (Err table.Damaged) old new untouched = (HasBuilderFailed old → ⊥) × HasBuilderFailed new
+    × (builder_file new ≡ builder_file old)
 AddStatus (Err table.Memory) old new untouched = (HasBuilderFailed old → ⊥) × HasBuilderFailed new
+    × (builder_file new ≡ builder_file old)
 AddStatus (Err table.Order) old new untouched =
     (HasBuilderFailed old → ⊥) × (new ≡ old) × untouched
 AddStatus (Err table.TooLarge) old new untouched =

@@ -14,7 +14,7 @@ use Rattle.table_builder.specs.declared.builder.Builder.{Builder}
 use Rattle.table_builder.specs.declared.builder.Finished.{Finished}
 use Rattle.table_builder.specs.Builders.{AddOutcome, AddStatus, Builds, BuildsNothing}
 use Rattle.table_builder.specs.Builders.{FinishStatus, HeldOutcome, HoldsEntries, IsFinishedTable}
-use Rattle.table_builder.specs.Builders.{builder_file}
+use Rattle.table_builder.specs.Builders.{LeavesBlockOpen, NeedsNoDevice, builder_file}
 use Rattle.table_builder.specs.Fresh.{IsFresh}
 
 module _ {D : Type 0} (g : Ghosts D) where
@@ -53,6 +53,9 @@ module _ {D : Type 0} (g : Ghosts D) where
     -- on any disk
     pub held : (entries : List Entry) → HoldsEntries old entries →
         HeldOutcome entries entry result new
+    -- where it fills no block, no device is called
+    pub quiet : (entries : List Entry) → HoldsEntries old entries →
+        LeavesBlockOpen entries entry → (now ≡ before) × NeedsNoDevice result
     -- a crash at any moment since the call began leaves each other file as it was
     pub any_moment : g.is_honest before → AlwaysLeaves g before now
         (IsLeftAt (g.state before) (builder_file old) (λ left. Unit {0}))

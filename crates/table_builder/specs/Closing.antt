@@ -5,21 +5,16 @@ use Rattle.kv_types.specs.{Entry}
 use Rattle.table_format.specs.declared.TableError.{TableError}
 use Rattle.table_format.specs.declared.TableError.TheVariants as table
 use Rattle.table_format.specs.declared.sizes.TheConstants.{MAX_DATA}
-use Rattle.table_format.specs.{AreRising, Block, CanFollow, IsTableEntry}
+use Rattle.table_format.specs.{AreRising, Block, IsTableEntry}
 use Rattle.table_format.specs.{block_bytes, block_entries, data_bytes}
 use Rattle.table_format.specs.{block_lines, entries_of_blocks, entry_bytes, line_bytes}
 use Rattle.table_builder.specs.declared.builder.Builder.{Builder}
 use Rattle.table_builder.specs.Builders.{HasBuilderFailed, HoldsBlocks}
-use Rattle.table_builder.specs.Divisions.{data_size, division, finished_blocks}
+use Rattle.table_builder.specs.Divisions.{division, finished_blocks}
 use Rattle.table_builder.specs.Keys.{KnowsKeys}
 use Rattle.table_builder.specs.OpenParts.{HoldsItems}
 
 -- ---- the check of an entry
-
--- the entry stands behind these, and the blocks have room for it
-pub record CanAdd (entries : List Entry) (entry : Entry) : Type 0 where
-  pub follows : CanFollow entries entry
-  pub fits : data_size (entries ++ entry ∷ []) ≤ MAX_DATA
 
 -- the answers of the check by the builder alone
 abbrev pub CheckStatus : {T : Type 0} → Result T TableError → Builder → Type 0

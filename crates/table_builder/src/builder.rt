@@ -36,16 +36,17 @@ pub struct Finished {
 
 impl Builder {
     ghost use Rattle.std.specs.Prelude.{◌≡◌, ◌≤◌, ◌<◌, ◌+◌, ◌^◌, ℕ, List, [], ◌∷◌, ◌++◌, length};
-    ghost use Rattle.std.specs.Prelude.{IfOk, IsErrOf, MatchResult, OnOk};
+    ghost use Rattle.std.specs.Prelude.{IfOk, IsErrOf, IsOk, MatchResult, OnOk};
     ghost use Rattle.disk.specs.{IsEnvironmental, Slot, WritesInto};
     ghost use Rattle.kv_types.specs.{Entry};
     ghost use Rattle.table_format.specs.declared.FileError.TheVariants.{Disk, Memory};
     ghost use Rattle.table_format.specs.{Block, IsTableEntry, TableRepresents};
     ghost use Rattle.table_format.specs.{data_bytes, entry_bytes, lent_entry};
-    ghost use Rattle.table_builder.specs.Builders.{AddRefusal, Builds, HoldsDivision, HoldsEntries};
-    ghost use Rattle.table_builder.specs.Builders.{IsFinishedTable, builder_file, entry_count};
+    ghost use Rattle.table_builder.specs.Builders.{AddRefusal, Builds, CanAdd, HoldsDivision};
+    ghost use Rattle.table_builder.specs.Builders.{HoldsEntries, IsFinishedTable, IsPartOfBlock};
+    ghost use Rattle.table_builder.specs.Builders.{builder_file, entry_count};
     ghost use Rattle.table_builder.specs.Calls.{AddsEntry, FinishesTable, WritesBlocks};
-    ghost use Rattle.table_builder.specs.Closing.{CanAdd, CanClose, CanEnd, CheckStatus};
+    ghost use Rattle.table_builder.specs.Closing.{CanClose, CanEnd, CheckStatus};
     ghost use Rattle.table_builder.specs.Closing.{HasClosed, HasSealed, KeepsKeys};
     ghost use Rattle.table_builder.specs.Divisions.{Division, data_size, division};
     ghost use Rattle.table_builder.specs.Divisions.{finished_blocks, with_entry};
@@ -198,6 +199,8 @@ impl Builder {
             CanClose self.old parts.closed (record { front = parts.opened; last = entry }) →
             WritesBlocks D.Disk (builder_file self.old) parts.closed (with_entry parts entry).closed
             disk.old disk.new result }
+        ensures quiet { (opened : List Entry) → HoldsItems entry_bytes self.old.block opened →
+            IsPartOfBlock opened → (disk.new ≡ disk.old) × IsOk result }
     {
         if self.block.len() < BLOCK_SIZE {
             return Ok(());

@@ -1,4 +1,4 @@
-use Rattle.std.proofs.Common.{◌++◌, ◌∷◌, [], ℕ, List, rules, sym, subst, arith, false}
+use Rattle.std.proofs.Common.{◌++◌, ◌∷◌, [], ℕ, List, rules, sym, subst, arith, false, refl}
 use Rattle.std.proofs.lemmas.Grind.{common_steps}
 use Rattle.std.proofs.lemmas.Result.{err_from_is_err_and}
 use Rattle.std.specs.Prelude.{IsErrOf}
@@ -7,15 +7,17 @@ use Rattle.disk.specs.WritesLemmas.{writes_as}
 use Rattle.kv_types.specs.{Entry}
 use Rattle.table_format.specs.declared.FileError.TheVariants as reading
 use Rattle.table_format.specs.declared.TableError.TheVariants as table
-use Rattle.table_format.specs.{data_bytes, lent_entry}
+use Rattle.table_format.specs.{data_bytes, lent_entry, table_error}
 use Rattle.table_builder.specs.declared.builder.Builder.{Builder}
 use Rattle.table_builder.specs.Builders.{BuildsNothing, HoldsDivision, HoldsEntries}
 use Rattle.table_builder.specs.Closing.{CanClose}
 use Rattle.table_builder.specs.Divisions.{division, with_entry}
 use Rattle.table_builder.specs.Fresh.{IsFresh}
 use Rattle.table_builder.specs.Keys.{KnowsKeys}
-use Rattle.table_builder.proofs.BuildersLemmas.{bounds, can_close, held_more, refused}
-use Rattle.table_builder.proofs.DeviceLemmas.{passed_up}
+use Rattle.table_builder.proofs.BuildersLemmas.{answers_held_refusal, answers_refusal, bounds}
+use Rattle.table_builder.proofs.BuildersLemmas.{can_close, checked_quietly, held_more, held_refused}
+use Rattle.table_builder.proofs.BuildersLemmas.{needs_memory, refused}
+use Rattle.table_builder.proofs.DeviceLemmas.{not_refused, passed_up}
 use Rattle.table_builder.proofs.DivisionsLemmas.{division_push}
 use Rattle.table_builder.proofs.FreshLemmas.{spared}
 use Rattle.table_builder.proofs.builder.Builder.add.Goals as goal
@@ -28,6 +30,12 @@ returns-in_err-check g c = record {
   status = search rules;
   added = search rules;
   held = search rules;
+  quiet = λ entries h part. (
+    refl,
+    checked_quietly c.check.result c.args.self.now c.in_err-check.field-0.0
+        c.from_residual.result c.check.ensures.status c.in_err-check.was
+        c.from_residual.ensures.1,
+  );
   any_moment = λ honest.
       spared g.D.Disk.state g.D.Disk.past c.args.self.now.file c.args.disk.now;
 }
@@ -36,8 +44,16 @@ pub returns-in_err-hold : goal.returns-in_err-hold
 returns-in_err-hold g c = record {
   kept = search rules;
   status = search rules;
-  added = grind (arith, common_steps);
-  held = grind (arith, common_steps);
+  added = λ entries honest b. answers_refusal entries (lent_entry c.args.entry)
+      c.from_residual-in_err-hold.result _ _ table.Memory c.from_residual-in_err-hold.ensures.1
+      (c.in_ok-check.ensures.checked entries b.holds);
+  held = λ entries h. answers_held_refusal entries (lent_entry c.args.entry)
+      c.from_residual-in_err-hold.result _ table.Memory c.from_residual-in_err-hold.ensures.1
+      (c.in_ok-check.ensures.checked entries h);
+  quiet = λ entries h part. (
+    refl,
+    needs_memory c.from_residual-in_err-hold.result c.from_residual-in_err-hold.ensures.1,
+  );
   any_moment = λ honest.
       spared g.D.Disk.state g.D.Disk.past c.args.self.now.file c.args.disk.now;
 }
@@ -90,8 +106,17 @@ returns-in_err-close_full g c =
           let why = c.in_err-close_full.ensures.written (division entries) entry can honest fresh in
           let p = err_from_is_err_and c.from_residual-in_err-close_full.result
           c.from_residual-in_err-close_full.ensures.1 in
-          rw (p.1, p.2) (refused c.in_err-close_full.field-0.0 entries entry why);
-      held = grind (arith, common_steps);
+          rw (p.1, p.2) (refused c.in_err-close_full.field-0.0 entries entry
+          (c.in_ok-check.ensures.checked entries b.holds) why);
+      held = λ entries h. answers_held_refusal entries entry result _ (table_error e) reported
+          (held_refused e entries entry (c.in_ok-check.ensures.checked entries h));
+      quiet = λ entries h part.
+          let m = bounds old entries h in
+          let has = c.in_ok-hold.ensures.block (division entries).opened h.parts.block
+          (omega (arith, m.opened_few)) in
+          let done = (c.close_full.ensures.quiet ((division entries).opened ++ entry ∷ []) has
+          part).1 in
+          absurd (not_refused called e c.in_err-close_full.was done);
       any_moment = wrote.any_moment;
     }
 
@@ -157,5 +182,13 @@ returns g c =
                 (data_bytes (with_entry (division entries) entry).closed)) same.0 written);
           };
       held = held;
+      quiet = λ entries h part.
+          let m = bounds c.args.self.now entries h in
+          let entry = lent_entry c.args.entry in
+          let has = c.in_ok-hold.ensures.block (division entries).opened h.parts.block
+          (omega (arith, m.opened_few)) in (
+            (c.close_full.ensures.quiet ((division entries).opened ++ entry ∷ []) has part).0,
+            tt,
+          );
       any_moment = search rules;
     }

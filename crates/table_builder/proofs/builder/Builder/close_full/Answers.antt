@@ -42,3 +42,7 @@ returns-clause-written g c = λ parts entry can honest fresh.
     (IsEnvironmental reading.Disk reading.Memory)) (sym (with_entry_full parts entry full))
     (c.close.ensures.written parts.closed (record { front = parts.opened; last = entry }) can honest
     fresh)
+
+pub returns-clause-quiet : goal.returns-clause-quiet
+returns-clause-quiet g c = λ opened has part.
+    absurd (omega (arith, c.len.ensures opened has, c.if-len-lt-BLOCK_SIZE.false, part))
