@@ -31,7 +31,8 @@ impl<D: Disk + Drop> EmbeddedStore<D> {
     ghost use Rattle.engine.specs.{IsCloseAnswer, IsNearlyFull, IsReadableAnswer, IsTendFile};
     ghost use Rattle.engine.specs.{IsTendOf, RaisesFactsAtMost, ReadsEngine, raised_facts};
     ghost use Rattle.disk.specs.{MakesCalls};
-    ghost use Rattle.engine.specs.{OneNamedLacksBlock, engine_version};
+    ghost use Rattle.engine.specs.{MemoryHas, NeedsNoDisk, OneIsDamagedIn, OneNamedLacksBlock};
+    ghost use Rattle.engine.specs.{engine_version};
     ghost use Rattle.engine.specs.{look_ups, with_opened, with_closed};
     ghost use Rattle.engine.specs.Calls.{TendsAsDue};
     ghost use Rattle.compaction.specs.Outputs.{IsSameBeyond};
@@ -75,8 +76,10 @@ impl<D: Disk + Drop> EmbeddedStore<D> {
         Ok(number)
     }
 
-    /// The value of a key at a number, or at the newest one. `Damaged` only where a table whose
-    /// range holds the key lacks the block in which the key would be.
+    /// The value of a key at a number, or at the newest one. Where memory has an entry of the key
+    /// that the number may see, the disk is not asked. `Damaged` only where a table whose range
+    /// holds the key lacks the block in which the key would be, and no table of a lesser level has
+    /// an entry of it.
     pub fn get(
         &mut self,
         alloc: Global,
@@ -94,13 +97,18 @@ impl<D: Disk + Drop> EmbeddedStore<D> {
             IsErrOf result Damaged → OneNamedLacksBlock (D.state (store_disk self.old))
             (engine_version (store_engine self.old)).version.tables key.now
             (read_number (look_ups (store_engine self.old)) at) }
+        ensures memory { (list : List BatchContent) → ShowsBatches D.Disk self.old list →
+            MemoryHas list (engine_version (store_engine self.old)).version.flushed
+            (read_number (look_ups (store_engine self.old)) at) key.now →
+            NeedsNoDisk (store_disk self.old) (store_disk self.new) result }
     {
         let at = self.number_of(at);
         self.engine.get(alloc, at, key)
     }
 
     /// The rows of a range at a number, or at the newest one: the longest beginning of its walk
-    /// that keeps both limits, and whether more are left.
+    /// that keeps both limits, and whether more are left. `Damaged` only where a block of a table
+    /// is damaged whose keys meet the range.
     pub fn rows(
         &mut self,
         alloc: Global,
@@ -114,6 +122,9 @@ impl<D: Disk + Drop> EmbeddedStore<D> {
             (read_number (look_ups (store_engine self.old)) at) result }
         ensures refused { (list : List BatchContent) → HoldsBatches D.Disk self.old list →
             IfErr result (IsReadRefusal (look_ups (store_engine self.old)) at) }
+        ensures damaged { (list : List BatchContent) → ShowsBatches D.Disk self.old list →
+            IsErrOf result Damaged → OneIsDamagedIn range.now (D.state (store_disk self.old))
+            (engine_version (store_engine self.old)).version.tables }
     {
         let at = self.number_of(at);
         self.engine.rows(alloc, at, range)

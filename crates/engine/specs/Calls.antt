@@ -1,9 +1,9 @@
 -- What the calls of an engine answer, and what they make of its disk.
-use Rattle.std.specs.Prelude.{◌≡◌, ◌⊎◌, ◌↔◌, ℕ, ◌<◌, List, [], length, true, false}
+use Rattle.std.specs.Prelude.{◌≡◌, ◌⊎◌, ◌↔◌, ℕ, ◌<◌, ◌≤◌, List, [], length, true, false}
 use Rattle.std.specs.Prelude.{None, Result, Ok, Err, IsErrOf, IfOk, IsErrAnd, MatchResult, OnOk}
 use Rattle.kv_types.specs.Snapshots.{is_open}
 use Rattle.kv_types.specs.declared.Limits.{Limits}
-use Rattle.kv_types.specs.{BatchContent}
+use Rattle.kv_types.specs.{BatchContent, Entry, StoredKey, all_entries}
 use Rattle.disk.specs.declared.Disk.{Ghosts}
 use Rattle.disk.specs.{AlwaysLeaves, Contents, IsEnvironmental, IsSame, IsStill, KeepsDisk, State}
 use Rattle.disk.specs.{contents}
@@ -41,6 +41,17 @@ IsReadableAnswer told at (Err engine.NotCreated) = ⊥
 IsReadableAnswer told at (Err engine.NoSuchSnapshot) = ⊥
 IsReadableAnswer told at (Err engine.TooManySnapshots) = ⊥
 IsReadableAnswer told at (Err engine.Exhausted) = ⊥
+
+-- ---- which reads need no disk
+
+-- Memory has an entry of the key that is seen at the number: a batch of the list edits the key, up
+-- to the number, and is none of the first ones, so many, whose entries are in tables.
+pub record MemoryHas (list : List BatchContent) (flushed at : ℕ) (key : StoredKey) : Type 0 where
+  pub entry : Entry
+  pub is_key : entry.key ≡ key
+  pub edited : all_entries list entry
+  pub seen : entry.number ≤ at
+  pub in_memory : flushed < entry.number
 
 -- ---- which snapshots are refused
 

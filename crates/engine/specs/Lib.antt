@@ -11,7 +11,7 @@ pub use Rattle.engine.specs.Calls.{IsNewEngine, IsEngineOf, IsJustOpened, IsOldO
 pub use Rattle.engine.specs.Calls.{IsMeantEngineOf, KeepsEngine, ListFollows, ExplainsRefusal}
 pub use Rattle.engine.specs.Calls.{HasOpened, IsTendOf, OpensEngineFor}
 pub use Rattle.engine.specs.Calls.{IsAdrift, IsReadableAnswer, IsTendAnswer, TendsAlike, disk_after}
-pub use Rattle.engine.specs.Calls.{IsCloseAnswer, IsOpenAnswer, MayOpen}
+pub use Rattle.engine.specs.Calls.{IsCloseAnswer, IsOpenAnswer, MayOpen, MemoryHas}
 pub use Rattle.engine.specs.Calls.{ChangesList, ChangesSnapshots, OfEachList, ReadsEngine}
 pub use Rattle.engine.specs.Calls.{HasNoMerge, KeepsOwnedDisk, MergeStays, StaysAsItWas}
 pub use Rattle.engine.specs.Calls.{tended_of}
@@ -31,7 +31,8 @@ pub use Rattle.store_tables.specs.declared.error.EngineError
 pub use Rattle.store_files.specs.declared.tended.Tended
 pub use Rattle.store_tables.specs.KeepingLemmas
 pub use Rattle.store_tables.specs.Errors.{EndsEngine, IsEnd}
-pub use Rattle.store_tables.specs.TableReads.{OneNamedLacksBlock}
+pub use Rattle.store_tables.specs.RangeReads.{OneIsDamagedIn}
+pub use Rattle.store_tables.specs.TableReads.{NeedsNoDisk, OneNamedLacksBlock}
 pub use Rattle.store_files.specs.Adopting.{IsLaterConfig, facts_with_config}
 pub use Rattle.store_files.specs.Files.{Facts, IsOwned, first_facts}
 pub use Rattle.store_files.specs.StoreFiles.{FilesRepresent, HasFirstFiles, IsDamaged, IsOneOf}

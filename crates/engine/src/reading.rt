@@ -17,11 +17,13 @@ impl<D: Disk + Drop> Engine<D> {
     ghost use Rattle.kv_types.specs.{BatchContent, map_of};
     ghost use Rattle.kv_types.specs.Pages.{page_of};
     ghost use Rattle.engine.specs.Calls.{ChangesSnapshots, IsCloseAnswer, IsNoDamage};
-    ghost use Rattle.engine.specs.Calls.{IsOpenAnswer, IsReadableAnswer, OfEachList, ReadsEngine};
+    ghost use Rattle.engine.specs.Calls.{IsOpenAnswer, IsReadableAnswer, MemoryHas, OfEachList};
+    ghost use Rattle.engine.specs.Calls.{ReadsEngine};
     ghost use Rattle.engine.specs.Engines.{EngineReads, HasEnded};
     ghost use Rattle.engine.specs.Engines.{engine_disk, engine_version};
     ghost use Rattle.engine.specs.Engines.{look_ups, with_closed, with_opened};
-    ghost use Rattle.store_tables.specs.TableReads.{OneNamedLacksBlock};
+    ghost use Rattle.store_tables.specs.RangeReads.{OneIsDamagedIn};
+    ghost use Rattle.store_tables.specs.TableReads.{NeedsNoDisk, OneNamedLacksBlock};
 
     // Whether a read at the number may be answered.
     fn may_read(&self, at: Number) -> Result<(), EngineError>
@@ -42,8 +44,10 @@ impl<D: Disk + Drop> Engine<D> {
         Ok(())
     }
 
-    /// The value of a key in the map of the first `at` batches. `Damaged` only where a table whose
-    /// range holds the key lacks the block in which the key would be.
+    /// The value of a key in the map of the first `at` batches. Where memory has an entry of the
+    /// key that the number may see, the disk is not asked. `Damaged` only where a table whose range
+    /// holds the key lacks the block in which the key would be, and no table of a lesser level has
+    /// an entry of it.
     pub fn get(
         &mut self,
         alloc: Global,
@@ -63,6 +67,9 @@ impl<D: Disk + Drop> Engine<D> {
             IsErrOf result EngineError.Damaged →
             OneNamedLacksBlock (D.state (engine_disk self.old))
             (engine_version self.old).version.tables key.now at) }
+        ensures memory { OfEachList D.Disk self.old (λ list.
+            MemoryHas list (engine_version self.old).version.flushed at key.now →
+            NeedsNoDisk (engine_disk self.old) (engine_disk self.new) result) }
     {
         held_files_are_left(); // law: what the disk of open files reads as, and leaves
         merges_outlive_calls::<D>(); // law: a merge outlives calls that leave its files
@@ -73,16 +80,22 @@ impl<D: Disk + Drop> Engine<D> {
     }
 
     /// The rows of a range in the map of the first `at` batches: the longest beginning of its walk
-    /// that keeps both limits, and whether more are left.
+    /// that keeps both limits, and whether more are left. `Damaged` only where a block of a table
+    /// is damaged whose keys meet the range.
     pub fn rows(&mut self, alloc: Global, at: Number, range: &Range) -> Result<Page, EngineError>
         ensures reads { ReadsEngine D.Disk self.old self.new result }
         ensures readable { IsReadableAnswer (look_ups self.old) at result }
 
-        // A damaged block of a table is never passed over, and refused only where there is one.
+        // A damaged block of a table is never passed over, and refused only where one of a table
+        // that meets the range is.
         ensures found { OfEachList D.Disk self.old (λ list.
             IfOk result (λ page. page ≡ page_of (take at list) range.now)) }
         ensures intact { (list : List BatchContent) → EngineReads D.Disk self.old list →
             IsNoDamage result }
+        ensures damaged { OfEachList D.Disk self.old (λ _.
+            IsErrOf result EngineError.Damaged →
+            OneIsDamagedIn range.now (D.state (engine_disk self.old))
+            (engine_version self.old).version.tables) }
     {
         held_files_are_left(); // law: what the disk of open files reads as, and leaves
         merges_outlive_calls::<D>(); // law: a merge outlives calls that leave its files

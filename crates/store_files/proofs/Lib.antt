@@ -53,4 +53,5 @@ pub mod FlushedLines
 pub mod MeantInstalls
 pub mod RangeRows
 pub mod RangeCursors
+pub mod RangeFiles
 pub mod RowReads

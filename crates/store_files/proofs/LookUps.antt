@@ -9,7 +9,7 @@ use Rattle.std.specs.Option.{option_flatten, option_map}
 use Rattle.std.proofs.lemmas.List.Elements.{All-contains}
 use Rattle.kv_types.specs.declared.bounds.TheConstants.{MAX_VALUE}
 use Rattle.kv_types.specs.{BatchContent, Entry, IsUnseen, map_of, place}
-use Rattle.disk.specs.{Contents, IsEnvironmental, State}
+use Rattle.disk.specs.{Contents, IsEnvironmental, State, contents}
 use Rattle.memtable.specs.declared.Memtable.{Memtable}
 use Rattle.memtable.specs.declared.error.MemtableError.{MemtableError}
 use Rattle.memtable.specs.declared.error.MemtableError.TheVariants as memtable
@@ -20,14 +20,15 @@ use Rattle.sorted_table.specs.{found_entry}
 use Rattle.store_model.specs.PlacesLemmas.{contains_cases, contains_head, contains_next}
 use Rattle.store_model.specs.PlacesLemmas.{slice_get-drop}
 use Rattle.store_model.specs.Claims.{LookUpsAreMaps}
-use Rattle.store_model.specs.{KeyRange, LevelTable, NewestHas, StoreRepresents, StoreState}
+use Rattle.store_model.specs.{AreLeveled, KeyRange, LevelTable, NewestHas, StoreRepresents}
+use Rattle.store_model.specs.{StoreState}
 use Rattle.store_model.specs.{memory_entries}
 use Rattle.manifest.specs.declared.TableLine.{TableLine}
 use Rattle.store_tables.specs.declared.error.EngineError.{EngineError}
 use Rattle.store_tables.specs.declared.error.EngineError.TheVariants as engine
-use Rattle.store_tables.specs.LevelTables.{AreTablesOf, IsTableOf, TableLookUpsAreMaps, TablesFind}
-use Rattle.store_tables.specs.LevelTables.{found_value, line_range}
-use Rattle.store_tables.specs.TableReads.{LacksBlock, OneNamedLacksBlock}
+use Rattle.store_tables.specs.LevelTables.{AreTablesOf, IsTableOf, LesserLack, LevelsRise}
+use Rattle.store_tables.specs.LevelTables.{TableLookUpsAreMaps, TablesFind, found_value, line_range}
+use Rattle.store_tables.specs.TableReads.{LacksBlock, OneLacksBlock, OneNamedLacksBlock, WereNamed}
 use Rattle.store_files.proofs.Entries.{newest_in, unseen_in}
 
 -- a call of a memtable that is refused where it has failed alone is answered where it has not
@@ -129,29 +130,47 @@ not_damaged found (Err e) damaged short is = absurd (short damaged.1)
 
 -- ---- tables that lack a block
 
--- a table that lacks the block of a key is named by a line
-pub named_lacks : (disk : State) (left : Contents) (key : List ℕ) (at : ℕ) (lines : List TableLine)
-    (tables : List LevelTable) → AreTablesOf left lines tables → (table : LevelTable)
-    → Contains tables table → LacksBlock (disk table.file) table.range key at
-    → OneNamedLacksBlock disk lines key at
-named_lacks disk left key at [] [] named table has lacks =
-    absurd (let lt = has.1 in omega (arith, lt))
-named_lacks disk left key at [] (t ∷ tables) named table has lacks = absurd named
-named_lacks disk left key at (line ∷ lines) [] named table has lacks = absurd named
-named_lacks disk left key at (line ∷ lines) (t ∷ tables) named table has lacks =
+-- the line of one of the tables
+record NamingLine (left : Contents) (lines : List TableLine) (table : LevelTable) : Type 0 where
+  pub line : TableLine
+  pub there : Contains lines line
+  pub is : IsTableOf left line table
+
+naming_line : (left : Contents) (lines : List TableLine) (tables : List LevelTable)
+    → AreTablesOf left lines tables → (table : LevelTable) → Contains tables table
+    → NamingLine left lines table
+naming_line left [] [] named table has = absurd (let lt = has.1 in omega (arith, lt))
+naming_line left [] (t ∷ tables) named table has = absurd named
+naming_line left (line ∷ lines) [] named table has = absurd named
+naming_line left (line ∷ lines) (t ∷ tables) named table has =
     elim (contains_cases t tables table has) [
-      | inl same ↦
-          let here = subst (λ (u : LevelTable). LacksBlock (disk u.file) u.range key at) (sym same)
-          lacks in (
-            line,
-            contains_head line lines,
-            subst (λ (f : ℕ). LacksBlock (disk f) (line_range line) key at) named.0.file
-                (subst (λ (r : KeyRange). LacksBlock (disk t.file) r key at) named.0.range here),
-          )
+      | inl same ↦ record {
+        line = line;
+        there = contains_head line lines;
+        is = subst (IsTableOf left line) same named.0;
+      }
       | inr later ↦
-          let it = named_lacks disk left key at lines tables named.1 table later lacks in
-          (it.0, contains_next line lines it.0 it.1, it.2)
+          let it = naming_line left lines tables named.1 table later in
+          record { line = it.line; there = contains_next line lines it.line it.there; is = it.is }
     ]
+
+-- a table that lacks the block of a key, and was needed, is named by a line
+pub named_lacks : (disk meant : State) (key : List ℕ) (at flushed : ℕ) (lines : List TableLine)
+    (tables : List LevelTable) → WereNamed disk meant lines tables → AreLeveled flushed tables
+    → LevelsRise tables → OneLacksBlock disk tables key at → OneNamedLacksBlock disk lines key at
+named_lacks disk meant key at flushed lines tables were leveled rise one =
+    let it = naming_line (contents meant) lines tables were.named one.table one.there in
+    record {
+      line = it.line;
+      there = it.there;
+      lacks = subst (λ (f : ℕ). LacksBlock (disk f) (line_range it.line) key at) it.is.file
+          (subst (λ (r : KeyRange). LacksBlock (disk one.table.file) r key at) it.is.range
+          one.lacks);
+      meant = meant;
+      tables = tables;
+      were = were;
+      needed = subst (LesserLack at tables key) it.is.level (one.needed flushed leveled rise);
+    }
 
 -- ---- a batch of the logs
 

@@ -9,6 +9,7 @@ use Rattle.merge_iter.specs.declared.CursorError.{CursorError}
 use Rattle.merge_iter.specs.declared.CursorError.TheVariants as cursor
 use Rattle.merge_iter.specs.{ErrorCauses, reports}
 use Rattle.sorted_table.specs.MovedFiles.{MovesFiles}
+use Rattle.store_tables.specs.declared.error.EngineError.{EngineError}
 use Rattle.store_tables.specs.declared.error.EngineError.TheVariants as engine
 use Rattle.store_tables.specs.Errors.{error_of_cursor}
 use Rattle.store_tables.specs.KeepingLemmas.{kept_as}
@@ -30,6 +31,12 @@ refusal_external result cursor.Disk is causes sound = inl refl
 refusal_external result cursor.Damaged is causes sound = absurd (causes.damaged is sound)
 refusal_external result cursor.Memory is causes sound = inr refl
 refusal_external result cursor.Failed is causes sound = absurd (causes.failed.0 is)
+
+-- so it is not refused for damage
+pub never_damaged : {T : Type 0} (e : EngineError) → IsEnvironmental engine.Disk engine.Memory e
+    → IsErrOf {T = T} (Err e) engine.Damaged → ⊥
+never_damaged e (inl is) refused = cc
+never_damaged e (inr is) refused = cc
 
 -- a page of the map is the one that the function answers
 pub page_is : OnePage → PagesAgree → (list : List BatchContent) (range : Span) (page : Rows)

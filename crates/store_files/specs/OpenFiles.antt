@@ -3,7 +3,7 @@ use Rattle.std.specs.Prelude.{◌≡◌, ◌≢◌, ◌⊎◌, ◌↔◌, ℕ, s
 use Rattle.std.specs.Prelude.{IsErrOf, length, drop}
 use Rattle.std.specs.Prelude.{All, IfOk, IsNone, MatchResult, Result}
 use Rattle.kv_types.specs.declared.bounds.TheConstants.{MAX_NUMBER}
-use Rattle.kv_types.specs.{BatchContent, Entry, IsBatch}
+use Rattle.kv_types.specs.{BatchContent, Entry, IsBatch, IsUnseen, StoredKey}
 use Rattle.version_edits.specs.declared.line.TheConstants.{MAX_NEXT}
 use Rattle.disk.specs.declared.Disk.{Ghosts}
 use Rattle.disk.specs.{AlwaysLeaves, AreLeftOf, Contents, IsDurable, IsEnvironmental, IsStill}
@@ -77,6 +77,10 @@ pub record AreUsableFiles (files : StoreFiles) : Type 0 where
       (batch_count files)
   pub free : (known_version files).version.next_file ≤ files.free_file
   pub free_few : files.free_file ≤ MAX_NEXT
+
+-- memory has no entry of the key that is seen at the number
+abbrev pub MemoryLacks : StoreFiles → ℕ → StoredKey → Type 0
+MemoryLacks files at key = IsUnseen at (TableHolds files.memtable) key
 
 -- no file is under way: the first free one is that of the version
 abbrev pub HasNoFileUnderWay : StoreFiles → Type 0

@@ -1,13 +1,15 @@
 //! Reads of rows, through cursors over memory and tables.
-ghost use Rattle.std.specs.Prelude.{◌≡◌, ◌≤◌, List, take, All, IfErr, IfOk};
+ghost use Rattle.std.specs.Prelude.{◌≡◌, ◌≤◌, List, take, All, IfErr, IfOk, IsErrOf};
 ghost use Rattle.kv_types.specs.Pages.{page_of};
 ghost use Rattle.kv_types.specs.{BatchContent, map_of};
 ghost use Rattle.disk.specs.{IsEnvironmental, IsSame, State};
 ghost use Rattle.row_pages.specs.{HasRowsOf};
-ghost use Rattle.store_tables.specs.declared.error.EngineError.TheVariants.{Disk, Memory};
+ghost use Rattle.store_tables.specs.declared.error.EngineError.TheVariants.{Damaged, Disk, Memory};
 ghost use Rattle.store_tables.specs.LevelTables.{HasMeantBlocks};
+ghost use Rattle.store_tables.specs.RangeReads.{AreIntactIn, OneIsDamagedIn};
 ghost use Rattle.store_files.specs.OpenFiles.{AreUsableFiles, FilesHold};
 ghost use Rattle.store_files.specs.OpenFiles.{IfHeld, IfMeant, batch_count, known_facts};
+ghost use Rattle.store_files.specs.OpenFiles.{known_version};
 ghost use Rattle.batch_logs.specs.Reads.{OnlyReads};
 
 use crate::{EngineError, StoreFiles};
@@ -31,7 +33,7 @@ impl StoreFiles {
         range: &Range,
     ) -> Result<StoreRows<'a, D>, AllocError>
         requires { AreUsableFiles self.now }
-        ensures { IfOk result (λ rows. (meant : State) (files : _)
+        ensures shows { IfOk result (λ rows. (meant : State) (files : _)
             (list : List BatchContent) → ⟦<CachedDisk<D> as Disk>⟧.is_honest files →
             FilesHold meant self.now list →
             All (HasMeantBlocks (⟦<CachedDisk<D> as Disk>⟧.state files) meant)
@@ -39,6 +41,12 @@ impl StoreFiles {
             at ≤ batch_count self.now → ⟦<StoreRows<'a, D> as Cursor>⟧.is_sound meant rows files
             × HasRowsOf (map_of (take at list)) range.now
             (⟦<StoreRows<'a, D> as Cursor>⟧.holds meant rows files)) }
+        ensures intact { IfOk result (λ rows. (meant : State) (files : _)
+            (list : List BatchContent) → ⟦<CachedDisk<D> as Disk>⟧.is_honest files →
+            FilesHold meant self.now list →
+            AreIntactIn range.now (⟦<CachedDisk<D> as Disk>⟧.state files) meant
+            (known_version self.now).version.tables → ⟦<StoreRows<'a, D> as Cursor>⟧.is_sound
+            (⟦<CachedDisk<D> as Disk>⟧.state files) rows files) }
     {
         versions_name_own_files(); // law: no two tables have one file
         let mut cursors = self.tables.cursors(alloc, range)?;
@@ -47,7 +55,8 @@ impl StoreFiles {
     }
 
     /// The page of a range in the map of the first `at` batches. It reads the blocks of its rows
-    /// and of one more. `Damaged` only where a block of a table is damaged.
+    /// and of one more. `Damaged` only where a block of a table is damaged whose keys meet the
+    /// range.
     pub fn rows<D: Disk + Drop>(
         &self,
         alloc: Global,
@@ -63,6 +72,10 @@ impl StoreFiles {
         ensures intact { IfHeld ⟦<CachedDisk<D> as Disk>⟧ files.old self.now (λ list.
             (known_facts self.now).floor ≤ at → at ≤ batch_count self.now →
             IfErr result (IsEnvironmental Disk Memory)) }
+        ensures damaged { IfMeant ⟦<CachedDisk<D> as Disk>⟧ files.old self.now (λ _.
+            IsErrOf result Damaged →
+            OneIsDamagedIn range.now (⟦<CachedDisk<D> as Disk>⟧.state files.old)
+            (known_version self.now).version.tables) }
     {
         pages_agree(); // law: a map has one page in a range
         let mut rows = self.rows_in(alloc, at, range)?;

@@ -12,11 +12,11 @@ ghost use Rattle.store_tables.specs.declared.error.EngineError.TheVariants.{Dama
 ghost use Rattle.store_tables.specs.Errors.{IsEnd};
 ghost use Rattle.store_files.specs.OpenFiles.{AreUsableFiles, FilesHold, batch_count, known_facts};
 ghost use Rattle.store_files.specs.OpenFiles.{HasSameFacts, IfHeld, IfMeant, IsNextNumber};
-ghost use Rattle.store_files.specs.OpenFiles.{ListGrows};
+ghost use Rattle.store_files.specs.OpenFiles.{ListGrows, MemoryLacks};
 ghost use Rattle.store_files.specs.OpenFiles.{WereMeantToHold, known_version, trimmed_count};
 ghost use Rattle.memtable.specs.{HasFailedAdd, TableHolds};
 ghost use Rattle.store_tables.specs.LevelTables.{EntriesHave, found_value};
-ghost use Rattle.store_tables.specs.TableReads.{OneNamedLacksBlock};
+ghost use Rattle.store_tables.specs.TableReads.{NeedsNoDisk, OneNamedLacksBlock};
 ghost use Rattle.batch_logs.specs.Reads.{OnlyReads};
 ghost use Rattle.std.specs.Prelude.{◌++◌, ◌∷◌, []};
 ghost use Rattle.store_files.specs.Plans.{KeepsPlans};
@@ -156,8 +156,9 @@ impl StoreFiles {
     }
 
     /// The value of a key in the map of the first `at` batches: looked up in memory, and then in
-    /// the tables. `Damaged` only where a table whose range holds the key lacks the block in which
-    /// the key would be.
+    /// the tables. Where memory has an entry of the key that the number may see, the disk is not
+    /// asked. `Damaged` only where a table whose range holds the key lacks the block in which the
+    /// key would be, and no table of a lesser level has an entry of it.
     pub fn get<D: Disk + Drop>(
         &self,
         alloc: Global,
@@ -176,6 +177,8 @@ impl StoreFiles {
             IsErrOf result Damaged →
             OneNamedLacksBlock (⟦<CachedDisk<D> as Disk>⟧.state files.old)
             (known_version self.now).version.tables key.now at) }
+        ensures memory { (MemoryLacks self.now at key.now → ⊥) →
+            NeedsNoDisk files.old files.new result }
     {
         levels_rise(); // law: tables stand in order of level
         // laws: what memory or else the tables have of a key is what the map has

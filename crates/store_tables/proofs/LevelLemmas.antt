@@ -311,6 +311,22 @@ module _ (at : ℕ) (key : StoredKey) where
         subst (λ (n : ℕ). EntriesFind at (level_entries passed n) key best) (sym same) it.found,
       )
 
+      -- before it looks into that, no table of a lesser level has an entry
+      pub lesser_lack : (best : Option FoundVersion)
+          → Walked at key passed (table ∷ rest) level best
+          → (best ≡ None) ⊎ (table.level ≡ level)
+          → LesserLack at (passed ++ table ∷ rest) key table.level
+      lesser_lack best it goes_on t c less =
+          elim (Contains-append_cases passed (table ∷ rest) t c) [
+            | inl old ↦ (is_ready best it goes_on).0 t old less
+            | inr new ↦
+                let all : All (NotLess table.level) (table ∷ rest) =
+                All-cons (NotLess table.level) table rest (omega arith) it.rise.0 in
+                let le : table.level ≤ t.level =
+                All-contains (NotLess table.level) (table ∷ rest) t all new in
+                absurd (omega (arith, le, less))
+          ]
+
       -- one table more
       pub one_walked : (best then : Option FoundVersion)
           → Walked at key passed (table ∷ rest) level best

@@ -10,7 +10,7 @@ use Rattle.merge_iter.specs.{spot}
 use Rattle.table_format.specs.declared.IndexLine.{IndexLine}
 use Rattle.sorted_table.specs.{HasTail, IsBlockAtLine}
 use Rattle.sorted_table.specs.Searches.{IsLinePlace}
-use Rattle.store_model.specs.{KeyRange, LevelTable, RangeHolds}
+use Rattle.store_model.specs.{AreLeveled, KeyRange, LevelTable, RangeHolds}
 use Rattle.manifest.specs.declared.TableLine.{TableLine}
 use Rattle.store_tables.specs.declared.error.EngineError.TheVariants as engine
 use Rattle.store_tables.specs.declared.error.EngineError.{EngineError}
@@ -18,6 +18,7 @@ use Rattle.store_tables.specs.declared.levels.OpenTable.{OpenTable}
 use Rattle.store_tables.specs.declared.levels.LevelTables.{LevelTables}
 use Rattle.store_tables.specs.Errors.{IsEnd}
 use Rattle.store_tables.specs.LevelTables.{AreServed, AreTablesOf, FileFits, IsServed}
+use Rattle.store_tables.specs.LevelTables.{LesserLack, LevelsRise}
 use Rattle.store_tables.specs.LevelTables.{IsTableAsMeant, IsTableOf, WasServed, WereServed}
 use Rattle.store_tables.specs.LevelTables.{line_range, table_lines}
 
@@ -48,16 +49,44 @@ pub record LacksBlock (file : Slot) (range : KeyRange) (key : StoredKey) (at : �
   pub there : n < length lines
   pub damaged : (part : List ℕ) → IsBlockAtLine lines n file part → ⊥
 
--- one of these tables has a file that does
-abbrev pub OneLacksBlock : State → List LevelTable → StoredKey → ℕ → Type 0
-OneLacksBlock disk tables key at =
-    (table : LevelTable) × Contains tables table × LacksBlock (disk table.file) table.range key at
+-- One of these tables has a file that does, and was needed: where the tables stand in order of
+-- level, none of a lesser level has an entry of the key that is seen at the number.
+pub record OneLacksBlock (disk : State) (tables : List LevelTable) (key : StoredKey) (at : ℕ)
+    : Type 0 where
+  pub table : LevelTable
+  pub there : Contains tables table
+  pub lacks : LacksBlock (disk table.file) table.range key at
+  pub needed : (flushed : ℕ) → AreLeveled flushed tables → LevelsRise tables →
+      LesserLack at tables key table.level
 
--- one of these lines names such a file
-abbrev pub OneNamedLacksBlock : State → List TableLine → StoredKey → ℕ → Type 0
-OneNamedLacksBlock disk lines key at =
-    (line : TableLine) × Contains lines line
-    × LacksBlock (disk line.file) (line_range line) key at
+-- The lines were meant to name these tables: they do in what the files were meant to be, and the
+-- disk has that but for damaged blocks.
+pub record WereNamed (disk meant : State) (lines : List TableLine) (tables : List LevelTable)
+    : Type 0 where
+  pub named : AreTablesOf (contents meant) lines tables
+  pub as_meant : All (λ line. IsTableAsMeant (disk line.file) (meant line.file)) lines
+
+-- One of these lines names a file that lacks the block of the key, and was needed: of the tables
+-- that the lines were meant to name, none of a lesser level has an entry of the key that is seen at
+-- the number.
+pub record OneNamedLacksBlock (disk : State) (lines : List TableLine) (key : StoredKey) (at : ℕ)
+    : Type 0 where
+  pub line : TableLine
+  pub there : Contains lines line
+  pub lacks : LacksBlock (disk line.file) (line_range line) key at
+  pub meant : State
+  pub tables : List LevelTable
+  pub were : WereNamed disk meant lines tables
+  pub needed : LesserLack at tables key line.level
+
+-- ---- a read that needs no table
+
+-- The disk is as it was: no call was made of it. Of what ends an engine, only want of memory
+-- refuses the read.
+pub record NeedsNoDisk {D T : Type 0} (disk later : D) (result : Result T EngineError)
+    : Type 0 where
+  pub same : later ≡ disk
+  pub causes : IfErr result (λ e. IsEnd e → e ≡ engine.Memory)
 
 -- ---- an opening
 

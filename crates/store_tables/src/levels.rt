@@ -19,7 +19,8 @@ ghost use Rattle.store_tables.specs.LevelTables.{error_of_table, is_flushed, lev
 ghost use Rattle.store_tables.specs.LevelTables.{line_range};
 ghost use Rattle.store_tables.specs.LevelTables.{table_lines, with_flushed, with_flushed_line};
 ghost use Rattle.store_tables.specs.MergeTables.{HaveInputs, ReplacesTables};
-ghost use Rattle.store_tables.specs.RangeReads.{AreRangeCursors, HasTable, meets_span};
+ghost use Rattle.store_tables.specs.RangeReads.{AreRangeCursors, HasTable, WereServedIn};
+ghost use Rattle.store_tables.specs.RangeReads.{meets_span};
 ghost use Rattle.store_tables.specs.TableReads.{LacksBlock, OneLacksBlock};
 ghost use Rattle.store_tables.specs.TableReads.{OpensTables, ReadsTables, by_all_lines};
 ghost use Rattle.store_tables.specs.TableReads.{by_one_line};
@@ -252,7 +253,8 @@ impl LevelTables {
 
     /// The newest version of the key with at most this number, if the tables have one. The levels
     /// are looked up in turn, up to the first that has an entry of the key. `Damaged` only where a
-    /// table whose range holds the key lacks the block in which the key would be.
+    /// table whose range holds the key lacks the block in which the key would be, and no table of a
+    /// lesser level has an entry of it.
     pub fn get<D: Disk + Drop>(
         &self,
         alloc: Global,
@@ -292,7 +294,7 @@ impl LevelTables {
 
     /// Cursors over the tables whose keys meet the range, in order of the tables, one for as many
     /// of them as come one after another in order of key. No file is read. Together they have each
-    /// entry of the tables with a key in the range.
+    /// entry of the tables with a key in the range, whatever the files of the other tables are.
     pub fn cursors<'a, D: Disk + Drop>(
         &self,
         alloc: Global,
@@ -300,7 +302,7 @@ impl LevelTables {
     ) -> Result<Vec<StoreCursor<'a, D>>, AllocError>
         ensures { IfOk result (λ cursors. (meant : State) (files : _)
             (tables : List LevelTable) → ⟦<CachedDisk<D> as Disk>⟧.is_honest files →
-            WereServed (⟦<CachedDisk<D> as Disk>⟧.state files) meant self.now tables →
+            WereServedIn range.now (⟦<CachedDisk<D> as Disk>⟧.state files) meant self.now tables →
             AreRangeCursors ⟦<StoreCursor<'a, D> as Cursor>⟧ meant files range.now tables
             cursors.items) }
     {

@@ -1,10 +1,11 @@
-use Rattle.std.proofs.Common.{◌≡◌, ap, List, subst, take, ℕ, ◌∙◌}
+use Rattle.std.proofs.Common.{◌≡◌, ap, List, subst, sym, take, ℕ, ◌∙◌}
 use Rattle.std.specs.Prelude.{IfOk, IsErrOf}
 use Rattle.kv_types.specs.{BatchContent, map_of}
 use Rattle.embedded_store.proofs.StoreReads.{read_refused, shown_count, shown_said, taken}
 use Rattle.embedded_store.specs.Stores.{store_disk, store_engine}
 use Rattle.engine.specs.EngineError.TheVariants.{Damaged}
-use Rattle.engine.specs.{IsReadableAnswer, OneNamedLacksBlock, engine_version, look_ups}
+use Rattle.engine.specs.{IsReadableAnswer, MemoryHas, NeedsNoDisk, OneNamedLacksBlock}
+use Rattle.engine.specs.{engine_disk, engine_version, look_ups}
 use Rattle.embedded_store.proofs.store.EmbeddedStore.get.Goals as goal
 
 -- the map is that of the batches up to the number
@@ -46,3 +47,13 @@ returns-clause-damaged g c = λ list shown damaged.
     OneNamedLacksBlock (g.D.Disk.state (store_disk store))
     (engine_version (store_engine store)).version.tables c.args.key.now c.number_of-at.result)
     c.get.ensures.damaged shown damaged)
+
+-- the engine does not ask the disk
+pub returns-clause-memory : goal.returns-clause-memory
+returns-clause-memory g c = λ list shown has.
+    let store = c.args.self.now in
+    let flushed = (engine_version (store_engine store)).version.flushed in
+    let key = c.args.key.now in
+    shown_said store list (λ l. MemoryHas l flushed c.number_of-at.result key →
+    NeedsNoDisk (store_disk store) (engine_disk c.get.new.self) c.get.result) c.get.ensures.memory
+    shown (subst (λ (n : ℕ). MemoryHas list flushed n key) (sym c.number_of-at.ensures.number) has)

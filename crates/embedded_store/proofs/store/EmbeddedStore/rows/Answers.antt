@@ -1,10 +1,11 @@
 use Rattle.std.proofs.Common.{◌≡◌, ap, List, subst, take, ℕ, ◌∙◌}
-use Rattle.std.specs.Prelude.{IfOk}
+use Rattle.std.specs.Prelude.{IfOk, IsErrOf}
 use Rattle.kv_types.specs.{BatchContent}
 use Rattle.kv_types.specs.Pages.{page_of}
 use Rattle.embedded_store.proofs.StoreReads.{read_refused, shown_count, shown_said, taken}
-use Rattle.embedded_store.specs.Stores.{store_engine}
-use Rattle.engine.specs.{IsReadableAnswer, look_ups}
+use Rattle.embedded_store.specs.Stores.{store_disk, store_engine}
+use Rattle.engine.specs.EngineError.TheVariants.{Damaged}
+use Rattle.engine.specs.{IsReadableAnswer, OneIsDamagedIn, engine_version, look_ups}
 use Rattle.embedded_store.proofs.store.EmbeddedStore.rows.Goals as goal
 
 -- the map is that of the batches up to the number
@@ -34,3 +35,11 @@ returns-clause-refused g c = λ list holds.
     c.number_of-at.ensures.number
     c.rows.ensures.readable) (c.rows.ensures.intact list holds.reads)
     (λ fails. holds.reads.works (c.rows.ensures.reads.keeps.closed.0 fails))
+
+-- a damaged block is met only where the engine meets one
+pub returns-clause-damaged : goal.returns-clause-damaged
+returns-clause-damaged g c = λ list shown damaged.
+    let store = c.args.self.now in
+    shown_said store list (λ _. IsErrOf c.rows.result Damaged →
+    OneIsDamagedIn c.args.range.now (g.D.Disk.state (store_disk store))
+    (engine_version (store_engine store)).version.tables) c.rows.ensures.damaged shown damaged

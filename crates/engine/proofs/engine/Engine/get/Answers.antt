@@ -1,7 +1,9 @@
 use Rattle.std.proofs.Common.{◌≤◌, arith, refl}
 use Rattle.store_tables.specs.KeepingLemmas.{same_files}
 use Rattle.store_files.specs.OpenFiles.{batch_count}
+use Rattle.engine.specs.Engines.{engine_disk}
 use Rattle.engine.proofs.Engines.{held_of, meant_as_held, no_damage, were_meant}
+use Rattle.engine.proofs.MemoryReads.{needs_none, refused_unread}
 use Rattle.engine.proofs.Results.{not_for_damage}
 use Rattle.engine.proofs.Unchanged.{failed_as, none_keeps, reads_none, reads_so}
 use Rattle.engine.proofs.engine.Engine.get.Goals as goal
@@ -49,6 +51,25 @@ returns-clause-damaged g c =
       reads = λ list r. damaged list r.honest (meant_as_held g.D.Disk
           c.held_files_are_left.ensures c.args.self.now list r);
       meant = λ list m. damaged list m.honest (were_meant g.D.Disk c.args.self.now list m);
+    }
+
+-- memory is not asked
+pub returns-in_err-may_read-clause-memory : goal.returns-in_err-may_read-clause-memory
+returns-in_err-may_read-clause-memory g c =
+    let unread = refused_unread (engine_disk c.args.self.now) c.from_residual.result
+    c.in_err-may_read.field-0.0 c.from_residual.ensures.1 c.in_err-may_read.ensures.lives in
+    record { reads = λ list r has. unread; meant = λ list m has. unread }
+
+-- what memory has is answered without the disk
+pub returns-clause-memory : goal.returns-clause-memory
+returns-clause-memory g c =
+    let it = c.args.self.now in
+    record {
+      reads = λ list r. needs_none g.D.Disk it.files _ it.store c.args.at c.args.key.now
+          c.get-answer.result c.get-answer.ensures.memory list
+          (meant_as_held g.D.Disk c.held_files_are_left.ensures it list r);
+      meant = λ list m. needs_none g.D.Disk it.files _ it.store c.args.at c.args.key.now
+          c.get-answer.result c.get-answer.ensures.memory list (were_meant g.D.Disk it list m);
     }
 
 pub returns-clause-intact : goal.returns-clause-intact

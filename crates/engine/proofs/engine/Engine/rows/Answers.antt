@@ -2,6 +2,7 @@ use Rattle.std.proofs.Common.{◌≤◌, arith, refl}
 use Rattle.store_tables.specs.KeepingLemmas.{same_files}
 use Rattle.store_files.specs.OpenFiles.{batch_count}
 use Rattle.engine.proofs.Engines.{held_of, meant_as_held, no_damage, were_meant}
+use Rattle.engine.proofs.Results.{not_for_damage}
 use Rattle.engine.proofs.Unchanged.{failed_as, none_keeps, reads_none, reads_so}
 use Rattle.engine.proofs.engine.Engine.rows.Goals as goal
 
@@ -28,6 +29,26 @@ returns-clause-found g c =
           c.held_files_are_left.ensures c.args.self.now list r) readable.0 count;
       meant = λ list m. found list m.honest (were_meant g.D.Disk c.args.self.now list m)
           readable.0 count;
+    }
+
+-- and no damage was met
+pub returns-in_err-may_read-clause-damaged : goal.returns-in_err-may_read-clause-damaged
+returns-in_err-may_read-clause-damaged g c =
+    let never = not_for_damage c.from_residual.result c.in_err-may_read.field-0.0
+    c.from_residual.ensures.1 c.in_err-may_read.ensures.lives in
+    record {
+      reads = λ list r damaged. absurd (never damaged);
+      meant = λ list m damaged. absurd (never damaged);
+    }
+
+-- a table that the range meets is damaged
+pub returns-clause-damaged : goal.returns-clause-damaged
+returns-clause-damaged g c =
+    let damaged = c.rows-answer.ensures.damaged in
+    record {
+      reads = λ list r. damaged list r.honest (meant_as_held g.D.Disk
+          c.held_files_are_left.ensures c.args.self.now list r);
+      meant = λ list m. damaged list m.honest (were_meant g.D.Disk c.args.self.now list m);
     }
 
 pub returns-clause-intact : goal.returns-clause-intact

@@ -1,8 +1,9 @@
-use Rattle.std.proofs.Common.{◌≤◌, ℕ, List, Option, subst, rules}
+use Rattle.std.proofs.Common.{◌≡◌, ◌≤◌, ℕ, List, Option, refl, subst, rules}
 use Rattle.disk.specs.{IsEnvironmental, contents}
 use Rattle.disk.specs.StillLemmas.{still}
 use Rattle.memtable.specs.{TableHolds}
 use Rattle.store_tables.specs.declared.error.EngineError.TheVariants as engine
+use Rattle.store_tables.specs.Errors.{IsEnd}
 use Rattle.store_tables.specs.LevelTables.{EntriesHave}
 use Rattle.store_files.specs.OpenFiles.{known_store}
 use Rattle.store_tables.specs.RefusalLemmas.{if_refuses, passed_cause}
@@ -103,12 +104,40 @@ returns-in_err-get-clause-damaged g c = λ list honest w refused.
     let h = w.hold in
     let files = c.args.self.now in
     let disk = g.D.Disk.state c.args.files.now.disk in
+    let lines = files.manifest.version.version.tables in
+    let rise = c.levels_rise.ensures.lines (contents w.meant) lines h.known.tables
+    h.known.usable.version.lines.tables_in_order h.known.read in
     let one = c.in_err-get.ensures.damaged w.meant h.known.tables honest
     (zip_was disk w.meant files.tables.tables.items h.known.tables h.known.served
     w.disk_is.blocks)
     (passed_cause c.from_residual-in_err-get.result c.from_residual-in_err-get.ensures.1 refused) in
-    named_lacks disk (contents w.meant) c.args.key.now c.args.at
-    files.manifest.version.version.tables h.known.tables h.known.read one.0 one.1 one.2
+    named_lacks disk w.meant c.args.key.now c.args.at
+    (known_store files h.known.tables).flushed lines h.known.tables
+    (record { named = h.known.read; as_meant = w.disk_is.tables }) h.known.store.tables rise one
+
+-- memory has nothing of the key
+pub returns-in_err-get-clause-memory : goal.returns-in_err-get-clause-memory
+returns-in_err-get-clause-memory g c = λ seen.
+    absurd (seen (subst (λ (o : Option (Option (List ℕ))).
+    EntriesHave c.args.at (TableHolds c.args.self.now.memtable) c.args.key.now o) c.in_default.is
+    c.in_ok-value.ensures))
+
+pub returns-clause-memory : goal.returns-clause-memory
+returns-clause-memory g c = λ seen.
+    absurd (seen (subst (λ (o : Option (Option (List ℕ))).
+    EntriesHave c.args.at (TableHolds c.args.self.now.memtable) c.args.key.now o) c.in_default.is
+    c.in_ok-value.ensures))
+
+-- of memory alone
+pub returns-in_err-value-clause-memory : goal.returns-in_err-value-clause-memory
+returns-in_err-value-clause-memory g c = λ seen. record {
+  same = refl;
+  causes = if_refuses c.from_residual.result (λ e. IsEnd e → e ≡ engine.Memory)
+      c.from_residual.ensures.1 (λ end. refl);
+}
+
+pub returns-in-Some-clause-memory : goal.returns-in-Some-clause-memory
+returns-in-Some-clause-memory g c = λ seen. record { same = refl; causes = tt }
 
 -- undamaged tables are read
 pub returns-in_err-get-clause-intact : goal.returns-in_err-get-clause-intact

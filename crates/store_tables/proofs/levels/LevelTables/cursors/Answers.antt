@@ -5,8 +5,7 @@ use Rattle.sorted_table.specs.contracts.table_cursor.TableCursorCursor.TheImpl a
 use Rattle.store_cursors.specs.contracts.store_cursor.StoreCursorCursor.TheImpl.{ghosts, no_dict}
 use Rattle.store_model.specs.{KeyRange, LevelTable}
 use Rattle.store_tables.specs.declared.levels.OpenTable.{OpenTable}
-use Rattle.store_tables.specs.LevelTables.{WasServed}
-use Rattle.store_tables.specs.RangeReads.{meets_span, tables_in}
+use Rattle.store_tables.specs.RangeReads.{WasServedIn, meets_span, tables_in}
 use Rattle.store_tables.specs.TableSeries.{AreSeries}
 use Rattle.store_tables.proofs.RangeTables.{all_asked, kept_more, kept_same}
 use Rattle.store_tables.proofs.SideBySide.{beside}
@@ -31,12 +30,12 @@ loop-open-preserved g c = λ meant files tables honest served.
     let span = c.args.range.now in
     let disk = g.D.Disk.state files.disk in
     let meets_it = λ (t : LevelTable). meets_span t.range span in
-    let zip = subst (λ (l : List OpenTable). AllZip (WasServed disk meant) l tables)
+    let zip = subst (λ (l : List OpenTable). AllZip (WasServedIn span disk meant) l tables)
     (sym c.deref-open-items.ensures.value) served in
-    let b = beside (WasServed disk meant) items tables i c.open-item.result zip
+    let b = beside (WasServedIn span disk meant) items tables i c.open-item.result zip
     c.loop-open-test.true c.open-item.is in
     let meets : meets_span b.other.range span ≡ c.meets.result =
-    ap (λ (r : KeyRange). meets_span r span) b.related.serves.range ∙ sym c.meets.ensures in
+    ap (λ (r : KeyRange). meets_span r span) b.related.range ∙ sym c.meets.ensures in
     let before = c.loop-open.invariant meant files tables honest served in
     elim c.if-meets.branch [
       | then-meets+in_ok-cursor+in_ok-add w ↦ rw w.series-is
@@ -45,8 +44,9 @@ loop-open-preserved g c = λ meant files tables honest served.
           (sym (kept_more meets_it (take i tables) (take (i + 1) tables) b.other b.taken
           (meets ∙ w.if-meets.true)))
           (w.in_ok-add.ensures meant files (tables_in span (take i tables)) b.other before
-          (w.in_ok-cursor.ensures meant files b.other honest b.related)
-          (ap (λ (r : KeyRange). r.least) b.related.serves.range)))
+          (w.in_ok-cursor.ensures meant files b.other honest
+          (b.related.serves (meets ∙ w.if-meets.true)))
+          (ap (λ (r : KeyRange). r.least) b.related.range)))
       | else-meets w ↦ rw w.series-is
           (subst (λ (l : List LevelTable). AreSeries store over meant meant files
           c.loop-open.series.ended.items c.loop-open.series.last.items l)
@@ -63,7 +63,7 @@ returns g c = IfOk-weaker c.finish.result _ _
     let over = table.ghosts g.row.D g.D.Disk table.no_dict table.no_dict in
     let span = c.args.range.now in
     let i = c.loop-open.open-index in
-    let asked = all_asked span (WasServed (g.D.Disk.state files.disk) meant)
+    let asked = all_asked span (WasServedIn span (g.D.Disk.state files.disk) meant)
     c.args.self.now.tables.items c.deref-open-items.result.now tables i
     c.deref-open-items.ensures.value served c.loop-open-test.false in
     are_range_cursors store meant files span tables cursors.items

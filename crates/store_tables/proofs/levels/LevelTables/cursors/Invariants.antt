@@ -4,8 +4,7 @@ use Rattle.sorted_table.specs.contracts.table_cursor.TableCursorCursor.TheImpl a
 use Rattle.table_files.specs.declared.CachedDisk.{CachedDisk}
 use Rattle.store_cursors.specs.contracts.store_cursor.StoreCursorCursor.TheImpl.{ghosts, no_dict}
 use Rattle.store_model.specs.{LevelTable}
-use Rattle.store_tables.specs.LevelTables.{WereServed}
-use Rattle.store_tables.specs.RangeReads.{tables_in}
+use Rattle.store_tables.specs.RangeReads.{WereServedIn, tables_in}
 use Rattle.store_tables.specs.TableSeries.{AreSeries}
 use Rattle.store_tables.proofs.levels.LevelTables.cursors.Given as goal
 
@@ -13,7 +12,7 @@ use Rattle.store_tables.proofs.levels.LevelTables.cursors.Given as goal
 abbrev pub invariant-loop-open : goal.invariant-loop-open
 invariant-loop-open g l = (meant : State) (files : CachedDisk g.row.D.Denot g.D.Disk)
     (tables : List LevelTable) → g.D.Disk.is_honest files.disk
-    → WereServed (g.D.Disk.state files.disk) meant l.self tables
+    → WereServedIn l.range (g.D.Disk.state files.disk) meant l.self tables
     → AreSeries (ghosts g.row.D g.D.Disk no_dict no_dict)
     (table.ghosts g.row.D g.D.Disk table.no_dict table.no_dict) meant meant files
     l.series.ended.items l.series.last.items (tables_in l.range (take l.open-index tables))

@@ -6,10 +6,11 @@ use Rattle.store_model.specs.{LevelTable}
 use Rattle.store_tables.specs.declared.error.EngineError.TheVariants as engine
 use Rattle.store_tables.specs.declared.levels.OpenTable.{OpenTable}
 use Rattle.store_tables.specs.KeepingLemmas.{answered}
-use Rattle.store_tables.specs.LevelTables.{IsServed, TablesFind, WasServed}
+use Rattle.store_tables.specs.LevelTables.{IsServed, LesserLack, TablesFind, WasServed}
 use Rattle.store_tables.specs.RefusalLemmas.{if_refuses, passed_cause}
 use Rattle.store_tables.specs.TableReads.{LacksBlock}
-use Rattle.store_tables.proofs.LevelLemmas.{Walked, all_walked, found_left, none_found}
+use Rattle.store_tables.proofs.LevelLemmas.{Walked, all_walked, found_left, lesser_lack}
+use Rattle.store_tables.proofs.LevelLemmas.{none_found}
 use Rattle.store_tables.proofs.LevelLemmas.{none_walked, one_walked}
 use Rattle.store_tables.proofs.OpenTables.{files_ghosts, none_read, read_more, served_same}
 use Rattle.store_tables.proofs.OpenTables.{still_then}
@@ -118,20 +119,39 @@ pub returns-in_err-found-clause-damaged : goal.returns-in_err-found-clause-damag
 returns-in_err-found-clause-damaged g c = λ meant tables honest served refused.
     let s0 = g.D.Disk.state c.args.files.now.disk in
     let s1 = g.D.Disk.state c.loop-open.files.disk in
+    let i = c.loop-open.open-index in
     let one = c.open-item.result in
+    let best = c.loop-open.best in
+    let level = c.loop-open.level in
+    let at = c.args.at in
+    let key = c.args.key.now in
     let before = c.loop-open.invariant.read.kept in
     let zip = subst (λ (l : List OpenTable). AllZip (WasServed s0 meant) l tables)
     (sym c.deref-open-items.ensures.value) served in
-    let b = beside (WasServed s0 meant) c.deref-open-items.result.now tables
-    c.loop-open.open-index one zip c.loop-open-test.true c.open-item.is in
+    let b = beside (WasServed s0 meant) c.deref-open-items.result.now tables i one zip
+    c.loop-open-test.true c.open-item.is in
     let lacks = c.in_err-found.ensures.damaged meant b.other (before.honest.1 honest)
     (was_same s0 s1 meant one b.other (before.files honest) b.related)
-    (passed_cause c.from_residual.result c.from_residual.ensures.1 refused) in (
-      b.other,
-      b.there,
-      subst (λ (s : Slot). LacksBlock s b.other.range c.args.key.now c.args.at)
-          (before.files honest b.other.file) lacks,
-    )
+    (passed_cause c.from_residual.result c.from_residual.ensures.1 refused) in
+    let goes_on : (best ≡ None) ⊎ (b.other.level ≡ level) =
+    elim c.else-is_some.branch [
+      | else-is_some-via-then-is_some+else-open-level w ↦
+          inr (b.related.serves.level ∙ w.if-open-level.false)
+      | else-is_some-via-else-is_some w ↦
+          inl (none_found best (sym c.is_some.ensures ∙ w.if-is_some.false))
+    ] in
+    record {
+      table = b.other;
+      there = b.there;
+      lacks = subst (λ (s : Slot). LacksBlock s b.other.range key at)
+          (before.files honest b.other.file) lacks;
+      needed = λ flushed leveled rise.
+          let walked = subst (λ (l : List LevelTable). Walked at key (take i tables) l level best)
+          b.left (c.loop-open.invariant.walked meant tables flushed honest served leveled rise) in
+          subst (λ (l : List LevelTable). LesserLack at l key b.other.level) b.whole
+          (lesser_lack at key (take i tables) level b.other (drop (i + 1) tables) best walked
+          goes_on);
+    }
 
 pub returns-in_err-found-clause-reads : goal.returns-in_err-found-clause-reads
 returns-in_err-found-clause-reads g c = record {
