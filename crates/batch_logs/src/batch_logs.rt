@@ -139,6 +139,8 @@ impl BatchLogs {
         durable_file_is_left();
         spell_record(&mut self.spelled, number.get(), batch)?;
         self.newest.log.append(disk, &self.spelled)?;
+        // Emptied here, since what fills it next would wait for a length that was just written.
+        self.spelled.clear();
         Ok(())
     }
 

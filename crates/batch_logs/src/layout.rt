@@ -11,7 +11,9 @@ pub(crate) fn spell_record(out: &mut Vec<u8>, number: u64, batch: &Batch) -> Res
     ensures { OnOk result
         ((out.new.items ≡ batch_record number batch.now) × IsBatch batch.now) }
 {
-    out.clear();
+    if !out.is_empty() {
+        out.clear();
+    }
     out.extend_from_slice(&number.to_be_bytes())?;
     batch.spell_into(out)
 }

@@ -5,8 +5,8 @@ ghost use Rattle.chain_core.specs.Decisions.{IsDecisionOn, IsReadAt, IsRefused};
 use crate::{CoreState, Decision, DropReason, Input};
 use configurations::{Config, Epoch, NodeId};
 use kv_types::bounds::MAX_NUMBER;
-use kv_types::{Batch, Key, Number, Range};
-use link_messages::Refusal;
+use kv_types::{Batch, Key, Number};
+use link_messages::{BoxedRange, Refusal};
 
 fn of_submit(state: &CoreState, request: Number, batch: Batch) -> Decision
     ensures { IsDecisionOn state.now (Input.Submit request batch) result }
@@ -52,7 +52,7 @@ fn of_get(state: &CoreState, request: Number, key: Key, at: Option<Number>) -> D
     }
 }
 
-fn of_rows(state: &CoreState, request: Number, range: Range, at: Option<Number>) -> Decision
+fn of_rows(state: &CoreState, request: Number, range: BoxedRange, at: Option<Number>) -> Decision
     ensures { IsDecisionOn state.now (Input.Rows request range at) result }
 {
     match number_read(state, at) {

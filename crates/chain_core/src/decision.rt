@@ -1,8 +1,8 @@
 // The decision on an input: the rule, with its arguments.
 use crate::DropReason;
 use configurations::{Config, Epoch};
-use kv_types::{Batch, Key, Number, Range};
-use link_messages::Refusal;
+use kv_types::{Batch, Key, Number};
+use link_messages::{BoxedRange, Refusal};
 
 /// The action of a node on an input.
 #[derive(Drop)]
@@ -38,7 +38,7 @@ pub enum Decision {
     /// The node answers the client with a page of the rows of the range at this number.
     ReadRows {
         request: Number,
-        range: Range,
+        range: BoxedRange,
         at: Number,
     },
     /// The node opens one more snapshot at this number.

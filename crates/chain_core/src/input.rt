@@ -1,6 +1,7 @@
 // The inputs of a node: requests of clients, frames of neighbours, notices, ticks.
 use configurations::{Config, Epoch, NodeId};
-use kv_types::{Batch, Key, Number, Range};
+use kv_types::{Batch, Key, Number};
+use link_messages::BoxedRange;
 
 /// An input of a running node.
 #[derive(Drop)]
@@ -18,7 +19,7 @@ pub enum Input {
     /// A client's read of the rows of a range, at a number or else at the committed number.
     Rows {
         request: Number,
-        range: Range,
+        range: BoxedRange,
         at: Option<Number>,
     },
     /// A client holds a number open, or else the committed number.

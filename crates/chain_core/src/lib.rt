@@ -23,5 +23,5 @@ pub use input::Input;
 pub use pending_submit::PendingSubmit;
 pub use persistent_state::PersistentState;
 pub use sending::Sent;
-pub use short_list::{HeldItems, ShortList};
+pub use short_list::{HeldItems, ShortList, only_item};
 pub use state::CoreState;

@@ -30,7 +30,8 @@ impl<T> Model for ShortList<T> {
     ghost view = { λ list. items_held list.held };
 }
 
-fn item_of<T>(one: [T; 1]) -> T
+/// The item of a short list that holds one.
+pub fn only_item<T>(one: [T; 1]) -> T
     ensures { result ∷ [] ≡ one }
 {
     let [item] = one;
@@ -63,7 +64,7 @@ impl<T: Drop> ShortList<T> {
             HeldItems::None => HeldItems::One([item]),
             HeldItems::One(one) => {
                 let mut all = Vec::with_capacity(alloc, 2)?;
-                all.push(item_of(one))?;
+                all.push(only_item(one))?;
                 all.push(item)?;
                 HeldItems::Many(all)
             }

@@ -61,6 +61,20 @@ pub opened_as_passed : {T : Type 0} (result : Result T DumpError) (error : DumpE
 opened_as_passed (Ok x) error same is = tt
 opened_as_passed (Err x) error same is = λ none. is (sym same ∙ none)
 
+-- so is any other refusal of a dump
+pub refused_as_passed : {T : Type 0} (result : Result T DumpError) (error : DumpError) →
+    IsErrAnd result (λ x. x ≡ error) → IsDumpRefusal error → IfErr result IsDumpRefusal
+refused_as_passed (Ok x) error same is = tt
+refused_as_passed (Err x) error same is = subst IsDumpRefusal (sym same) is
+
+-- a refusal for another cause is none of the device
+pub other_not_of_device : {T : Type 0} (result : Result T DumpError) (error : DumpError) →
+    IsErrAnd result (λ x. x ≡ error) → (error ≡ Store stop.Disk → ⊥) →
+    IsErrOf result (Store stop.Disk) → ⊥
+other_not_of_device (Ok x) error same other fails = absurd same
+other_not_of_device (Err x) error same other fails =
+    let disk : x ≡ Store stop.Disk = cc in other (sym same ∙ disk)
+
 -- and one of a text
 pub text_of_opened : {T : Type 0} (text : List ℕ) (old new : Option (List ℕ))
     (result : Result T DumpError) → WritesText text old new result → IfErr result IsOfOpened

@@ -159,15 +159,15 @@ module _ {D : Type 0} (g : Ghosts D) (it : Fault) (old : D) where
           (subst (λ (o : Option ℕ). HasStruckBy o (length (g.past armed))) at has))
 
   -- it struck none whose calls did not fail, nor does the one that it was armed with then
-  pub stays_so : (armed left new : D) {cause : Type 0} {IsKept : State → State → Type 0}
-      {last : Fault} → IsArmed g it old armed → KeepsDisk g armed left ⊥ cause IsKept →
+  pub stays_so : (armed left new : D) (F C : Type 0) (IsKept : State → State → Type 0)
+      {last : Fault} → IsArmed g it old armed → KeepsDisk g armed left F C IsKept → (F → ⊥) →
       IsArmed g last left new → g.is_honest old →
       (struck_at new ≡ false) × (g.failures new ≡ g.failures old)
-  stays_so armed left new {cause} {IsKept} arms keeps again honest =
-      let left_so = spent armed left ⊥ cause IsKept arms keeps honest in (
+  stays_so armed left new F C IsKept arms keeps works again honest =
+      let left_so = spent armed left F C IsKept arms keeps honest in (
         subst (λ (past : List State). has_reached (struck_call it) (length (g.past old))
-            (length past) ≡ false) (sym again.past) (left_so.spared (λ never. never)),
-        again.count ∙ left_so.count (λ never. never),
+            (length past) ≡ false) (sym again.past) (left_so.spared works),
+        again.count ∙ left_so.count works,
       )
 
   -- ---- a step that stopped the node

@@ -14,7 +14,7 @@ use carriers::{Delivery, NodeInput, send_posted, send_request};
 use configurations::{Configs, Epoch, NodeId};
 use events::LentKind;
 use kv_types::{Batch, Key, Number};
-use link_messages::Frame;
+use link_messages::{BoxedRange, Frame};
 use node::Input;
 use std::alloc::Global;
 
@@ -136,7 +136,7 @@ fn delivery_of_kind<C: Carrier>(
         EventKind::Submit { node, batch } => submitted(alloc, carrier, request, *node, batch),
         EventKind::Get { node, key, at } => looked_up(alloc, carrier, request, *node, key, *at),
         EventKind::Rows { node, range, at } => {
-            let (range, at) = (range.clone()?, *at);
+            let (range, at) = (BoxedRange::new(alloc, range.clone()?)?, *at);
             send_request(alloc, carrier, *node, Frame::Rows { request, at, range })
         }
         EventKind::Open { node, at } => {

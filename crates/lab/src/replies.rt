@@ -7,7 +7,7 @@ use crate::report::{Line, Lines};
 use crate::{Carrier, LabError};
 use carriers::{KeptReply, send_reply};
 use configurations::NodeId;
-use node::{HeldItems, Reply, ShortList};
+use node::{HeldItems, Reply, ShortList, only_item};
 use std::alloc::{AllocError, Global};
 
 // Adds the line of a reply that arrived.
@@ -56,13 +56,6 @@ fn carry_all<C: Carrier>(
     Ok(())
 }
 
-fn only_reply(one: [Reply; 1]) -> Reply
-    ensures { result ∷ [] ≡ one }
-{
-    let [reply] = one;
-    reply
-}
-
 /// Carries the replies of a node to the client, one after another. Each that arrives has a line
 /// behind those that there are.
 pub fn carry_replies<C: Carrier>(
@@ -79,7 +72,7 @@ pub fn carry_replies<C: Carrier>(
 {
     match replies.into_held() {
         HeldItems::None => Ok(()),
-        HeldItems::One(one) => carry_reply(alloc, carrier, from, lines, only_reply(one)),
+        HeldItems::One(one) => carry_reply(alloc, carrier, from, lines, only_item(one)),
         HeldItems::Many(replies) => carry_all(alloc, carrier, from, lines, replies),
     }
 }

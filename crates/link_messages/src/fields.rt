@@ -11,8 +11,8 @@ ghost use Rattle.link_messages.specs.Reading.{ReadsField};
 ghost use Rattle.link_messages.specs.Reading.{epoch_at, id_at, count_at, place_at};
 ghost use Rattle.link_messages.specs.Reading.{at_at, found_at, config_at, bound_at, range_at};
 
-use crate::FrameError;
 use crate::numbers::{put_truth, put_u16, put_u32, put_u64, truth_of, u16_of, u32_of, u64_of};
+use crate::{BoxedRange, FrameError};
 use configurations::laws::test_decides_config;
 use configurations::{Config, Epoch, NodeId};
 use kv_types::{Batch, Key, Number, Range, Value};
@@ -202,7 +202,7 @@ fn bound_of(alloc: Global, bytes: &mut &[u8]) -> Result<Option<Key>, FrameError>
 }
 
 #[tactic(auto, unfolding(crate::specs::Reading::range_at, crate::specs::Reading::limit_at))]
-pub fn range_of(alloc: Global, bytes: &mut &[u8]) -> Result<Range, FrameError>
+fn range_of(alloc: Global, bytes: &mut &[u8]) -> Result<Range, FrameError>
     ensures { ReadsField result bytes.new.now (range_at bytes.old.now) }
 {
     let from = key_of(alloc, bytes)?;
@@ -213,6 +213,13 @@ pub fn range_of(alloc: Global, bytes: &mut &[u8]) -> Result<Range, FrameError>
         Ok(range) => Ok(range),
         Err(_) => Err(FrameError::BadField),
     }
+}
+
+pub fn boxed_range_of(alloc: Global, bytes: &mut &[u8]) -> Result<BoxedRange, FrameError>
+    ensures { ReadsField result bytes.new.now (range_at bytes.old.now) }
+{
+    let range = range_of(alloc, bytes)?;
+    Ok(BoxedRange::new(alloc, range)?)
 }
 
 // The configuration at the front of the bytes, and the bytes behind it.

@@ -1,7 +1,7 @@
 // The 14 kinds of frame, and the greatest length of a frame.
-use crate::Refusal;
+use crate::{BoxedRange, Refusal};
 use configurations::{Config, Epoch, NodeId};
-use kv_types::{Batch, Key, Number, Page, Range, Value};
+use kv_types::{Batch, Key, Number, Page, Value};
 
 /// The greatest length of a frame, in bytes, without its length field.
 pub const MAX_FRAME: usize = 131072;
@@ -45,7 +45,7 @@ pub enum Frame {
     Rows {
         request: Number,
         at: Option<Number>,
-        range: Range,
+        range: BoxedRange,
     },
     /// Opens a snapshot at a number, or else at the committed number.
     Open {

@@ -1,6 +1,7 @@
 //! The frames between nodes and clients, and the one spelling of each frame.
 #![tactic(auto)]
 
+mod boxed_range;
 mod error;
 mod fields;
 mod frame;
@@ -11,6 +12,7 @@ mod reading;
 mod rows;
 mod writing;
 
+pub use boxed_range::BoxedRange;
 pub use chain_model::Refusal;
 pub use error::FrameError;
 pub use frame::{Frame, MAX_FRAME};

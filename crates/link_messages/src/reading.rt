@@ -7,7 +7,8 @@ ghost use Rattle.link_messages.specs.Reading.{value_at, rows_are_at, opened_at, 
 ghost use Rattle.link_messages.specs.Reading.{closed_at, reader_of, content_at};
 
 use crate::fields::{
-    at_of, batch_of, config_of, epoch_of, found_of, id_of, key_of, number_of, place_of, range_of,
+    at_of, batch_of, boxed_range_of, config_of, epoch_of, found_of, id_of, key_of, number_of,
+    place_of,
 };
 use crate::numbers::u8_of;
 use crate::rows::page_of;
@@ -93,7 +94,7 @@ fn rows_of(alloc: Global, bytes: &mut &[u8]) -> Result<Frame, FrameError>
     Ok(Frame::Rows {
         request: number_of(bytes)?,
         at: at_of(bytes)?,
-        range: range_of(alloc, bytes)?,
+        range: boxed_range_of(alloc, bytes)?,
     })
 }
 

@@ -124,7 +124,7 @@ fn put_request(out: &mut Vec<u8>, frame: &Frame) -> Result<(), AllocError>
         }
         Frame::Rows { request, at, range } => {
             put_asked(out, *request, *at)?;
-            put_range(out, range)
+            put_range(out, range.as_range())
         }
         Frame::Open { request, at } => put_asked(out, *request, *at),
         Frame::Close { request, number } => put_two(out, *request, *number),

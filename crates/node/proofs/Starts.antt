@@ -56,6 +56,13 @@ module _ {D : Type 0} (g : Ghosts D) where
   never_for_files (Ok node) memory other = other
   never_for_files (Err refused) memory other = other (inr memory)
 
+  -- nor for the device
+  pub never_for_disk : (result : Result (Node D g) (Stop × D)) →
+      IfErr result (λ refused. refused.0 ≡ stop.Memory) →
+      IsErrAnd result (λ refused. refused.0 ≡ stop.Disk) → ⊥
+  never_for_disk (Ok node) memory other = other
+  never_for_disk (Err refused) memory other = cc
+
   -- what is left where one cause holds is left where another holds only with it
   pub spares_as : (old new : D) {cause other : Type 0} → SparesFound g old new cause →
       (other → cause) → SparesFound g old new other

@@ -21,7 +21,8 @@ use chain_core::{CoreState, Decision, Done, Sent, ShortList};
 use configurations::{Config, Epoch};
 use disk::Disk;
 use engine::Engine;
-use kv_types::{Batch, Key, Number, Range};
+use kv_types::{Batch, Key, Number};
+use link_messages::BoxedRange;
 use std::alloc::Global;
 
 // The batches that a tick sends again, for the successor.
@@ -121,14 +122,14 @@ impl<D: Disk + Drop> Node<D> {
         &mut self,
         alloc: Global,
         request: Number,
-        range: Range,
+        range: BoxedRange,
         at: Number,
     ) -> Result<Output, Stop>
         requires { IsReady self.old }
         ensures { ExecutesDecision D.Disk self.old self.new
             (Decision.ReadRows request range at) result }
     {
-        let page = self.engine.rows(alloc, at, &range)?;
+        let page = self.engine.rows(alloc, at, range.as_range())?;
         Ok(page_output(request, at, page))
     }
 

@@ -1,3 +1,4 @@
 pub mod Beginnings
+pub mod Commands
 pub mod FolderEnds
 pub mod Wholes

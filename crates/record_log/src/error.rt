@@ -9,8 +9,8 @@ use thiserror::Error;
 
 /// Why a log refused. After `Disk` or `Memory` in `append`, `append` and `record` answer `Failed`
 /// until the log is opened again, and then it has the old records, with or without the new one.
-/// `len` still counts the old records; `first_len` and `gate` still answer, though no clause says
-/// that they answer as before.
+/// `len`, `first_len` and `gate` still answer, but only of `len` is it said what: the number of the
+/// old records.
 #[derive(Clone, Copy, Debug, PartialEq, Eq, Error)]
 pub enum LogError {
     /// The device failed, the file does not exist, or its bytes represent no records (`Short`).

@@ -10,6 +10,9 @@ use kv_types::{LentKey, Page, Row, Value};
 use std::alloc::{AllocError, Global};
 use std::marker::Model;
 
+/// A page takes memory for so many rows at first.
+const FIRST_ROWS: u32 = 128;
+
 /// The rows that a page has so far, and the bytes that they count.
 #[derive(Drop)]
 pub struct PageRows {
@@ -33,14 +36,12 @@ impl Model for PageRows {
 }
 
 impl PageRows {
-    /// No rows.
-    pub fn new(alloc: Global) -> PageRows
-        ensures { result ≡ [] }
+    /// No rows, with memory for some of so many.
+    pub fn new(alloc: Global, limit: u32) -> Result<PageRows, AllocError>
+        ensures { IfOk result (λ page. page ≡ []) }
     {
-        PageRows {
-            rows: Vec::new(alloc),
-            size: 0,
-        }
+        let rows = Vec::with_capacity(alloc, limit.min(FIRST_ROWS) as usize)?;
+        Ok(PageRows { rows, size: 0 })
     }
 
     // Whether a row of this size keeps the page within both limits.

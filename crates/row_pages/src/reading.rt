@@ -45,9 +45,10 @@ pub fn read_page<C: Cursor>(
         IfOk result (IsPage map range.now) }
 {
     begin(cursor, source, range)?;
-    let mut page = PageRows::new(alloc);
+    let limit = range.limit();
+    let mut page = PageRows::new(alloc, limit)?;
     while stands_within(cursor, range) {
-        if !add_entry(alloc, cursor, range.limit(), &mut page)? {
+        if !add_entry(alloc, cursor, limit, &mut page)? {
             return Ok(page.into_page(true));
         }
         step(cursor, source, range)?;

@@ -5,7 +5,7 @@ use crate::items::{
 };
 use kv_types::bounds::MAX_NUMBER;
 use kv_types::{Batch, Number, Page, Range};
-use link_messages::{Frame, FrameReader, Refusal, write};
+use link_messages::{BoxedRange, Frame, FrameReader, Refusal, write};
 use std::alloc::Global;
 use std::process::Abort;
 
@@ -41,14 +41,15 @@ const SIXTEEN: &[u16] = &[
     65522, 65521, 65520,
 ];
 
-fn range_of(rt: &impl Abort, alloc: Global, big: bool) -> Range {
+fn range_of(rt: &impl Abort, alloc: Global, big: bool) -> BoxedRange {
     let range = if big {
         let to = long_key(rt, alloc, 1024);
         Range::new(long_key(rt, alloc, 1024), Some(to), true, 1024)
     } else {
         Range::new(long_key(rt, alloc, 0), None, false, 1)
     };
-    range.expect(rt, "a range")
+    let range = range.expect(rt, "a range");
+    BoxedRange::new(alloc, range).expect(rt, "memory")
 }
 
 /// A frame between nodes, by its kind.

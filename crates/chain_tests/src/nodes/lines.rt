@@ -6,8 +6,8 @@ use crate::items::{Change, ONE, batch_of, config_of, id_of, key_of, number, rang
 use crate::nodes::running::Running;
 use configurations::{Epoch, NodeId};
 use disk::Crash;
-use kv_types::Number;
-use link_messages::Frame;
+use kv_types::{Number, Range};
+use link_messages::{BoxedRange, Frame};
 use node::{Input, Output, Sent};
 use std::alloc::{AllocError, Global};
 use std::process::Abort;
@@ -62,6 +62,10 @@ fn notice_of(rt: &impl Abort, alloc: Global, epoch: u32, ids: &[u16]) -> Input {
     Input::Notice { epoch, config }
 }
 
+fn boxed(rt: &impl Abort, alloc: Global, range: Range) -> BoxedRange {
+    BoxedRange::new(alloc, range).expect(rt, "memory")
+}
+
 /// The input of a line, but of a restart.
 fn input_of(rt: &impl Abort, alloc: Global, request: Number, line: &Line) -> Option<Input> {
     Some(match *line {
@@ -76,7 +80,7 @@ fn input_of(rt: &impl Abort, alloc: Global, request: Number, line: &Line) -> Opt
         },
         Line::Rows(at) => Input::Rows {
             request,
-            range: range_of(rt, alloc, ("", None, false, 9)),
+            range: boxed(rt, alloc, range_of(rt, alloc, ("", None, false, 9))),
             at: at.map(number),
         },
         Line::Open(at) => Input::Open {

@@ -1,5 +1,9 @@
 // A node as the tests run it.
+ghost use Rattle.std.specs.Prelude.{IfSome};
+ghost use Rattle.node.specs.{IsReady};
+
 use crate::items::{config_of, id_of};
+use configurations::{Config, NodeId};
 use disk::MemDisk;
 use kv_types::Limits;
 use node::{Input, Node, Output, Stop};
@@ -24,13 +28,21 @@ impl Model for Running {
     ghost invariant = { λ running. IfSome running.node IsReady };
 }
 
+// A node that is created on an empty disk.
+fn new_node(alloc: Global, id: NodeId, config: &Config) -> Option<Node<MemDisk>>
+    ensures { IfSome result IsReady }
+{
+    match Node::create(alloc, MemDisk::new(alloc), id, config, &Limits::default()) {
+        Ok(node) => Some(node),
+        Err(_refused) => None,
+    }
+}
+
 impl Running {
     /// The node with this configuration, created on an empty disk.
     pub fn created(rt: &impl Abort, alloc: Global, id: u16, ids: &[u16]) -> Running {
         let config = config_of(rt, alloc, ids);
-        let disk = MemDisk::new(alloc);
-        let created = Node::create(alloc, disk, id_of(rt, id), &config, &Limits::default());
-        let node = created.ok().expect(rt, "a node");
+        let node = new_node(alloc, id_of(rt, id), &config).expect(rt, "a node");
         Running { node: Some(node) }
     }
 

@@ -6,12 +6,15 @@ use Rattle.std.specs.Io.KnownBytes.{Appends}
 use Rattle.kv_types.specs.{BatchContent}
 use Rattle.kv_types.specs.Pages.{page_of}
 use Rattle.engine.specs.{IsReadable, LookUps}
+use Rattle.node.specs.declared.stop.Stop.TheVariants as stop
 use Rattle.client.specs.PrintedRuns.{AppendsPart}
+use Rattle.dumps.specs.declared.dump_error.DumpError.TheVariants.{Store, Write}
 use Rattle.dumps.specs.Dumped.{AreWritten, ShowsList, row_line}
 use Rattle.dumps.specs.Walks.{all_from}
 use Rattle.dumps.proofs.DeviceLemmas.{answers, kept_as_passed, kept_as_told, kept_more, kept_then}
 use Rattle.dumps.proofs.DeviceLemmas.{last_of_opened, not_of_device, of_last_row}
-use Rattle.dumps.proofs.DeviceLemmas.{opened_as_passed, untouched}
+use Rattle.dumps.proofs.DeviceLemmas.{opened_as_passed, other_not_of_device}
+use Rattle.dumps.proofs.DeviceLemmas.{refused_as_passed, untouched}
 use Rattle.dumps.proofs.PageRowsLemmas.{has_row}
 use Rattle.dumps.proofs.RowWalkLemmas.{all_written, begun_none, begun_so_far, begun_with_page}
 use Rattle.dumps.proofs.RowWalkLemmas.{more_written, none_written, shown_still, shows_on}
@@ -69,6 +72,13 @@ returns-in_err-make_text-clause-rows g c =
     c.loop.invariant.2 in
     search (rules, begun)
 
+pub returns-in_err-make_text-clause-device : goal.returns-in_err-make_text-clause-device
+returns-in_err-make_text-clause-device g c =
+    kept_as_told g.D.Disk
+    (kept_more g.D.Disk c.loop.invariant.0.kept c.in_ok-page.ensures.device answers)
+    (other_not_of_device c.from_residual-in_err-make_text.result (Store stop.Memory)
+    c.from_residual-in_err-make_text.ensures.1 (λ is. cc))
+
 -- a beginning of its text was written
 pub returns-in_err-print-clause-rows : goal.returns-in_err-print-clause-rows
 returns-in_err-print-clause-rows g c =
@@ -94,8 +104,10 @@ returns-in_err-print-clause-rows g c =
 
 pub returns-in_err-print-clause-device : goal.returns-in_err-print-clause-device
 returns-in_err-print-clause-device g c =
-    let kept = kept_more g.D.Disk c.loop.invariant.0.kept c.in_ok-page.ensures.device answers in
-    search (rules, kept)
+    kept_as_told g.D.Disk
+    (kept_more g.D.Disk c.loop.invariant.0.kept c.in_ok-page.ensures.device answers)
+    (other_not_of_device c.from_residual-in_err-print.result Write
+    c.from_residual-in_err-print.ensures.1 (λ is. cc))
 
 -- the rows cannot be counted
 pub returns-in_default-clause-rows : goal.returns-in_default-clause-rows
@@ -188,7 +200,8 @@ returns-in_err-from-2-clause-refused g c = λ list reads may.
     (has_row c.maps_agree.ensures c.pages_agree.ensures.agree list c.args.at c.loop.from page
     now.represents.each (c.in_ok-page.ensures.page list (inl now))
     (sym c.has_more.ensures ∙ c.if-not-has_more.false)) in
-    search (rules, cause)
+    refused_as_passed c.from_residual-in_err-from-2.result c.in_err-from-2.field-0.0
+    c.from_residual-in_err-from-2.ensures.1 cause
 
 pub returns-in_err-from-2-clause-device : goal.returns-in_err-from-2-clause-device
 returns-in_err-from-2-clause-device g c =
@@ -244,3 +257,8 @@ returns-clause-rows g c =
     begun_so_far (ShowsList g.D.Disk c.args.engine.now) c.args.at c.loop.from c.loop.known
     c.loop.count (g.W.Write.contents c.args.out.now) (g.W.Write.contents c.loop.out)
     c.loop.invariant.2
+
+-- more rows or pages than can be counted
+pub returns-clause-device : goal.returns-clause-device
+returns-clause-device g c =
+    kept_as_told g.D.Disk c.loop.invariant.0.kept (λ fails. cc)

@@ -2,7 +2,7 @@ use Rattle.std.proofs.Common.{inr, rules, subst}
 use Rattle.std.specs.Prelude.{MatchResult}
 use Rattle.engine.specs.{facts_of, look_ups}
 use Rattle.dumps.specs.Dumped.{IsBegunFor, IsDumpFor, IsDumpRefusal, IsOfOpened, ShowsList}
-use Rattle.dumps.proofs.DeviceLemmas.{output_of_opened, text_of_opened}
+use Rattle.dumps.proofs.DeviceLemmas.{output_of_opened, refused_as_passed, text_of_opened}
 use Rattle.dumps.proofs.RowWalkLemmas.{all_for, begun_for, shown_still}
 use Rattle.dumps.proofs.StoreDumpLemmas.{all_readable, cut_in_numbers, cut_in_rows, dumped}
 use Rattle.dumps.proofs.StoreDumpLemmas.{of_output}
@@ -51,7 +51,8 @@ returns-in_err-count-clause-refused g c = λ list reads.
     c.count-at.ensures.count in
     let cause = c.in_err-count.ensures.refused list (c.set_committed.ensures.stays.reads list reads)
     may in
-    search (rules, cause)
+    refused_as_passed c.from_residual-in_err-count.result c.in_err-count.field-0.0
+    c.from_residual-in_err-count.ensures.1 cause
 
 -- the last line was written, or refused
 pub returns-clause-dump : goal.returns-clause-dump

@@ -83,10 +83,10 @@ returns-in_err-done-clause-refused g c = λ list honest w.
     (inl (c.in_err-done.ensures.tends.meant list honest w).list)
 
 pub returns-clause-refused : goal.returns-clause-refused
-returns-clause-refused g c = λ list honest w.
+returns-clause-refused g c =
     let idle : c.in_ok-done.done ≡ tended.Idle = search rules in
-    merge_refused g.D.Disk c.args.limits.now c.args.floor c.args.files.now c.tend.new.disk
-    c.args.store.now c.tend.new.self c.args.merge.now c.args.turn.now c.tend.result
+    λ list honest w. merge_refused g.D.Disk c.args.limits.now c.args.floor c.args.files.now
+    c.tend.new.disk c.args.store.now c.tend.new.self c.args.merge.now c.args.turn.now c.tend.result
     (c.in_ok-done.was ∙ ap (λ d. Ok d) idle) (c.tend.ensures.work list honest w)
     c.tend_merge.result c.tend_merge.ensures.kept.refused
 

@@ -36,8 +36,8 @@ returns-in_ok-new-in-Ok g c =
             c.committed-committed.ensures.refines x (started x n) runs,
           ) refl);
       disk = λ honest.
-          let stays = stays_so g.D.Disk c.args.fault own c.arm.new.self _ _ c.arm.ensures
-          c.in-Ok.ensures.kept c.arm-in-Ok.ensures.armed honest in
+          let stays = stays_so g.D.Disk c.args.fault own c.arm.new.self _ _ _ _ _ c.arm.ensures
+          c.in-Ok.ensures.kept (λ never. never) c.arm-in-Ok.ensures.armed honest in
           record { spared = stays.0; count = stays.1; same = λ down. absurd down };
       only = search rules;
       follows = tt;

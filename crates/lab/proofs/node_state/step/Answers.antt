@@ -1,7 +1,7 @@
 use Rattle.std.specs.Prelude.{IsErrOf}
 use Rattle.std.proofs.Common.{false, Err, Result, inr, refl, sym, ap, subst, rules}
 use Rattle.chain_core.specs.{answer_to}
-use Rattle.disk.specs.{KeepsDisk, State}
+use Rattle.disk.specs.{KeepsDisk, State, fault_of}
 use Rattle.node.specs.declared.Stop.TheVariants as stop
 use Rattle.node.specs.declared.Output.{Output}
 use Rattle.node.specs.declared.Stop.{Stop as Cause}
@@ -11,7 +11,7 @@ use Rattle.carriers.specs.declared.NodeInput.TheVariants as to_node
 use Rattle.lab.specs.declared.node_state.NodeState.TheVariants.{Up}
 use Rattle.lab.specs.Outcomes.{Answers, Ends}
 use Rattle.lab.proofs.Dispatching.{each_answer, halted, halts_so, holding, in_box}
-use Rattle.lab.proofs.Faults.{grown_since, marked_so, same_state}
+use Rattle.lab.proofs.Faults.{grown_since, marked_so, same_state, stays_so}
 use Rattle.lab.proofs.node_state.step.Goals as goal
 
 pub returns-in-Ok : goal.returns-in-Ok
@@ -32,7 +32,11 @@ returns-in-Ok g c = λ limits.
               replied = a.replied;
             },
           );
-      disk = search rules;
+      disk = λ honest.
+          let stays = stays_so g.D.Disk c.args.fault (disk_of own) (disk_of c.arm.new.self)
+          _ _ _ _ _ c.arm.ensures.armed c.in-Ok.ensures.kept.disk (λ never. cc)
+          c.arm-in-Ok.ensures.armed honest in
+          record { spared = stays.0; count = stays.1; same = λ down. absurd down };
       only = search rules;
       follows = tt;
       grows = λ x n r.
@@ -43,7 +47,8 @@ returns-in-Ok g c = λ limits.
           inr (marked_so g.D.Disk c.args.fault (disk_of own) false
           (disk_of c.arm.new.self) _ _ _ _ _
           c.arm.ensures.armed c.in-Ok.ensures.kept.disk c.arm-in-Ok.ensures.armed honest);
-      forgets = search rules;
+      forgets = λ honest ignored. ap fault_of (c.arm-in-Ok.ensures.armed.marks
+          (c.in-Ok.ensures.kept.disk.honest.1 (c.arm.ensures.armed.honest.1 honest)));
       limits = search rules;
     })
 

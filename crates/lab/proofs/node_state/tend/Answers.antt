@@ -2,7 +2,7 @@ use Rattle.std.specs.Prelude.{IsErrOf}
 use Rattle.std.proofs.Common.{◌⊎◌, Err, Result, inl, inr, refl, sym, ap, subst, rules}
 use Rattle.std.proofs.Common.{true, false}
 use Rattle.chain_model.specs.Rules.{tend}
-use Rattle.disk.specs.{KeepsDisk, State}
+use Rattle.disk.specs.{KeepsDisk, State, fault_of}
 use Rattle.engine.specs.{IsAdrift, raised_facts}
 use Rattle.engine.specs.Tended.{Tended}
 use Rattle.node.specs.declared.Stop.TheVariants as stop
@@ -13,7 +13,7 @@ use Rattle.carriers.specs.declared.NodeInput.TheVariants as to_node
 use Rattle.lab.specs.declared.node_state.NodeState.TheVariants.{Up}
 use Rattle.lab.specs.Outcomes.{Halts, Tends}
 use Rattle.lab.proofs.Dispatching.{each_answer, halted, halts_so, holding, in_box, tends_armed}
-use Rattle.lab.proofs.Faults.{grown_since, marked_so, same_state}
+use Rattle.lab.proofs.Faults.{grown_since, marked_so, same_state, stays_so}
 use Rattle.lab.proofs.node_state.tend.Goals as goal
 
 pub returns-in-Ok : goal.returns-in-Ok
@@ -32,7 +32,11 @@ returns-in-Ok g c = λ limits.
             (c.arm-in-Ok.ensures.tends (engine_of own) c.in-Ok.did).1 (
                 (c.arm.ensures.tends (engine_of c.tend.new.self) c.in-Ok.did).0 a.1),
           );
-      disk = search rules;
+      disk = λ honest.
+          let stays = stays_so g.D.Disk c.args.fault (disk_of own) (disk_of c.arm.new.self)
+          _ _ _ _ _ c.arm.ensures.armed c.in-Ok.ensures.kept (λ never. cc)
+          c.arm-in-Ok.ensures.armed honest in
+          record { spared = stays.0; count = stays.1; same = λ down. absurd down };
       only = search rules;
       follows = tt;
       grows = λ x n r.
@@ -43,7 +47,8 @@ returns-in-Ok g c = λ limits.
           inr (marked_so g.D.Disk c.args.fault (disk_of own) false
           (disk_of c.arm.new.self) _ _ _ _ _
           c.arm.ensures.armed c.in-Ok.ensures.kept c.arm-in-Ok.ensures.armed honest);
-      forgets = search rules;
+      forgets = λ honest ignored. ap fault_of (c.arm-in-Ok.ensures.armed.marks
+          (c.in-Ok.ensures.kept.honest.1 (c.arm.ensures.armed.honest.1 honest)));
       limits = search rules;
     })
 

@@ -19,6 +19,6 @@ returns-in-One-clause-lines g c =
     on_ok_weaker c.carry_reply.result (λ one. subst (λ (l : List Reply).
     RepliesFollow (g.C.Carrier.is_faithful old) g.C.Carrier.loses
     (HasCarriedMore g.C.Carrier.has_carried old c.carry_reply.new.carrier) c.args.from l lines
-    c.carry_reply.new.lines) (c.only_reply.ensures ∙ sym (ap items_held c.in-One.is)
+    c.carry_reply.new.lines) (c.only_item.ensures ∙ sym (ap items_held c.in-One.is)
     ∙ c.into_held.ensures)
     (one old [] lines (λ h. h) none)) c.carry_reply.ensures.carries

@@ -16,7 +16,7 @@ loop-alloc-init g c = record {
       let entries = g.C.Cursor.holds meant c.args.cursor.now c.args.source.now in
       let at = g.C.Cursor.position c.begin.new.cursor in
       subst (λ (rows : List Row). ReadsUpTo c.args.range.now entries walk rows at)
-      (sym c.new-page.ensures)
+      (sym c.in_ok-page.ensures)
       (begun map c.args.range.now entries has walk is c.begin.result c.in_ok-begin.field-0 at
       c.in_ok-begin.was (c.begin.ensures.begins meant sound has.numbers));
 }
@@ -32,7 +32,7 @@ loop-alloc-preserved g c =
     let adds = subst (λ (b : Bool). IfOn was (λ e. AddsRowOf range.limit rows e new b))
     c.if-not-branch.false
     (subst (λ (n : ℕ). IfOn was (λ e. AddsRowOf n rows e new c.in_ok-add_entry.field-0))
-    c.limit.ensures.limit c.in_ok-add_entry.ensures) in
+    c.limit-limit.ensures.limit c.in_ok-add_entry.ensures) in
     record {
       moved = has_moved g.C.Cursor g.met.C.Cursor.laws c.in_ok-step.was
           (shifts_behind g.C.Cursor g.met.C.Cursor.laws i.moved
@@ -70,7 +70,7 @@ returns-then-not-branch-clause-page g c = λ meant map sound has walk.
     let adds = subst (λ (b : Bool). IfOn was (λ e. AddsRowOf range.limit rows e new b))
     c.if-not-branch.true
     (subst (λ (n : ℕ). IfOn was (λ e. AddsRowOf n rows e new c.in_ok-add_entry.field-0))
-    c.limit.ensures.limit c.in_ok-add_entry.ensures) in
+    c.limit-limit.ensures.limit c.in_ok-add_entry.ensures) in
     subst (λ (p : Rows). IsPage map range p) (sym c.into_page.ensures)
     (full_page map range entries has walk.0 walk.1 rows new was within adds
     (i.reads meant map walk.0 sound has walk.1))

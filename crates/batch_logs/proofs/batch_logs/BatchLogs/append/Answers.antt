@@ -83,7 +83,7 @@ returns g c =
                 (record {
                   older = self.older;
                   newest = record { first = self.newest.first; log = c.append.new.self };
-                  spelled = c.spell_record.new.out;
+                  spelled = c.clear.new.self;
                 })
                 refl refl (c.append.ensures.kept.files honest) c.requires.usable.apart refl
                 told.0.start (c.in_ok-append.ensures.appended records honest h.newest.log);

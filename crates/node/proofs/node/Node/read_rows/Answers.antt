@@ -36,5 +36,6 @@ returns g c =
     (λ ended. still_works known.reads.keeps.ends c.requires.works ended)
     (λ list. (known.reads.kept list).holds)
     (λ n input read reads. tells_rows n input request at c.args.range made read
-    (λ number. c.page_output.ensures n c.args.range number (known.found.reads n.list reads)))
+    (λ number. c.page_output.ensures n c.args.range number
+    (rw c.as_range.ensures at known.found.reads n.list reads)))
     refl

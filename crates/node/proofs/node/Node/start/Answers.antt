@@ -1,13 +1,14 @@
-use Rattle.std.proofs.Common.{subst, sym}
+use Rattle.std.proofs.Common.{◌≡◌, subst, sym}
 use Rattle.std.specs.Prelude.{IsErrAnd}
-use Rattle.disk.specs.{IsEnvironmental, contents}
+use Rattle.disk.specs.{IsEnvironmental, KeepsDisk, contents}
 use Rattle.node.specs.declared.stop.Stop.TheVariants as stop
 use Rattle.node.specs.Outputs.{AlwaysRefines}
 use Rattle.node.specs.Steps.{facts_for}
-use Rattle.engine.specs.{SparesFound, engine_disk}
-use Rattle.engine.specs.KeepingLemmas.{kept_as}
+use Rattle.engine.specs.{IsOwned, SparesFound, engine_disk}
+use Rattle.engine.specs.KeepingLemmas.{kept_as, neither}
 use Rattle.node.proofs.Causes.{device_told, env_of}
-use Rattle.node.proofs.Starts.{never_for_files, spares_as, started_from, started_or_memory}
+use Rattle.node.proofs.Starts.{never_for_disk, never_for_files, spares_as, started_from}
+use Rattle.node.proofs.Starts.{started_or_memory}
 use Rattle.node.proofs.node.Node.start.Goals as goal
 
 -- the machine that the files represent runs
@@ -59,3 +60,12 @@ pub returns-in-Err-clause-kept : goal.returns-in-Err-clause-kept
 returns-in-Err-clause-kept g c =
     kept_as g.D.Disk (device_told c.in-Err.e c.from.result c.from.ensures) (λ a b kept. kept)
     c.in-Err.ensures.kept
+
+-- so does what runs it, which wants memory alone
+pub returns-in-Ok-clause-kept : goal.returns-in-Ok-clause-kept
+returns-in-Ok-clause-kept g c =
+    let for_disk = IsErrAnd c.run_opened.result (λ refused. refused.0 ≡ stop.Disk) in
+    subst (λ d. KeepsDisk g.D.Disk c.args.disk d for_disk ⊥ IsOwned) (sym c.run_opened.ensures.disk)
+    (kept_as g.D.Disk (neither (λ fails. fails)
+    (never_for_disk g.D.Disk c.run_opened.result c.run_opened.ensures.memory)) (λ a b kept. kept)
+    c.in-Ok.ensures.kept)
