@@ -25,7 +25,7 @@ use Rattle.batch_logs.specs.BatchLogs.{AreBeside, AreJoined, AreParted, HasPart,
 use Rattle.batch_logs.specs.BatchLogs.{HoldsPart}
 use Rattle.batch_logs.specs.BatchLogs.{IsWorking, end_of_log, line_of}
 use Rattle.batch_logs.specs.Layout.{IsLog}
-use Rattle.store_tables.specs.KeepingLemmas.{kept_as, kept_behind, neither, unchanged}
+use Rattle.disk.specs.KeepingLemmas.{kept_as, kept_behind, neither, unchanged}
 use Rattle.batch_logs.specs.Layout.{records_from}
 use Rattle.batch_logs.specs.Replaying.{AreInLine, AreReadLogs, IsOpenedBehind, IsReadLog}
 use Rattle.batch_logs.specs.Replaying.{AddsBatches}

@@ -35,7 +35,7 @@ pub struct BatchLogs {
     // The logs but the newest, in order.
     older: Vec<BatchLog>,
     newest: BatchLog,
-    // The record that was appended last, whose memory the next one takes.
+    // Empty, or the record of an append that was refused. The next record takes its memory.
     spelled: Vec<u8>,
 }
 
@@ -139,7 +139,8 @@ impl BatchLogs {
         durable_file_is_left();
         spell_record(&mut self.spelled, number.get(), batch)?;
         self.newest.log.append(disk, &self.spelled)?;
-        // Emptied here, since what fills it next would wait for a length that was just written.
+        // Emptied here, behind the append: the next record would wait for a length that was just
+        // written.
         self.spelled.clear();
         Ok(())
     }

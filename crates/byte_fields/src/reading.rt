@@ -1,6 +1,6 @@
 //! Readers of numbers and texts, which borrow what they read. Those of numbers are inlined, since
 //! the order of keys and each entry that is read call them.
-ghost use Rattle.std.specs.Prelude.{◌≡◌, ◌≤◌, length, IfSome};
+ghost use Rattle.std.specs.Prelude.{◌≤◌, length, IfSome};
 ghost use Rattle.std.specs.Int.{w16, w32, w64};
 ghost use Rattle.byte_fields.specs.Texts.{text_at};
 ghost use Rattle.byte_fields.specs.Readers.{ReadsFront, number_at};

@@ -1,5 +1,5 @@
 // The rule for each input, by the numbers of the node that receives it.
-ghost use Rattle.std.specs.Prelude.{◌≡◌, MatchResult};
+ghost use Rattle.std.specs.Prelude.{MatchResult};
 ghost use Rattle.chain_core.specs.Decisions.{IsDecisionOn, IsReadAt, IsRefused};
 
 use crate::{CoreState, Decision, DropReason, Input};

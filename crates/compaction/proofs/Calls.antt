@@ -4,9 +4,9 @@ use Rattle.std.proofs.Common.{subst, ◌∙◌}
 use Rattle.std.specs.Prelude.{IsErrAnd, IsErrOf, ok_or}
 use Rattle.disk.specs.declared.Disk.{Ghosts}
 use Rattle.disk.specs.{AlwaysLeaves, IsFileOutcome, IsLeftAt, IsSameBut, KeepsDisk}
-use Rattle.disk.specs.{RisesByOne, Slot}
+use Rattle.disk.specs.{Passes, Slot}
 use Rattle.disk.specs.BesideLemmas.{at_more, at_start}
-use Rattle.disk.specs.{Passes}
+use Rattle.disk.specs.KeepingLemmas.{kept_as, kept_behind, kept_but, neither, unchanged}
 use Rattle.disk.specs.MomentsLemmas.{join, none_yet, weaker}
 use Rattle.compaction.specs.declared.error.MergeError.{MergeError}
 use Rattle.compaction.specs.declared.error.MergeError.TheVariants as merge
@@ -21,16 +21,8 @@ module _ {D : Type 0} (g : Ghosts D) (own : ℕ → Type 0) where
   pub writes_nothing : (disk : D) {told cause : Type 0} → (told → ⊥)
       → WritesOnly g own disk disk told cause
   writes_nothing disk works = record {
-    kept = record {
-      honest = (λ honest. honest, λ honest. honest);
-      failed = λ fails. absurd (works fails);
-      count = λ _. refl;
-      only = λ reliable spared fails. absurd (works fails);
-      reliable = λ reliable _. reliable;
-      files = λ honest file apart. refl;
-      fault = refl;
-      spared = λ spared _. spared;
-    };
+    kept = kept_as g (neither (λ fails. fails) works) (λ old new is. is)
+        (unchanged g (λ state file apart. refl));
     any_moment = λ honest. none_yet (IsLeftBeyond own (g.state disk)) (g.state disk) (g.past disk)
         (λ left now file apart. now file);
   }
@@ -40,33 +32,7 @@ module _ {D : Type 0} (g : Ghosts D) (own : ℕ → Type 0) where
       → (cause → other) → WritesOnly g own old new first cause
       → WritesOnly g own old new told other
   writes_as same so w = record {
-    kept = record {
-      honest = w.kept.honest;
-      failed = λ fails. w.kept.failed (same.1 fails);
-      count = λ works. w.kept.count (λ fails. works (same.0 fails));
-      only = λ reliable spared fails. so (w.kept.only reliable spared (same.1 fails));
-      reliable = λ reliable works. w.kept.reliable reliable (λ fails. works (same.0 fails));
-      files = w.kept.files;
-      fault = w.kept.fault;
-      spared = λ spared works. w.kept.spared spared (λ fails. works (same.0 fails));
-    };
-    any_moment = w.any_moment;
-  }
-
-  -- calls that did not fail, whatever is told of others
-  pub writes_done : {old new : D} {first told cause other : Type 0} → (first → ⊥) → (told → ⊥)
-      → WritesOnly g own old new first cause → WritesOnly g own old new told other
-  writes_done works ends w = record {
-    kept = record {
-      honest = w.kept.honest;
-      failed = λ fails. absurd (ends fails);
-      count = λ _. w.kept.count works;
-      only = λ reliable spared fails. absurd (ends fails);
-      reliable = λ reliable _. w.kept.reliable reliable works;
-      files = w.kept.files;
-      fault = w.kept.fault;
-      spared = λ spared _. w.kept.spared spared works;
-    };
+    kept = kept_but g so (kept_as g same (λ old new is. is) w.kept);
     any_moment = w.any_moment;
   }
 
@@ -75,22 +41,8 @@ module _ {D : Type 0} (g : Ghosts D) (own : ℕ → Type 0) where
       → (more → other) → WritesOnly g own old mid first cause
       → WritesOnly g own mid new told more → WritesOnly g own old new told other
   writes_behind {old = old} {mid = mid} {new = new} works so before w = record {
-    kept = record {
-      honest = (
-        λ honest. before.kept.honest.0 (w.kept.honest.0 honest),
-        λ honest. w.kept.honest.1 (before.kept.honest.1 honest),
-      );
-      failed = λ fails. subst (λ k. RisesByOne k (g.failures new)) (before.kept.count works)
-          (w.kept.failed fails);
-      count = λ end. w.kept.count end ∙ before.kept.count works;
-      only = λ reliable spared fails.
-          so (w.kept.only (before.kept.reliable reliable works) spared fails);
-      reliable = λ reliable end. w.kept.reliable (before.kept.reliable reliable works) end;
-      files = λ honest file apart. w.kept.files (before.kept.honest.1 honest) file apart
-          ∙ before.kept.files honest file apart;
-      fault = w.kept.fault ∙ before.kept.fault;
-      spared = λ spared end. w.kept.spared (before.kept.spared spared works) end;
-    };
+    kept = kept_but g so (kept_behind g (λ first next last one other file apart.
+        other file apart ∙ one file apart) before.kept works w.kept);
     any_moment = λ honest. join (IsLeftBeyond own (g.state old)) (g.state old) (g.state mid)
         (g.state new) (g.past old) (g.past mid) (g.past new) (before.any_moment honest)
         (weaker (IsLeftBeyond own (g.state mid)) (IsLeftBeyond own (g.state old)) (g.state mid)
@@ -100,21 +52,19 @@ module _ {D : Type 0} (g : Ghosts D) (own : ℕ → Type 0) where
         (w.any_moment (before.kept.honest.1 honest)));
   }
 
+  -- calls that did not fail, whatever is told of others
+  pub writes_done : {old new : D} {first told cause other : Type 0} → (first → ⊥) → (told → ⊥)
+      → WritesOnly g own old new first cause → WritesOnly g own old new told other
+  writes_done {new = new} works ends w =
+      writes_behind works (λ why. why) w (writes_nothing new ends)
+
   -- calls that write to fewer files
   pub writes_wider : (fewer : ℕ → Type 0) → ((file : ℕ) → fewer file → own file)
       → {old new : D} {told cause : Type 0} → WritesOnly g fewer old new told cause
       → WritesOnly g own old new told cause
   writes_wider fewer so {old = old} {new = new} w = record {
-    kept = record {
-      honest = w.kept.honest;
-      failed = w.kept.failed;
-      count = w.kept.count;
-      only = w.kept.only;
-      reliable = w.kept.reliable;
-      files = λ honest file apart. w.kept.files honest file (λ here. apart (so file here));
-      fault = w.kept.fault;
-      spared = w.kept.spared;
-    };
+    kept = kept_as g ((λ fails. fails), (λ fails. fails))
+        (λ old new is file apart. is file (λ here. apart (so file here))) w.kept;
     any_moment = λ honest. weaker (IsLeftBeyond fewer (g.state old))
         (IsLeftBeyond own (g.state old))
         (g.state old) (g.past old) (g.state new) (g.past new)
@@ -127,16 +77,8 @@ pub writes_one : {D : Type 0} (g : Ghosts D) (file : ℕ) {old new : D} {told ca
     → (g.is_honest old → AlwaysLeaves g old new (IsLeftAt (g.state old) file (λ left. Unit {0})))
     → WritesOnly g (λ one. file ≡ one) old new told cause
 writes_one g file {old = old} {new = new} kept moments = record {
-  kept = record {
-    honest = kept.honest;
-    failed = kept.failed;
-    count = kept.count;
-    only = kept.only;
-    reliable = kept.reliable;
-    files = λ honest one apart. kept.files honest one (λ is. apart (sym is));
-    fault = kept.fault;
-    spared = kept.spared;
-  };
+  kept = kept_as g ((λ fails. fails), (λ fails. fails))
+      (λ old new is one apart. is one (λ here. apart (sym here))) kept;
   any_moment = λ honest. weaker (IsLeftAt (g.state old) file (λ left. Unit {0}))
       (IsLeftBeyond (λ one. file ≡ one) (g.state old)) (g.state old) (g.past old) (g.state new)
       (g.past new) (λ left at one apart. at.others one (λ is. apart (sym is))) (moments honest);

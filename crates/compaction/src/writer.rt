@@ -36,8 +36,8 @@ pub struct OutputWriter {
 }
 
 impl OutputWriter {
-    ghost use Rattle.std.specs.Prelude.{◌≡◌, ◌⊎◌, ◌≤◌, ◌<◌, ◌++◌, ◌∷◌, [], ℕ, List, IfErr, IfOk};
-    ghost use Rattle.std.specs.Prelude.{IsSome, MatchResult, None, OnErr, OnOk, Option, Some};
+    ghost use Rattle.std.specs.Prelude.{◌≡◌, ◌⊎◌, ◌≤◌, ◌<◌, ◌++◌, ◌∷◌, [], ℕ, IfErr};
+    ghost use Rattle.std.specs.Prelude.{IsSome, MatchResult, None, OnOk, Option, Some};
     ghost use Rattle.std.specs.Prelude.{bytes_eq};
     ghost use Rattle.std.specs.Prelude.{IsOkAnd, length};
     ghost use Rattle.disk.specs.{IsEnvironmental, State};

@@ -5,7 +5,7 @@ ghost use Rattle.configurations.specs.NodeLists.{Lawful, at_epoch};
 ghost use Rattle.configurations.specs.Checks.{each_later, is_smaller, is_in_order};
 ghost use Rattle.configurations.specs.Refusals.{ListHas, IsLeast};
 
-use crate::{Config, ConfigError, Epoch, NodeId};
+use crate::{Config, ConfigError, Epoch};
 use kv_types::laws::is_part_decides;
 use std::alloc::{AllocError, Global};
 use std::marker::Model;

@@ -1,7 +1,7 @@
 // A folder as a disk. No contract says what the system does with its files, so this disk claims
 // neither that it is honest nor that it is reliable.
 ghost use Rattle.std.specs.Prelude.{◌≡◌, ◌≤◌, ◌<◌, ◌^◌, ◌-◌, [], None, IfErr, IfOk, IsErrOf, OnOk};
-ghost use Rattle.std.specs.Prelude.{IsErr, IsOk, IsSome, false, length, string_bytes, true, ℕ};
+ghost use Rattle.std.specs.Prelude.{IsErr, IsOk, false, length, string_bytes, true, ℕ};
 ghost use Rattle.std.specs.List.Sorted.{IsNonDecreasing};
 ghost use Rattle.disk.specs.{Absent};
 ghost use Rattle.disk.specs.Calls.{EndsOutOfRange};

@@ -19,6 +19,7 @@ pub mod StepsLemmas
 pub mod MomentsLemmas
 pub mod BesideLemmas
 pub mod StillLemmas
+pub mod KeepingLemmas
 pub mod WritesLemmas
 -- What crates above name.
 pub use Rattle.disk.specs.Calls.{EndsOutOfRange, HasStruck, RisesByOne, SyncOutcome}

@@ -1,8 +1,8 @@
 -- Calls that write to one file, one behind another.
-use Rattle.std.proofs.Common.{◌≡◌, ◌↔◌, ℕ, refl, subst, ◌∙◌}
+use Rattle.std.proofs.Common.{◌≡◌, ◌↔◌, ℕ, refl, subst}
 use Rattle.disk.specs.declared.disk.Disk.{Ghosts}
 use Rattle.disk.specs.BesideLemmas.{at_join, at_more, at_start, same_but_join}
-use Rattle.disk.specs.Calls.{RisesByOne}
+use Rattle.disk.specs.KeepingLemmas.{kept_as, kept_behind, kept_but, neither, unchanged}
 use Rattle.disk.specs.Lent.{AlwaysLeaves, KeepsDisk, WritesInto}
 use Rattle.disk.specs.Moments.{IsLeftAt, Passes}
 use Rattle.disk.specs.States.{IsSameBut}
@@ -12,16 +12,8 @@ module _ {D : Type 0} (g : Ghosts D) (file : ℕ) where
   pub writes_nothing : (disk : D) {told cause : Type 0} → (told → ⊥)
       → WritesInto g file disk disk told cause
   writes_nothing disk works = record {
-    kept = record {
-      honest = (λ honest. honest, λ honest. honest);
-      failed = λ fails. absurd (works fails);
-      count = λ _. refl;
-      only = λ reliable spared fails. absurd (works fails);
-      reliable = λ reliable _. reliable;
-      files = λ honest other apart. refl;
-      fault = refl;
-      spared = λ spared _. spared;
-    };
+    kept = kept_as g (neither (λ fails. fails) works) (λ old new is. is)
+        (unchanged g (λ state other apart. refl));
     any_moment = λ honest. at_start (λ left. Unit {0}) file (g.state disk) (g.past disk)
         (λ left now. tt);
   }
@@ -31,33 +23,7 @@ module _ {D : Type 0} (g : Ghosts D) (file : ℕ) where
       → (cause → other) → WritesInto g file old new first cause
       → WritesInto g file old new told other
   writes_as same so w = record {
-    kept = record {
-      honest = w.kept.honest;
-      failed = λ fails. w.kept.failed (same.1 fails);
-      count = λ works. w.kept.count (λ fails. works (same.0 fails));
-      only = λ reliable spared fails. so (w.kept.only reliable spared (same.1 fails));
-      reliable = λ reliable works. w.kept.reliable reliable (λ fails. works (same.0 fails));
-      files = w.kept.files;
-      fault = w.kept.fault;
-      spared = λ spared works. w.kept.spared spared (λ fails. works (same.0 fails));
-    };
-    any_moment = w.any_moment;
-  }
-
-  -- calls that did not fail, whatever is told of others
-  pub writes_done : {old new : D} {first told cause other : Type 0} → (first → ⊥) → (told → ⊥)
-      → WritesInto g file old new first cause → WritesInto g file old new told other
-  writes_done works ends w = record {
-    kept = record {
-      honest = w.kept.honest;
-      failed = λ fails. absurd (ends fails);
-      count = λ _. w.kept.count works;
-      only = λ reliable spared fails. absurd (ends fails);
-      reliable = λ reliable _. w.kept.reliable reliable works;
-      files = w.kept.files;
-      fault = w.kept.fault;
-      spared = λ spared _. w.kept.spared spared works;
-    };
+    kept = kept_but g so (kept_as g same (λ old new is. is) w.kept);
     any_moment = w.any_moment;
   }
 
@@ -66,27 +32,18 @@ module _ {D : Type 0} (g : Ghosts D) (file : ℕ) where
       → (more → other) → WritesInto g file old mid first cause
       → WritesInto g file mid new told more → WritesInto g file old new told other
   writes_behind {old = old} {mid = mid} {new = new} works so before w = record {
-    kept = record {
-      honest = (
-        λ honest. before.kept.honest.0 (w.kept.honest.0 honest),
-        λ honest. w.kept.honest.1 (before.kept.honest.1 honest),
-      );
-      failed = λ fails. subst (λ k. RisesByOne k (g.failures new)) (before.kept.count works)
-          (w.kept.failed fails);
-      count = λ end. w.kept.count end ∙ before.kept.count works;
-      only = λ reliable spared fails.
-          so (w.kept.only (before.kept.reliable reliable works) spared fails);
-      reliable = λ reliable end. w.kept.reliable (before.kept.reliable reliable works) end;
-      files = λ honest. same_but_join file (g.state old) (g.state mid) (g.state new)
-          (before.kept.files honest) (w.kept.files (before.kept.honest.1 honest));
-      fault = w.kept.fault ∙ before.kept.fault;
-      spared = λ spared end. w.kept.spared (before.kept.spared spared works) end;
-    };
+    kept = kept_but g so (kept_behind g (same_but_join file) before.kept works w.kept);
     any_moment = λ honest. at_join (λ left. Unit {0}) file
         (g.state old) (g.state mid) (g.state new) (g.past old) (g.past mid) (g.past new)
         (before.any_moment honest) (before.kept.files honest)
         (w.any_moment (before.kept.honest.1 honest));
   }
+
+  -- calls that did not fail, whatever is told of others
+  pub writes_done : {old new : D} {first told cause other : Type 0} → (first → ⊥) → (told → ⊥)
+      → WritesInto g file old new first cause → WritesInto g file old new told other
+  writes_done {new = new} works ends w =
+      writes_behind works (λ why. why) w (writes_nothing new ends)
 
   -- one call of the disk on the file
   pub call_writes : {old new : D} {told : Type 0} → KeepsDisk g old new told ⊥ (IsSameBut file)

@@ -13,7 +13,7 @@ use Rattle.disk.specs.{contents, seen}
 use Rattle.engine.specs.EngineError.TheVariants as engine
 use Rattle.engine.specs.EngineError.{EngineError}
 use Rattle.engine.specs.declared.Engine.{Engine}
-use Rattle.engine.specs.KeepingLemmas.{kept_as, neither}
+use Rattle.disk.specs.KeepingLemmas.{kept_as, neither}
 use Rattle.engine.specs.{EngineHolds, ExplainsRefusal, Facts, FilesRepresent, HasFirstFiles}
 use Rattle.engine.specs.{HasOnlyFiles, IsEngineOf, IsJustOpened, IsNewEngine, IsNotCreated}
 use Rattle.engine.specs.{IsOpened, IsOwned, LookUps, OpensAs, engine_disk, engine_files, facts_of}

@@ -1,5 +1,5 @@
 // The one node of a store that stands alone.
-ghost use Rattle.std.specs.Prelude.{◌≡◌, ◌↔◌, ◌∷◌, [], IfOk, IsTrue};
+ghost use Rattle.std.specs.Prelude.{◌↔◌, IfOk, IsTrue};
 ghost use Rattle.embedded_store.specs.Alone.{IsAloneAs};
 
 use configurations::{Config, NodeId};

@@ -21,7 +21,7 @@ pub struct EmbeddedStore<D: Disk + Drop> {
 }
 
 impl<D: Disk + Drop> EmbeddedStore<D> {
-    ghost use Rattle.std.specs.Prelude.{◌≡◌, ◌⊎◌, ◌≤◌, ◌∷◌, ◌++◌, [], List, None, length};
+    ghost use Rattle.std.specs.Prelude.{◌≡◌, ◌⊎◌, ◌≤◌, List, None, length};
     ghost use Rattle.std.specs.Prelude.{IfErr, IfOk, IsErrOf, MatchResult};
     ghost use Rattle.kv_types.specs.declared.bounds.TheConstants.{MAX_NUMBER};
     ghost use Rattle.kv_types.specs.{BatchContent, map_of};
@@ -79,7 +79,7 @@ impl<D: Disk + Drop> EmbeddedStore<D> {
     /// The value of a key at a number, or at the newest one. Where memory has an entry of the key
     /// that the number may see, the disk is not asked. `Damaged` only where a table whose range
     /// holds the key lacks the block in which the key would be, and no table of a lesser level has
-    /// an entry of it.
+    /// an entry of the key that the number may see.
     pub fn get(
         &mut self,
         alloc: Global,

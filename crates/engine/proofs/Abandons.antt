@@ -16,7 +16,7 @@ use Rattle.compaction.specs.Merges.{begun_number}
 use Rattle.store_tables.specs.declared.error.EngineError.{EngineError}
 use Rattle.store_tables.specs.declared.error.EngineError.TheVariants as engine
 use Rattle.store_tables.specs.Errors.{IsEnd}
-use Rattle.store_tables.specs.KeepingLemmas.{kept_as}
+use Rattle.disk.specs.KeepingLemmas.{kept_as}
 use Rattle.store_files.specs.declared.store_files.StoreFiles.{StoreFiles}
 use Rattle.store_files.specs.Apart.{OpenFilesAreApart}
 use Rattle.store_files.specs.Files.{IsOwned}

@@ -27,7 +27,7 @@ use Rattle.sorted_table.specs.{table_file}
 use Rattle.sorted_table.specs.declared.TableCursor.{TableCursor}
 use Rattle.store_tables.specs.declared.error.EngineError.TheVariants as engine
 use Rattle.store_tables.specs.declared.levels.OpenTable.{OpenTable}
-use Rattle.store_tables.specs.KeepingLemmas.{open_as_itself}
+use Rattle.store_tables.specs.LevelTablesLemmas.{open_as_itself}
 use Rattle.store_tables.specs.LevelTables.{AreServed, AreTablesOf, HasMeantBlocks, IsServed}
 use Rattle.store_tables.specs.LevelTables.{WasServed, WereServed}
 use Rattle.store_tables.specs.MergeTables.{HaveInputs}

@@ -16,7 +16,7 @@ use Rattle.store_model.specs.{LevelTable}
 use Rattle.store_tables.specs.declared.error.EngineError.{EngineError}
 use Rattle.store_tables.specs.declared.error.EngineError.TheVariants as engine
 use Rattle.store_tables.specs.Errors.{IsEnd}
-use Rattle.store_tables.specs.KeepingLemmas.{kept_as, kept_behind, kept_but}
+use Rattle.disk.specs.KeepingLemmas.{kept_as, kept_behind, kept_but}
 use Rattle.store_tables.specs.LevelTables.{AreServed}
 use Rattle.store_tables.specs.RefusalLemmas.{answers_nothing, done, if_refuses, on_ok, passed_on}
 use Rattle.store_tables.specs.RefusalLemmas.{refuses}

@@ -23,7 +23,7 @@ use Rattle.store_model.specs.{LevelTable, MergePlan}
 use Rattle.store_tables.specs.declared.error.EngineError.{EngineError}
 use Rattle.store_tables.specs.declared.error.EngineError.TheVariants as engine
 use Rattle.store_tables.specs.Errors.{IsEnd}
-use Rattle.store_tables.specs.KeepingLemmas.{kept_as, kept_but}
+use Rattle.disk.specs.KeepingLemmas.{kept_as, kept_but}
 use Rattle.store_tables.specs.LevelTables.{IsTableOf}
 use Rattle.store_tables.specs.RefusalLemmas.{on_ok}
 use Rattle.store_files.specs.declared.store_files.StoreFiles.{StoreFiles}

@@ -14,7 +14,7 @@ use Rattle.store_tables.specs.declared.error.EngineError.{EngineError}
 use Rattle.store_files.specs.declared.store_files.StoreFiles.{StoreFiles}
 use Rattle.store_tables.specs.declared.error.EngineError.TheVariants as engine
 use Rattle.engine.specs.Calls.{ExplainsRefusal, KeepsEngine, ListFollows, IsAdrift, IsNoDamage}
-use Rattle.store_tables.specs.KeepingLemmas.{answered, kept_as, neither}
+use Rattle.disk.specs.KeepingLemmas.{answered, kept_as, neither}
 use Rattle.store_tables.specs.RefusalLemmas.{on_ok, passed_on, refuses}
 use Rattle.engine.specs.Calls.{disk_after}
 use Rattle.engine.specs.Engines.{EngineHolds, EngineReads, EngineWasMeant, HasEnded, IsInMemory}

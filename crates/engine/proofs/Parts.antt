@@ -11,7 +11,7 @@ use Rattle.manifest.specs.{Change, HasFullSlot}
 use Rattle.store_tables.specs.declared.error.EngineError.{EngineError}
 use Rattle.store_tables.specs.declared.error.EngineError.TheVariants as engine
 use Rattle.store_tables.specs.Errors.{IsEnd}
-use Rattle.store_tables.specs.KeepingLemmas.{kept_as, kept_behind, kept_but, neither, unchanged}
+use Rattle.disk.specs.KeepingLemmas.{kept_as, kept_behind, kept_but, neither, unchanged}
 use Rattle.store_tables.specs.RefusalLemmas.{done, passed_on}
 use Rattle.store_files.specs.declared.store_files.StoreFiles.{StoreFiles}
 use Rattle.store_files.specs.Files.{Facts}

@@ -10,7 +10,7 @@ use Rattle.batch_logs.specs.Reads.{OnlyReads}
 use Rattle.store_tables.specs.declared.error.EngineError.{EngineError}
 use Rattle.store_tables.specs.declared.error.EngineError.TheVariants as error
 use Rattle.store_tables.specs.Errors.{IsEnd}
-use Rattle.store_tables.specs.KeepingLemmas.{kept_as, neither, same_files, unchanged}
+use Rattle.disk.specs.KeepingLemmas.{kept_as, neither, same_files, unchanged}
 use Rattle.store_files.specs.Files.{Facts, IsOwned}
 use Rattle.store_files.specs.HeldFiles.{HeldFilesAreLeft}
 use Rattle.store_files.specs.StoreFiles.{FilesRepresent, IsOneOf, WereOneOf}

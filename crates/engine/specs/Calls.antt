@@ -45,7 +45,7 @@ IsReadableAnswer told at (Err engine.Exhausted) = ⊥
 -- ---- which reads need no disk
 
 -- Memory has an entry of the key that is seen at the number: a batch of the list edits the key, up
--- to the number, and is none of the first ones, so many, whose entries are in tables.
+-- to the number, and is none of the first `flushed` ones, whose entries are in tables.
 pub record MemoryHas (list : List BatchContent) (flushed at : ℕ) (key : StoredKey) : Type 0 where
   pub entry : Entry
   pub is_key : entry.key ≡ key

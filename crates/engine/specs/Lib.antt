@@ -29,7 +29,6 @@ pub use Rattle.engine.specs.Engines.{with_closed, with_opened}
 -- What they name of the files of a store.
 pub use Rattle.store_tables.specs.declared.error.EngineError
 pub use Rattle.store_files.specs.declared.tended.Tended
-pub use Rattle.store_tables.specs.KeepingLemmas
 pub use Rattle.store_tables.specs.Errors.{EndsEngine, IsEnd}
 pub use Rattle.store_tables.specs.RangeReads.{OneIsDamagedIn}
 pub use Rattle.store_tables.specs.TableReads.{NeedsNoDisk, OneNamedLacksBlock}

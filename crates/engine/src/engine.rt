@@ -13,7 +13,7 @@ use compaction::laws::merges_outlive_calls;
 use compaction::{Merge, Turn};
 use configurations::{Config, Epoch, NodeId};
 use disk::{Crash, Disk, Fault};
-use kv_types::{Batch, Key, Limits, Number, Value};
+use kv_types::{Batch, Limits, Number};
 use std::alloc::Global;
 use store_files::laws::{held_files_are_left, open_files_are_apart, raised_facts_rise};
 use store_files::{EngineError, StoreFiles, Tended};

@@ -47,7 +47,7 @@ impl<D: Disk + Drop> Engine<D> {
     /// The value of a key in the map of the first `at` batches. Where memory has an entry of the
     /// key that the number may see, the disk is not asked. `Damaged` only where a table whose range
     /// holds the key lacks the block in which the key would be, and no table of a lesser level has
-    /// an entry of it.
+    /// an entry of the key that the number may see.
     pub fn get(
         &mut self,
         alloc: Global,

@@ -1,5 +1,4 @@
 // Edits and batches, read from their bytes.
-ghost use Rattle.std.specs.Prelude.{◌≡◌};
 ghost use Rattle.kv_types.specs.Reading.{ReadsBytes, edit_at, batch_at, batch_of};
 ghost use Rattle.byte_fields.specs.{many};
 

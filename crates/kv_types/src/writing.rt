@@ -1,7 +1,6 @@
 // Keys, values, edits and batches, written as bytes.
 ghost use Rattle.std.specs.Prelude.{◌≡◌, ◌≤◌, ◌<◌, ◌^◌, ◌++◌, ◌+◌, length, OnOk, All};
 ghost use Rattle.kv_types.specs.Spelling.{edit_bytes, batch_bytes, IsEdit};
-ghost use Rattle.byte_fields.specs.{text_bytes};
 
 use crate::Edit;
 use crate::bounds::{MAX_EDITS, MAX_KEY, MAX_VALUE};

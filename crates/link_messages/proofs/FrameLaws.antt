@@ -1,23 +1,14 @@
 -- Frames: the reader of each kind reads back its spelling.
-use Rattle.std.proofs.Common.{◌≡◌, ℕ, zero, suc, ◌+◌, ◌*◌, ◌<◌, ◌≤◌, Bool, true, false, List, []}
+use Rattle.std.proofs.Common.{◌≡◌, ℕ, zero, suc, ◌+◌, ◌<◌, ◌≤◌, List, []}
 use Rattle.std.proofs.Common.{◌∷◌, ◌++◌, length}
-use Rattle.std.proofs.Common.{Option, Some, None, IfSome, refl, ap, subst, ◌∙◌, arith}
-use Rattle.std.specs.List.{flat_map, sum_by}
-use Rattle.std.proofs.lemmas.List.{length-append}
-use Rattle.std.proofs.lemmas.List.Concat.{flat_map-cons}
-use Rattle.std.proofs.lemmas.List.Sums.{sum_by-cons}
+use Rattle.std.proofs.Common.{Option, Some, None, refl, ap, subst, arith}
 use Rattle.configurations.specs.{TestDecidesConfig}
-use Rattle.kv_types.specs.declared.Row.{Row}
-use Rattle.kv_types.specs.{row_size, Span, Rows}
-use Rattle.byte_fields.specs.{◌>>=◌, text_bytes, Reader, mapped}
-use Rattle.kv_types.specs.declared.bounds.TheConstants.{MAX_KEY, MAX_VALUE, MAX_PAGE}
+use Rattle.kv_types.specs.{Rows}
+use Rattle.byte_fields.specs.{◌>>=◌, Reader, mapped}
 use Rattle.byte_fields.specs.FieldsLemmas.{IsBytes, bind_some, some_is, BeginsWith}
 use Rattle.link_messages.specs.declared.frame.Frame.{Frame}
 use Rattle.link_messages.specs.declared.frame.Frame.TheVariants as frame
-use Rattle.link_messages.specs.Spelling.{kind, fields, IsFrame, u16, u32, row_text}
-use Rattle.link_messages.specs.Spelling.{truth, optional, at_text, range_text, page_text, IsRange}
-use Rattle.link_messages.specs.Spelling.{IsSmall}
-use Rattle.link_messages.specs.Stream.{FramesFit}
+use Rattle.link_messages.specs.Spelling.{kind, fields, IsFrame}
 use Rattle.link_messages.specs.Reading.{forward_at, ack_at, notice_at}
 use Rattle.link_messages.specs.Reading.{submit_at, get_at, rows_frame_at, open_at, close_at}
 use Rattle.link_messages.specs.Reading.{committed_at, value_at, rows_are_at, opened_at, refused_at}

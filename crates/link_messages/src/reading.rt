@@ -1,5 +1,4 @@
 // Each kind of frame, read from its bytes.
-ghost use Rattle.std.specs.Prelude.{◌≡◌};
 ghost use Rattle.link_messages.specs.Reading.{ReadsField, ReadsKind, IsOr, refusal_at};
 ghost use Rattle.link_messages.specs.Reading.{forward_at, ack_at, notice_at, submit_at, get_at};
 ghost use Rattle.link_messages.specs.Reading.{rows_frame_at, open_at, close_at, committed_at};

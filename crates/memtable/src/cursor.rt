@@ -1,6 +1,6 @@
 //! A cursor over the entries of a memtable.
 
-ghost use Rattle.std.specs.Prelude.{◌≡◌, ◌≤◌, IfOk, IfSome, false, None};
+ghost use Rattle.std.specs.Prelude.{◌≡◌, IfOk, IfSome, false, None};
 ghost use Rattle.std.specs.Option.{ForSome};
 ghost use Rattle.kv_types.specs.{lent_key};
 ghost use Rattle.std.proofs.Props.{props};

@@ -1,7 +1,6 @@
 -- A node that adopts a configuration, which its store has recorded.
-use Rattle.std.proofs.Common.{◌≡◌, ◌<◌, ◌++◌, ℕ, List, [], sym, ap, subst, ◌∙◌, arith}
+use Rattle.std.proofs.Common.{◌≡◌, ℕ, List, [], sym, ap, subst, ◌∙◌, arith}
 use Rattle.std.specs.Prelude.{IsTrue}
-use Rattle.kv_types.specs.{BatchContent}
 use Rattle.configurations.specs.NodeLists.{leaves_out}
 use Rattle.disk.specs.declared.Disk.{Ghosts}
 use Rattle.disk.specs.{AlwaysLeaves}

@@ -14,7 +14,7 @@ use Rattle.engine.specs.EngineError.{EngineError}
 use Rattle.engine.specs.EngineError.TheVariants as engine
 use Rattle.engine.specs.{EngineHolds, EngineReads, Facts, HasEnded, IsReadableAnswer, KeepsEngine}
 use Rattle.engine.specs.{LookUps, engine_disk, look_ups}
-use Rattle.engine.specs.KeepingLemmas.{answered, neither}
+use Rattle.disk.specs.KeepingLemmas.{answered, neither}
 use Rattle.node.specs.declared.node.Node.{Node}
 use Rattle.node.specs.declared.output.Output.{Output}
 use Rattle.node.specs.declared.stop.Stop.{Stop}

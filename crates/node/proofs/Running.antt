@@ -14,9 +14,9 @@ use Rattle.engine.specs.EngineError.{EngineError}
 use Rattle.engine.specs.{EngineHolds, Facts, FilesRepresent, HasEnded, IsOneOf}
 use Rattle.engine.specs.{IsOwned}
 use Rattle.engine.specs.{KeepsEngine, LookUps, engine_disk, facts_of, look_ups}
-use Rattle.engine.specs.KeepingLemmas.{kept_as, kept_behind, kept_but, neither, same_files}
-use Rattle.engine.specs.KeepingLemmas.{same_then_same}
-use Rattle.engine.specs.KeepingLemmas.{unchanged}
+use Rattle.disk.specs.KeepingLemmas.{kept_as, kept_behind, kept_but, neither, same_files}
+use Rattle.disk.specs.KeepingLemmas.{same_then_same}
+use Rattle.disk.specs.KeepingLemmas.{unchanged}
 use Rattle.chain_model.specs.{Answer}
 use Rattle.chain_core.specs.declared.Done.{Done}
 use Rattle.chain_core.specs.{Machine, Core, CoreRefines, StepLeaves}

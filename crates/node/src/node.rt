@@ -1,5 +1,5 @@
 // A running node: its store, and the rules of a step over it.
-ghost use Rattle.std.specs.Prelude.{◌≡◌, ◌⊎◌, ◌↔◌, IsErrOf, ℕ, length, slice_index, false};
+ghost use Rattle.std.specs.Prelude.{◌≡◌, ◌⊎◌, ◌↔◌, IsErrOf, ℕ, length, slice_index};
 ghost use Rattle.std.specs.Prelude.{◌<◌, IfOk, OnOk};
 ghost use Rattle.disk.specs.{IsArmed, KeepsDisk};
 ghost use Rattle.chain_core.specs.{Machine, answer_to};

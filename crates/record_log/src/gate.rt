@@ -1,5 +1,5 @@
 // A write behind a closed gate, which is opened when the bytes are durable.
-ghost use Rattle.std.specs.Prelude.{◌≡◌, ◌⊎◌, ℕ, ◌+◌, ◌<◌, ◌^◌, List, length, IsErrOf, MatchResult};
+ghost use Rattle.std.specs.Prelude.{ℕ, ◌+◌, ◌<◌, ◌^◌, List, length, IsErrOf, MatchResult};
 ghost use Rattle.disk.specs.{IsEnvironmental};
 ghost use Rattle.disk.specs.declared.DiskError.TheVariants.{Failed, Memory};
 ghost use Rattle.disk.specs.{AlwaysLeaves, EndsOutOfRange, IsLeftAt, IsSameBut, KeepsDisk};

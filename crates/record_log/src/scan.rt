@@ -1,5 +1,5 @@
 // Recovery of a log: the records in the bytes of a file.
-ghost use Rattle.std.specs.Prelude.{◌≡◌, ◌≤◌, ◌++◌, ◌<◌, ◌^◌, List, ℕ, length, ◌⊎◌, IfOk, IfErr};
+ghost use Rattle.std.specs.Prelude.{◌≡◌, ◌++◌, ◌<◌, ◌^◌, List, ℕ, length, IfOk};
 ghost use Rattle.std.specs.Prelude.{Err, IsErr, MatchOption};
 ghost use Rattle.record_log.specs.Grammar.{IsClosed, Represents, entry, ends_from, end_of};
 

@@ -6,7 +6,7 @@ use Rattle.std.specs.Ordering.{nat_cmp, ordering_then}
 use Rattle.std.specs.Cmp.{tied_itself}
 use Rattle.kv_types.specs.declared.Row.{Row}
 use Rattle.kv_types.specs.declared.bounds.TheConstants.{MAX_NUMBER}
-use Rattle.kv_types.specs.Pages.{IsPage, IsWithin, Map}
+use Rattle.kv_types.specs.Pages.{IsPage, Map}
 use Rattle.kv_types.specs.{Entry, IsNewest, IsShown, Rows, Span, ViewShows, stored_cmp}
 use Rattle.merge_iter.specs.{IsAlike, IsApart, entry_cmp, entry_total}
 use Rattle.row_pages.specs.Rows.{HasRowsOf, HasWalk, row_entry}

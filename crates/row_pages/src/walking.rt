@@ -1,6 +1,6 @@
 //! Walks of a cursor over the entries of a range.
-ghost use Rattle.std.specs.Prelude.{◌≡◌, ◌≤◌, ◌↔◌, IsTrue, OnOk, IfSome};
-ghost use Rattle.kv_types.specs.{Entry, lent_key};
+ghost use Rattle.std.specs.Prelude.{◌↔◌, IsTrue, OnOk};
+ghost use Rattle.kv_types.specs.{lent_key};
 ghost use Rattle.kv_types.specs.Order.{IsBelow};
 ghost use Rattle.kv_types.specs.Pages.{IsWithin};
 ghost use Rattle.kv_types.specs.declared.bounds.TheConstants.{MAX_NUMBER};

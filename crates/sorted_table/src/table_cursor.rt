@@ -1,5 +1,5 @@
 //! A cursor over a table.
-ghost use Rattle.std.specs.Prelude.{◌≡◌, ◌≢◌, ◌<◌, ◌≤◌, List, None, IfOk, IfSome, Err};
+ghost use Rattle.std.specs.Prelude.{◌≡◌, ◌≢◌, ◌<◌, None, IfOk, IfSome, Err};
 ghost use Rattle.std.specs.Prelude.{◌↔◌, IsSomeAnd, IsTrue, OnOk, false, length};
 ghost use Rattle.std.specs.declared.cmp.Ordering.TheVariants.{Less};
 ghost use Rattle.std.specs.Option.{ForSome};
@@ -7,9 +7,7 @@ ghost use Rattle.std.specs.Rc.{rc_slice_items};
 ghost use Rattle.disk.specs.{Slot, State};
 ghost use Rattle.kv_types.specs.{lent_key, stored_cmp};
 ghost use Rattle.sorted_table.specs.MovedFiles.{MovesFiles};
-ghost use Rattle.table_files.specs.{BlockAnswer};
 ghost use Rattle.table_files.specs.{KeepsFiles};
-ghost use Rattle.sorted_table.specs.BlockPlaces.{PlaceReads};
 ghost use Rattle.sorted_table.specs.LineSizes.{IsBounded};
 ghost use Rattle.sorted_table.specs.Meant.{AreAsMeant};
 ghost use Rattle.sorted_table.specs.Open.{last_line_key};
@@ -179,7 +177,7 @@ impl<D: Disk + Drop> TableCursor<D> {
 
 impl<D: Disk + Drop> Cursor for TableCursor<D> {
     ghost use Rattle.sorted_table.specs.LineSizes.{blocks_size, steps_left};
-    ghost use Rattle.sorted_table.specs.TableCursors.{CursorServes, FileHolds, table_position};
+    ghost use Rattle.sorted_table.specs.TableCursors.{FileHolds, table_position};
     ghost use Rattle.sorted_table.specs.TableCursorLaws.{AreIntactFiles, FileSuits};
     ghost use Rattle.sorted_table.specs.TableCursorLaws.{ServesMeant, table_fits, table_laws};
 

@@ -1,6 +1,5 @@
 //! Cursors one after another, as one cursor.
 ghost use Rattle.std.specs.Prelude.{◌≡◌, ◌<◌, Some};
-ghost use Rattle.std.specs.List.{slice_get};
 ghost use Rattle.merge_iter.specs.{CanStep, EachChild, IsAlike, Off, UnionHolds};
 ghost use Rattle.merge_iter.specs.LentCursors.{StepsCursor};
 ghost use Rattle.store_cursors.specs.Concatenation.{AreConcatenated, IsConcatenation};

@@ -2,13 +2,13 @@
 ghost use Rattle.std.specs.Prelude.{◌≡◌, ◌<◌, ◌≤◌, ℕ, IsTrue, vec_len, Some};
 ghost use Rattle.std.specs.List.{slice_get};
 ghost use Rattle.kv_types.specs.{Entry, lent_key};
-ghost use Rattle.merge_iter.specs.{AreSound, CanStep, EachChild, EntryPrecedes, IsAlike, Off};
-ghost use Rattle.merge_iter.specs.{spot, union_of};
+ghost use Rattle.merge_iter.specs.{CanStep, EachChild, EntryPrecedes, Off};
+ghost use Rattle.merge_iter.specs.{spot};
 ghost use Rattle.merge_iter.specs.declared.Direction.TheVariants.{Forward};
 ghost use Rattle.sorted_table.specs.{EndsBefore};
 ghost use Rattle.store_cursors.specs.Concatenation.{AreConcatenated, EntersChildren};
-ghost use Rattle.store_cursors.specs.Concatenation.{IsConcatenationOf, StepsFrom};
-ghost use Rattle.store_cursors.specs.Concatenation.{concatenated_most, concatenated_position};
+ghost use Rattle.store_cursors.specs.Concatenation.{StepsFrom};
+ghost use Rattle.store_cursors.specs.Concatenation.{concatenated_position};
 
 use crate::child_place::ChildPlace;
 use crate::start::{Start, rank};

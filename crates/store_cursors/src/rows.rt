@@ -8,7 +8,6 @@ use crate::store_cursor::StoreCursor;
 use disk::Disk;
 use kv_types::Number;
 use merge_iter::{AtNumber, Cursor, Merged};
-use sorted_table::CachedDisk;
 use std::alloc::Global;
 
 /// The rows of a store at a number: what the union of memtables and tables shows there.

@@ -1,6 +1,6 @@
 -- Which files of an open store are apart from each other.
-use Rattle.std.proofs.Common.{◌≡◌, ◌⊎◌, ℕ, ◌<◌, ◌≤◌, List, [], ◌∷◌, ◌+◌, ◌∙◌, Bool}
-use Rattle.std.proofs.Common.{ap, arith, eq-eqb, inl, inr, refl, subst, sym, true, false}
+use Rattle.std.proofs.Common.{◌≡◌, ℕ, ◌<◌, ◌≤◌, List, [], ◌∷◌, ◌+◌, ◌∙◌}
+use Rattle.std.proofs.Common.{ap, arith, eq-eqb, inl, inr, refl, subst, sym, true}
 use Rattle.std.specs.Prelude.{Contains, IsNone, ◌==◌}
 use Rattle.std.specs.List.{AllZip}
 use Rattle.disk.specs.{Contents, Slot, State, contents, seen}

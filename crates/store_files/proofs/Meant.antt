@@ -23,7 +23,7 @@ use Rattle.store_tables.specs.declared.error.EngineError.{EngineError}
 use Rattle.store_tables.specs.declared.levels.OpenTable.{OpenTable}
 use Rattle.store_files.specs.declared.store_files.StoreFiles.{StoreFiles}
 use Rattle.batch_logs.specs.BatchLogs.{LogsHold, lines_of, newest_file}
-use Rattle.store_tables.specs.KeepingLemmas.{open_as_itself}
+use Rattle.store_tables.specs.LevelTablesLemmas.{open_as_itself}
 use Rattle.store_tables.specs.LevelTables.{AreTablesOf, HasMeantBlocks, IsOpenAsMeant, IsServed}
 use Rattle.store_tables.specs.LevelTables.{IsTableAsMeant, IsTableOf, WasServed}
 use Rattle.store_tables.specs.declared.levels.LevelTables.{LevelTables}

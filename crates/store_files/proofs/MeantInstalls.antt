@@ -20,7 +20,7 @@ use Rattle.batch_logs.specs.declared.batch_logs.BatchLogs.{BatchLogs}
 use Rattle.store_tables.specs.declared.levels.OpenTable.{OpenTable}
 use Rattle.store_files.specs.declared.store_files.StoreFiles.{StoreFiles}
 use Rattle.batch_logs.specs.BatchLogs.{LogsHold, lines_of, next_number, with_line}
-use Rattle.store_tables.specs.KeepingLemmas.{open_as_itself}
+use Rattle.store_tables.specs.LevelTablesLemmas.{open_as_itself}
 use Rattle.store_tables.specs.LevelTables.{IsOpenAsMeant, IsTableAsMeant, WasServed, WereServed}
 use Rattle.store_tables.specs.LevelTables.{with_flushed}
 use Rattle.store_files.specs.OpenFiles.{AreUsableFiles, IsAsMeant, batch_count, known_facts}

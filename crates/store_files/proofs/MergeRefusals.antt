@@ -8,7 +8,7 @@ use Rattle.store_model.specs.{LevelTable}
 use Rattle.store_tables.specs.declared.error.EngineError.{EngineError}
 use Rattle.store_tables.specs.declared.error.EngineError.TheVariants as engine
 use Rattle.store_tables.specs.Errors.{IsEnd}
-use Rattle.store_tables.specs.KeepingLemmas.{kept_as, kept_but}
+use Rattle.disk.specs.KeepingLemmas.{kept_as, kept_but}
 use Rattle.store_tables.specs.LevelTables.{AreTablesOf}
 use Rattle.store_tables.specs.MergeTables.{ReplacedLinesName}
 use Rattle.store_tables.specs.RefusalLemmas.{refuses}

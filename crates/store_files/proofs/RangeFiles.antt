@@ -9,7 +9,7 @@ use Rattle.sorted_table.specs.{TableServes, table_file}
 use Rattle.store_model.specs.{KeyRange, LevelTable}
 use Rattle.manifest.specs.declared.TableLine.{TableLine}
 use Rattle.store_tables.specs.declared.levels.OpenTable.{OpenTable}
-use Rattle.store_tables.specs.KeepingLemmas.{open_as_itself}
+use Rattle.store_tables.specs.LevelTablesLemmas.{open_as_itself}
 use Rattle.store_tables.specs.LevelTables.{IsServed, IsTableOf, WasServed, line_range}
 use Rattle.store_tables.specs.RangeReads.{AreIntactIn, WasServedIn, meets_span}
 

@@ -17,7 +17,7 @@ use Rattle.disk.specs.{OnlyLeaves, Passes, Slot, State, seen}
 use Rattle.disk.specs.Calls.{ListsFiles}
 use Rattle.disk.specs.MomentsLemmas.{one_call_more, none_yet}
 use Rattle.disk.specs.States.{ChangesSlot, removed}
-use Rattle.store_tables.specs.KeepingLemmas.{kept_as, kept_behind, neither}
+use Rattle.disk.specs.KeepingLemmas.{kept_as, kept_behind, neither}
 use Rattle.store_files.specs.Settling.{AreAlone, SparesFiles}
 
 -- each of these files exists, and beside them only files that are kept

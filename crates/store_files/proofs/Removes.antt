@@ -8,7 +8,7 @@ use Rattle.disk.specs.declared.Disk.{Ghosts}
 use Rattle.disk.specs.{AlwaysLeaves, IsFileOutcome, IsLeftAt, IsSameBut, KeepsDisk}
 use Rattle.disk.specs.{Slot, State, seen}
 use Rattle.disk.specs.MomentsLemmas.{join, none_yet, weaker}
-use Rattle.store_tables.specs.KeepingLemmas.{kept_as, kept_behind, neither, unchanged}
+use Rattle.disk.specs.KeepingLemmas.{kept_as, kept_behind, neither, unchanged}
 use Rattle.store_files.specs.Removing.{AreAbsent, AreLeftBeside}
 use Rattle.store_files.specs.Tending.{IsSameBeside}
 

@@ -12,7 +12,7 @@ use Rattle.sorted_table.specs.MovedFiles.{MovesFiles}
 use Rattle.store_tables.specs.declared.error.EngineError.{EngineError}
 use Rattle.store_tables.specs.declared.error.EngineError.TheVariants as engine
 use Rattle.store_tables.specs.Errors.{error_of_cursor}
-use Rattle.store_tables.specs.KeepingLemmas.{kept_as}
+use Rattle.disk.specs.KeepingLemmas.{kept_as}
 
 -- files that a read moved are kept
 pub kept_answered : {D R T : Type 0} (g : Ghosts D) (old new : D) (result : Result R CursorError)

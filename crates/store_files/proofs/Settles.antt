@@ -19,7 +19,7 @@ use Rattle.record_log.specs.{IsDurableAs}
 use Rattle.store_tables.specs.declared.error.EngineError.TheVariants as engine
 use Rattle.store_tables.specs.declared.error.EngineError.{EngineError}
 use Rattle.store_tables.specs.Errors.{error_of_disk}
-use Rattle.store_tables.specs.KeepingLemmas.{kept_as, kept_behind, neither, unchanged}
+use Rattle.disk.specs.KeepingLemmas.{kept_as, kept_behind, neither, unchanged}
 use Rattle.batch_logs.specs.Syncs.{AddsNothing, SlotSettles}
 use Rattle.store_files.specs.Settling.{AreSynced}
 use Rattle.batch_logs.specs.SyncsLemmas.{settled_seen}

@@ -1,5 +1,5 @@
 // An adoption of a later configuration, which the manifest records.
-ghost use Rattle.std.specs.Prelude.{IfErr, IfOk, List};
+ghost use Rattle.std.specs.Prelude.{IfErr, IfOk};
 ghost use Rattle.disk.specs.{MakesCalls};
 ghost use Rattle.store_files.specs.Adopting.{AdoptsConfig, IsConfigEdit, MayAdopt};
 ghost use Rattle.store_files.specs.OpenFiles.{HasSameFacts};

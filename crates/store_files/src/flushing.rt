@@ -18,7 +18,7 @@ ghost use Rattle.store_files.specs.Tending.{ListIsSpilled, MeantAndSpilled, Tend
 use crate::EngineError;
 use crate::store_files::StoreFiles;
 use disk::Disk;
-use disk::laws::{durable_file_is_left, durable_is_left};
+use disk::laws::durable_file_is_left;
 use kv_types::Number;
 use manifest::laws::{
     edits_keep_versions, held_versions_are_left, manifest_has_slots, slots_reach_gates,

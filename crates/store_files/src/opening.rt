@@ -2,7 +2,7 @@
 ghost use Rattle.std.specs.Prelude.{◌≡◌, ◌↔◌, ◌-◌, [], IsErrAnd, IsErrOf, IsTrue, List, IfOk};
 ghost use Rattle.std.specs.Prelude.{OnOk};
 ghost use Rattle.store_tables.specs.declared.error.EngineError.TheVariants.{Disk, Memory};
-ghost use Rattle.std.specs.Prelude.{MatchResult, All};
+ghost use Rattle.std.specs.Prelude.{MatchResult};
 ghost use Rattle.kv_types.specs.{BatchContent};
 ghost use Rattle.disk.specs.{IsEnvironmental, IsStill, KeepsDisk, contents};
 ghost use Rattle.store_files.specs.Files.{Facts, IsOwned};

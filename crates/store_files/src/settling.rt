@@ -10,7 +10,6 @@ ghost use Rattle.store_files.specs.Settling.{AreAlone, AreSynced, AreThere, Spar
 use crate::EngineError;
 use disk::Disk;
 use manifest::TableLine;
-use std::alloc::Global;
 
 /// Makes the files of these tables durable. `Damaged` only where one is absent.
 pub(crate) fn sync_tables<D: Disk>(disk: &mut D, lines: &[TableLine]) -> Result<(), EngineError>

@@ -158,7 +158,8 @@ impl StoreFiles {
     /// The value of a key in the map of the first `at` batches: looked up in memory, and then in
     /// the tables. Where memory has an entry of the key that the number may see, the disk is not
     /// asked. `Damaged` only where a table whose range holds the key lacks the block in which the
-    /// key would be, and no table of a lesser level has an entry of it.
+    /// key would be, and no table of a lesser level has an entry of the key that the number may
+    /// see.
     pub fn get<D: Disk + Drop>(
         &self,
         alloc: Global,

@@ -1,7 +1,6 @@
 -- The worked example: which merges are planned.
-use Rattle.std.proofs.Common.{◌≡◌, ◌⊎◌, inl, inr, ℕ, List, [], ◌∷◌, Contains, codes, refl, arith}
+use Rattle.std.proofs.Common.{◌≡◌, ◌⊎◌, inl, [], ◌∷◌, codes, refl, arith}
 use Rattle.store_model.specs.Keys.{AreDisjointRanges, RangeLiesIn}
-use Rattle.store_model.specs.Tables.{LevelTable}
 use Rattle.store_model.specs.Steps.{IsPlanned}
 use Rattle.store_model.specs.Examples.{PlanExamples, a_table, b_table, both_keys, first_key}
 use Rattle.store_model.specs.Examples.{merge_of}

@@ -20,7 +20,7 @@ use Rattle.compaction.specs.Walks.{table_files}
 use Rattle.compaction.specs.declared.plan.Plan.{Plan}
 use Rattle.store_tables.specs.declared.levels.OpenTable.{OpenTable}
 use Rattle.store_tables.specs.declared.levels.LevelTables.{LevelTables}
-use Rattle.store_tables.specs.KeepingLemmas.{open_as_itself}
+use Rattle.store_tables.specs.LevelTablesLemmas.{open_as_itself}
 use Rattle.store_tables.specs.LevelTables.{IsServed, WasServed}
 use Rattle.store_tables.specs.MergeTables.{HaveInputs}
 use Rattle.store_tables.specs.RangeReads.{HasTable, HaveOwnFiles}

@@ -23,9 +23,9 @@ use Rattle.manifest.specs.declared.TableLine.{TableLine}
 use Rattle.store_tables.specs.declared.error.EngineError.{EngineError}
 use Rattle.store_tables.specs.declared.error.EngineError.TheVariants as engine
 use Rattle.store_tables.specs.declared.levels.OpenTable.{OpenTable}
-use Rattle.store_tables.specs.KeepingLemmas.{kept_as, kept_behind, neither, same_files}
-use Rattle.store_tables.specs.KeepingLemmas.{same_then_same}
-use Rattle.store_tables.specs.KeepingLemmas.{unchanged}
+use Rattle.disk.specs.KeepingLemmas.{kept_as, kept_behind, neither, same_files}
+use Rattle.disk.specs.KeepingLemmas.{same_then_same}
+use Rattle.disk.specs.KeepingLemmas.{unchanged}
 use Rattle.store_tables.specs.LevelTables.{EntriesFind, FileFits, FitsLine, IsOpenAsMeant}
 use Rattle.store_tables.specs.LevelTables.{IsServed, IsTableOf, WasServed, error_of_table}
 use Rattle.store_tables.specs.LevelTables.{line_range}

@@ -1,7 +1,7 @@
 pub mod Errors
-pub mod KeepingLemmas
 pub mod RefusalLemmas
 pub mod LevelTables
+pub mod LevelTablesLemmas
 pub mod TableReads
 pub mod TableWriting
 pub mod TableSeries

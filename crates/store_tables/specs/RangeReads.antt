@@ -35,7 +35,7 @@ pub record WasServedIn (span : Span) (disk meant : State) (it : OpenTable) (tabl
   pub range : table.range ≡ line_range it.line
   pub serves : meets_span table.range span ≡ true → WasServed disk meant it table
 
--- so do the open tables, in the same order
+-- each open table has the range of its table, and was meant to serve it, in the same order
 abbrev pub WereServedIn : Span → State → State → LevelTables → List LevelTable → Type 0
 WereServedIn span disk meant it tables =
     AllZip (WasServedIn span disk meant) it.tables.items tables
@@ -45,8 +45,7 @@ abbrev pub AreIntactIn : Span → State → State → List TableLine → Type 0
 AreIntactIn span disk meant lines = All (λ line. meets_span (line_range line) span ≡ true →
     seen (disk line.file) ≡ seen (meant line.file)) lines
 
--- A file of one of these lines, whose keys meet the span, has a damaged block: not each of them
--- reads as it was meant to.
+-- Of the files of these lines whose keys meet the span, not each reads as it was meant to.
 pub record OneIsDamagedIn (span : Span) (disk : State) (lines : List TableLine) : Type 0 where
   pub meant : State
   pub tables : List LevelTable

@@ -49,8 +49,9 @@ pub record LacksBlock (file : Slot) (range : KeyRange) (key : StoredKey) (at : �
   pub there : n < length lines
   pub damaged : (part : List ℕ) → IsBlockAtLine lines n file part → ⊥
 
--- One of these tables has a file that does, and was needed: where the tables stand in order of
--- level, none of a lesser level has an entry of the key that is seen at the number.
+-- The file of one of these tables lacks the block of the key, and the table was needed: where the
+-- tables stand in order of level, none of a lesser level has an entry of the key that is seen at
+-- the number.
 pub record OneLacksBlock (disk : State) (tables : List LevelTable) (key : StoredKey) (at : ℕ)
     : Type 0 where
   pub table : LevelTable
@@ -59,16 +60,16 @@ pub record OneLacksBlock (disk : State) (tables : List LevelTable) (key : Stored
   pub needed : (flushed : ℕ) → AreLeveled flushed tables → LevelsRise tables →
       LesserLack at tables key table.level
 
--- The lines were meant to name these tables: they do in what the files were meant to be, and the
--- disk has that but for damaged blocks.
+-- The lines were meant to name these tables: in what the files were meant to be, they do. What the
+-- disk has differs from that at most in damaged blocks.
 pub record WereNamed (disk meant : State) (lines : List TableLine) (tables : List LevelTable)
     : Type 0 where
   pub named : AreTablesOf (contents meant) lines tables
   pub as_meant : All (λ line. IsTableAsMeant (disk line.file) (meant line.file)) lines
 
--- One of these lines names a file that lacks the block of the key, and was needed: of the tables
--- that the lines were meant to name, none of a lesser level has an entry of the key that is seen at
--- the number.
+-- One of these lines names a file that lacks the block of the key, and the file was needed: of the
+-- tables that the lines were meant to name, none of a lesser level has an entry of the key that is
+-- seen at the number.
 pub record OneNamedLacksBlock (disk : State) (lines : List TableLine) (key : StoredKey) (at : ℕ)
     : Type 0 where
   pub line : TableLine

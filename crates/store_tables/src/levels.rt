@@ -1,5 +1,5 @@
 //! Open tables, level by level, and lookups in them.
-ghost use Rattle.std.specs.Prelude.{◌≡◌, ◌⊎◌, ◌↔◌, ℕ, List, IfOk, IfErr, IsTrue, MatchResult};
+ghost use Rattle.std.specs.Prelude.{◌≡◌, ◌↔◌, ℕ, List, IfOk, IfErr, IsTrue, MatchResult};
 ghost use Rattle.std.specs.Prelude.{◌<◌, IsErrOf, OnOk, Some, not, slice_index};
 ghost use Rattle.std.specs.List.{prefix_len};
 ghost use Rattle.std.specs.Prelude.{Contains, [], ◌∷◌, ◌++◌};
@@ -254,7 +254,7 @@ impl LevelTables {
     /// The newest version of the key with at most this number, if the tables have one. The levels
     /// are looked up in turn, up to the first that has an entry of the key. `Damaged` only where a
     /// table whose range holds the key lacks the block in which the key would be, and no table of a
-    /// lesser level has an entry of it.
+    /// lesser level has an entry of the key that the number may see.
     pub fn get<D: Disk + Drop>(
         &self,
         alloc: Global,

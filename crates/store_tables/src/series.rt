@@ -1,5 +1,5 @@
 //! Cursors over tables in order: one for each series of tables, whose keys come one after another.
-ghost use Rattle.std.specs.Prelude.{◌≡◌, ◌++◌, ℕ, List, [], ◌∷◌, IfOk, IsTrue, OnOk};
+ghost use Rattle.std.specs.Prelude.{◌≡◌, ◌++◌, List, [], ◌∷◌, IfOk, IsTrue, OnOk};
 ghost use Rattle.disk.specs.{State};
 ghost use Rattle.merge_iter.specs.{AreSound};
 ghost use Rattle.store_cursors.specs.Concatenation.{AreConcatenated};

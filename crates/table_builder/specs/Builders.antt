@@ -75,12 +75,12 @@ AddRefusal table.TooLarge entries entry =
     CanFollow entries entry × (MAX_DATA < data_size (entries ++ entry ∷ []))
 AddRefusal table.Failed entries entry = ⊥
 
--- .. on any disk, which may be damaged
+-- the same on any disk: one that is damaged may be why, too
 abbrev pub HeldRefusal : TableError → List Entry → Entry → Type 0
 HeldRefusal table.Damaged entries entry = CanAdd entries entry
 HeldRefusal e entries entry = AddRefusal e entries entry
 
--- these do not fill a block
+-- these entries fill no block
 abbrev pub IsPartOfBlock : List Entry → Type 0
 IsPartOfBlock entries = length (block_content entries) < BLOCK_SIZE
 

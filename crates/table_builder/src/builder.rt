@@ -35,7 +35,7 @@ pub struct Finished {
 }
 
 impl Builder {
-    ghost use Rattle.std.specs.Prelude.{◌≡◌, ◌≤◌, ◌<◌, ◌+◌, ◌^◌, ℕ, List, [], ◌∷◌, ◌++◌, length};
+    ghost use Rattle.std.specs.Prelude.{◌≡◌, ◌≤◌, ◌<◌, ◌+◌, ◌^◌, List, [], ◌∷◌, ◌++◌, length};
     ghost use Rattle.std.specs.Prelude.{IfOk, IsErrOf, IsOk, MatchResult, OnOk};
     ghost use Rattle.disk.specs.{IsEnvironmental, Slot, WritesInto};
     ghost use Rattle.kv_types.specs.{Entry};

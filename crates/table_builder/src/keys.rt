@@ -21,7 +21,7 @@ pub struct AddedKeys {
 }
 
 impl AddedKeys {
-    ghost use Rattle.std.specs.Prelude.{◌<◌, ◌^◌, ◌+◌, ◌++◌, ◌∷◌, [], ◌↔◌, ℕ, List};
+    ghost use Rattle.std.specs.Prelude.{◌<◌, ◌^◌, ◌+◌, ◌++◌, ◌∷◌, [], ◌↔◌, List};
     ghost use Rattle.std.specs.Prelude.{OnOk, IsTrue};
     ghost use Rattle.bloom.specs.{hashes_of};
     ghost use Rattle.kv_types.specs.{Entry, lent_key};

@@ -1,5 +1,5 @@
 //! Entries that are lent from the block that they stand in.
-ghost use Rattle.std.specs.Prelude.{◌≡◌, ◌≤◌, length, option_map, IfSome};
+ghost use Rattle.std.specs.Prelude.{◌≤◌, length, option_map, IfSome};
 ghost use Rattle.kv_types.specs.declared.bounds.TheConstants.{MAX_KEY};
 ghost use Rattle.kv_types.specs.{lent_key};
 ghost use Rattle.byte_fields.specs.{ReadsFront};

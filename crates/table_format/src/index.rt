@@ -1,5 +1,5 @@
 //! The index of a table: its lines, read with all checks.
-ghost use Rattle.std.specs.Prelude.{◌≡◌, ◌↔◌, map, IsTrue};
+ghost use Rattle.std.specs.Prelude.{◌↔◌, map, IsTrue};
 ghost use Rattle.table_format.specs.Blocks.{CanFollow};
 ghost use Rattle.table_format.specs.Parts.{ReadsPartOr, IsIndex, end_spot};
 ghost use Rattle.table_format.specs.Reading.{lent_line};

@@ -1,7 +1,7 @@
 // Which edits a version may take.
-ghost use Rattle.std.specs.Prelude.{◌≡◌, ◌&&◌, ◌==◌, ◌<◌, ◌≤◌, ◌↔◌, List, length, map, IsTrue};
+ghost use Rattle.std.specs.Prelude.{◌≡◌, ◌&&◌, ◌==◌, ◌<◌, map};
 ghost use Rattle.std.specs.Prelude.{IfOk};
-ghost use Rattle.std.specs.List.{list_all, list_any};
+ghost use Rattle.std.specs.List.{list_all};
 ghost use Rattle.version_edits.specs.Versions.{are_once, names_log};
 ghost use Rattle.version_edits.specs.Versions.{names_table, names_file, files_of};
 ghost use Rattle.version_edits.specs.Versions.{are_apart, all_apart};

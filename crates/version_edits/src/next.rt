@@ -1,12 +1,12 @@
 // The version after an edit, where the version before it may take it.
-ghost use Rattle.std.specs.Prelude.{◌≡◌, ◌⊎◌, ◌↔◌, ◌<◌, ◌≤◌, IfOk, IfErr, IsErrOf, IsTrue};
+ghost use Rattle.std.specs.Prelude.{◌≡◌, ◌↔◌, ◌<◌, IfOk, IsErrOf, IsTrue};
 ghost use Rattle.std.specs.Prelude.{MatchOption, option_copied};
-ghost use Rattle.std.specs.List.{fold, list_all};
+ghost use Rattle.std.specs.List.{list_all};
 ghost use Rattle.version_edits.specs.Versions.{AreLawful, IsFit, IsNew};
 ghost use Rattle.version_edits.specs.Versions.{IsThere, NumbersRise, changed};
-ghost use Rattle.version_edits.specs.Versions.{is_new_file, keeps_ids, logs_left, names_log};
+ghost use Rattle.version_edits.specs.Versions.{is_new_file, keeps_ids, names_log};
 ghost use Rattle.version_edits.specs.Versions.{names_table};
-ghost use Rattle.version_edits.specs.Versions.{tables_left, version_in, with_log, with_table};
+ghost use Rattle.version_edits.specs.Versions.{version_in};
 ghost use Rattle.version_edits.specs.Edits.{IsChange};
 ghost use Rattle.version_edits.specs.Lawful.{AreLines};
 

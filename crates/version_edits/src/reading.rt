@@ -1,6 +1,6 @@
 // The reader of an edit. Each function reads from the front of the bytes, which then hold the bytes
 // behind what it read.
-ghost use Rattle.std.specs.Prelude.{◌≡◌, ◌⊎◌, IfOk, IfErr, IsErrOf, option_map};
+ghost use Rattle.std.specs.Prelude.{◌≡◌, IfOk, IsErrOf, option_map};
 ghost use Rattle.std.specs.Int.{w16, w32, w64};
 ghost use Rattle.kv_types.specs.declared.bounds.TheConstants.{MAX_KEY};
 ghost use Rattle.byte_fields.specs.{text_at, many, number_at};

@@ -1,5 +1,5 @@
 // The version that the records of an opened log give.
-ghost use Rattle.std.specs.Prelude.{◌≡◌, ◌⊎◌, ℕ, List, map, IfOk, IfErr, IsErrOf};
+ghost use Rattle.std.specs.Prelude.{◌≡◌, ℕ, List, map, IfOk, IsErrOf};
 ghost use Rattle.record_log.specs.{HasRead};
 ghost use Rattle.version_edits.specs.Versions.{Change, after_all, empty};
 ghost use Rattle.version_edits.specs.Edits.{change_text};

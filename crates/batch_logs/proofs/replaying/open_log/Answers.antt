@@ -4,7 +4,7 @@ use Rattle.record_log.specs.{LogHolds}
 use Rattle.store_tables.specs.declared.error.EngineError.TheVariants as engine
 use Rattle.store_tables.specs.Errors.{IsEnd}
 use Rattle.batch_logs.specs.Layout.{IsLog}
-use Rattle.store_tables.specs.KeepingLemmas.{answered, kept_as, neither}
+use Rattle.disk.specs.KeepingLemmas.{answered, kept_as, neither}
 use Rattle.batch_logs.specs.Layout.{records_from}
 use Rattle.batch_logs.proofs.Causes.{log_ends, log_is_external}
 use Rattle.store_tables.specs.RefusalLemmas.{refuses}

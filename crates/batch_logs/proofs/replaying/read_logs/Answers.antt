@@ -5,7 +5,7 @@ use Rattle.version_edits.specs.declared.line.LogLine.{LogLine}
 use Rattle.batch_logs.specs.BatchLogs.{HaveBatches}
 use Rattle.store_tables.specs.declared.error.EngineError.TheVariants as engine
 use Rattle.store_tables.specs.Errors.{IsEnd}
-use Rattle.store_tables.specs.KeepingLemmas.{answered, kept_as, neither}
+use Rattle.disk.specs.KeepingLemmas.{answered, kept_as, neither}
 use Rattle.batch_logs.specs.Replaying.{AreInLine, AreReadLogs}
 use Rattle.batch_logs.specs.Syncs.{SparesAllBut}
 use Rattle.store_tables.specs.RefusalLemmas.{refuses}

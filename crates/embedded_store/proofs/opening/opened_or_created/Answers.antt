@@ -1,7 +1,7 @@
 use Rattle.std.proofs.Common.{inl, inr, subst}
 use Rattle.disk.specs.{contents}
 use Rattle.engine.specs.EngineError.{EngineError}
-use Rattle.engine.specs.KeepingLemmas.{kept_as, kept_behind}
+use Rattle.disk.specs.KeepingLemmas.{kept_as, kept_behind}
 use Rattle.engine.specs.{ExplainsRefusal}
 use Rattle.embedded_store.proofs.Openings.{free_opens, free_still, own_fresh, own_kept, own_opens}
 use Rattle.embedded_store.proofs.Openings.{own_still, refused_opens, refused_still}

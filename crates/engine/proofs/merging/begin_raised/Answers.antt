@@ -2,7 +2,7 @@ use Rattle.std.proofs.Common.{◌≡◌, ap, refl, subst, sym}
 use Rattle.disk.specs.MomentsLemmas.{none_yet}
 use Rattle.manifest.specs.{NodeVersion}
 use Rattle.compaction.specs.Outputs.{IsLeftBeyond}
-use Rattle.store_tables.specs.KeepingLemmas.{kept_as, neither, unchanged}
+use Rattle.disk.specs.KeepingLemmas.{kept_as, neither, unchanged}
 use Rattle.store_tables.specs.RefusalLemmas.{lacks_memory}
 use Rattle.store_files.specs.OpenFiles.{known_version}
 use Rattle.engine.specs.BeginParts.{BeginsMerge}

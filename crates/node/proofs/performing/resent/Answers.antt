@@ -5,7 +5,7 @@ use Rattle.std.specs.Prelude.{option_to_list}
 use Rattle.std.proofs.lemmas.Result.{err_from_is_err_and}
 use Rattle.chain_model.specs.{forward, forwards}
 use Rattle.chain_core.specs.{AreFrames}
-use Rattle.engine.specs.KeepingLemmas.{answered, neither}
+use Rattle.disk.specs.KeepingLemmas.{answered, neither}
 use Rattle.engine.specs.{LookUps}
 use Rattle.node.specs.declared.stop.Stop.TheVariants as stop
 use Rattle.node.proofs.Causes.{done_told, env_of, memory_told, refuses, still_works}

@@ -3,7 +3,7 @@ use Rattle.disk.specs.{IsEnvironmental}
 use Rattle.disk.specs.Calls.{ListsFiles}
 use Rattle.store_model.specs.PlacesLemmas.{contains_head}
 use Rattle.store_tables.specs.declared.error.EngineError.TheVariants as engine
-use Rattle.store_tables.specs.KeepingLemmas.{kept_as, neither}
+use Rattle.disk.specs.KeepingLemmas.{kept_as, neither}
 use Rattle.store_tables.specs.RefusalLemmas.{refuses}
 use Rattle.store_tables.specs.RefusalLemmas.{done}
 use Rattle.store_files.proofs.Removals.{AreLeft, alone_left, is_kept, listed, listing_moments}

@@ -5,7 +5,7 @@ use Rattle.std.proofs.lemmas.List.Elements.{All-get_or}
 use Rattle.disk.specs.{IsEnvironmental, seen}
 use Rattle.manifest.specs.declared.TableLine.{TableLine}
 use Rattle.store_tables.specs.declared.error.EngineError.TheVariants as engine
-use Rattle.store_tables.specs.KeepingLemmas.{kept_as, neither}
+use Rattle.disk.specs.KeepingLemmas.{kept_as, neither}
 use Rattle.store_files.specs.Settling.{AreSynced}
 use Rattle.store_tables.specs.RefusalLemmas.{refuses}
 use Rattle.store_tables.specs.RefusalLemmas.{done}

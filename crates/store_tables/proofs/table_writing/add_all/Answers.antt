@@ -2,7 +2,7 @@ use Rattle.std.specs.Prelude.{IsErrOf}
 use Rattle.std.proofs.Common.{ℕ, [], ◌∷◌, ◌++◌, ◌∙◌, refl, rules, subst, sym}
 use Rattle.disk.specs.{IsEnvironmental, WritesInto}
 use Rattle.store_tables.specs.declared.error.EngineError.TheVariants as engine
-use Rattle.store_tables.specs.KeepingLemmas.{answered}
+use Rattle.disk.specs.KeepingLemmas.{answered}
 use Rattle.memtable.specs.CursorLaws.{MemCursorHolds, cursor_fits, cursor_laws, mem_position}
 use Rattle.merge_iter.specs.{IsOn, IsTableEntry}
 use Rattle.table_format.specs.{lent_entry}

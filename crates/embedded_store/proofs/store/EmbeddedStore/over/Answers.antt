@@ -1,6 +1,6 @@
 use Rattle.std.proofs.Common.{◌≡◌, Err, ap}
 use Rattle.disk.specs.declared.error.DiskError.TheVariants.{Failed}
-use Rattle.engine.specs.KeepingLemmas.{kept_as, kept_behind}
+use Rattle.disk.specs.KeepingLemmas.{kept_as, kept_behind}
 use Rattle.embedded_store.proofs.Looks.{look_free, look_keeps, look_leaves_all, look_opens}
 use Rattle.embedded_store.proofs.Looks.{look_refused}
 use Rattle.embedded_store.proofs.Refusals.{look_external, look_told}

@@ -1,6 +1,6 @@
 use Rattle.std.proofs.Common.{Err, refl}
 use Rattle.store_tables.specs.declared.error.EngineError.TheVariants as error
-use Rattle.store_tables.specs.KeepingLemmas.{same_files}
+use Rattle.disk.specs.KeepingLemmas.{same_files}
 use Rattle.engine.proofs.Engines.{meant_as_held, were_meant}
 use Rattle.engine.proofs.Unchanged.{none_keeps, reads_none, reads_so}
 use Rattle.engine.proofs.engine.Engine.batch.Goals as goal

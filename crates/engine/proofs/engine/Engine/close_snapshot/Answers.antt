@@ -1,6 +1,6 @@
 use Rattle.std.proofs.Common.{Err, refl, rules, subst, sym}
 use Rattle.store_tables.specs.declared.error.EngineError.TheVariants as error
-use Rattle.store_tables.specs.KeepingLemmas.{same_files}
+use Rattle.disk.specs.KeepingLemmas.{same_files}
 use Rattle.engine.specs.Engines.{HasEnded, with_closed}
 use Rattle.engine.specs.Snapshots.{AreReadable}
 use Rattle.engine.proofs.Engines.{goes_on}

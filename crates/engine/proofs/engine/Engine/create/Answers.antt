@@ -1,5 +1,5 @@
 use Rattle.std.proofs.Common.{◌∙◌, [], Err, ap, refl, subst, sym}
-use Rattle.store_tables.specs.KeepingLemmas.{answered, neither}
+use Rattle.disk.specs.KeepingLemmas.{answered, neither}
 use Rattle.engine.proofs.Engines.{holds_of, reads_of, told_of}
 use Rattle.engine.proofs.Results.{not_true}
 use Rattle.engine.proofs.Unchanged.{owned_keeps}

@@ -1,5 +1,5 @@
 use Rattle.std.proofs.Common.{◌≤◌, arith, refl}
-use Rattle.store_tables.specs.KeepingLemmas.{same_files}
+use Rattle.disk.specs.KeepingLemmas.{same_files}
 use Rattle.store_files.specs.OpenFiles.{batch_count}
 use Rattle.engine.specs.Engines.{engine_disk}
 use Rattle.engine.proofs.Engines.{held_of, meant_as_held, no_damage, were_meant}

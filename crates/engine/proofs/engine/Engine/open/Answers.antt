@@ -5,7 +5,7 @@ use Rattle.manifest.specs.{ManifestRepresents}
 use Rattle.store_files.specs.OpenFiles.{OpeningRefusal, known_version}
 use Rattle.store_files.specs.StoreFiles.{FilesRepresent, IsOneOf, StillLeavesOneOf, WereMeant}
 use Rattle.store_files.specs.StoreFiles.{WereOneOf}
-use Rattle.store_tables.specs.KeepingLemmas.{answered, neither}
+use Rattle.disk.specs.KeepingLemmas.{answered, neither}
 use Rattle.engine.proofs.Engines.{explains, holds_of, leaves_since_same, meant_of, reads_of}
 use Rattle.engine.proofs.Engines.{still_refused}
 use Rattle.engine.proofs.Openings.{leaves_refused, leaves_same}

@@ -6,7 +6,7 @@ use Rattle.chain_model.specs.{Message, ack}
 use Rattle.chain_core.specs.declared.Done.TheVariants as done
 use Rattle.chain_core.specs as core
 use Rattle.chain_core.specs.{AreFrames, committed_responses, done_of}
-use Rattle.engine.specs.KeepingLemmas.{answered, kept_as, kept_but, neither}
+use Rattle.disk.specs.KeepingLemmas.{answered, kept_as, kept_but, neither}
 use Rattle.engine.specs.{LookUps, engine_disk}
 use Rattle.node.specs.declared.stop.Stop.TheVariants as stop
 use Rattle.node.specs.Outputs.{AlwaysRefines}

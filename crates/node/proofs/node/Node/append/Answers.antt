@@ -7,7 +7,7 @@ use Rattle.configurations.specs.{is_tail}
 use Rattle.chain_model.specs.{Message, ack, forward}
 use Rattle.chain_core.specs as core
 use Rattle.chain_core.specs.{done_of, responses_after}
-use Rattle.engine.specs.KeepingLemmas.{answered, kept_as, kept_but, neither}
+use Rattle.disk.specs.KeepingLemmas.{answered, kept_as, kept_but, neither}
 use Rattle.engine.specs.{LookUps, engine_disk, look_ups}
 use Rattle.node.specs.declared.stop.Stop.TheVariants as stop
 use Rattle.node.specs.Outputs.{AlwaysRefines, acks_after}

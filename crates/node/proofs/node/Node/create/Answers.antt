@@ -1,4 +1,4 @@
-use Rattle.engine.specs.KeepingLemmas.{kept_as}
+use Rattle.disk.specs.KeepingLemmas.{kept_as}
 use Rattle.node.proofs.Causes.{device_told}
 use Rattle.node.proofs.node.Node.create.Goals as goal
 

@@ -7,7 +7,7 @@ use Rattle.engine.specs.{LookUps, engine_disk}
 use Rattle.node.specs.declared.stop.Stop.TheVariants as stop
 use Rattle.node.specs.Outputs.{OutputRefines}
 use Rattle.node.proofs.Ends.{ends, ends_stopped}
-use Rattle.engine.specs.KeepingLemmas.{answered, neither}
+use Rattle.disk.specs.KeepingLemmas.{answered, neither}
 use Rattle.node.proofs.Causes.{on_ok, only_memory, same_stop}
 use Rattle.node.proofs.Running.{kept_read, still_refines, still_runs}
 use Rattle.node.proofs.node.Node.resend.Goals as goal

@@ -5,7 +5,7 @@ use Rattle.node.specs.declared.stop.Stop.TheVariants as stop
 use Rattle.node.specs.Outputs.{AlwaysRefines}
 use Rattle.node.specs.Steps.{facts_for}
 use Rattle.engine.specs.{IsOwned, SparesFound, engine_disk}
-use Rattle.engine.specs.KeepingLemmas.{kept_as, neither}
+use Rattle.disk.specs.KeepingLemmas.{kept_as, neither}
 use Rattle.node.proofs.Causes.{device_told, env_of}
 use Rattle.node.proofs.Starts.{never_for_disk, never_for_files, spares_as, started_from}
 use Rattle.node.proofs.Starts.{started_or_memory}

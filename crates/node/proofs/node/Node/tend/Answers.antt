@@ -2,7 +2,7 @@ use Rattle.std.proofs.Common.{subst, sym, true}
 use Rattle.disk.specs.{IsEnvironmental}
 use Rattle.std.proofs.lemmas.Result.{err_from_is_err_and}
 use Rattle.chain_model.specs.Rules.{tend}
-use Rattle.engine.specs.KeepingLemmas.{answered, kept_as, neither}
+use Rattle.disk.specs.KeepingLemmas.{answered, kept_as, neither}
 use Rattle.engine.specs.{engine_disk, raised_facts}
 use Rattle.node.specs.declared.stop.Stop.TheVariants as stop
 use Rattle.node.proofs.Causes.{done_told, env_of, still_works, stop_passed}

@@ -1,8 +1,8 @@
-use Rattle.std.proofs.Common.{◌≡◌, ◌∙◌, arith, inl, inr, refl, subst, sym}
+use Rattle.std.proofs.Common.{◌∙◌, arith, inl, inr, refl, subst, sym}
 use Rattle.disk.specs.{IsEnvironmental}
 use Rattle.store_tables.specs.declared.error.EngineError.TheVariants as engine
 use Rattle.store_tables.specs.Errors.{IsEnd}
-use Rattle.store_tables.specs.KeepingLemmas.{kept_as, kept_but, neither}
+use Rattle.disk.specs.KeepingLemmas.{kept_as, kept_but, neither}
 use Rattle.store_files.specs.Adopting.{adopted_files, facts_with_config}
 use Rattle.store_files.specs.OpenFiles.{known_facts, known_version}
 use Rattle.store_files.specs.TendKeeps.{OfEitherFacts}

@@ -2,7 +2,7 @@ use Rattle.std.proofs.Common.{◌≡◌, Ok, Option, inl, inr, refl, subst}
 use Rattle.std.specs.Prelude.{MatchOption}
 use Rattle.manifest.specs.{NodeVersion}
 use Rattle.store_files.specs.declared.flushing.Flushed.{Flushed}
-use Rattle.store_tables.specs.KeepingLemmas.{answered, kept_as, neither}
+use Rattle.disk.specs.KeepingLemmas.{answered, kept_as, neither}
 use Rattle.store_files.specs.OpenFiles.{FilesHold, WereMeantToHold}
 use Rattle.store_tables.specs.TableWriting.{IsTooLarge}
 use Rattle.store_files.specs.declared.tended.Tended.TheVariants as tended

@@ -6,7 +6,7 @@ use Rattle.manifest.specs.{IsFit, NodeVersion}
 use Rattle.store_files.specs.declared.store_files.StoreFiles.{StoreFiles}
 use Rattle.store_tables.specs.declared.error.EngineError.TheVariants as engine
 use Rattle.store_tables.specs.Errors.{IsEnd}
-use Rattle.store_tables.specs.KeepingLemmas.{answered, kept_as, kept_behind, kept_but, neither}
+use Rattle.disk.specs.KeepingLemmas.{answered, kept_as, kept_behind, kept_but, neither}
 use Rattle.store_files.specs.OpenFiles.{batch_count, known_version, trimmed_count}
 use Rattle.store_files.specs.StoreFiles.{flush_change}
 use Rattle.store_files.proofs.Appended.{first_same}

@@ -8,7 +8,7 @@ use Rattle.version_edits.specs.declared.line.TableName.{TableName}
 use Rattle.compaction.specs.{tables_after}
 use Rattle.store_tables.specs.declared.error.EngineError.TheVariants as engine
 use Rattle.store_tables.specs.Errors.{IsEnd}
-use Rattle.store_tables.specs.KeepingLemmas.{answered, kept_as, kept_behind, kept_but, neither}
+use Rattle.disk.specs.KeepingLemmas.{answered, kept_as, kept_behind, kept_but, neither}
 use Rattle.store_tables.specs.LevelTables.{AreTablesOf, table_lines}
 use Rattle.store_tables.specs.RefusalLemmas.{lacks_memory, on_ok, passed_on, refuses}
 use Rattle.store_files.specs.declared.store_files.StoreFiles.{StoreFiles}

@@ -1,7 +1,7 @@
 use Rattle.std.proofs.Common.{◌∙◌, ℕ, List, ap, inl, inr, refl, subst, sym, rules}
 use Rattle.manifest.specs.{NodeVersion}
 use Rattle.store_tables.specs.declared.error.EngineError.TheVariants as engine
-use Rattle.store_tables.specs.KeepingLemmas.{answered, kept_as, kept_behind, neither}
+use Rattle.disk.specs.KeepingLemmas.{answered, kept_as, kept_behind, neither}
 use Rattle.store_tables.specs.declared.error.EngineError.{EngineError}
 use Rattle.store_files.specs.OpenFiles.{AreUsableFiles, FilesOpenAs, OpeningRefusal}
 use Rattle.store_files.specs.Openings.{kept_files}

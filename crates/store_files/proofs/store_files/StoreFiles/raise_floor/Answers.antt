@@ -7,7 +7,7 @@ use Rattle.manifest.specs.{Change, IsChange, IsFit, ManifestHolds, NodeVersion}
 use Rattle.manifest.specs.{node_version_after}
 use Rattle.store_tables.specs.declared.error.EngineError.TheVariants as engine
 use Rattle.store_tables.specs.Errors.{IsEnd}
-use Rattle.store_tables.specs.KeepingLemmas.{kept_as, kept_behind, kept_but}
+use Rattle.disk.specs.KeepingLemmas.{kept_as, kept_behind, kept_but}
 use Rattle.store_tables.specs.RefusalLemmas.{on_ok}
 use Rattle.store_files.specs.declared.store_files.StoreFiles.{StoreFiles}
 use Rattle.store_files.specs.OpenFiles.{known_facts, known_version}

@@ -3,7 +3,7 @@ use Rattle.disk.specs.{IsEnvironmental}
 use Rattle.store_files.specs.declared.tended.Tended.TheVariants as tended
 use Rattle.store_tables.specs.declared.error.EngineError.TheVariants as engine
 use Rattle.store_tables.specs.Errors.{IsEnd}
-use Rattle.store_tables.specs.KeepingLemmas.{kept_as, neither}
+use Rattle.disk.specs.KeepingLemmas.{kept_as, neither}
 use Rattle.store_files.specs.OpenFiles.{known_version}
 use Rattle.store_files.proofs.MeantTends.{manifest_holds, rewritten_as_meant, slots_were_written}
 use Rattle.store_files.proofs.TendKeeps.{nothing_done}

@@ -10,7 +10,6 @@ use Rattle.store_files.specs.Tending.{IsWorkAnswer as work}
 use Rattle.store_files.proofs.Meant.{logs_are_held}
 use Rattle.store_files.proofs.MeantTends.{manifest_holds}
 use Rattle.store_files.proofs.TendKeeps.{did_so, nothing_done, tended_as}
-use Rattle.store_files.proofs.Plans.{refused_plans}
 use Rattle.store_files.proofs.store_files.StoreFiles.tend.Goals as goal
 
 -- ---- what is due is done

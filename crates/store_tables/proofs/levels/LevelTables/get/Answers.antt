@@ -5,7 +5,7 @@ use Rattle.std.specs.List.{AllZip}
 use Rattle.store_model.specs.{LevelTable}
 use Rattle.store_tables.specs.declared.error.EngineError.TheVariants as engine
 use Rattle.store_tables.specs.declared.levels.OpenTable.{OpenTable}
-use Rattle.store_tables.specs.KeepingLemmas.{answered}
+use Rattle.disk.specs.KeepingLemmas.{answered}
 use Rattle.store_tables.specs.LevelTables.{IsServed, LesserLack, TablesFind, WasServed}
 use Rattle.store_tables.specs.RefusalLemmas.{if_refuses, passed_cause}
 use Rattle.store_tables.specs.TableReads.{LacksBlock}

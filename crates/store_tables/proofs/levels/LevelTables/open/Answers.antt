@@ -7,7 +7,7 @@ use Rattle.manifest.specs.declared.TableLine.{TableLine}
 use Rattle.store_model.specs.{LevelTable}
 use Rattle.store_tables.specs.declared.error.EngineError.TheVariants as engine
 use Rattle.store_tables.specs.declared.levels.OpenTable.{OpenTable}
-use Rattle.store_tables.specs.KeepingLemmas.{answered}
+use Rattle.disk.specs.KeepingLemmas.{answered}
 use Rattle.store_tables.specs.LevelTables.{FileFits, IsServed, IsTableAsMeant, IsTableOf, WasServed}
 use Rattle.store_tables.specs.RefusalLemmas.{refuses}
 use Rattle.store_tables.proofs.OpenTables.{fit_same, lines_same, none_read, read_more, same_back}

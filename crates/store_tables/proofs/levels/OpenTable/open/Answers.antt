@@ -6,7 +6,7 @@ use Rattle.disk.specs.StillLemmas.{still, still_more, still_same}
 use Rattle.sorted_table.specs.{AreAsMeant, HasTail, IsOpenOn, TableServes}
 use Rattle.sorted_table.specs.{index_lines, table_filter}
 use Rattle.store_tables.specs.declared.error.EngineError.TheVariants as engine
-use Rattle.store_tables.specs.KeepingLemmas.{open_as_itself}
+use Rattle.store_tables.specs.LevelTablesLemmas.{open_as_itself}
 use Rattle.store_tables.specs.LevelTables.{IsOpenAsMeant}
 use Rattle.store_tables.specs.RefusalLemmas.{refuses}
 use Rattle.store_tables.proofs.OpenTables.{file_represents, fit_read, fits_last, fits_length}

@@ -1,4 +1,4 @@
-use Rattle.std.proofs.Common.{◌≤◌, ℕ, List, rules, sym, subst, arith}
+use Rattle.std.proofs.Common.{ℕ, List, rules, sym, subst, arith}
 use Rattle.std.proofs.lemmas.Result.{err_from_is_err_and}
 use Rattle.disk.specs.WritesLemmas.{writes_as, writes_done}
 use Rattle.disk.specs.{Slot}

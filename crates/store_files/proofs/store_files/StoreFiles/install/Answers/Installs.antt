@@ -8,8 +8,8 @@ use Rattle.memtable.specs.{HasFailedAdd, TableHolds}
 use Rattle.sorted_table.specs.{table_file}
 use Rattle.store_files.specs.declared.store_files.StoreFiles.{StoreFiles}
 use Rattle.store_tables.specs.declared.error.EngineError.TheVariants as engine
-use Rattle.store_tables.specs.KeepingLemmas.{answered, kept_as, kept_behind, kept_but, neither}
-use Rattle.store_tables.specs.KeepingLemmas.{open_as_itself}
+use Rattle.disk.specs.KeepingLemmas.{answered, kept_as, kept_behind, kept_but, neither}
+use Rattle.store_tables.specs.LevelTablesLemmas.{open_as_itself}
 use Rattle.store_tables.specs.LevelTables.{table_lines, with_flushed, with_flushed_line}
 use Rattle.store_files.specs.OpenFiles.{known_version, trimmed_count}
 use Rattle.store_files.proofs.FlushVersions.{count_kept, edit_is, flush_by, facts_kept}

@@ -8,7 +8,7 @@ use Rattle.memtable.specs.{HasFailedAdd, TableHolds}
 use Rattle.sorted_table.specs.{table_file}
 use Rattle.store_files.specs.declared.store_files.StoreFiles.{StoreFiles}
 use Rattle.store_tables.specs.declared.error.EngineError.TheVariants as engine
-use Rattle.store_tables.specs.KeepingLemmas.{open_as_itself}
+use Rattle.store_tables.specs.LevelTablesLemmas.{open_as_itself}
 use Rattle.store_tables.specs.LevelTables.{table_lines, with_flushed, with_flushed_line}
 use Rattle.store_files.specs.OpenFiles.{known_version, trimmed_count}
 use Rattle.store_files.proofs.FlushVersions.{edit_is, flush_by, installed_usable, known}

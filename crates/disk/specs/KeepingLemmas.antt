@@ -1,10 +1,9 @@
 -- What several calls on a disk keep, one behind another.
-use Rattle.std.proofs.Common.{◌≡◌, ◌↔◌, Result, Ok, Err, ◌∙◌, inl, refl, subst}
-use Rattle.disk.specs.declared.Disk.{Ghosts}
-use Rattle.disk.specs.{IsSame, KeepsDisk, RisesByOne, Slot, State}
-use Rattle.sorted_table.specs.{as_meant_itself, index_lines}
-use Rattle.sorted_table.specs.declared.Table.{Table}
-use Rattle.store_tables.specs.LevelTables.{IsOpenAsMeant}
+use Rattle.std.proofs.Common.{◌≡◌, ◌↔◌, Result, Ok, Err, ◌∙◌, refl, subst}
+use Rattle.disk.specs.declared.disk.Disk.{Ghosts}
+use Rattle.disk.specs.Calls.{RisesByOne}
+use Rattle.disk.specs.Lent.{KeepsDisk}
+use Rattle.disk.specs.States.{IsSame, State}
 
 module _ {D : Type 0} (g : Ghosts D) {first cause : Type 0} {R : State → State → Type 0} where
   -- a call whose failure is told in other words, and which keeps a weaker relation
@@ -86,10 +85,3 @@ same_files disk file = refl
 -- files that stay the same twice stay the same
 pub same_then_same : (old mid new : State) → IsSame old mid → IsSame mid new → IsSame old new
 same_then_same old mid new before after other = after other ∙ before other
-
--- a table's file is as it was meant where it was meant to be as it is
-pub open_as_itself : (file : Slot) (table : Table) → IsOpenAsMeant file file table
-open_as_itself file table = record {
-  opened = inl refl;
-  blocks = as_meant_itself file (index_lines table);
-}
