@@ -1,8 +1,7 @@
 -- What was spelled is read again.
 use Rattle.std.proofs.Common.{◌≡◌, ◌⊎◌, ℕ, List, [], Option, Some, None, Result, Ok, Err, inl, inr}
 use Rattle.std.proofs.Common.{refl, sym, ap, subst, append-nil, ◌++◌, ◌∙◌}
-use Rattle.std.proofs.lemmas.Bool.{false≢true}
-use Rattle.std.specs.Prelude.{IfOk, IsErr}
+use Rattle.std.specs.Prelude.{IfOk, MatchResult, ◌≢◌}
 use Rattle.link_messages.specs.declared.FrameError.{FrameError}
 use Rattle.link_messages.specs.declared.FrameError.TheVariants as fault
 use Rattle.link_messages.specs.declared.Frame.{Frame}
@@ -63,9 +62,9 @@ read_as one bytes it is (Err e) read = tt
 
 -- bytes with an error spell none, or there was no memory to read them
 pub read_no : {E : Type 0} → OneAnswer → (e : FrameError) (bytes left : List ℕ) →
-    NextOutcome (Err e) bytes left → (r : Result Received E) → (e ≡ fault.Memory → IsErr r) →
-    IfOk r (λ it. it ≡ received.Unreadable) → IfOk r (IsReadFrom bytes)
-read_no one e bytes left says (Ok it) memory is = subst (IsReadFrom bytes) (sym is)
-    (none_read one (Err e) bytes left says (λ it same. cc)
-    (λ same. false≢true (memory (cc))))
-read_no one e bytes left says (Err x) memory is = tt
+    NextOutcome (Err e) bytes left → (r : Result Received E) →
+    MatchResult r (λ it. (it ≡ received.Unreadable) × (e ≢ fault.Memory)) (λ _. e ≡ fault.Memory)
+    → IfOk r (IsReadFrom bytes)
+read_no one e bytes left says (Ok it) is = subst (IsReadFrom bytes) (sym is.0)
+    (none_read one (Err e) bytes left says (λ it same. cc) (λ same. is.1 (cc)))
+read_no one e bytes left says (Err x) is = tt

@@ -45,6 +45,7 @@ pub trait Carrier {
     fn is_direct(&self) -> bool
         ensures direct { IsTrue result → (more : List Transmission) →
             HasCarriedMore has_carried self.now self.now more }
+        ensures whole { IsTrue result → is_faithful self.now × (loses → ⊥) }
     {
         false
     }

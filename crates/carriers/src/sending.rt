@@ -1,5 +1,5 @@
 // Frames that are sent by a carrier, and what arrives of them.
-ghost use Rattle.std.specs.Prelude.{◌≡◌, ◌↔◌, IfOk, IsErr};
+ghost use Rattle.std.specs.Prelude.{◌≡◌, ◌≢◌, ◌↔◌, IfOk, MatchResult};
 ghost use Rattle.link_messages.specs.{IsFrame, frame_bytes};
 ghost use Rattle.carriers.specs.Carriers.{IsReadFrom, IsReceived, WasLost};
 ghost use Rattle.carriers.specs.Transmissions.{HasCarriedMore, one_transmission, received_lost};
@@ -18,15 +18,15 @@ pub enum Received {
     Lost,
 }
 
-// Bytes with this error are no frame, or there was no memory to read it.
+// Bytes with this error are no frame, but where there was no memory to read them.
 fn unread(e: FrameError) -> Result<Received, LabError>
-    ensures memory { e ≡ FrameError.Memory → IsErr result }
-    ensures none { IfOk result (λ it. it ≡ Received.Unreadable) }
+    ensures { MatchResult result (λ it. (it ≡ Received.Unreadable) × (e ≢ FrameError.Memory))
+        (λ _. e ≡ FrameError.Memory) }
 {
     match e {
         FrameError::Memory => Err(LabError::Memory),
-        FrameError::TooLong | FrameError::BadKind => Ok(Received::Unreadable),
-        FrameError::BadField | FrameError::Trailing => Ok(Received::Unreadable),
+        FrameError::TooLong | FrameError::BadKind | FrameError::BadField | FrameError::Trailing =>
+            Ok(Received::Unreadable),
     }
 }
 

@@ -52,6 +52,8 @@ impl<R: Net<Listener = TcpListener, Stream = TcpStream>> TcpCarrier<R> {
     // Passes the bytes through the connection. It stays open only where they came back the same.
     fn pass(&mut self, bytes: &[u8], got: &mut [u8]) -> bool
         ensures same { result ≡ true → got.new ≡ bytes.now }
+        ensures open { result ≡ true →
+            (it : Connection) × (self.new.state ≡ ConnectionState.Open it) }
         ensures closed { result ≡ false → self.new.state ≡ ConnectionState.Broken }
     {
         let Ok(mut connection) = self.ready_connection() else {

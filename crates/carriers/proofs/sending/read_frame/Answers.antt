@@ -6,7 +6,7 @@ use Rattle.carriers.proofs.sending.read_frame.Goals as goal
 
 pub returns-in-Err : goal.returns-in-Err
 returns-in-Err c = read_no c.one_answer.ensures.one c.in-Err.e c.args.bytes.now c.args.bytes.now
-    c.in-Err.ensures.answer c.unread.result c.unread.ensures.memory c.unread.ensures.none
+    c.in-Err.ensures.answer c.unread.result c.unread.ensures
 
 -- a frame with bytes behind it is not one alone
 pub returns-then-len-bytes : goal.returns-then-len-bytes
