@@ -1,5 +1,5 @@
 -- One put more.
-use Rattle.std.proofs.Common.{◌≡◌, ◌∙◌, ℕ, ◌+◌, ◌-◌, ◌^◌, min, List, [], ◌∷◌, ◌++◌}
+use Rattle.std.proofs.Common.{◌≡◌, ◌∙◌, ℕ, zero, suc, ◌+◌, ◌-◌, ◌^◌, min, List, [], ◌∷◌, ◌++◌}
 use Rattle.std.proofs.Common.{Bool, true, false, if◌then◌else◌, add-one, ap, refl, sym}
 use Rattle.kv_types.specs.declared.edit.Edit.{Edit}
 use Rattle.kv_types.specs.declared.edit.Edit.TheVariants.{Put}
@@ -31,6 +31,19 @@ values_kept : (work : Work) → (behind_number work).values ≡ work.values
 values_kept work =
     values_of_either (counts_up work.benchmark) work (min (work.next + 1) (2 ^ 64 - 1))
     (next_seed work.random)
+
+-- when so many puts are made, the values have the length that they had
+size_kept : (n : ℕ) (work : Work) → (behind_puts n work).values.size ≡ work.values.size
+size_kept zero work = refl
+size_kept (suc n) work = size_kept n work
+
+-- nor does it change when the next number is drawn
+pub size_drawn : (n : ℕ) (work now drawn : Work) → now ≡ behind_puts n work
+    → drawn ≡ behind_number now → drawn.values.size ≡ work.values.size
+size_drawn n work now drawn at behind =
+    ap (λ (w : Work). w.values.size) behind
+    ∙ ap (λ (v : Stretches). v.size) (values_kept now)
+    ∙ ap (λ (w : Work). w.values.size) at ∙ size_kept n work
 
 -- what is left when the next number was drawn, and then the next stretch
 pub is_behind : (n : ℕ) (work now drawn : Work) (values : Stretches)

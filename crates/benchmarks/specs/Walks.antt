@@ -32,13 +32,20 @@ abbrev pub range_left : Span → List Row → Span
 range_left range rows =
     option_map_or (λ row. range_behind range.backward row.key) (last_row rows) range
 
--- the range behind a page: that of a seek stays
+-- the range behind a page: that of a seek stays, and that of a walk where no row is left
 abbrev pub range_passed : Span → Rows → Span
-range_passed range page = if range.limit == 1 then range else range_left range page.rows
+range_passed range page =
+    if range.limit == 1 then range else
+    if page.more then range_left range page.rows else range
 
 -- a walk can't go on above the last row, whose key and a byte more are no key
 abbrev pub NoneFits : List Row → Type 0
 NoneFits rows = IsSomeAnd (last_row rows) (λ row. length row.key ≡ MAX_KEY)
+
+-- a walk forward is to go on behind a page, and can't
+abbrev pub NoneBehind : Span → Rows → Type 0
+NoneBehind range page = ((range.limit == 1) ≡ false) × (range.backward ≡ false)
+    × (page.more ≡ true) × NoneFits page.rows
 
 -- a walk ends where no more rows follow
 abbrev pub with_end : Bool → Count → Count

@@ -75,7 +75,8 @@ impl Benchmark {
         }
     }
 
-    /// Puts of a batch with values of this length: 256, or as many as have a place in it.
+    /// How many puts a batch has: one in `fillsync` and `chainsubmit`, else 256, or as many values
+    /// of this length as have a place.
     pub fn puts(self, length: u64) -> u64
         ensures { result ≡ puts_of self length }
     {

@@ -88,7 +88,7 @@ impl Count {
         }
     }
 
-    /// Counts the puts of a batch, and lets it go.
+    /// Counts the edits of a batch, each as an operation and a put's row too, and lets it go.
     pub fn add_batch(&mut self, batch: Batch)
         ensures { self.new ≡ fold with_edit self.old (edits_of batch) }
     {
@@ -104,14 +104,10 @@ impl Count {
         ensures answer { result ≡ result_map_both (λ _. tt) (λ e. e) read }
     {
         self.add_operations(1);
-        match read {
-            Ok(Some(value)) => {
-                self.add_row(&key, value.as_bytes().len());
-                Ok(())
-            }
-            Ok(None) => Ok(()),
-            Err(e) => Err(e),
+        if let Some(value) = read? {
+            self.add_row(&key, value.as_bytes().len());
         }
+        Ok(())
     }
 
     /// Counts the rows of a page, and lets it go.

@@ -25,10 +25,7 @@ pub struct Measure {
 fn ratio(these: u128, others: u128) -> u128
     ensures { result ≡ these / others }
 {
-    if others == 0 {
-        return 0;
-    }
-    these / others
+    these.checked_div(others).unwrap_or(0)
 }
 
 /// How many operations of so many a benchmark has done.
@@ -50,24 +47,20 @@ impl fmt::Display for ProgressLine {
 
 impl Measure {
     /// The same, or without its time.
-    pub fn shown(self, times: bool) -> Measure
+    pub fn shown(mut self, times: bool) -> Measure
         ensures { result ≡ (if times then self else without_time self) }
     {
-        let mut shown = self;
         if !times {
-            shown.nanos = 0;
+            self.nanos = 0;
         }
-        shown
+        self
     }
 
     /// Nanoseconds an operation, or 0 where there was none.
     pub fn nanos_each(&self) -> u64
         ensures { result ≡ self.now.nanos / self.now.operations }
     {
-        if self.operations == 0 {
-            return 0;
-        }
-        self.nanos / self.operations
+        self.nanos.checked_div(self.operations).unwrap_or(0)
     }
 
     /// Operations a second, or 0 where no time was measured.

@@ -1,5 +1,5 @@
 // The values of benchmarks: stretches of a text that could be compressed to half.
-ghost use Rattle.std.specs.Prelude.{◌≡◌, ◌+◌, ◌<◌, ◌⊎◌, IfErr, IfOk, OnOk, length};
+ghost use Rattle.std.specs.Prelude.{◌≡◌, ◌+◌, ◌<◌, ◌⊎◌, IfErr, IfOk, OnErr, OnOk, length};
 ghost use Rattle.kv_types.specs.declared.bounds.TheConstants.{MAX_VALUE};
 ghost use Rattle.benchmarks.specs.Stretches.{behind_stretch, next_stretch, text_len};
 
@@ -71,22 +71,26 @@ impl Values {
         })
     }
 
-    /// The next value, at the text's beginning again where it ends too early.
+    /// The next value, at the text's beginning again where it ends too early. After an `Err`
+    /// nothing has changed.
     pub fn next(&mut self, alloc: Global) -> Result<Value, KvError>
         ensures value { IfOk result (λ value. value ≡ next_stretch self.old) }
         ensures size { IfOk result (λ value. length value ≡ self.old.size) }
         ensures behind { OnOk result (self.new ≡ behind_stretch self.old) }
-        ensures same { self.new ≡ record self.old { place = self.new.place } }
+        ensures err { OnErr result (self.new ≡ self.old) }
         ensures refused { IfErr result
             (λ e. (e ≡ KvError.Memory)
             ⊎ ((e ≡ KvError.ValueTooLong) × (MAX_VALUE < self.old.size))) }
     {
-        if self.text.len() - self.length < self.place {
-            self.place = 0;
-        }
-        let end = self.place + self.length;
-        let bytes = self.text[self.place..end].to_vec(alloc)?;
+        let begin = if self.text.len() - self.length < self.place {
+            0
+        } else {
+            self.place
+        };
+        let end = begin + self.length;
+        let bytes = self.text[begin..end].to_vec(alloc)?;
+        let value = Value::new(bytes)?;
         self.place = end;
-        Value::new(bytes)
+        Ok(value)
     }
 }

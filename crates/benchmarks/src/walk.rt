@@ -1,8 +1,8 @@
 // A walk over all rows, page after page.
-ghost use Rattle.std.specs.Prelude.{◌≡◌, ◌==◌, ◌⊎◌, IfErr, IfOk, IsOk, OnErr, OnOk, length};
+ghost use Rattle.std.specs.Prelude.{◌≡◌, ◌==◌, ◌⊎◌, IfErr, IfOk, IsOk, OnErr, OnOk, length, false};
 ghost use Rattle.kv_types.specs.declared.bounds.TheConstants.{MAX_KEY};
-ghost use Rattle.benchmarks.specs.Walks.{NoneFits, first_range, range_behind, range_left};
-ghost use Rattle.benchmarks.specs.Walks.{range_passed, seek_range, with_passed};
+ghost use Rattle.benchmarks.specs.Walks.{NoneBehind, NoneFits, first_range, range_behind};
+ghost use Rattle.benchmarks.specs.Walks.{range_left, range_passed, seek_range, with_passed};
 
 use crate::Count;
 use kv_types::{Key, KvError, Page, Range, Row};
@@ -20,8 +20,8 @@ pub struct Walk {
 /// The rows in front of this one in a walk backward, or behind it.
 fn range_behind(alloc: Global, row: &Row, is_backward: bool) -> Result<Range, KvError>
     ensures range { IfOk result (λ range. range ≡ range_behind is_backward row.now.key) }
-    ensures refused { IfErr result (λ e. (e ≡ KvError.Memory)
-        ⊎ ((e ≡ KvError.KeyTooLong) × (length row.now.key ≡ MAX_KEY))) }
+    ensures refused { IfErr result (λ e. (e ≡ KvError.Memory) ⊎ ((e ≡ KvError.KeyTooLong)
+        × (is_backward ≡ false) × (length row.now.key ≡ MAX_KEY))) }
 {
     let mut bytes = row.key.as_bytes().to_vec(alloc)?;
     if is_backward {
@@ -69,8 +69,8 @@ impl Walk {
     fn move_behind(&mut self, alloc: Global, rows: &[Row]) -> Result<(), KvError>
         ensures range { OnOk result (self.new.range ≡ range_left self.old.range rows.now) }
         ensures err { OnErr result (self.new ≡ self.old) }
-        ensures refused { IfErr result
-            (λ e. (e ≡ KvError.Memory) ⊎ ((e ≡ KvError.KeyTooLong) × NoneFits rows.now)) }
+        ensures refused { IfErr result (λ e. (e ≡ KvError.Memory) ⊎ ((e ≡ KvError.KeyTooLong)
+            × (self.old.range.backward ≡ false) × NoneFits rows.now)) }
     {
         match rows.last() {
             Some(row) => {
@@ -81,25 +81,26 @@ impl Walk {
         }
     }
 
-    /// Counts the rows of the next page, and goes on behind it. Of a seek it counts the row that
-    /// has the key, if there is one. After an `Err` nothing has changed. But for memory it is
-    /// refused only where the last row's key and a byte more are no key.
+    /// Counts the rows of the next page, and goes on behind it, if more rows follow. Of a seek it
+    /// counts the row that has the key, if there is one. After an `Err` nothing has changed. But
+    /// for memory it is refused only where a walk forward is to go on behind a key of 1,024 bytes.
     pub fn pass(&mut self, alloc: Global, page: Page, count: &mut Count) -> Result<(), KvError>
         ensures range { OnOk result (self.new.range ≡ range_passed self.old.range page) }
         ensures count { OnOk result (count.new ≡ with_passed count.old self.old.range page) }
         ensures err { OnErr result ((self.new ≡ self.old) × (count.new ≡ count.old)) }
-        ensures refused { IfErr result
-            (λ e. (e ≡ KvError.Memory) ⊎ ((e ≡ KvError.KeyTooLong) × NoneFits page.rows)) }
+        ensures refused { IfErr result (λ e. (e ≡ KvError.Memory)
+            ⊎ ((e ≡ KvError.KeyTooLong) × NoneBehind self.old.range page)) }
     {
         if self.seeks() {
             count.add_operations(1);
             count.add_found(page, self.range.from());
             return Ok(());
         }
-        let is_last = !page.has_more();
-        self.move_behind(alloc, page.rows())?;
-        count.add_page(page);
-        if is_last {
+        if page.has_more() {
+            self.move_behind(alloc, page.rows())?;
+            count.add_page(page);
+        } else {
+            count.add_page(page);
             count.end();
         }
         Ok(())

@@ -2,14 +2,14 @@
 ghost use Rattle.std.specs.Prelude.{◌<◌, ◌≤◌, IfSome, length};
 ghost use Rattle.benchmarks.specs.Words.{AreInRange};
 
+use kv_types::bounds::MAX_VALUE;
+
 /// The benchmarks of words that name none.
 pub const ALL_NAMES: &str = "fillseq,fillsync,fillrandom,overwrite,readrandom,readmissing,\
 readseq,readreverse,seekrandom,compact,open,chainsubmit";
 
-/// The greatest number of keys, and the greatest length of a value.
+/// The greatest number of keys.
 const MAX_KEYS: u64 = 1_000_000_000;
-
-const MAX_VALUE: u64 = 16_384;
 
 /// What the words ask for.
 #[derive(Clone, Copy)]
@@ -37,15 +37,14 @@ fn number(word: &str, most: u64) -> Option<u64>
 }
 
 /// What the words ask for, with this option.
-fn with<'a>(words: Words<'a>, option: &str, word: &'a str) -> Option<Words<'a>>
+fn with<'a>(mut words: Words<'a>, option: &str, word: &'a str) -> Option<Words<'a>>
     ensures { AreInRange words.entry.keys words.entry.value → IfSome result
         (λ it. AreInRange it.keys it.value) }
 {
-    let mut words = words;
     match option {
         "--dir" => words.folder = word,
         "--num" => words.keys = number(word, MAX_KEYS)?,
-        "--value" => words.value = number(word, MAX_VALUE)?,
+        "--value" => words.value = number(word, MAX_VALUE as u64)?,
         "--benchmarks" => words.names = word,
         "--times" if word == "no" => words.times = false,
         _ => return None,

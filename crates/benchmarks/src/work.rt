@@ -1,7 +1,9 @@
 // The numbers of keys that a benchmark uses, batches of puts to them, and its walk.
-ghost use Rattle.std.specs.Prelude.{◌≡◌, ◌<◌, ◌⊎◌, IfErr, IfOk, OnOk, OnErr};
+ghost use Rattle.std.specs.Prelude.{◌≡◌, ◌<◌, ◌⊎◌, IfErr, IfOk, OnOk, OnErr, Some};
 ghost use Rattle.std.specs.Borrow.{sem};
+ghost use Rattle.kv_types.specs.{batch_error};
 ghost use Rattle.kv_types.specs.Content.{edits_of};
+ghost use Rattle.kv_types.specs.declared.bounds.TheConstants.{MAX_VALUE};
 ghost use Rattle.benchmarks.specs.Keys.{first_seed};
 ghost use Rattle.benchmarks.specs.Lending.{LendsWalk};
 ghost use Rattle.benchmarks.specs.Stretches.{text_len};
@@ -101,10 +103,14 @@ impl Work {
         }
     }
 
-    /// A batch of so many puts, to the next numbers' keys.
+    /// A batch of so many puts, to the next numbers' keys. It is refused for want of memory, where
+    /// a value may not be so long, or where so many puts are no batch.
     pub fn next_batch(&mut self, alloc: Global, puts: u64) -> Result<Batch, KvError>
         ensures edits { IfOk result (λ batch. edits_of batch ≡ next_puts puts self.old) }
         ensures behind { OnOk result (self.new ≡ behind_puts puts self.old) }
+        ensures refused { IfErr result (λ e. (e ≡ KvError.Memory)
+            ⊎ ((e ≡ KvError.ValueTooLong) × (MAX_VALUE < self.old.values.size))
+            ⊎ (batch_error (next_puts puts self.old) ≡ Some e)) }
     {
         let mut edits = Vec::new(alloc);
         for _ in 0..puts {
@@ -131,8 +137,8 @@ impl Work {
         }
     }
 
-    /// Lets the values go. A crate that ends them by this call need not prove their drop; so it is
-    /// of the calls that count what they are given.
+    /// Lets the values go. A crate that ends them by this call need not prove their drop; the same
+    /// holds for the calls that count what they are given.
     pub fn close(self) {
         drop(self);
     }

@@ -12,10 +12,9 @@ type Chain = World<MemDisk, Direct>;
 
 fn chain_of_three(alloc: Global) -> Result<Configs> {
     let ids = vec![in alloc; 1, 2, 3]?;
+    let config = Config::new(alloc, ids)?;
     let mut configs = Vec::with_capacity(alloc, 1)?;
-    if let Ok(config) = Config::new(alloc, ids) {
-        let _ = configs.push(config);
-    }
+    let _ = configs.push(config);
     Ok(Configs::new(configs)?)
 }
 

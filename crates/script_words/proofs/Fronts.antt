@@ -1,8 +1,11 @@
 -- The front of some bytes, each of which stands for itself.
 use Rattle.std.proofs.Common.{◌≡◌, ◌<◌, ◌≤◌, ℕ, zero, suc, List, [], ◌∷◌, length, get_or, take}
-use Rattle.std.proofs.Common.{drop, true, false, refl, ap, ◌∙◌, arith, ◌-◌}
-use Rattle.std.proofs.Math.Seq.{take-length}
-use Rattle.std.proofs.lemmas.List.{length-drop}
+use Rattle.std.proofs.Common.{drop, true, false, refl, ap, ◌∙◌, arith, Bool, not, Some, None}
+use Rattle.std.proofs.Math.Seq.{drop-length, take-length}
+use Rattle.std.proofs.lemmas.Grind.{common_steps}
+use Rattle.std.proofs.lemmas.List.Quantifiers.{position-Some}
+use Rattle.std.proofs.lemmas.List.Sums.{fails_before_first}
+use Rattle.std.specs.Prelude.{position}
 use Rattle.std.proofs.lemmas.Bool.Decides.{nat_tests}
 use Rattle.std.proofs.lemmas.List.Elements.{All-nil, All-cons}
 use Rattle.script_words.specs.Words.{is_plain, are_bytes, HasPlainFront}
@@ -48,5 +51,34 @@ plain_front (b ∷ bs) (suc i) within plain next =
       other = more.other;
     }
 
-pub tail : (bs : List ℕ) (i : ℕ) → take (length bs - i) (drop i bs) ≡ drop i bs
-tail bs i = rw (← length-drop i bs) (take-length (drop i bs))
+is_so : (b : Bool) → not b ≡ false → b ≡ true
+is_so true e = refl
+is_so false e = absurd (cc)
+
+is_not : (b : Bool) → not b ≡ true → b ≡ false
+is_not true e = absurd (cc)
+is_not false e = refl
+
+-- whether a byte doesn't stand for itself
+abbrev is_other : ℕ → Bool
+is_other b = not (is_plain b)
+
+-- those before the first byte that doesn't stand for itself
+pub front_before : (bs : List ℕ) (i : ℕ) → position is_other bs ≡ Some i
+    → HasPlainFront bs (take i bs) (drop i bs)
+front_before bs i at =
+    let first = position-Some is_other bs i 0 at in
+    plain_front bs i (omega (arith, first.0)) (λ k before. is_so _ (first.2 k before))
+    (λ inside. is_not _ first.1)
+
+is_plain_at : (bs : List ℕ) (k : ℕ) → k < length bs → position is_other bs ≡ None
+    → is_plain (get_or bs k 0) ≡ true
+is_plain_at bs k inside none =
+    is_so _ (fails_before_first is_other bs k 0 (grind (arith, common_steps)))
+
+-- all of them, where each byte stands for itself
+pub front_is_all : (bs : List ℕ) → position is_other bs ≡ None → HasPlainFront bs bs []
+front_is_all bs none =
+    let front = plain_front bs (length bs) (omega arith)
+    (λ k inside. is_plain_at bs k inside none) (λ inside. absurd (omega (arith, inside))) in
+    rw (take-length bs, drop-length bs) at front

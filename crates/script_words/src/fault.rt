@@ -17,10 +17,7 @@ use std::alloc::{AllocError, Global};
 fn begins(word: &[u8]) -> bool
     ensures { result ≡ begins_fault word.now }
 {
-    match word {
-        [b'!', ..] => true,
-        _ => false,
-    }
+    matches!(word, [b'!', ..])
 }
 
 /// Where the first word that begins a fault stands.
@@ -126,14 +123,8 @@ pub fn fault_behind(
     if words.is_empty() {
         return Ok(Fault::None);
     }
-    if !may_bear(name) {
+    if !may_bear(name) || !faults {
         return Err(ScriptError::BadFault);
     }
-    if !faults {
-        return Err(ScriptError::BadFault);
-    }
-    match fault_of(alloc, words)? {
-        None => Err(ScriptError::BadFault),
-        Some(fault) => Ok(fault),
-    }
+    fault_of(alloc, words)?.ok_or(ScriptError::BadFault)
 }

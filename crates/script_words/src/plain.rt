@@ -1,5 +1,5 @@
 //! The bytes that stand for themselves in a spelled byte string.
-ghost use Rattle.std.specs.Prelude.{◌≡◌};
+ghost use Rattle.std.specs.Prelude.{◌≡◌, not, position};
 ghost use Rattle.script_words.specs.Words.{is_plain, HasPlainFront};
 
 /// Whether a byte stands for itself.
@@ -9,13 +9,19 @@ pub fn is_itself(byte: u8) -> bool
     byte.is_ascii_alphanumeric() || byte == b'_' || byte == b'.'
 }
 
+// Where the first byte stands that doesn't stand for itself.
+fn place_of_other(bytes: &[u8]) -> Option<usize>
+    ensures { result ≡ position (λ b. not (is_plain b)) bytes.now }
+{
+    bytes.iter().position(|byte| !is_itself(*byte))
+}
+
 /// The bytes before the first that doesn't stand for itself, and those from it on.
 pub fn split_plain(bytes: &[u8]) -> (&[u8], &[u8])
     ensures { HasPlainFront bytes.now result.0.now result.1.now }
 {
-    let mut end = 0;
-    while end < bytes.len() && is_itself(bytes[end]) {
-        end += 1;
+    match place_of_other(bytes) {
+        None => (bytes, &[]),
+        Some(place) => bytes.split_at(place),
     }
-    (&bytes[..end], &bytes[end..])
 }

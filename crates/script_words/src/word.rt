@@ -39,7 +39,8 @@ pub fn batch_number(word: &[u8]) -> Option<Number>
     Number::new(number(word)?)
 }
 
-pub fn hex_digit(byte: u8) -> Option<u8>
+/// The value of a hex digit.
+fn hex_digit(byte: u8) -> Option<u8>
     ensures { MatchOption result (is_hex byte ≡ false)
         (λ d. (is_hex byte ≡ true) × (d ≡ hex_value byte) × (d < 16)) }
 {

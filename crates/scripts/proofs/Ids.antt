@@ -1,5 +1,5 @@
 -- The words of a configuration: numbers that are different ids, 1 to 16 of them.
-use Rattle.std.proofs.Common.{◌≡◌, ◌≢◌, ◌⊎◌, subst, ◌<◌, ◌^◌, ℕ, inl, inr, List, [], ◌∷◌, refl}
+use Rattle.std.proofs.Common.{◌≡◌, ◌≢◌, subst, ◌<◌, ◌^◌, ℕ, inl, inr, List, [], ◌∷◌, refl}
 use Rattle.std.proofs.Common.{true, false, arith, map}
 use Rattle.std.specs.Prelude.{All}
 use Rattle.std.specs.List.{list_all}
@@ -39,13 +39,14 @@ ids_read (x ∷ ids) each =
 -- ids that are refused, but for want of memory, are no configuration
 pub no_config_of : TestDecidesConfig → (ids numbers : List ℕ) (error : ConfigError)
     (said : ScriptError) → ids ≡ numbers → (IsConfig ids → error ≡ fault.Memory) →
-    (said ≡ script.OutOfMemory) ⊎ ((said ≡ script.BadConfiguration) × (error ≢ fault.Memory)) →
+    (error ≡ fault.Memory → said ≡ script.OutOfMemory) →
+    (error ≢ fault.Memory → said ≡ script.BadConfiguration) →
     said ≢ script.OutOfMemory → (said ≡ script.BadConfiguration) × (is_config numbers ≡ false)
-no_config_of decides ids numbers error said same each (inl memory) other = absurd (other memory)
-no_config_of decides ids numbers error said same each (inr bad) other = (
-  bad.0,
-  subst (λ (l : List ℕ). is_config l ≡ false) same (elim (cases_Bool (is_config ids)) [
-    | inl t ↦ absurd (bad.1 (each ((decides ids).0 t)))
-    | inr f ↦ f
-  ]),
-)
+no_config_of decides ids numbers error said same each memory bad other =
+    let no_memory : error ≢ fault.Memory = λ is. other (memory is) in (
+      bad no_memory,
+      subst (λ (l : List ℕ). is_config l ≡ false) same (elim (cases_Bool (is_config ids)) [
+        | inl t ↦ absurd (no_memory (each ((decides ids).0 t)))
+        | inr f ↦ f
+      ]),
+    )

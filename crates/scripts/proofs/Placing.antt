@@ -2,7 +2,7 @@
 use Rattle.std.proofs.Common.{◌≡◌, ◌<◌, ◌^◌, ℕ, List, [], ◌∷◌, refl, ◌∙◌, codes, Option, is_none}
 use Rattle.std.proofs.Common.{Some, None, Ok, Err, inl, inr, true, false, arith, map, ap, subst}
 use Rattle.std.proofs.Common.{sym, length, Bool}
-use Rattle.std.specs.Prelude.{◌==◌, MatchResult, Result}
+use Rattle.std.specs.Prelude.{◌==◌, ◌≢◌, IfErr, MatchResult, Result}
 use Rattle.std.proofs.lemmas.Bool.Decides.{nat_tests}
 use Rattle.std.proofs.lemmas.Bool.{cases_Bool}
 use Rattle.std.proofs.lemmas.Grind.{common_steps}
@@ -20,6 +20,7 @@ use Rattle.lab.specs.{node_in, NamesNode}
 use Rattle.scripts.specs.declared.command.Command.{Command}
 use Rattle.script_words.specs.declared.error.ScriptError.{ScriptError}
 use Rattle.script_words.specs.declared.error.ScriptError.TheVariants.{OutOfPlace, BadFault}
+use Rattle.script_words.specs.declared.error.ScriptError.TheVariants.{OutOfMemory}
 use Rattle.script_words.specs.declared.error.ScriptError.TheVariants.{BadNumber, WrongNumberOfWords}
 use Rattle.scripts.specs.declared.statement.ParserState.{ParserState}
 use Rattle.scripts.specs.declared.statement.LineItem.TheVariants.{Config}
@@ -260,6 +261,18 @@ flows before args first others some =
     (rw (empty, found.1) refl, (found.0, found.1, inl (inl (refl, rw empty refl))))
 
 -- ---- a statement that names one node and is no event
+
+-- a place that is refused is not refused for want of memory
+pub place_refused : (configs : Option Configurations) (node : ℕ) (result : Result ℕ ScriptError)
+    → MatchResult result
+    (λ id. (id ≡ node) × (node_fault configs (Some node) ≡ None))
+    (λ e. node_fault configs (Some node) ≡ Some e) → IfErr result (λ e. e ≢ OutOfMemory)
+place_refused configs node (Ok id) found = tt
+place_refused None node (Err e) found = λ memory. cc
+place_refused (Some cs) node (Err e) found = elim (cases_Bool (has (at_epoch cs 0) node)) [
+  | inl t ↦ λ memory. let none = rw t at found in cc
+  | inr f ↦ λ memory. let unknown = rw f at found in cc
+]
 
 -- where its words are good, its fault is that of its place
 pub of_one_node : (before : ParserState) (name : List ℕ) (args : List (List ℕ)) (word : List ℕ)

@@ -81,7 +81,8 @@ node_fault (Some cs) (Some n) = if has (at_epoch cs 0) n then None else Some Unk
 abbrev pub place_fault : Option ℕ → Option Configurations → Option ℕ → Option ScriptError
 place_fault epoch configs named = option_or (epoch_fault epoch configs) (node_fault configs named)
 
--- the node that the words of a statement name: a frame goes to its own addressee
+-- The number that the first word behind a statement's name spells, where that is a node's; of
+-- `deliver` none. It says something only of words without a fault.
 abbrev pub node_named : List (List ℕ) → Option ℕ
 node_named [] = None
 node_named (name ∷ []) = None

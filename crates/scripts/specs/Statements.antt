@@ -169,7 +169,8 @@ is_name w =
     || bytes_eq w (codes "tick") || bytes_eq w (codes "tend") || bytes_eq w (codes "settle")
     || bytes_eq w (codes "show")
 
--- the least fault of the words of a statement, as far as they are words
+-- the least fault of the words of a statement by their name, their number and their spelling,
+-- without their place
 abbrev pub fault_of_words : List (List ℕ) → Option ScriptError
 fault_of_words [] = Some UnknownStatement
 fault_of_words (name ∷ args) =

@@ -1,5 +1,5 @@
 //! The configurations of a script: the numbers of a line, as the ids of nodes.
-ghost use Rattle.std.specs.Prelude.{◌≡◌, ◌≢◌, ◌⊎◌, map, true, false, Some, None, IfOk, MatchResult};
+ghost use Rattle.std.specs.Prelude.{◌≡◌, ◌≢◌, map, true, false, Some, None, IfOk, MatchResult};
 ghost use Rattle.std.specs.Prelude.{IfSome, MatchOption, List, ℕ};
 ghost use Rattle.std.specs.Fmt.{decimal};
 ghost use Rattle.std.specs.List.{list_all};
@@ -52,8 +52,8 @@ fn ids_of(alloc: Global, numbers: &[u64]) -> Result<Option<Vec<u16>>, AllocError
 
 // What is wrong with a script's ids.
 fn config_error(error: ConfigError) -> ScriptError
-    ensures { (result ≡ OutOfMemory)
-        ⊎ ((result ≡ BadConfiguration) × (error ≢ ConfigError.Memory)) }
+    ensures memory { error ≡ ConfigError.Memory → result ≡ OutOfMemory }
+    ensures bad { error ≢ ConfigError.Memory → result ≡ BadConfiguration }
 {
     match error {
         ConfigError::Memory => ScriptError::OutOfMemory,

@@ -12,8 +12,8 @@ pub fn spellings_differ()
     ensures scripts { ScriptsDiffer }
 {}
 
-/// The words that spell an event have no fault, and neither has a script, where they may spell what
-/// they do.
+/// The words that spell an event have no fault of their own, though their place may be one, and a
+/// script has none, where they may spell what they do.
 pub fn scripts_are_read()
     ensures events { EventsAreRead }
     ensures scripts { ScriptsAreRead }

@@ -1,9 +1,9 @@
 //! The reader of scripts: all statements, or the first fault.
-ghost use Rattle.std.specs.Prelude.{◌≡◌, ◌∷◌, [], map, codes, true, false, Some, None, IfOk};
-ghost use Rattle.std.specs.Prelude.{MatchResult, All, List, ℕ};
+ghost use Rattle.std.specs.Prelude.{◌≡◌, ◌≢◌, ◌∷◌, [], map, codes, true, false, Some, None};
+ghost use Rattle.std.specs.Prelude.{IfErr, IfOk, MatchResult, All, List, ℕ};
 ghost use Rattle.std.specs.Str.{bytes_eq};
-ghost use Rattle.script_words.specs.declared.error.ScriptError.TheVariants.{OutOfMemory};
 ghost use Rattle.script_words.specs.declared.error.ScriptError.TheVariants.{BadConfiguration};
+ghost use Rattle.script_words.specs.declared.error.ScriptError.TheVariants.{OutOfMemory};
 ghost use Rattle.script_words.specs.Limits.{limits_with, SetsLimit};
 ghost use Rattle.script_words.specs.Lines.{script_lines};
 ghost use Rattle.scripts.specs.Scripts.{is_skipped, IsScript, Names};
@@ -33,10 +33,7 @@ pub const LINES: u32 = 100000;
 fn skips(line: &[u8]) -> bool
     ensures { result ≡ is_skipped line.now }
 {
-    match line {
-        [] | [b'#', ..] => true,
-        _ => false,
-    }
+    matches!(line, [] | [b'#', ..])
 }
 
 // The limit that a line sets, and the number that it is to be.
@@ -106,7 +103,8 @@ fn notice(alloc: Global, before: &ParserState, args: &[&[u8]]) -> Result<Action,
 
 // A flow, if it may stand here.
 fn flow(before: &ParserState, args: &[&[u8]]) -> Result<Action, ScriptError>
-    ensures { Places before.now (codes "flow") (map (λ w. w.now) args.now) result }
+    ensures placed { Places before.now (codes "flow") (map (λ w. w.now) args.now) result }
+    ensures memory { IfErr result (λ e. e ≢ OutOfMemory) }
 {
     let (words, behind) = split_fault(args);
     if !words.is_empty() {
@@ -123,8 +121,9 @@ fn flow(before: &ParserState, args: &[&[u8]]) -> Result<Action, ScriptError>
 
 // The node of a statement that names one and has no event, if it may stand here.
 fn only_node(before: &ParserState, args: &[&[u8]]) -> Result<NodeId, ScriptError>
-    ensures { (name : List ℕ) → IsOfOneNode name →
+    ensures placed { (name : List ℕ) → IsOfOneNode name →
         PlacesNode before.now name (map (λ w. w.now) args.now) result }
+    ensures memory { IfErr result (λ e. e ≢ OutOfMemory) }
 {
     let (words, behind) = split_fault(args);
     let [word] = words else {
@@ -140,7 +139,8 @@ fn only_node(before: &ParserState, args: &[&[u8]]) -> Result<NodeId, ScriptError
 }
 
 fn settle(before: &ParserState, args: &[&[u8]]) -> Result<Action, ScriptError>
-    ensures { Places before.now (codes "settle") (map (λ w. w.now) args.now) result }
+    ensures placed { Places before.now (codes "settle") (map (λ w. w.now) args.now) result }
+    ensures memory { IfErr result (λ e. e ≢ OutOfMemory) }
 {
     match only_node(before, args) {
         Ok(node) => Ok(Action::Settle(node)),
@@ -149,7 +149,8 @@ fn settle(before: &ParserState, args: &[&[u8]]) -> Result<Action, ScriptError>
 }
 
 fn show(before: &ParserState, args: &[&[u8]]) -> Result<Action, ScriptError>
-    ensures { Places before.now (codes "show") (map (λ w. w.now) args.now) result }
+    ensures placed { Places before.now (codes "show") (map (λ w. w.now) args.now) result }
+    ensures memory { IfErr result (λ e. e ≢ OutOfMemory) }
 {
     match only_node(before, args) {
         Ok(node) => Ok(Action::Show(node)),

@@ -31,10 +31,7 @@ impl Action {
     fn begins(&self) -> bool
         ensures { result ≡ begins self.now }
     {
-        match self {
-            Action::Show(_) => false,
-            _ => true,
-        }
+        !matches!(self, Action::Show(_))
     }
 }
 

@@ -1,6 +1,7 @@
 //! Each statement, read from its words.
-ghost use Rattle.std.specs.Prelude.{◌≡◌, ◌∷◌, false, map, codes};
+ghost use Rattle.std.specs.Prelude.{◌≡◌, ◌≢◌, ◌∷◌, IfErr, false, map, codes};
 ghost use Rattle.std.specs.Str.{bytes_eq};
+ghost use Rattle.script_words.specs.declared.error.ScriptError.TheVariants.{OutOfMemory};
 ghost use Rattle.scripts.specs.Statements.{walk_name};
 ghost use Rattle.scripts.specs.Reading.{ReadsCommand};
 
@@ -60,7 +61,8 @@ fn rows(alloc: Global, backward: bool, args: &[&[u8]]) -> Result<Command, Script
 }
 
 fn open_snapshot(args: &[&[u8]]) -> Result<Command, ScriptError>
-    ensures { ReadsCommand (codes "open" ∷ map (λ w. w.now) args.now) result }
+    ensures read { ReadsCommand (codes "open" ∷ map (λ w. w.now) args.now) result }
+    ensures memory { IfErr result (λ e. e ≢ OutOfMemory) }
 {
     let (node, at) = match args {
         [node] => (node, None),
@@ -80,7 +82,8 @@ fn open_snapshot(args: &[&[u8]]) -> Result<Command, ScriptError>
 }
 
 fn close_snapshot(args: &[&[u8]]) -> Result<Command, ScriptError>
-    ensures { ReadsCommand (codes "close" ∷ map (λ w. w.now) args.now) result }
+    ensures read { ReadsCommand (codes "close" ∷ map (λ w. w.now) args.now) result }
+    ensures memory { IfErr result (λ e. e ≢ OutOfMemory) }
 {
     let [node, at] = args else {
         return Err(ScriptError::WrongNumberOfWords);
@@ -95,7 +98,8 @@ fn close_snapshot(args: &[&[u8]]) -> Result<Command, ScriptError>
 }
 
 fn tick(args: &[&[u8]]) -> Result<Command, ScriptError>
-    ensures { ReadsCommand (codes "tick" ∷ map (λ w. w.now) args.now) result }
+    ensures read { ReadsCommand (codes "tick" ∷ map (λ w. w.now) args.now) result }
+    ensures memory { IfErr result (λ e. e ≢ OutOfMemory) }
 {
     match args {
         [node] => match number(node) {
@@ -107,7 +111,8 @@ fn tick(args: &[&[u8]]) -> Result<Command, ScriptError>
 }
 
 fn tend(args: &[&[u8]]) -> Result<Command, ScriptError>
-    ensures { ReadsCommand (codes "tend" ∷ map (λ w. w.now) args.now) result }
+    ensures read { ReadsCommand (codes "tend" ∷ map (λ w. w.now) args.now) result }
+    ensures memory { IfErr result (λ e. e ≢ OutOfMemory) }
 {
     match args {
         [node] => match number(node) {
@@ -119,7 +124,8 @@ fn tend(args: &[&[u8]]) -> Result<Command, ScriptError>
 }
 
 fn start(args: &[&[u8]]) -> Result<Command, ScriptError>
-    ensures { ReadsCommand (codes "start" ∷ map (λ w. w.now) args.now) result }
+    ensures read { ReadsCommand (codes "start" ∷ map (λ w. w.now) args.now) result }
+    ensures memory { IfErr result (λ e. e ≢ OutOfMemory) }
 {
     match args {
         [node] => match number(node) {

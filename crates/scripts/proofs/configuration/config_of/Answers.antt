@@ -18,4 +18,4 @@ returns-in-Err c =
     let same = rw c.in-Some.is at c.in_ok-ids.ensures in
     no_config_of c.test_decides_config.ensures c.in-Some.ids.items c.args.numbers.now c.in-Err.error
     c.config_error.result same
-    c.in-Err.ensures.each c.config_error.ensures
+    c.in-Err.ensures.each c.config_error.ensures.memory c.config_error.ensures.bad

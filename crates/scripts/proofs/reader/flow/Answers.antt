@@ -5,8 +5,8 @@ use Rattle.scripts.proofs.Places.{no_word}
 use Rattle.scripts.proofs.Placing.{flows}
 use Rattle.scripts.proofs.reader.flow.Goals as goal
 
-pub returns : goal.returns
-returns c =
+pub returns-clause-placed : goal.returns-clause-placed
+returns-clause-placed c =
     let cut = c.split_fault.ensures in
     let empty = c.if-not-is_empty.ensures in
     let bare = c.if-not-is_empty-2.ensures in
@@ -15,11 +15,11 @@ returns c =
     (sym (no_word c.split_fault.result.1.now (grind (arith, nat_tests, bare))) ∙ cut.behind)
     (rw c.if-is_none.ensures refl)
 
-pub returns-then-not-is_empty : goal.returns-then-not-is_empty
-returns-then-not-is_empty c = grind (arith, common_steps)
+pub returns-then-not-is_empty-clause-placed : goal.returns-then-not-is_empty-clause-placed
+returns-then-not-is_empty-clause-placed c = grind (arith, common_steps)
 
-pub returns-then-not-is_empty-2 : goal.returns-then-not-is_empty-2
-returns-then-not-is_empty-2 c = grind (arith, common_steps)
+pub returns-then-not-is_empty-2-clause-placed : goal.returns-then-not-is_empty-2-clause-placed
+returns-then-not-is_empty-2-clause-placed c = grind (arith, common_steps)
 
-pub returns-then-is_none : goal.returns-then-is_none
-returns-then-is_none c = grind (arith, common_steps)
+pub returns-then-is_none-clause-placed : goal.returns-then-is_none-clause-placed
+returns-then-is_none-clause-placed c = grind (arith, common_steps)
