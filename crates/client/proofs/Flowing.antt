@@ -97,7 +97,7 @@ flows_none {h = h} world setup past old run = record {
 }
 
 -- one element more is taken of a list that may have grown
-take_more : (xs ys rest : List ℕ) (k p : ℕ) → p ∷ rest ≡ drop k xs →
+pub take_more : (xs ys rest : List ℕ) (k p : ℕ) → p ∷ rest ≡ drop k xs →
     take (suc k) (xs ++ ys) ≡ take k xs ++ p ∷ []
 take_more [] ys rest zero p e = absurd (omega (arith, ap length e))
 take_more [] ys rest (suc k) p e = absurd (omega (arith, ap length e))
@@ -105,20 +105,20 @@ take_more (x ∷ xs) ys rest zero p e = ap (λ (l : List ℕ). take 1 l) (sym e)
 take_more (x ∷ xs) ys rest (suc k) p e =
     ap (λ (l : List ℕ). x ∷ l) (take_more xs ys rest k p e)
 
-drop_more : (xs ys rest : List ℕ) (k p : ℕ) → p ∷ rest ≡ drop k xs →
+pub drop_more : (xs ys rest : List ℕ) (k p : ℕ) → p ∷ rest ≡ drop k xs →
     drop (suc k) (xs ++ ys) ≡ rest ++ ys
 drop_more [] ys rest zero p e = absurd (omega (arith, ap length e))
 drop_more [] ys rest (suc k) p e = absurd (omega (arith, ap length e))
 drop_more (x ∷ xs) ys rest zero p e = ap (λ (l : List ℕ). drop 1 l ++ ys) (sym e)
 drop_more (x ∷ xs) ys rest (suc k) p e = drop_more xs ys rest k p e
 
-reaches : (xs ys rest : List ℕ) (k p : ℕ) → p ∷ rest ≡ drop k xs → suc k ≤ length (xs ++ ys)
+pub reaches : (xs ys rest : List ℕ) (k p : ℕ) → p ∷ rest ≡ drop k xs → suc k ≤ length (xs ++ ys)
 reaches [] ys rest zero p e = absurd (omega (arith, ap length e))
 reaches [] ys rest (suc k) p e = absurd (omega (arith, ap length e))
 reaches (x ∷ xs) ys rest zero p e = omega arith
 reaches (x ∷ xs) ys rest (suc k) p e = omega (arith, reaches xs ys rest k p e)
 
-map-more : (xs : List ℕ) (p : ℕ) →
+pub map-more : (xs : List ℕ) (p : ℕ) →
     map delivery (xs ++ p ∷ []) ≡ map delivery xs ++ delivery p ∷ []
 map-more [] p = refl
 map-more (x ∷ xs) p = ap (λ (l : List lab.EventContent). delivery x ∷ l) (map-more xs p)
@@ -179,7 +179,7 @@ drop_none zero = refl
 drop_none (suc n) = refl
 
 -- a list that is used up
-used_up : (xs : List ℕ) (k m : ℕ) → [] ≡ drop k xs → k ≤ m →
+pub used_up : (xs : List ℕ) (k m : ℕ) → [] ≡ drop k xs → k ≤ m →
     (take m xs ≡ take k xs) × (drop m xs ≡ [])
 used_up [] k m e le = (take_none m ∙ sym (take_none k), drop_none m)
 used_up (x ∷ xs) zero m e le = absurd (omega (arith, ap length e))

@@ -9,4 +9,7 @@ pub mod Tends
 pub mod StatementResults
 pub mod StatementRuns
 pub mod PrintedRuns
+pub mod PlacesBetween
+pub mod KeptLines
 pub mod ReportedLemmas
+pub mod StatementReports

@@ -1,6 +1,7 @@
 -- What is printed of statements in any world, whatever that is and has run before: the text of the
 -- lines that it reports.
-use Rattle.std.specs.Prelude.{◌≡◌, ◌⊎◌, ◌≤◌, ◌-◌, ℕ, List, [], ◌∷◌, ◌++◌, Option, length, take}
+use Rattle.std.specs.Prelude.{◌≡◌, ◌⊎◌, ◌≤◌, ◌<◌, ◌-◌, ℕ, suc, List, [], ◌∷◌, ◌++◌, Option}
+use Rattle.std.specs.Prelude.{length, take, drop}
 use Rattle.std.specs.Prelude.{All, Bool, if◌then◌else◌, replicate}
 use Rattle.std.specs.Io.KnownBytes.{Appends}
 use Rattle.disk.specs.declared.disk.Disk.{Ghosts}
@@ -10,8 +11,8 @@ use Rattle.lab.specs.declared.world.World.{World}
 use Rattle.lab.specs.EventContent.{EventContent}
 use Rattle.lab.specs.Numbers.{Numbers}
 use Rattle.lab.specs.EventKind.TheVariants.{Tend}
-use Rattle.lab.specs.{AddsLines, AreEventLines, HasItsNodes, IsDownAmong, ShowsNumbers}
-use Rattle.lab.specs.{configs_of, lines_so_far, nodes_of}
+use Rattle.lab.specs.{AddsLines, AreEventLines, HasItsNodes, IsDownAmong, KeepsLines}
+use Rattle.lab.specs.{ShowsNumbers, configs_of, events_so_far, lines_so_far, nodes_of, sent_so_far}
 use Rattle.lab.specs.NodeLists.{Configurations}
 use Rattle.scripts.specs.Scripts.{Names}
 use Rattle.scripts.specs.declared.statement.Action.{Action}
@@ -21,10 +22,10 @@ use Rattle.scripts.specs.declared.statement.Statement.{Statement}
 use Rattle.client.specs.declared.statement_result.StatementResult.{StatementResult}
 use Rattle.client.specs.declared.statement_result.Note.{Note}
 use Rattle.client.specs.declared.statement_result.Note.TheVariants as note
-use Rattle.client.specs.PrintedRuns.{AppendsPart}
 use Rattle.client.specs.declared.run_error.RunError.{RunError}
 use Rattle.client.specs.declared.run_error.RunError.TheVariants.{Memory, Write}
-use Rattle.client.specs.ScriptRuns.{HasSettled, ShowsLast, delivery, most, shown, tending}
+use Rattle.client.specs.ScriptRuns.{HasSettled, IsRising, ShowsLast, busy, deliveries, delivery}
+use Rattle.client.specs.ScriptRuns.{left_after, most, places_after, shown, tending}
 use Rattle.client.specs.Text.{result_text}
 
 -- how a statement is answered in any world: so many events, of which so many are silent, and what
@@ -89,14 +90,32 @@ module _ {D C : Type 0} {g : Ghosts D} where
       AddsLines (Names (configs_of old) action) (IsActionEvent action) (AreActionLines action) count
       old new
 
-  -- a statement was run so, and this is what it answered
-  pub record IsReportedIn (old new : World D C g) (it : Statement) (turn : StatementResult) : Type 0
-    where
-      pub answered : IsAnswered it turn
-      pub shown : ShowsNow (nodes_of old) turn.note
-      pub adds : ActionAddsLines it.action turn.events old new
-      pub ends : Names (configs_of old) it.action →
-          EndsIn it.action turn (lines_so_far old) (lines_so_far new)
+  -- the places of the frames that were sent between two moments of a world
+  abbrev pub places_between : World D C g → World D C g → List ℕ
+  places_between old new = places_after (sent_so_far old) (sent_so_far new - sent_so_far old)
+
+  -- the frames that are left, with those that are sent meanwhile, were delivered in the order of
+  -- this list up to the bound of a flow, and the others are left
+  pub record DeliversLeft (old new : World D C g) (old_left new_left : List ℕ) : Type 0 where
+    pub events : events_so_far new
+        ≡ events_so_far old ++ deliveries (old_left ++ places_between old new)
+    pub left : new_left ≡ drop most (old_left ++ places_between old new)
+
+  -- A statement was run so, and this is what it answered. One without events leaves the world as
+  -- it was. A flow is told busy exactly where it leaves frames. Where the places of the frames that
+  -- are left rose, these are left now.
+  pub record IsReportedIn (old new : World D C g) (it : Statement) (turn : StatementResult)
+      (old_left new_left : List ℕ) : Type 0 where
+    pub answered : IsAnswered it turn
+    pub shown : ShowsNow (nodes_of old) turn.note
+    pub adds : ActionAddsLines it.action turn.events old new
+    pub ends : Names (configs_of old) it.action →
+        EndsIn it.action turn (lines_so_far old) (lines_so_far new)
+    pub stays : turn.events ≡ 0 → new ≡ old
+    pub delivers : it.action ≡ Flow →
+        DeliversLeft old new old_left new_left × (turn.note ≡ busy new_left)
+    pub left : IsRising 0 (sent_so_far old) old_left →
+        new_left ≡ left_after it.action (old_left ++ places_between old new)
 
 -- These are the lines of a statement's events: of each one list, if it names a node of the first of
 -- these configurations, or none; and nothing, if it names another. Each list is such as its event
@@ -108,44 +127,72 @@ pub record AreLinesOf (cs : Configurations) (has_nodes : Type 0) (it : Statement
   pub are : has_nodes → All (AreActionLines it.action) own
   pub unknown : (Names cs it.action → ⊥) → own ≡ []
 
--- statements were run so, one after another: where in the script their events stand, the lines of
--- these, and the text of all
-pub data AreReported (cs : Configurations) (has_nodes : Type 0) : List Statement → List ℕ
-    → List (List Line) → List ℕ → Type 0 where
-  NoStatement : AreReported cs has_nodes [] [] [] []
-  OneMore : (done : List Statement) (places : List ℕ) (steps : List (List Line)) (text : List ℕ) →
-      AreReported cs has_nodes done places steps text →
+-- Statements were run so, one after another, from the first of these worlds to the other, where no
+-- frame was left: the frames that are left now, where in the script the events stand, the lines of
+-- these, and the text of all.
+pub data AreReported {D C : Type 0} {g : Ghosts D} (first : World D C g) : World D C g → List ℕ
+    → List Statement → List ℕ → List (List Line) → List ℕ → Type 0 where
+  NoStatement : AreReported first first [] [] [] [] []
+  OneMore : (before behind : World D C g) (left next : List ℕ) (done : List Statement)
+      (places : List ℕ) (steps : List (List Line)) (text : List ℕ) →
+      AreReported first before left done places steps text →
       (it : Statement) (turn : StatementResult) (own : List (List Line)) →
-      IsAnswered it turn → AreLinesOf cs has_nodes it turn own →
-      AreReported cs has_nodes (done ++ it ∷ []) (places ++ replicate turn.events turn.line)
-      (steps ++ own) (text ++ result_text (places ++ replicate turn.events turn.line) turn own)
+      IsReportedIn before behind it turn left next →
+      next ≡ left_after it.action (left ++ places_between before behind) →
+      lines_so_far behind ≡ lines_so_far before ++ own →
+      AreLinesOf (configs_of first) (HasItsNodes first) it turn own →
+      AreReported first behind next (done ++ it ∷ [])
+      (places ++ replicate turn.events turn.line) (steps ++ own)
+      (text ++ result_text (places ++ replicate turn.events turn.line) turn own)
 
--- the statements were run in a world, which has their lines behind those that it had, and exactly
--- the text of these was written
-pub record ReportIsPrinted {D C : Type 0} {g : Ghosts D} (old new : World D C g)
-    (statements : List Statement) (before after : Option (List ℕ)) : Type 0 where
-  pub places : List ℕ
-  pub steps : List (List Line)
-  pub text : List ℕ
-  pub are : AreReported (configs_of old) (HasItsNodes old) statements places steps text
-  pub added : lines_so_far new ≡ lines_so_far old ++ steps
-  pub wrote : Appends before after text
+-- this is an event of the first of these statements
+abbrev pub IsFirstEvent : List Statement → EventContent → Type 0
+IsFirstEvent [] event = ⊥
+IsFirstEvent (it ∷ statements) event = IsActionEvent it.action event
 
--- a beginning of the text of so many first of these statements was written
-pub record ReportIsBegun (cs : Configurations) (has_nodes : Type 0) (statements : List Statement)
-    (before after : Option (List ℕ)) : Type 0 where
-  pub count : ℕ
-  pub places : List ℕ
-  pub steps : List (List Line)
-  pub text : List ℕ
-  pub are : AreReported cs has_nodes (take count statements) places steps text
-  pub part : AppendsPart before after text
+module _ {D C : Type 0} {g : Ghosts D} where
+  -- the statements were run in a world, which has their lines behind those that it had, and exactly
+  -- the text of these was written
+  pub record ReportIsPrinted (old new : World D C g) (statements : List Statement)
+      (before after : Option (List ℕ)) : Type 0 where
+    pub left : List ℕ
+    pub places : List ℕ
+    pub steps : List (List Line)
+    pub text : List ℕ
+    pub are : AreReported old new left statements places steps text
+    pub added : lines_so_far new ≡ lines_so_far old ++ steps
+    pub wrote : Appends before after text
 
--- Statements were run in a world, and this ended them early. Where memory was short, the text of so
--- many first ones was written; where the output took no more, a beginning of it, and the world has
--- exactly the lines of these behind those that it had.
-pub record ReportIsCut {D C : Type 0} {g : Ghosts D} (error : RunError) (old new : World D C g)
-    (statements : List Statement) (before after : Option (List ℕ)) : Type 0 where
-  pub begun : ReportIsBegun (configs_of old) (HasItsNodes old) statements before after
-  pub memory : error ≡ Memory → Appends before after begun.text
-  pub output : error ≡ Write → lines_so_far new ≡ lines_so_far old ++ begun.steps
+  -- behind so many first of these statements one more was run, and of its text this is a beginning
+  pub record ReportsOneMore (old new : World D C g) (statements : List Statement) (count : ℕ)
+      (text part : List ℕ) : Type 0 where
+    pub left : List ℕ
+    pub places : List ℕ
+    pub steps : List (List Line)
+    pub next : List ℕ
+    pub are : AreReported old new left (take (suc count) statements) places steps (text ++ next)
+    pub added : lines_so_far new ≡ lines_so_far old ++ steps
+    pub beginning : ℕ
+    pub is : part ≡ take beginning next
+
+  -- Statements were run in a world, and this ended them early, at the statement behind so many
+  -- first ones. The text of these was written. Where memory was short, nothing more was, and the
+  -- world has the events, lines and losses that it had behind these, and perhaps events of the next
+  -- one and their lines. Where the output took no more, the next one was run too, and a beginning
+  -- of its text was written.
+  pub record ReportIsCut (error : RunError) (old new : World D C g) (statements : List Statement)
+      (before after : Option (List ℕ)) : Type 0 where
+    pub count : ℕ
+    pub within : count < length statements
+    pub behind : World D C g
+    pub left : List ℕ
+    pub places : List ℕ
+    pub steps : List (List Line)
+    pub text : List ℕ
+    pub are : AreReported old behind left (take count statements) places steps text
+    pub added : lines_so_far behind ≡ lines_so_far old ++ steps
+    pub part : List ℕ
+    pub wrote : Appends before after (text ++ part)
+    pub memory : error ≡ Memory →
+        (part ≡ []) × KeepsLines (IsFirstEvent (drop count statements)) behind new
+    pub output : error ≡ Write → ReportsOneMore old new statements count text part

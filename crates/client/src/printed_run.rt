@@ -8,7 +8,7 @@ ghost use Rattle.client.specs.Text.{result_text};
 use crate::run_error::RunError;
 use crate::script_run::run_statement;
 use crate::statement_result::StatementResult;
-use crate::text::{add_places, print_result};
+use crate::text::{add_event_lines, print_result};
 use crate::writing::print;
 use disk::Crash;
 use lab::{Carrier, Lines, World};
@@ -21,10 +21,7 @@ use std::io::Write;
 fn behind(steps: &[Lines], count: usize) -> &[Lines]
     ensures { result.now ≡ drop count steps.now }
 {
-    match steps.get(count..) {
-        Some(behind) => behind,
-        None => &[],
-    }
+    steps.get(count..).unwrap_or(&[])
 }
 
 // Makes the text of a statement's result, in place of what stood there. Its events have their
@@ -40,7 +37,7 @@ fn make_text(
     ensures text { OnOk result
         (string_bytes text.new ≡ result_text places.new.items turn.now steps.now) }
 {
-    add_places(places, turn.line, turn.events)?;
+    add_event_lines(places, turn.line, turn.events)?;
     text.clear();
     print_result(places, turn, steps, text)
 }
@@ -48,11 +45,12 @@ fn make_text(
 /// Runs the statements of a script in a world that has run nothing yet, one after another. The text
 /// of each is written and flushed before the next one begins. `Write`: the output took no more of
 /// the text of the last statement that was run. `Memory`: nothing is written of the statement that
-/// wanted it. After an error the run can't be taken up again.
+/// wanted it, of which the world may have events. After an error the run can't be taken up again.
 ///
 /// Of a world that has run events before, or whose nodes were started on what an earlier run left,
 /// only `reported` is promised. The statements are run there as in any. But a flow does not deliver
-/// frames that were sent before, and a reply to an event before may stand at any line.
+/// frames that were sent before, and a reply may stand at any line: requests are numbered among all
+/// events of the world, and the lines are known of this script's alone.
 pub fn run_script<D: Crash + Drop, C: Carrier + Drop, W: Write>(
     alloc: Global,
     script: &Script,

@@ -1,19 +1,20 @@
 //! Statements are run in a world: the events of each, one after another.
-ghost use Rattle.std.specs.Prelude.{◌≡◌, ℕ, List, [], ◌∷◌, ◌++◌, length, map, take, drop};
-ghost use Rattle.std.specs.Prelude.{OnOk, IfOk, ◌+◌, ◌-◌, if◌then◌else◌, Some, None, replicate};
+ghost use Rattle.std.specs.Prelude.{◌≡◌, ℕ, List, [], ◌∷◌, ◌++◌, length, drop};
+ghost use Rattle.std.specs.Prelude.{OnErr, OnOk, IfOk, ◌+◌, ◌-◌, if◌then◌else◌, Some, None};
+ghost use Rattle.std.specs.Prelude.{replicate};
 ghost use Rattle.std.specs.Prelude.{◌≤◌, ◌⊎◌};
 ghost use Rattle.std.specs.Prelude.{true};
 ghost use Rattle.kv_types.specs.{has};
 ghost use Rattle.lab.specs.NodeLists.{at_epoch};
-ghost use Rattle.kv_types.specs.Snapshots.{without};
 ghost use Rattle.lab.specs.declared.Line.{Line};
-ghost use Rattle.lab.specs.{Choice, EventAddsLines, NamesNode, frames_in_steps, frames_of_step};
-ghost use Rattle.lab.specs.{configs_of, faultless, lines_so_far};
-ghost use Rattle.client.specs.ReportedRuns.{ActionAddsLines, IsReportedIn};
+ghost use Rattle.lab.specs.{Choice, EventAddsLines, KeepsLines, NamesNode, frames_in_steps};
+ghost use Rattle.lab.specs.{configs_of, faultless, frames_of_step, lines_so_far};
+ghost use Rattle.client.specs.ReportedRuns.{ActionAddsLines, DeliversLeft, IsActionEvent};
+ghost use Rattle.client.specs.ReportedRuns.{IsReportedIn, places_between};
 ghost use Rattle.client.specs.ScriptRuns.{HasRunTo, HasSettled, HasTurned, IsRising};
-ghost use Rattle.client.specs.ScriptRuns.{Stretch, busy, deliveries, delivery, followed_by};
+ghost use Rattle.client.specs.ScriptRuns.{Stretch, busy, deliveries, followed_by};
 ghost use Rattle.client.specs.ScriptRuns.{has_worked};
-ghost use Rattle.client.specs.ScriptRuns.{left_after, left_after_event, most};
+ghost use Rattle.client.specs.ScriptRuns.{left_after_event, most};
 ghost use Rattle.client.specs.ScriptRuns.{one_step};
 ghost use Rattle.client.specs.ScriptRuns.{places_after, shown, tending};
 ghost use Rattle.scripts.specs.Scripts.{Names};
@@ -31,7 +32,7 @@ use std::collections::VecDeque;
 const MOST: usize = 10000;
 
 // The places of the frames that were sent between.
-fn add_places(left: &mut VecDeque<u64>, before: u64, now: u64) -> Result<(), AllocError>
+fn add_sent(left: &mut VecDeque<u64>, before: u64, now: u64) -> Result<(), AllocError>
     ensures { OnOk result
         (left.new.items ≡ left.old.items ++ places_after before (now - before)) }
 {
@@ -126,10 +127,13 @@ fn step<D: Crash + Drop, C: Carrier + Drop>(
         × (left.new.items ≡ left.old.items
         ++ places_after (frames_in_steps past.steps) (frames_of_step lines))) }
     ensures adds { OnOk result (EventAddsLines event.now world.old world.new) }
+    ensures left { OnOk result
+        (left.new.items ≡ left.old.items ++ places_between world.old world.new) }
+    ensures refused { OnErr result (KeepsLines (λ it. it ≡ event.now) world.old world.new) }
 {
     let before = world.sent();
     world.step(alloc, event)?;
-    add_places(left, before, world.sent())?;
+    add_sent(left, before, world.sent())?;
     Ok(())
 }
 
@@ -147,6 +151,9 @@ fn happen<D: Crash + Drop, C: Carrier + Drop>(
         × (left.new.items ≡ left.old.items
         ++ places_after (frames_in_steps past.steps) (frames_of_step lines))) }
     ensures adds { OnOk result (EventAddsLines (faultless kind) world.old world.new) }
+    ensures left { OnOk result
+        (left.new.items ≡ left.old.items ++ places_between world.old world.new) }
+    ensures refused { OnErr result (KeepsLines (λ it. it ≡ faultless kind) world.old world.new) }
 {
     let event = Event::faultless(alloc, kind)?;
     let done = step(alloc, world, left, &event);
@@ -171,6 +178,10 @@ fn flow<D: Crash + Drop, C: Carrier + Drop>(
     ensures adds { IfOk result (λ count. (count ≤ most)
         × ActionAddsLines Action.Flow count world.old world.new
         × ((left.new.items ≡ []) ⊎ (count ≡ most))) }
+    ensures delivers { IfOk result (λ count. (count ≡ 0 → world.new ≡ world.old)
+        × DeliversLeft world.old world.new left.old.items left.new.items) }
+    ensures refused { OnErr result
+        (KeepsLines (IsActionEvent Action.Flow) world.old world.new) }
 {
     let mut count = 0;
     while count < MOST {
@@ -214,6 +225,10 @@ fn settle<D: Crash + Drop, C: Carrier + Drop>(
     ensures tends { IfOk result (λ _. Names (configs_of world.old) (Action.Settle node) →
         (own : List (List Line)) × (lines_so_far world.new ≡ lines_so_far world.old ++ own)
         × HasSettled own) }
+    ensures left { IfOk result (λ count. (count ≡ 0 → world.new ≡ world.old)
+        × (left.new.items ≡ left.old.items ++ places_between world.old world.new)) }
+    ensures refused { OnErr result
+        (KeepsLines (IsActionEvent (Action.Settle node)) world.old world.new) }
 {
     let mut count = 0;
     while count < MOST {
@@ -239,7 +254,10 @@ pub fn run_statement<D: Crash + Drop, C: Carrier + Drop>(
         IsRising 0 (frames_in_steps past.steps) left.old.items →
         IfOk result (λ turn. HasTurned C.Carrier setup past statement.now turn world.old world.new
         left.old.items left.new.items) }
-    ensures reported { IfOk result (λ turn. IsReportedIn world.old world.new statement.now turn) }
+    ensures reported { IfOk result (λ turn. IsReportedIn world.old world.new statement.now turn
+        left.old.items left.new.items) }
+    ensures refused { OnErr result
+        (KeepsLines (IsActionEvent statement.now.action) world.old world.new) }
 {
     let line = statement.line;
     match &statement.action {

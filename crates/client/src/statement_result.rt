@@ -12,12 +12,12 @@ pub enum Note {
     Busy,
     /// The numbers of a node that runs.
     Running(NodeId, Numbers),
-    /// A node that is down.
+    /// A node that is down, or unknown to the world.
     Down(NodeId),
 }
 
-/// What a statement did: the line where it stands, how many events it had, of how many of them,
-/// the first, nothing is printed, and what is said besides.
+/// What a statement did: the line where it stands, how many events it had, for how many of the
+/// first of them nothing is printed, and what is said besides.
 #[derive(Drop)]
 pub struct StatementResult {
     pub line: u32,

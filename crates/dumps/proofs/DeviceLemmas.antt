@@ -5,8 +5,8 @@ use Rattle.disk.specs.{Contents, IsEnvironmental, IsSame, KeepsDisk, contents, s
 use Rattle.disk.specs.declared.Disk.{Ghosts}
 use Rattle.engine.specs.EngineError.{EngineError}
 use Rattle.engine.specs.EngineError.TheVariants as engine
-use Rattle.engine.specs.KeepingLemmas.{kept_as, kept_behind, neither, same_files, same_then_same}
-use Rattle.engine.specs.KeepingLemmas.{unchanged}
+use Rattle.disk.specs.KeepingLemmas.{kept_as, kept_behind, neither, same_files, same_then_same}
+use Rattle.disk.specs.KeepingLemmas.{unchanged}
 use Rattle.engine.specs.declared.Engine.{Engine}
 use Rattle.engine.specs.{AreAlone, ExplainsRefusal, HasOpened, IsOwned, IsReadableAnswer, LookUps}
 use Rattle.engine.specs.{SparesFound, engine_disk, engine_files, engine_version}

@@ -68,7 +68,8 @@ none_of_some facts out = record {
 
 -- ---- one that was opened: the lines, one behind another
 
-module _ (IsShown : List BatchContent → Type 0) (facts : Facts) (at : ℕ) (tables : List ℕ) where
+module _ (IsShown : List BatchContent → Type 0) (AreCounts : List ℕ → Type 0) (facts : Facts)
+    (at : ℕ) (tables : List ℕ) (counts : AreCounts tables) where
   abbrev first_line : List ℕ
   first_line = store_line facts at tables
 
@@ -78,9 +79,10 @@ module _ (IsShown : List BatchContent → Type 0) (facts : Facts) (at : ℕ) (ta
 
   -- refused within the first line
   pub cut_in_numbers : PagesAgree → (old new : Option (List ℕ)) → AppendsPart old new first_line →
-      IsBegunFor IsShown facts at old new
+      IsBegunFor IsShown AreCounts facts at old new
   cut_in_numbers agree old new part = record {
     tables = tables;
+    counts = counts;
     rows = [];
     part = part_of_longer old new first_line (behind_it []) part;
     of = λ list shown.
@@ -97,9 +99,10 @@ module _ (IsShown : List BatchContent → Type 0) (facts : Facts) (at : ℕ) (ta
 
   -- refused within the rows
   pub cut_in_rows : (old first new : Option (List ℕ)) → Appends old first first_line →
-      AreBegun IsShown at first new → IsBegunFor IsShown facts at old new
+      AreBegun IsShown at first new → IsBegunFor IsShown AreCounts facts at old new
   cut_in_rows old first new numbers begun = record {
     tables = tables;
+    counts = counts;
     rows = begun.rows;
     part = in_rows old first new begun.rows numbers begun.part;
     of = λ list shown.
@@ -115,10 +118,11 @@ module _ (IsShown : List BatchContent → Type 0) (facts : Facts) (at : ℕ) (ta
       (old first second new : Option (List ℕ)) → Appends old first first_line →
       AreAllWritten IsShown at count first second →
       WritesText (count_line count at) second new result →
-      MatchResult result (λ _. IsDumpFor IsShown facts at old new)
-      (λ _. IsBegunFor IsShown facts at old new)
+      MatchResult result (λ _. IsDumpFor IsShown AreCounts facts at old new)
+      (λ _. IsBegunFor IsShown AreCounts facts at old new)
   dumped count (Ok x) old first second new numbers rows writes = record {
     tables = tables;
+    counts = counts;
     rows = rows.rows;
     wrote = appends_more old first new first_line (behind_it rows.rows) numbers
         (appends_more first second new (flat_map row_line rows.rows)
@@ -133,6 +137,7 @@ module _ (IsShown : List BatchContent → Type 0) (facts : Facts) (at : ℕ) (ta
       (subst (λ (n : ℕ). AppendsPart second new (count_line n at)) rows.counted writes.1)) in
       record {
         tables = tables;
+        counts = counts;
         rows = rows.rows;
         part = part;
         of = λ list shown. (rows.rows, rows.all list shown, part);
@@ -147,25 +152,25 @@ of_output text old new (Err error) writes = inr writes.0
 -- ---- what was written of a store
 
 -- such a text was written, or a beginning of it
-abbrev DumpsFor : {T : Type 0} → (List BatchContent → Type 0) → Facts → ℕ →
+abbrev DumpsFor : {T : Type 0} → (List BatchContent → Type 0) → (List ℕ → Type 0) → Facts → ℕ →
     (old new : Option (List ℕ)) → Result T DumpError → Type 0
-DumpsFor IsShown facts count old new result =
-    MatchResult result (λ _. IsDumpFor IsShown facts count old new)
-    (λ _. IsBegunFor IsShown facts count old new)
+DumpsFor IsShown AreCounts facts count old new result =
+    MatchResult result (λ _. IsDumpFor IsShown AreCounts facts count old new)
+    (λ _. IsBegunFor IsShown AreCounts facts count old new)
 
 -- of any store
-pub dumped_some : {T : Type 0} (IsShown : List BatchContent → Type 0) (facts : Facts) (count : ℕ)
-    (old new : Option (List ℕ)) (result : Result T DumpError) →
-    DumpsFor IsShown facts count old new result →
+pub dumped_some : {T : Type 0} (IsShown : List BatchContent → Type 0)
+    (AreCounts : List ℕ → Type 0) (facts : Facts) (count : ℕ) (old new : Option (List ℕ))
+    (result : Result T DumpError) → DumpsFor IsShown AreCounts facts count old new result →
     MatchResult result (λ _. IsSomeDump old new) (λ _. IsSomeBegun old new)
-dumped_some IsShown facts count old new (Ok x) dump = record {
+dumped_some IsShown AreCounts facts count old new (Ok x) dump = record {
   facts = facts;
   count = count;
   tables = dump.tables;
   rows = dump.rows;
   wrote = dump.wrote;
 }
-dumped_some IsShown facts count old new (Err e) begun = record {
+dumped_some IsShown AreCounts facts count old new (Err e) begun = record {
   facts = facts;
   count = count;
   tables = begun.tables;
@@ -174,9 +179,9 @@ dumped_some IsShown facts count old new (Err e) begun = record {
 }
 
 -- of a list that is shown
-module _ (IsShown : List BatchContent → Type 0) (known facts : Facts) (count : ℕ)
-    (list : List BatchContent) (old new : Option (List ℕ)) (same : known ≡ facts)
-    (is : count ≡ length list) (shown : IsShown list) where
+module _ (IsShown : List BatchContent → Type 0) (AreCounts : List ℕ → Type 0)
+    (known facts : Facts) (count : ℕ) (list : List BatchContent) (old new : Option (List ℕ))
+    (same : known ≡ facts) (is : count ≡ length list) (shown : IsShown list) where
   all_of : (rows : List Row) → AreRowsOf (map_of (take count list)) rows →
       AreRowsOf (map_of list) rows
   all_of rows are = subst (λ (batches : List BatchContent). AreRowsOf (map_of batches) rows)
@@ -188,7 +193,7 @@ module _ (IsShown : List BatchContent → Type 0) (known facts : Facts) (count :
       (subst (λ (n : ℕ). P (dump_text known n tables rows)) is p)
 
   pub dumped_list : {T : Type 0} (result : Result T DumpError) →
-      DumpsFor IsShown known count old new result →
+      DumpsFor IsShown AreCounts known count old new result →
       MatchResult result (λ _. IsDumpOf facts list old new) (λ _. IsBegunDump facts list old new)
   dumped_list (Ok x) dump = record {
     text = dump_text facts (length list) dump.tables dump.rows;

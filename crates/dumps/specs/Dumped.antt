@@ -124,19 +124,21 @@ abbrev pub BeginsStoreOf : {D : Type 0} → Ghosts D → D → (old new : Option
 BeginsStoreOf g disk old new = (facts : Facts) (list : List BatchContent) → g.is_honest disk →
     WereMeant facts list (contents (g.state disk)) → IsBegunDump facts list old new
 
--- Exactly the text of these facts, so many batches and some rows was written: all rows of each list
--- that is shown.
-pub record IsDumpFor (IsShown : List BatchContent → Type 0) (facts : Facts) (count : ℕ)
-    (old new : Option (List ℕ)) : Type 0 where
+-- Exactly the text of these facts, so many batches, tables that are so many, and some rows was
+-- written: all rows of each list that is shown.
+pub record IsDumpFor (IsShown : List BatchContent → Type 0) (AreCounts : List ℕ → Type 0)
+    (facts : Facts) (count : ℕ) (old new : Option (List ℕ)) : Type 0 where
   pub tables : List ℕ
+  pub counts : AreCounts tables
   pub rows : List Row
   pub wrote : Appends old new (dump_text facts count tables rows)
   pub all : (list : List BatchContent) → IsShown list → AreRowsOf (map_of (take count list)) rows
 
 -- A beginning of such a text was written, and one of the text of each list that is shown.
-pub record IsBegunFor (IsShown : List BatchContent → Type 0) (facts : Facts) (count : ℕ)
-    (old new : Option (List ℕ)) : Type 0 where
+pub record IsBegunFor (IsShown : List BatchContent → Type 0) (AreCounts : List ℕ → Type 0)
+    (facts : Facts) (count : ℕ) (old new : Option (List ℕ)) : Type 0 where
   pub tables : List ℕ
+  pub counts : AreCounts tables
   pub rows : List Row
   pub part : AppendsPart old new (dump_text facts count tables rows)
   pub of : (list : List BatchContent) → IsShown list → (all : List Row)

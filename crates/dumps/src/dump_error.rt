@@ -12,7 +12,7 @@ use std::io;
 /// Why a store was not written out whole. A beginning of its text may have been written.
 #[derive(Clone, Copy, Debug, PartialEq, Eq)]
 pub enum DumpError {
-    /// The store was not opened, or not read to its end, for this.
+    /// The cause for which the store was not opened, or not read to its end.
     Store(Stop),
     /// The output takes no more.
     Write,

@@ -96,10 +96,11 @@ fn write_store<D: Disk + Drop, W: Write>(
     out: &mut W,
 ) -> Result<(), DumpError>
     ensures dump { MatchResult result
-        (λ _. IsDumpFor (ShowsList D.Disk engine.old) (facts_of engine.old)
-        (look_ups engine.old).count (W.contents out.old) (W.contents out.new))
-        (λ _. IsBegunFor (ShowsList D.Disk engine.old) (facts_of engine.old)
-        (look_ups engine.old).count (W.contents out.old) (W.contents out.new)) }
+        (λ _. IsDumpFor (ShowsList D.Disk engine.old) (AreTableCounts engine.old)
+        (facts_of engine.old) (look_ups engine.old).count (W.contents out.old) (W.contents out.new))
+        (λ _. IsBegunFor (ShowsList D.Disk engine.old) (AreTableCounts engine.old)
+        (facts_of engine.old) (look_ups engine.old).count (W.contents out.old)
+        (W.contents out.new)) }
     ensures refused { (list : List BatchContent) → EngineReads D.Disk engine.old list →
         IfErr result IsDumpRefusal }
     ensures device { KeepsDisk D.Disk (engine_disk engine.old) (engine_disk engine.new)
@@ -140,7 +141,7 @@ pub fn dump_store<D: Disk + Drop, W: Write>(
         IsNotOpened D.Disk disk (W.contents out.old) (W.contents out.new) result }
 
     // Of any disk: the text of some store was written, or a beginning of it. It is refused for the
-    // device only where a failure was counted.
+    // device exactly where a failure is counted.
     ensures printed { MatchResult result
         (λ _. IsSomeDump (W.contents out.old) (W.contents out.new))
         (λ _. IsSomeBegun (W.contents out.old) (W.contents out.new)) }

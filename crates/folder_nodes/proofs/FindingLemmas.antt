@@ -15,7 +15,7 @@ use Rattle.disk.specs.StepsLemmas.{read_is_outcome}
 use Rattle.disk.specs.StillLemmas.{spares_still, still_more}
 use Rattle.configurations.specs.{at_epoch, Configurations}
 use Rattle.engine.specs.{SparesFound, kept_files}
-use Rattle.engine.specs.KeepingLemmas.{kept_behind}
+use Rattle.disk.specs.KeepingLemmas.{kept_behind}
 use Rattle.chain_core.specs.{Machine}
 use Rattle.manifest.specs.{HasOnlyCreationFiles, IsNotCreated, NodeVersion, SlotsRead}
 use Rattle.manifest.specs.{VersionIsOne}

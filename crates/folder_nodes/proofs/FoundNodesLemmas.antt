@@ -7,7 +7,7 @@ use Rattle.disk.specs.declared.Disk.{Ghosts}
 use Rattle.dir_disk.specs.declared.folder.DirDisk.{DirDisk}
 use Rattle.kv_types.specs.declared.Limits.{Limits}
 use Rattle.node.specs.declared.node.Node.{Node}
-use Rattle.node.specs.{node_limits}
+use Rattle.node.specs.{node_core, node_limits}
 use Rattle.lab.specs.declared.SimNode.{SimNode}
 use Rattle.folder_nodes.specs.Finding.{sim_ids}
 use Rattle.folder_nodes.specs.FoundNodes.{AddsNode, IsFoundIn, IsNodeIn}
@@ -28,9 +28,9 @@ ids_more id node old new adds =
 -- a node more that was found in its folder
 pub found_more : {R : Type 0} {g : Ghosts (DirDisk R)} (path : List ℕ) (limits : Limits) →
     (id : ℕ) (node : Node (DirDisk R) g) (old new : List (SimNode (DirDisk R) g)) → path ≢ [] →
-    AddsNode id node old new → node_limits node ≡ limits → IsNodeIn path id node →
-    All (IsFoundIn path limits) old → All (IsFoundIn path limits) new
-found_more {R} {g} path limits id node old new path_is adds are found each =
+    AddsNode id node old new → (node_core node).id ≡ id → node_limits node ≡ limits →
+    IsNodeIn path id node → All (IsFoundIn path limits) old → All (IsFoundIn path limits) new
+found_more {R} {g} path limits id node old new path_is adds own are found each =
     let box = adds.up.0 in
     let IsFound : SimNode (DirDisk R) g → Type 0 = IsFoundIn path limits in
     subst (λ (sims : List (SimNode (DirDisk R) g)). All IsFound sims) (sym adds.more)
@@ -38,6 +38,7 @@ found_more {R} {g} path limits id node old new path_is adds are found each =
       path_is = path_is;
       node = box;
       up = adds.up.1;
+      own = ap (λ (it : Node (DirDisk R) g). (node_core it).id) adds.up.2 ∙ own ∙ sym adds.named;
       limits_are = ap node_limits adds.up.2 ∙ are;
       found = subst (λ (n : ℕ). IsNodeIn path n box.value) (sym adds.named)
           (subst (λ (it : Node (DirDisk R) g). IsNodeIn path id it) (sym adds.up.2) found);

@@ -7,7 +7,7 @@ use Rattle.dir_disk.specs.Disks.{IsLockedFolder}
 use Rattle.dir_disk.specs.Names.{file_path}
 use Rattle.kv_types.specs.declared.Limits.{Limits}
 use Rattle.node.specs.declared.node.Node.{Node}
-use Rattle.node.specs.{disk_of, node_limits}
+use Rattle.node.specs.{disk_of, node_core, node_limits}
 use Rattle.lab.specs.declared.SimNode.{SimNode}
 use Rattle.lab.specs.declared.node_state.NodeState.TheVariants.{Up}
 
@@ -24,12 +24,13 @@ module _ {R : Type 0} {g : Ghosts (DirDisk R)} where
   abbrev pub IsNodeIn : List ℕ → ℕ → Node (DirDisk R) g → Type 0
   IsNodeIn path id node = IsLockedFolder (file_path path id) (disk_of node)
 
-  -- a simulated node is up, was found in its folder behind this path, which is not empty, and has
-  -- these limits
+  -- a simulated node is up, was found in its folder behind this path, which is not empty, has the
+  -- id of this folder, and these limits
   pub record IsFoundIn (path : List ℕ) (limits : Limits) (sim : SimNode (DirDisk R) g) : Type 0
     where
       pub path_is : path ≢ []
       pub node : Box (Node (DirDisk R) g)
       pub up : sim.state ≡ Up node
+      pub own : (node_core node.value).id ≡ sim.id
       pub limits_are : node_limits node.value ≡ limits
       pub found : IsNodeIn path sim.id node.value

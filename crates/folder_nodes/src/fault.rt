@@ -22,7 +22,7 @@ pub enum FolderError {
     OtherNode,
 }
 
-/// The folder of this node has none for a run, and why.
+/// The node whose folder has no node for a run, and why.
 #[derive(Clone, Copy)]
 pub struct FolderFault {
     pub id: NodeId,

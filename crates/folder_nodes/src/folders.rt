@@ -3,8 +3,8 @@ ghost use Rattle.std.specs.Prelude.{◌≡◌, ◌≢◌, ◌++◌, ◌∷◌, [
 ghost use Rattle.configurations.specs.{at_epoch};
 ghost use Rattle.dir_disk.specs.Disks.{IsLockedFolder};
 ghost use Rattle.dir_disk.specs.Names.{file_path};
-ghost use Rattle.node.specs.{IsReady, node_limits};
-ghost use Rattle.folder_nodes.specs.Finding.{sim_ids};
+ghost use Rattle.node.specs.{IsReady, node_core, node_limits};
+ghost use Rattle.folder_nodes.specs.Finding.{IsForEnvironment, sim_ids};
 ghost use Rattle.folder_nodes.specs.FoundNodes.{AddsNode, IsFoundIn, IsNodeIn};
 
 use crate::fault::{FolderError, FolderFault};
@@ -21,7 +21,9 @@ use std::io::{self, ErrorKind};
 use std::rt::Files;
 
 // Why a folder was not made.
-fn cause(e: io::Error) -> FolderError {
+fn cause(e: io::Error) -> FolderError
+    ensures { IsForEnvironment result }
+{
     match e.kind() {
         ErrorKind::OutOfMemory => FolderError::Stopped(Stop::Memory),
         _ => FolderError::Stopped(Stop::Disk),
@@ -36,6 +38,7 @@ fn locked_disk<R: Files<File = File> + Alloc<A = Global> + Clone + Drop>(
 ) -> Result<DirDisk<R>, FolderError>
     ensures folder { IfOk result (IsLockedFolder (file_path folder.now id)) }
     ensures path { OnOk result (folder.now ≢ []) }
+    ensures refused { IfErr result IsForEnvironment }
 {
     // An empty path is that of no folder.
     if folder.is_empty() {
@@ -48,8 +51,8 @@ fn locked_disk<R: Files<File = File> + Alloc<A = Global> + Clone + Drop>(
     Ok(disk)
 }
 
-// The node of one folder.
-fn node_in<R: Files<File = File> + Alloc<A = Global> + Clone + Drop>(
+// The node over the disk of one folder, whose id is that of the folder where the disk is honest.
+fn node_over_folder<R: Files<File = File> + Alloc<A = Global> + Clone + Drop>(
     rt: &R,
     folder: &str,
     id: NodeId,
@@ -69,6 +72,28 @@ fn node_in<R: Files<File = File> + Alloc<A = Global> + Clone + Drop>(
             Err(error)
         }
     }
+}
+
+// The node of one folder. A folder that answers otherwise while it is opened may have another one.
+fn node_in<R: Files<File = File> + Alloc<A = Global> + Clone + Drop>(
+    rt: &R,
+    folder: &str,
+    id: NodeId,
+    configs: &Configs,
+    limits: &Limits,
+) -> Result<Node<DirDisk<R>>, FolderError>
+    ensures works { IfOk result IsReady }
+    ensures own { IfOk result (λ node. (node_core node).id ≡ id) }
+    ensures limits { IfOk result (λ node. node_limits node ≡ limits.now) }
+    ensures found { IfOk result (IsNodeIn folder.now id) }
+    ensures path { OnOk result (folder.now ≢ []) }
+{
+    let node = node_over_folder(rt, folder, id, configs, limits)?;
+    if node.id() == id {
+        return Ok(node);
+    }
+    drop(node);
+    Err(FolderError::OtherNode)
 }
 
 // One node more, as a world takes it.

@@ -68,15 +68,15 @@ lines_same n (s ∷ sent) (f ∷ frames) are =
     (lines_same (suc n) sent frames more)
 
 -- how many frames lines show
-counts_both : (a b : List Line) → frames_of_step (a ++ b) ≡ frames_of_step a + frames_of_step b
+pub counts_both : (a b : List Line) → frames_of_step (a ++ b) ≡ frames_of_step a + frames_of_step b
 counts_both [] b = omega arith
 counts_both (x ∷ a) b = omega (arith, counts_both a b)
 
-counts_drop : (why : Option DropReason) → frames_of_step (dropped_lines why) ≡ 0
+pub counts_drop : (why : Option DropReason) → frames_of_step (dropped_lines why) ≡ 0
 counts_drop None = refl
 counts_drop (Some why) = refl
 
-counts_adoption : (x : ℕ) (epoch : Option ℕ) (why : Option DropReason) →
+pub counts_adoption : (x : ℕ) (epoch : Option ℕ) (why : Option DropReason) →
     frames_of_step (adopted_lines x epoch why) ≡ 0
 counts_adoption x None why = refl
 counts_adoption x (Some epoch) None = refl
@@ -90,7 +90,7 @@ counts_frames n (Message.Forward to epoch from number batch ∷ frames) =
 counts_frames n (Message.Ack to epoch from committed have ∷ frames) =
     omega (arith, counts_frames (suc n) frames)
 
-counts_replies : (replies : List Reply) →
+pub counts_replies : (replies : List Reply) →
     frames_of_step (map (λ reply. line.Replied reply) replies) ≡ 0
 counts_replies [] = refl
 counts_replies (reply ∷ replies) = omega (arith, counts_replies replies)

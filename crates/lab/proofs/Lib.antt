@@ -26,4 +26,5 @@ mod Freshness
 mod Reports
 mod FaultMarks
 mod OutcomeLines
+mod SentLines
 mod LinesSoFarLemmas

@@ -1,5 +1,6 @@
 -- The events of a world so far and their lines, whatever the world has run before.
-use Rattle.std.specs.Prelude.{◌≡◌, ℕ, Bool, List, [], ◌∷◌, ◌++◌, All, None, length, map}
+use Rattle.std.specs.Prelude.{◌≡◌, ◌≤◌, ◌+◌, ℕ, Bool, List, [], ◌∷◌, ◌++◌, All, None, length, map}
+use Rattle.std.specs.Prelude.{◌⊎◌, false, true}
 use Rattle.configurations.specs.{Configurations, at_epoch}
 use Rattle.disk.specs.declared.disk.Disk.{Ghosts}
 use Rattle.chain_model.specs.declared.DropReason.TheVariants as reason
@@ -10,7 +11,9 @@ use Rattle.lab.specs.declared.report.Line.{Line}
 use Rattle.lab.specs.declared.report.Line.TheVariants as line
 use Rattle.lab.specs.declared.sim_node.SimNode.{SimNode}
 use Rattle.lab.specs.declared.world.World.{World}
+use Rattle.lab.specs.Deliveries.{IsCarriedEvent}
 use Rattle.lab.specs.Events.{NamesNode}
+use Rattle.lab.specs.Worlds.{frames_in_steps}
 
 -- ---- the lines that an event has, whatever its node is
 
@@ -44,8 +47,8 @@ IsTendLine x (line.Stopped node cause) = node ≡ x
 IsTendLine x (line.Dropped why) = why ≡ reason.NotRunning
 IsTendLine x it = ⊥
 
--- node x adopted the configuration of this epoch, or stopped while it did, or dropped the notice;
--- or the list has no such epoch
+-- Node x adopted the configuration of this epoch, or stopped while it did, or dropped the notice.
+-- Or there was nothing to do, which may be said of any epoch: the list is not asked here.
 abbrev pub IsNoticeLine : ℕ → ℕ → Line → Type 0
 IsNoticeLine x epoch (line.Adopted node now) = (node ≡ x) × (now ≡ epoch)
 IsNoticeLine x epoch (line.Stopped node cause) = node ≡ x
@@ -53,15 +56,34 @@ IsNoticeLine x epoch (line.Dropped why) = Unit {0}
 IsNoticeLine x epoch line.Nothing = Unit {0}
 IsNoticeLine x epoch it = ⊥
 
--- The lines of an event. A start, a stop and a tend have one, and a notice one or more. Others may
--- have none: a tick that sends nothing, a frame that a node answers with none, and a request whose
--- reply was lost.
+-- The lines of an event. A start, a stop and a tend have one, and a notice one or more. Of any
+-- other event nothing is said, neither which lines it has nor how many.
 abbrev pub AreEventLines : EventKind → List Line → Type 0
 AreEventLines (Start x) lines = IsOneLine (IsStartLine x) lines
 AreEventLines (Stop x junk) lines = IsOneLine (IsStopLine x) lines
 AreEventLines (Tend x) lines = IsOneLine (IsTendLine x) lines
 AreEventLines (Notice x epoch) lines = BeginsWithLine (IsNoticeLine x epoch) lines
 AreEventLines kind lines = Unit {0}
+
+-- the lines of an event say that it was lost
+abbrev pub is_lost : List Line → Bool
+is_lost (line.Lost ∷ []) = true
+is_lost lines = false
+
+-- how many drops a line shows
+abbrev pub drops_in : Line → ℕ
+drops_in (line.Dropped why) = 1
+drops_in it = 0
+
+-- how many drops the lines of a step show
+abbrev pub drops_of_step : List Line → ℕ
+drops_of_step [] = 0
+drops_of_step (it ∷ lines) = drops_in it + drops_of_step lines
+
+-- how many drops the lines of these steps show
+abbrev pub drops_in_steps : List (List Line) → ℕ
+drops_in_steps [] = 0
+drops_in_steps (step ∷ steps) = drops_of_step step + drops_in_steps steps
 
 -- ---- the lines of a world
 
@@ -108,7 +130,8 @@ module _ {D C : Type 0} {g : Ghosts D} where
   -- So many events were run, each of them such (`is_own`). If they name nodes of the first
   -- configuration (`named`), the world has them behind those that it had, and a list of lines of
   -- each. If they name others, it is as it was. Each list is such (`are_lines`), if the world has
-  -- its nodes.
+  -- its nodes. An event was lost where its lines say that alone. Each frame that they show was
+  -- sent, and no more besides than they show drops.
   pub record AddsLines (named : Type 0) (is_own : EventContent → Type 0)
       (are_lines : List Line → Type 0) (count : ℕ) (old new : World D C g) : Type 0 where
     pub own : List EventContent
@@ -118,6 +141,10 @@ module _ {D C : Type 0} {g : Ghosts D} where
     pub more : List (List Line)
     pub added : lines_so_far new ≡ lines_so_far old ++ more
     pub each : named → length more ≡ count
+    pub pairs : length more ≡ length own
+    pub lost : lost_so_far new ≡ lost_so_far old ++ map is_lost more
+    pub shown : sent_so_far old + frames_in_steps more ≤ sent_so_far new
+    pub few : sent_so_far new ≤ sent_so_far old + frames_in_steps more + drops_in_steps more
     pub are : HasItsNodes old → All are_lines more
     pub unknown : (named → ⊥) → new ≡ old
     pub configs : configs_of new ≡ configs_of old
@@ -127,3 +154,36 @@ module _ {D C : Type 0} {g : Ghosts D} where
   abbrev pub EventAddsLines : EventContent → World D C g → World D C g → Type 0
   EventAddsLines event old new = AddsLines (NamesNode (configs_of old) event.kind)
       (λ it. it ≡ event) (AreEventLines event.kind) 1 old new
+
+  -- one event more was lost: then something may be, and the event has a request or a frame
+  abbrev pub LosesCarried : Type 0 → EventContent → World D C g → World D C g → Type 0
+  LosesCarried loses event old new =
+      lost_so_far new ≡ lost_so_far old ++ true ∷ [] → loses × IsCarriedEvent event.kind
+
+  -- The world has the events, lines and losses that it had, and perhaps more behind them: events,
+  -- each of them such (`is_own`), the lines of the first of these, and whether the first of those
+  -- were lost.
+  pub record KeepsLines (is_own : EventContent → Type 0) (old new : World D C g) : Type 0 where
+    pub own : List EventContent
+    pub took : events_so_far new ≡ events_so_far old ++ own
+    pub of : All is_own own
+    pub more : List (List Line)
+    pub added : lines_so_far new ≡ lines_so_far old ++ more
+    pub within : length more ≤ length own
+    pub marks : List Bool
+    pub marked : lost_so_far new ≡ lost_so_far old ++ marks
+    pub each : length marks ≤ length more
+    pub configs : configs_of new ≡ configs_of old
+
+  -- the event was not begun, and the world has ended and is as it was otherwise
+  pub record HasNotBegun (old new : World D C g) : Type 0 where
+    pub taken : new.events.items ≡ old.events.items
+    pub others : new ≡ record old { events = new.events; ended = true }
+
+  -- the world kept the lines of the event that it had begun, or not even these, and is as it was
+  -- otherwise
+  pub record HasPartlyKept (old new : World D C g) (lines : List Line) : Type 0 where
+    pub kept : (new.steps.items ≡ old.steps.items)
+        ⊎ (new.steps.items ≡ old.steps.items ++ lines ∷ [])
+    pub marked : new.lost.items ≡ old.lost.items
+    pub others : new ≡ record old { lost = new.lost; steps = new.steps }

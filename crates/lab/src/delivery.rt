@@ -1,5 +1,5 @@
 // Posted frames, and what an event delivers to which node.
-ghost use Rattle.std.specs.Prelude.{◌≡◌, ◌↔◌, ℕ, List, IfOk, MatchOption};
+ghost use Rattle.std.specs.Prelude.{◌↔◌, ℕ, List, IfOk, MatchOption};
 ghost use Rattle.std.specs.List.{AllZip};
 ghost use Rattle.kv_types.specs.{BatchContent};
 ghost use Rattle.configurations.specs.{Configurations};

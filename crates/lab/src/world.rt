@@ -1,5 +1,5 @@
 // A world of simulated nodes, stepped event by event.
-ghost use Rattle.std.specs.Prelude.{◌≡◌, ℕ, IfOk, IfSome, IsErr, MatchOption, MatchResult};
+ghost use Rattle.std.specs.Prelude.{◌≡◌, IfOk, IfSome, IsErr, MatchOption, MatchResult};
 ghost use Rattle.std.specs.Prelude.{OnErr, OnOk, false, true};
 ghost use Rattle.std.specs.List.{AllZip};
 ghost use Rattle.configurations.specs.{Lawful, at_epoch};
@@ -12,8 +12,10 @@ ghost use Rattle.lab.specs.Worlds.{HasMoved, HasNoNode, HasRun, HaveLimits, IsCr
 ghost use Rattle.lab.specs.Worlds.{IsDownAmong, IsReportOf, IsRunSoFar, ShowsNumbers};
 ghost use Rattle.lab.specs.Worlds.{WorldHasEnded, WorldHasLimits, WorldKeepsLimits, WorldRun};
 ghost use Rattle.lab.specs.Worlds.{direct_carrier, empty_run, frames_in_steps, losses_of};
-ghost use Rattle.lab.specs.LinesSoFar.{EventAddsLines, HasRunNothing, configs_of, events_so_far};
-ghost use Rattle.lab.specs.LinesSoFar.{lines_so_far, lost_so_far, nodes_of, sent_so_far};
+ghost use Rattle.lab.specs.LinesSoFar.{EventAddsLines, HasNotBegun, HasPartlyKept, HasRunNothing};
+ghost use Rattle.lab.specs.LinesSoFar.{KeepsLines, LosesCarried};
+ghost use Rattle.lab.specs.LinesSoFar.{configs_of, events_so_far, lines_so_far, lost_so_far};
+ghost use Rattle.lab.specs.LinesSoFar.{nodes_of, sent_so_far};
 ghost use Rattle.lab.specs.Transmissions.{carrier_of};
 
 use crate::delivery::{Posted, delivery_of};
@@ -168,6 +170,7 @@ impl<C: Carrier + Drop> World<MemDisk, C> {
 
     /// The report of the run: its lines, and each node at the end.
     pub fn finish(self, alloc: Global) -> Result<Report, LabError>
+        ensures kept { IfOk result (λ report. report.steps.items ≡ lines_so_far self) }
         ensures steps { (run : WorldRun) → HasRun C.Carrier self run →
             IfOk result (λ report. report.steps.items ≡ run.steps) }
         ensures run { (run : WorldRun) → HasRun C.Carrier self run →
@@ -243,6 +246,7 @@ impl<D: Disk + Drop, C: Carrier + Drop> World<D, C> {
     fn begin(&mut self, event: &Event) -> Result<(), LabError>
         ensures begun { OnOk result (HasBegunEvent self.old self.new event.now) }
         ensures ends { OnErr result (WorldHasEnded self.new) }
+        ensures refused { OnErr result (HasNotBegun self.old self.new) }
     {
         self.ended = true;
         self.events.push(event.clone()?)?;
@@ -253,6 +257,7 @@ impl<D: Disk + Drop, C: Carrier + Drop> World<D, C> {
     fn keep(&mut self, lost: bool, lines: Lines) -> Result<(), LabError>
         ensures kept { OnOk result (HasKept self.old self.new lost lines) }
         ensures ends { OnErr result (self.new.ended ≡ self.old.ended) }
+        ensures refused { OnErr result (HasPartlyKept self.old self.new lines) }
     {
         self.steps.push(lines)?;
         self.lost.push(lost)?;
@@ -332,16 +337,19 @@ impl<D: Disk + Drop, C: Carrier + Drop> World<D, C> {
 impl<D: Crash + Drop, C: Carrier + Drop> World<D, C> {
     /// Applies an event to the node that it is for, or loses it. One that names a node which the
     /// world does not have does nothing. After an error the world is at its end: every later step
-    /// is refused, and what `sent`, `numbers`, `report`, `events` and `lost` say of it is left
-    /// open.
+    /// is refused, and what `numbers` says of it is left open: a node may be lost. It has the
+    /// events, lines and losses that it had, and perhaps the event and its lines behind them.
     pub fn step(&mut self, alloc: Global, event: &Event) -> Result<(), LabError>
         ensures ran { (run : WorldRun) → HasRun C.Carrier self.old run →
             OnOk result (HasApplied C.Carrier self.old self.new run event.now) }
         ensures ends { MatchResult result (λ _. WorldHasEnded self.new
             → ⊥) (λ _. WorldHasEnded self.new) }
-        ensures again { WorldHasEnded self.old → IsErr result }
+        ensures again { WorldHasEnded self.old → IsErr result × (self.new ≡ self.old) }
         ensures limits { OnOk result (WorldKeepsLimits self.old self.new) }
         ensures adds { OnOk result (EventAddsLines event.now self.old self.new) }
+        ensures loses { OnOk result (LosesCarried C.loses event.now self.old self.new) }
+        ensures refused { OnErr result
+            (KeepsLines (λ it. it ≡ event.now) self.old self.new) }
     {
         if self.ended {
             return Err(LabError::Memory);

@@ -2,6 +2,7 @@
 use Rattle.std.proofs.Common.{◌≡◌, ◌⊎◌, inl, inr, ℕ, Bool, Option, None, Some, refl, sym, subst}
 use Rattle.std.proofs.Common.{true, false, List, [], ◌++◌, ap, append-nil, ◌∙◌, arith}
 use Rattle.std.specs.Prelude.{Result, Ok, Err, IfErr, IfOk, IfSome, MatchResult, All}
+use Rattle.std.proofs.lemmas.List.Elements.{All-weaker}
 use Rattle.std.specs.Io.KnownBytes.{Appends}
 use Rattle.disk.specs.declared.disk.Disk.{Ghosts}
 use Rattle.dir_disk.specs.declared.folder.DirDisk.{DirDisk}
@@ -9,12 +10,15 @@ use Rattle.carriers.specs.declared.Carrier.{Ghosts as Carriers}
 use Rattle.lab.specs.declared.Line.{Line}
 use Rattle.lab.specs.declared.SimNode.{SimNode}
 use Rattle.lab.specs.declared.world.World.{World}
-use Rattle.lab.specs.{configs_of, lines_so_far, nodes_of}
+use Rattle.lab.specs.declared.node_state.NodeState.{NodeState}
+use Rattle.lab.specs.SimNodes.{StateHasLimits}
+use Rattle.lab.specs.Worlds.{HaveLimits, WorldHasEnded}
+use Rattle.lab.specs.{HasRunNothing, WorldHasLimits, configs_of, lines_so_far, nodes_of}
 use Rattle.lab.specs.NodeLists.{Configurations, at_epoch}
 use Rattle.client.specs.declared.run_error.RunError.{RunError}
 use Rattle.client.specs.declared.run_error.RunError.TheVariants as run
 use Rattle.client.specs.PrintedRuns.{AppendsPart, HasEndedEarly}
-use Rattle.client.specs.ReportedRuns.{ReportIsPrinted}
+use Rattle.client.specs.ReportedRuns.{ReportIsCut, ReportIsPrinted}
 use Rattle.dumps.specs.Dumped.{IsSomeBegun}
 use Rattle.folder_nodes.specs.Finding.{sim_ids}
 use Rattle.folder_nodes.specs.FoundNodes.{IsFoundIn}
@@ -32,9 +36,9 @@ use Rattle.program.specs.declared.folder_failure.LoopFailure.TheVariants.{Folder
 use Rattle.program.specs.Failures.{IsFailureOf, IsOfReading, failure_of}
 use Rattle.program.specs.FolderFailures.{IsLoopFailureOf, dump_failure_line, loop_failure_line}
 use Rattle.program.specs.FolderRuns.{DumpEnds, EndsEarly, FailsInFolders, HasFoundNodes}
-use Rattle.program.specs.FolderRuns.{IsBegunInFolders, IsOfScript, IsPrintedReport, IsRunInFolders}
-use Rattle.program.specs.FolderRuns.{IsWorldOfFound, LoopEnds, LoopHasFailed, SpellsStatements}
-use Rattle.program.specs.FolderRuns.{has_stop, stopped_status}
+use Rattle.program.specs.FolderRuns.{IsOfScript, IsPrintedReport, IsRunInFolders}
+use Rattle.program.specs.FolderRuns.{IsWorldOfFound, LoopEnds, LoopHasFailed, ReportFails}
+use Rattle.program.specs.FolderRuns.{SpellsStatements, has_stop, stopped_status}
 
 -- ---- a run in a world
 
@@ -65,12 +69,28 @@ printed_report world now statements old new steps stopped none report is stops =
       ∙ ap (λ (l : List (List Line)). l ++ report.steps) none);
 }
 
+-- statements were run in a world, and this ended them early
+pub report_fails : {D C : Type 0} {g : Ghosts D} (world now : World D C g)
+    (statements : List Statement) (old new : Option (List ℕ)) (error : RunError) →
+    ReportIsCut error world now statements old new →
+    ReportFails world statements old new (failure_of error)
+report_fails world now statements old new run.Write cut = record { now = now; cut = cut }
+report_fails world now statements old new run.Memory cut = record { now = now; cut = cut }
+
 -- ---- a run at the nodes of a script
 
 any_text : (text : Option (List ℕ)) (f : LoopFailure) → ((t : List ℕ) → IsLoopFailureOf t f) →
     IfSome text (λ t. IsLoopFailureOf t f)
 any_text None f is = tt
 any_text (Some t) f is = is t
+
+-- a node that was found has its limits
+found_limits : {R : Type 0} {g : Ghosts (DirDisk R)} (folder : List ℕ) (setup : Setup)
+    (sim : SimNode (DirDisk R) g) → IsFoundIn folder setup.limits sim →
+    StateHasLimits sim.state setup.limits
+found_limits {R} {g} folder setup sim is =
+    subst (λ (s : NodeState (DirDisk R) g). StateHasLimits s setup.limits) (sym is.up)
+    is.limits_are
 
 -- the nodes of these configurations were found, which are those that were set up
 module _ {R : Type 0} {g : Ghosts (DirDisk R)} (folder : List ℕ) (setup : Setup)
@@ -86,8 +106,10 @@ module _ {R : Type 0} {g : Ghosts (DirDisk R)} (folder : List ℕ) (setup : Setu
 
   -- a world was made of them
   pub world_of_found : (world : World (DirDisk R) (TcpCarrier R) g) → nodes_of world ≡ nodes →
-      configs_of world ≡ configs → lines_so_far world ≡ [] → IsWorldOfFound folder setup world
-  world_of_found world are is none = record {
+      configs_of world ≡ configs → HasRunNothing world →
+      (HaveLimits nodes setup.limits → WorldHasLimits world setup.limits) →
+      (WorldHasEnded world → ⊥) → IsWorldOfFound folder setup world
+  world_of_found world are is none limits goes_on = record {
     found = record {
       nodes = nodes;
       ids = subst (λ (cs : Configurations). sim_ids nodes ≡ at_epoch cs 0) set_up ids;
@@ -96,6 +118,10 @@ module _ {R : Type 0} {g : Ghosts (DirDisk R)} (folder : List ℕ) (setup : Setu
     nodes = are;
     configs = is ∙ set_up;
     none = none;
+    limits = limits (All-weaker (IsFoundIn folder setup.limits)
+        (λ (sim : SimNode (DirDisk R) g). StateHasLimits sim.state setup.limits)
+        (found_limits folder setup) nodes each);
+    goes_on = goes_on;
     has = ap sim_ids are ∙ ids ∙ ap (λ (cs : Configurations). at_epoch cs 0) (sym is);
   }
 
@@ -113,14 +139,16 @@ no_carrier {R} {g} folder setup statements out f found (inr is) =
 
 -- the run ended early
 pub cut_short : {R : Type 0} {g : Ghosts (DirDisk R)} (folder : List ℕ) (setup : Setup)
-    (statements : List Statement) (old new : Option (List ℕ)) (f : Failure) →
-    (f ≡ Output) ⊎ (f ≡ Memory) → IsBegunInFolders g folder setup statements old new →
+    (statements : List Statement) (old new : Option (List ℕ))
+    (world : World (DirDisk R) (TcpCarrier R) g) (f : Failure) →
+    IsWorldOfFound folder setup world → ReportFails world statements old new f →
     FailsInFolders g folder setup statements old new (Run f)
-cut_short {R} {g} folder setup statements old new f (inl is) begun =
-    subst (λ (x : Failure). FailsInFolders g folder setup statements old new (Run x)) (sym is) begun
-cut_short {R} {g} folder setup statements old new f (inr is) begun =
-    subst (λ (x : Failure). FailsInFolders g folder setup statements old new (Run x)) (sym is)
-    (inr begun)
+cut_short folder setup statements old new world Output is fails =
+    record { world = world; is = is; cut = fails }
+cut_short folder setup statements old new world Memory is fails =
+    inr (record { world = world; is = is; cut = fails })
+cut_short folder setup statements old new world Unreadable is fails = absurd fails
+cut_short folder setup statements old new world (Script fault) is fails = absurd fails
 
 -- ---- a run in folders
 

@@ -3,7 +3,8 @@ use Rattle.std.proofs.Common.{◌≡◌, ℕ, List, [], ◌∷◌, Option, None,
 use Rattle.std.proofs.Common.{inr, true}
 use Rattle.std.proofs.Common.{length, take, arith}
 use Rattle.std.specs.Prelude.{true, ◌⊎◌, Result, Ok, Err, OnErr, IfErr, IfOk}
-use Rattle.std.specs.Prelude.{IfSome, MatchResult}
+use Rattle.std.specs.Prelude.{IfSome}
+use Rattle.std.specs.Result.{result_unwrap_or}
 use Rattle.std.specs.Io.KnownBytes.{Appends}
 use Rattle.lab.specs.{MemWorld, direct_carrier}
 use Rattle.program.specs.declared.failure.Failure.{Failure}
@@ -175,7 +176,7 @@ in_part text old_out new_out old_err new_err answer (inr fails) = inr (record {
 -- a run whose status is answered
 pub answered : {E : Type 0} (status : Result ℕ E) (answer : ℕ)
     (text old_out new_out old_err new_err : Option (List ℕ))
-    → MatchResult status (λ s. answer ≡ s) (λ _. answer ≡ 1)
+    → answer ≡ result_unwrap_or status 1
     → IfOk status (RunEnds text old_out new_out old_err new_err)
     → OnErr status (FailureIsReported text old_out new_out 1 (AppendsPart old_err new_err))
     → RunEndsAs text old_out new_out old_err new_err answer
@@ -188,7 +189,7 @@ answered (Err e) answer text old_out new_out old_err new_err is ends refused =
 -- .. whatever was read
 pub answered_any : {E : Type 0} (status : Result ℕ E) (answer : ℕ)
     (text old_out new_out old_err new_err : Option (List ℕ))
-    → MatchResult status (λ s. answer ≡ s) (λ _. answer ≡ 1)
+    → answer ≡ result_unwrap_or status 1
     → IfOk status (RunEnds text old_out new_out old_err new_err)
     → OnErr status (FailureIsReported text old_out new_out 1 (AppendsPart old_err new_err))
     → RunEndsAs None old_out new_out old_err new_err answer

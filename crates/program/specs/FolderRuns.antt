@@ -1,12 +1,13 @@
 -- Runs in folders and what is written of one: how they end.
-use Rattle.std.specs.Prelude.{◌≡◌, ◌≢◌, ◌⊎◌, ℕ, Bool, true, false, List, [], Option, codes}
+use Rattle.std.specs.Prelude.{◌≡◌, ◌≢◌, ◌⊎◌, ℕ, Bool, true, false, List, Option, codes}
 use Rattle.std.specs.Prelude.{Some, None, IfSome, All, Contains, if◌then◌else◌}
 use Rattle.std.specs.List.{list_any}
 use Rattle.std.specs.Io.KnownBytes.{Appends}
 use Rattle.disk.specs.declared.disk.Disk.{Ghosts}
 use Rattle.dir_disk.specs.declared.folder.DirDisk.{DirDisk}
 use Rattle.carriers.specs.declared.Carrier.{Ghosts as Carriers}
-use Rattle.lab.specs.{HasItsNodes, configs_of, lines_so_far, nodes_of}
+use Rattle.lab.specs.{HasItsNodes, HasRunNothing, WorldHasLimits, configs_of, nodes_of}
+use Rattle.lab.specs.Worlds.{WorldHasEnded}
 use Rattle.lab.specs.NodeLists.{at_epoch}
 use Rattle.lab.specs.declared.Line.{Line}
 use Rattle.lab.specs.declared.Line.TheVariants as line
@@ -16,7 +17,7 @@ use Rattle.client.specs.declared.run_error.RunError.{RunError}
 use Rattle.client.specs.declared.run_error.RunError.TheVariants as run
 use Rattle.client.specs.declared.statement_result.StatementResult.{StatementResult}
 use Rattle.client.specs.PrintedRuns.{AppendsPart, HasEndedEarly, HasRunStatements}
-use Rattle.client.specs.ReportedRuns.{ReportIsBegun, ReportIsPrinted}
+use Rattle.client.specs.ReportedRuns.{ReportIsCut, ReportIsPrinted}
 use Rattle.client.specs.ScriptRuns.{Stretch}
 use Rattle.client.specs.Text.{run_text}
 use Rattle.dumps.specs.Dumped.{IsSomeBegun, IsSomeDump}
@@ -100,6 +101,21 @@ pub record IsPrintedReport {D C : Type 0} {g : Ghosts D} (world : World D C g)
   pub report : ReportIsPrinted world now statements old new
   pub stops : stopped ≡ has_stop report.steps
 
+-- a run of the statements in this world ended early for this
+pub record IsCutReport {D C : Type 0} {g : Ghosts D} (error : RunError) (world : World D C g)
+    (statements : List Statement) (old new : Option (List ℕ)) : Type 0 where
+  pub now : World D C g
+  pub cut : ReportIsCut error world now statements old new
+
+-- how a run in this world fails: where the output takes no more, within the text of a statement;
+-- where memory is wanted, behind the text of some first statements
+abbrev pub ReportFails : {D C : Type 0} {g : Ghosts D} → World D C g → List Statement →
+    Option (List ℕ) → Option (List ℕ) → Failure → Type 0
+ReportFails world statements old new Output = IsCutReport run.Write world statements old new
+ReportFails world statements old new Memory = IsCutReport run.Memory world statements old new
+ReportFails world statements old new Unreadable = ⊥
+ReportFails world statements old new (Script fault) = ⊥
+
 -- what was read, where that is known, spells a script without a fault, where no fault of a disk may
 -- be spelled: what it sets up, and statements that name only nodes of the first configuration; and
 -- of these this is so
@@ -122,14 +138,17 @@ pub record HasFoundNodes {R : Type 0} (g : Ghosts (DirDisk R)) (folder : List �
   pub ids : sim_ids nodes ≡ at_epoch setup.configs 0
   pub each : All (IsFoundIn folder setup.limits) nodes
 
--- The world has the configurations that were set up, and no line yet. Its nodes are those that were
--- found, one of each of the first configuration.
+-- The world has the configurations and the limits that were set up, and has run nothing yet: no
+-- event, line or frame. It is not at its end. Its nodes are those that were found, one of each of
+-- the first configuration.
 pub record IsWorldOfFound {R : Type 0} {g : Ghosts (DirDisk R)} (folder : List ℕ) (setup : Setup)
     (world : World (DirDisk R) (TcpCarrier R) g) : Type 0 where
   pub found : HasFoundNodes g folder setup
   pub nodes : nodes_of world ≡ found.nodes
   pub configs : configs_of world ≡ setup.configs
-  pub none : lines_so_far world ≡ []
+  pub none : HasRunNothing world
+  pub limits : WorldHasLimits world setup.limits
+  pub goes_on : WorldHasEnded world → ⊥
   pub has : HasItsNodes world
 
 -- The statements were run in a world of the nodes that were found. Exactly the text of the lines
@@ -141,37 +160,39 @@ pub record IsRunInFolders {R : Type 0} (g : Ghosts (DirDisk R)) (folder : List �
   pub is : IsWorldOfFound folder setup world
   pub printed : IsPrintedReport world statements old new stopped
 
--- statements were run in such a world, and a beginning of the text of some first ones was written
-pub record IsBegunInFolders {R : Type 0} (g : Ghosts (DirDisk R)) (folder : List ℕ) (setup : Setup)
-    (statements : List Statement) (old new : Option (List ℕ)) : Type 0 where
+-- a run of the statements in such a world ended early for this
+pub record IsCutInFolders {R : Type 0} (g : Ghosts (DirDisk R)) (folder : List ℕ)
+    (error : RunError) (setup : Setup) (statements : List Statement) (old new : Option (List ℕ))
+    : Type 0 where
   pub world : World (DirDisk R) (TcpCarrier R) g
   pub is : IsWorldOfFound folder setup world
-  pub begun : ReportIsBegun (configs_of world) (HasItsNodes world) statements old new
+  pub cut : IsCutReport error world statements old new
 
--- How a run of a script in folders fails. Where the output took no more, it had begun; where memory
--- is wanted, maybe. A folder's fault is that of a node of the script, and a listener is wanted only
--- where the nodes were found; then nothing is written.
+-- How a run of a script in folders fails. Where the output took no more, it had begun, and ended at
+-- a statement; where memory is wanted, so too, or nothing is written. A folder's fault is that of a
+-- node of the script, and a listener is wanted only where the nodes were found; then nothing is
+-- written.
 abbrev pub FailsInFolders : {R : Type 0} → Ghosts (DirDisk R) → List ℕ → Setup → List Statement →
     Option (List ℕ) → Option (List ℕ) → LoopFailure → Type 0
 FailsInFolders g folder setup statements old new (Run Unreadable) = ⊥
 FailsInFolders g folder setup statements old new (Run (Script fault)) = ⊥
 FailsInFolders g folder setup statements old new (Run Output) =
-    IsBegunInFolders g folder setup statements old new
+    IsCutInFolders g folder run.Write setup statements old new
 FailsInFolders g folder setup statements old new (Run Memory) =
-    (new ≡ old) ⊎ IsBegunInFolders g folder setup statements old new
+    (new ≡ old) ⊎ IsCutInFolders g folder run.Memory setup statements old new
 FailsInFolders g folder setup statements old new (Folder fault) =
     (new ≡ old) × Contains (at_epoch setup.configs 0) fault.id
 FailsInFolders g folder setup statements old new Network =
     (new ≡ old) × HasFoundNodes g folder setup
 
--- no script was read
+-- a failure that the reading of a script can have
 abbrev pub IsOfScript : LoopFailure → Type 0
 IsOfScript (Run failure) = IsOfReading failure
 IsOfScript (Folder fault) = ⊥
 IsOfScript Network = ⊥
 
--- Why a run in folders fails: a fault of the script is the one that it has. Where no script was
--- read nothing is written, and else its run fails so.
+-- Why a run in folders fails: a fault of the script is the one that it has. Where reading may have
+-- failed so, nothing is written; or else a script was read, and its run fails so.
 pub record LoopHasFailed {R : Type 0} (g : Ghosts (DirDisk R)) (folder : List ℕ)
     (text old new : Option (List ℕ)) (failure : LoopFailure) : Type 0 where
   pub cause : IfSome text (λ t. IsLoopFailureOf t failure)

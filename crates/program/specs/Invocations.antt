@@ -47,15 +47,15 @@ abbrev pub dump_folder : List (List ℕ) → Option (List ℕ)
 dump_folder words = path_of (codes "dump") words
 
 -- the words `--dir D`
-abbrev pub is_folder : List ℕ → List ℕ → Bool
-is_folder option folder = bytes_eq option (codes "--dir") && names_path folder
+abbrev pub is_dir_option : List ℕ → List ℕ → Bool
+is_dir_option option folder = bytes_eq option (codes "--dir") && names_path folder
 
 -- SCRIPT and D of the words `PROGRAM loop SCRIPT --dir D` and `PROGRAM loop --dir D SCRIPT`
 abbrev pub loop_paths : List (List ℕ) → Option (List ℕ × List ℕ)
 loop_paths (program ∷ name ∷ first ∷ second ∷ third ∷ []) =
     if not (bytes_eq name (codes "loop")) then None
-    else if is_folder first second && names_path third then Some (third, second)
-    else if is_folder second third && names_path first then Some (first, third)
+    else if is_dir_option first second && names_path third then Some (third, second)
+    else if is_dir_option second third && names_path first then Some (first, third)
     else None
 loop_paths _ = None
 

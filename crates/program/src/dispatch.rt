@@ -17,8 +17,9 @@ use std::net::{Net, TcpListener, TcpStream};
 use std::rt::Files;
 
 /// Does what the words ask for, and answers the exit status: 0 for a run, or for what a store has;
-/// 1 for a fault in script, folder, output or memory, and of a run in folders also where a node
-/// stopped by itself; 2 for words that ask for nothing. A fault is reported in one line on `err`.
+/// 1 for a fault in script, folder, network, output or memory, and of a run in folders also where a
+/// node stopped by itself; 2 for words that ask for nothing. A fault is reported in one line on
+/// `err`.
 pub fn serve<F, R: Read, O: Write, E: Write>(
     rt: &F,
     words: &[&str],

@@ -1,6 +1,5 @@
 //! Why a run in folders, or what is written of one, ended early, and the line that says so.
 ghost use Rattle.std.specs.Prelude.{◌≡◌, Some};
-ghost use Rattle.client.specs.Text.{cause_text};
 ghost use Rattle.dumps.specs.declared.dump_error.DumpError.{DumpError};
 ghost use Rattle.program.specs.FolderFailures.{dump_failure_of, dump_failure_text, folder_text};
 ghost use Rattle.program.specs.FolderFailures.{loop_failure_text};

@@ -1,12 +1,11 @@
 //! A script is run at nodes in folders.
 ghost use Rattle.std.specs.Prelude.{◌≡◌, ◌⊎◌, [], IfErr, IfOk, MatchResult};
 ghost use Rattle.std.specs.List.{list_any};
-ghost use Rattle.lab.specs.{HasItsNodes, configs_of, lines_so_far};
+ghost use Rattle.lab.specs.{lines_so_far};
 ghost use Rattle.client.specs.PrintedRuns.{IsReadyToRun};
-ghost use Rattle.client.specs.ReportedRuns.{ReportIsBegun};
 ghost use Rattle.program.specs.FolderRuns.{EndsEarly, FailsInFolders, IsPrintedReport};
 ghost use Rattle.program.specs.FolderRuns.{IsRunInFolders, IsRunThatStops, LoopHasFailed};
-ghost use Rattle.program.specs.FolderRuns.{SpellsStatements, has_stop, is_stop};
+ghost use Rattle.program.specs.FolderRuns.{ReportFails, SpellsStatements, has_stop, is_stop};
 ghost use Rattle.program.specs.declared.failure.Failure.TheVariants.{Memory, Output};
 ghost use Rattle.program.specs.declared.folder_failure.LoopFailure.TheVariants.{Network, Run};
 
@@ -49,34 +48,21 @@ where
 fn is_stop(line: &Line) -> bool
     ensures { result ≡ is_stop line.now }
 {
-    match line {
-        Line::Stopped { cause: Some(_), .. } => true,
-        _ => false,
-    }
+    matches!(line, Line::Stopped { cause: Some(_), .. })
 }
 
 /// Whether one of these lines says that a node stopped by itself.
 fn has_stop_line(lines: &[Line]) -> bool
     ensures { result ≡ list_any is_stop lines.now }
 {
-    for line in lines {
-        if is_stop(line) {
-            return true;
-        }
-    }
-    false
+    lines.iter().any(|line| is_stop(line))
 }
 
 /// Whether a node stopped by itself in one of the steps.
 fn has_stop(steps: &[Lines]) -> bool
     ensures { result ≡ has_stop steps.now }
 {
-    for step in steps {
-        if has_stop_line(step.as_slice()) {
-            return true;
-        }
-    }
-    false
+    steps.iter().any(|step| has_stop_line(step.as_slice()))
 }
 
 /// Runs a script in a world that has run nothing yet, and answers whether a node stopped by itself.
@@ -98,8 +84,8 @@ fn run_world<D: Crash + Drop, C: Carrier + Drop, W: Write>(
     ensures printed { lines_so_far world ≡ [] → MatchResult result
         (IsPrintedReport world script.now.statements.items (W.contents out.old)
         (W.contents out.new))
-        (λ _. ReportIsBegun (configs_of world) (HasItsNodes world) script.now.statements.items
-        (W.contents out.old) (W.contents out.new)) }
+        (ReportFails world script.now.statements.items (W.contents out.old)
+        (W.contents out.new)) }
 {
     let ran = run_script(alloc, script, &mut world, out);
     let stopped = has_stop(world.report());

@@ -14,7 +14,7 @@ use crate::folder_dump::dump_folder;
 use crate::folder_failure::{DumpFailure, LoopFailure};
 use crate::folder_run::run_in_folders;
 use crate::invocation::{WordsError, loop_request, path_request};
-use crate::service::refuse;
+use crate::service::{LINE, refuse};
 use arrayvec::ArrayVec;
 use client::print;
 use dir_disk::{DirDisk, Unchanged};
@@ -24,9 +24,6 @@ use std::fs::{File, OpenOptions};
 use std::io::{self, Read, Write};
 use std::net::{Net, TcpListener, TcpStream};
 use std::rt::Files;
-
-/// The most bytes of a line that reports a failure: no line has as many.
-const LINE: usize = 64;
 
 /// Runs a script at nodes in the folders of this one, and answers the status: 1 also where a node
 /// stopped by itself, of which the run has printed a line. The script `-` is standard input.

@@ -2,7 +2,7 @@
 ghost use Rattle.std.specs.Prelude.{◌≡◌, ◌≢◌, ℕ, List, false, map, codes, Ok, Err, Some, None};
 ghost use Rattle.std.specs.Prelude.{IsOkAnd, MatchOption};
 ghost use Rattle.std.specs.List.{list_any};
-ghost use Rattle.program.specs.Invocations.{AsksForScript, has_option, is_dashed, is_folder};
+ghost use Rattle.program.specs.Invocations.{AsksForScript, has_option, is_dashed, is_dir_option};
 ghost use Rattle.program.specs.Invocations.{is_named, lab_script, names_path, path_of};
 ghost use Rattle.program.specs.Invocations.{loop_paths as loop_paths_of};
 
@@ -59,8 +59,8 @@ fn path_behind<'a>(command: &str, words: &'a [&'a str]) -> Option<&'a str>
 }
 
 /// Whether two words are an option of a folder, and a path.
-fn is_folder(option: &str, folder: &str) -> bool
-    ensures { result ≡ is_folder option.now folder.now }
+fn is_dir_option(option: &str, folder: &str) -> bool
+    ensures { result ≡ is_dir_option option.now folder.now }
 {
     option == "--dir" && names_path(folder)
 }
@@ -72,11 +72,11 @@ fn loop_paths<'a>(words: &'a [&'a str]) -> Option<(&'a str, &'a str)>
 {
     match words {
         [_, name, option, folder, script]
-            if *name == "loop" && is_folder(option, folder) && names_path(script) => {
+            if *name == "loop" && is_dir_option(option, folder) && names_path(script) => {
             Some((*script, *folder))
         }
         [_, name, script, option, folder]
-            if *name == "loop" && is_folder(option, folder) && names_path(script) => {
+            if *name == "loop" && is_dir_option(option, folder) && names_path(script) => {
             Some((*script, *folder))
         }
         _ => None,

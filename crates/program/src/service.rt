@@ -1,6 +1,6 @@
 //! From the words `lab SCRIPT` and streams to the exit status.
 ghost use Rattle.std.specs.Prelude.{◌≡◌, ◌≢◌, ℕ, List, false, map, codes, Some, None};
-ghost use Rattle.std.specs.Prelude.{IfOk, OnOk, OnErr, MatchResult};
+ghost use Rattle.std.specs.Prelude.{IfOk, OnOk, OnErr};
 ghost use Rattle.std.specs.Io.KnownBytes.{Appends};
 ghost use Rattle.program.specs.Failures.{failure_line};
 ghost use Rattle.program.specs.Invocations.{has_option, lab_script, usage_line};
@@ -21,8 +21,8 @@ use std::rt::Files;
 /// The line for words that ask for nothing.
 const USAGE: &str = "usage: chainstore lab SCRIPT | loop SCRIPT --dir D | dump DIR\n";
 
-/// The most bytes of a line that reports a failure: no line has as many.
-const LINE: usize = 64;
+/// Room for the line of a failure: each is shorter.
+pub const LINE: usize = 64;
 
 /// Does what words ask for that name `lab`, and answers the exit status: 0 for a run, whatever
 /// became of its nodes, 1 for a fault in script, output or memory, 2 for words that ask for
@@ -49,9 +49,9 @@ pub fn serve_lab<F: Files + Alloc<A = Global>, R: Read, O: Write, E: Write>(
         (E.contents err.old) (E.contents err.new) result }
 {
     match invocation_of(rt.alloc(), words) {
-        Ok(Invocation::Input) => end(serve_script(rt.alloc(), input, out, err)),
+        Ok(Invocation::Input) => serve_script(rt.alloc(), input, out, err).unwrap_or(1),
         Ok(Invocation::Script(path)) => match OpenOptions::new().read(true).open(rt, path) {
-            Ok(mut file) => end(serve_script(rt.alloc(), &mut file, out, err)),
+            Ok(mut file) => serve_script(rt.alloc(), &mut file, out, err).unwrap_or(1),
             Err(_) => report(err, Failure::Unreadable),
         },
         Err(WordsError::Memory) => report(err, Failure::Memory),
@@ -78,27 +78,15 @@ pub fn report<E: Write>(err: &mut E, failure: Failure) -> u8
     1
 }
 
-/// A status that could not be explained on standard error is 1.
-fn end(status: io::Result<u8>) -> u8
-    ensures { MatchResult status (λ s. result ≡ s) (λ _. result ≡ 1) }
-{
-    match status {
-        Ok(status) => status,
-        Err(_) => 1,
-    }
-}
-
-/// Says why a run ended early, and answers its status.
-fn write_failure<E: Write>(err: &mut E, failure: Failure) -> io::Result<u8>
-    ensures status { IfOk result (λ status. status ≡ 1) }
+/// Writes why a run ended early.
+fn write_failure<E: Write>(err: &mut E, failure: Failure) -> io::Result<()>
     ensures text { OnOk result (Appends (E.contents err.old) (E.contents err.new)
         (failure_line failure)) }
     ensures part { AppendsPart (E.contents err.old) (E.contents err.new) (failure_line failure) }
 {
     let mut line = ArrayVec::<u8, LINE>::new();
     writeln!(line, "{failure}")?;
-    print(line.as_slice(), err)?;
-    Ok(1)
+    print(line.as_slice(), err)
 }
 
 /// Runs a script, and answers the status. It is refused only where standard error is.
@@ -115,6 +103,9 @@ pub fn serve_script<R: Read, O: Write, E: Write>(
 {
     match run_input(alloc, input, out) {
         Ok(()) => Ok(0),
-        Err(failure) => write_failure(err, failure),
+        Err(failure) => {
+            write_failure(err, failure)?;
+            Ok(1)
+        }
     }
 }

@@ -8,6 +8,6 @@ mod shown;
 mod spelled;
 
 pub use names::{cause_name, fault_name};
-pub use printing::{add_places, print_result};
+pub use printing::{add_event_lines, print_result};
 pub use rows::RowText;
 pub use shown::StoreText;

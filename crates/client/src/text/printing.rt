@@ -16,7 +16,7 @@ use lab::{KeptReply, Line, Lines, Reply, ReplyForm};
 use std::alloc::AllocError;
 
 /// Adds the places of a statement's events, which stand at its line.
-pub fn add_places(places: &mut Vec<u32>, line: u32, count: usize) -> Result<(), AllocError>
+pub fn add_event_lines(places: &mut Vec<u32>, line: u32, count: usize) -> Result<(), AllocError>
     ensures { OnOk result (places.new.items ≡ places.old.items ++ replicate count line) }
 {
     for _ in 0..count {

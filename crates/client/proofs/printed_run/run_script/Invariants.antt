@@ -1,7 +1,7 @@
 use Rattle.std.proofs.Common.{take}
 use Rattle.client.specs.PrintedRuns.{IsReadyToRun}
 use Rattle.client.proofs.PrintedRuns.{Prints}
-use Rattle.client.proofs.ReportedLemmas.{ReportsSoFar}
+use Rattle.client.proofs.StatementReports.{ReportsSoFar}
 use Rattle.client.proofs.printed_run.run_script.Given as goal
 
 -- the statements so far were run and printed
@@ -11,5 +11,6 @@ invariant-loop-statement g l = (
     Prints g.C.Carrier l.world l.script.setup l.left.items
     (take l.statement-index l.script.statements.items) l.places.items l.before
     (g.W.Write.contents l.fn.out) (g.W.Write.contents l.out))
-    × ReportsSoFar l.fn.world l.world (take l.statement-index l.script.statements.items)
-    l.places.items l.before (g.W.Write.contents l.fn.out) (g.W.Write.contents l.out)
+    × ReportsSoFar l.fn.world l.world l.left.items
+    (take l.statement-index l.script.statements.items) l.places.items l.before
+    (g.W.Write.contents l.fn.out) (g.W.Write.contents l.out)

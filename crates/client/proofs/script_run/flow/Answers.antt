@@ -1,6 +1,13 @@
-use Rattle.std.proofs.Common.{ℕ, List, subst, add-one, arith, inl, inr}
-use Rattle.client.specs.ScriptRuns.{followed_by}
+use Rattle.std.proofs.Common.{◌≡◌, ℕ, List, subst, add-one, arith, inl, inr, rules}
+use Rattle.lab.specs.EventContent.{EventContent}
+use Rattle.lab.specs.{configs_of}
+use Rattle.scripts.specs.Scripts.{Names}
+use Rattle.client.specs.ReportedRuns.{AreActionLines, IsActionEvent}
+use Rattle.client.specs.ScriptRuns.{delivery, followed_by}
 use Rattle.client.proofs.Flowing.{Flows, flows_none, flows_on, flowed_all, flowed_most, emptied}
+use Rattle.client.proofs.KeptLines.{keeps_added, keeps_more, keeps_weaker}
+use Rattle.client.proofs.PlacesBetween.{Delivers, delivered_all, delivered_most, delivers_none}
+use Rattle.client.proofs.PlacesBetween.{delivers_on}
 use Rattle.client.proofs.ReportedLemmas.{adds_delivery, adds_more, adds_nothing}
 use Rattle.scripts.specs.declared.statement.Action.TheVariants.{Flow}
 use Rattle.client.proofs.script_run.flow.Goals as goal
@@ -10,6 +17,7 @@ pub loop-count-init : goal.loop-count-init
 loop-count-init g c = (
   λ setup past run. flows_none c.args.world.now setup past c.args.left.now.items run,
   (omega arith, adds_nothing Flow c.args.world.now),
+  delivers_none c.args.world.now c.args.left.now.items,
 )
 
 pub returns-in_default-clause-ran : goal.returns-in_default-clause-ran
@@ -40,6 +48,10 @@ loop-count-preserved g c = (
         (adds_delivery c.in-Some.place c.loop-count.world c.happen.new.world
         c.in_ok-happen.ensures.adds),
   ),
+  rw add-one (delivers_on c.args.world.now c.loop-count.world c.happen.new.world
+      c.args.left.now.items c.loop-count.left.items c.pop_front.new.self.items
+      c.happen.new.left.items c.loop-count.count c.in-Some.place c.loop-count.invariant.2
+      c.in-Some.ensures.items c.in_ok-happen.ensures.adds c.in_ok-happen.ensures.left),
 )
 
 pub returns-clause-ran : goal.returns-clause-ran
@@ -62,3 +74,39 @@ returns-clause-adds g c = (
   c.loop-count.invariant.1.1,
   inr (omega (arith, c.loop-count.invariant.1.0, c.loop-count-test.false)),
 )
+
+-- ---- what it delivers in any world
+
+pub returns-in_default-clause-delivers : goal.returns-in_default-clause-delivers
+returns-in_default-clause-delivers g c =
+    let new = c.pop_front.new.self.items in
+    let d = subst (λ (l : List ℕ). Delivers c.args.world.now c.loop-count.world
+    c.args.left.now.items l c.loop-count.count) c.in_default.ensures.items c.loop-count.invariant.2
+    in (
+      d.stays,
+      delivered_all c.args.world.now c.loop-count.world c.args.left.now.items new
+          c.loop-count.count d (emptied c.loop-count.left.items new c.in_default.ensures.items
+          c.in_default.ensures.rest) c.loop-count.invariant.1.0,
+    )
+
+pub returns-clause-delivers : goal.returns-clause-delivers
+returns-clause-delivers g c = (
+  c.loop-count.invariant.2.stays,
+  delivered_most c.args.world.now c.loop-count.world c.args.left.now.items
+      c.loop-count.left.items c.loop-count.count c.loop-count.invariant.2
+      c.loop-count.invariant.1.0 (omega (arith, c.loop-count-test.false)),
+)
+
+-- memory is wanted behind some of them
+pub returns-in_err-happen-clause-refused : goal.returns-in_err-happen-clause-refused
+returns-in_err-happen-clause-refused g c =
+    let is_own = IsActionEvent Flow in
+    let before = keeps_added (Names (configs_of c.args.world.now) Flow) is_own
+    (AreActionLines Flow) c.loop-count.count c.args.world.now c.loop-count.world
+    c.loop-count.invariant.1.1 in
+    let after = keeps_weaker (λ (it : EventContent). it ≡ delivery c.in-Some.place) is_own
+    c.loop-count.world c.happen.new.world (λ it is. (c.in-Some.place, is))
+    c.in_err-happen.ensures.refused in
+    let kept = keeps_more is_own c.args.world.now c.loop-count.world c.happen.new.world before after
+    in
+    search (rules, kept)

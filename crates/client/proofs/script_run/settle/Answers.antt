@@ -1,8 +1,11 @@
-use Rattle.std.proofs.Common.{◌++◌, ◌∙◌, add-one, arith, subst, sym}
+use Rattle.std.proofs.Common.{◌++◌, ◌∙◌, add-one, arith, rules, subst, sym}
 use Rattle.lab.specs.NodeLists.{Configurations}
-use Rattle.lab.specs.{lines_so_far}
+use Rattle.lab.specs.{configs_of, lines_so_far}
 use Rattle.scripts.specs.Scripts.{Names}
-use Rattle.client.specs.ScriptRuns.{followed_by}
+use Rattle.client.specs.ReportedRuns.{AreActionLines, IsActionEvent}
+use Rattle.client.specs.ScriptRuns.{followed_by, tending}
+use Rattle.client.proofs.KeptLines.{keeps_added, keeps_more}
+use Rattle.client.proofs.PlacesBetween.{leaves_none, leaves_on}
 use Rattle.client.proofs.Settling.{settles_none, settles_on, settled, settled_most}
 use Rattle.client.proofs.Tends.{none_worked, settled_at_bound, settled_now, worked_more}
 use Rattle.client.proofs.ReportedLemmas.{adds_more, adds_nothing}
@@ -16,6 +19,7 @@ loop-count-init g c = (
       settles_none c.args.world.now setup past c.args.node c.args.left.now.items run,
   (omega arith, adds_nothing (Settle c.args.node) c.args.world.now),
   λ named. none_worked (lines_so_far c.args.world.now),
+  leaves_none c.args.world.now c.args.left.now.items,
 )
 
 -- a tend did not work
@@ -53,6 +57,9 @@ loop-count-preserved g c = (
       (c.loop-count.invariant.2 named) adds.added (adds.each here)
       (omega (arith, c.loop-count-test.true)) c.tend_has_worked.result c.tend_has_worked.ensures
       c.if-not-tend_has_worked.false,
+  leaves_on c.args.world.now c.loop-count.world c.happen.new.world c.args.left.now.items
+      c.loop-count.left.items c.happen.new.left.items c.loop-count.count (tending c.args.node)
+      c.loop-count.invariant.3 c.in_ok-happen.ensures.adds c.in_ok-happen.ensures.left,
 )
 
 -- the bound is reached
@@ -91,3 +98,28 @@ returns-clause-tends g c = λ named.
     settled_at_bound (lines_so_far c.args.world.now) (lines_so_far c.loop-count.world)
     c.loop-count.count (c.loop-count.invariant.2 named) c.loop-count.invariant.1.0
     (omega (arith, c.loop-count-test.false))
+
+-- ---- what is left in any world
+
+pub returns-then-not-tend_has_worked-clause-left : goal.returns-then-not-tend_has_worked-clause-left
+returns-then-not-tend_has_worked-clause-left g c =
+    let l = leaves_on c.args.world.now c.loop-count.world c.happen.new.world
+    c.args.left.now.items c.loop-count.left.items c.happen.new.left.items c.loop-count.count
+    (tending c.args.node) c.loop-count.invariant.3 c.in_ok-happen.ensures.adds
+    c.in_ok-happen.ensures.left in
+    (l.stays, l.behind)
+
+pub returns-clause-left : goal.returns-clause-left
+returns-clause-left g c = (c.loop-count.invariant.3.stays, c.loop-count.invariant.3.behind)
+
+-- memory is wanted behind some tends
+pub returns-in_err-happen-clause-refused : goal.returns-in_err-happen-clause-refused
+returns-in_err-happen-clause-refused g c =
+    let node = c.args.node in
+    let is_own = IsActionEvent (Settle node) in
+    let before = keeps_added (Names (configs_of c.args.world.now) (Settle node)) is_own
+    (AreActionLines (Settle node)) c.loop-count.count c.args.world.now c.loop-count.world
+    c.loop-count.invariant.1.1 in
+    let kept = keeps_more is_own c.args.world.now c.loop-count.world c.happen.new.world before
+    c.in_err-happen.ensures.refused in
+    search (rules, kept)

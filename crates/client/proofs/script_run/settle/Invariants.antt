@@ -7,6 +7,7 @@ use Rattle.scripts.specs.declared.setup.Setup.{Setup}
 use Rattle.scripts.specs.declared.statement.Action.TheVariants.{Settle}
 use Rattle.client.specs.ReportedRuns.{ActionAddsLines}
 use Rattle.client.specs.ScriptRuns.{HasRunTo, Stretch, most}
+use Rattle.client.proofs.PlacesBetween.{LeavesSent}
 use Rattle.client.proofs.Settling.{Settles}
 use Rattle.client.proofs.Tends.{HaveWorked}
 use Rattle.client.proofs.script_run.settle.Given as goal
@@ -19,6 +20,7 @@ invariant-loop-count g l = ((setup : Setup) (past : Stretch) →
     × ((l.count ≤ most) × ActionAddsLines (Settle l.fn.node) l.count l.fn.world l.world)
     × (Names (configs_of l.fn.world) (Settle l.fn.node) →
     HaveWorked (lines_so_far l.fn.world) (lines_so_far l.world) l.count)
+    × LeavesSent l.fn.world l.world l.fn.left.items l.left.items l.count
 
 abbrev pub decreases-loop-count : goal.decreases-loop-count
 decreases-loop-count g l = most - l.count

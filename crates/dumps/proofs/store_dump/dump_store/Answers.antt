@@ -1,6 +1,7 @@
 use Rattle.std.proofs.Common.{[], inl, inr}
 use Rattle.engine.specs.{engine_disk, facts_of, look_ups}
-use Rattle.dumps.specs.Dumped.{IsBegunDump, IsDumpOf, IsSomeBegun, IsSomeDump, ShowsList}
+use Rattle.dumps.specs.Dumped.{AreTableCounts, IsBegunDump, IsDumpOf, IsSomeBegun, IsSomeDump}
+use Rattle.dumps.specs.Dumped.{ShowsList}
 use Rattle.dumps.proofs.DeviceLemmas.{files_passed_on, kept_of_opened, kept_of_refused}
 use Rattle.dumps.proofs.DeviceLemmas.{kept_passed_on, not_opened, of_engine, opened_files}
 use Rattle.dumps.proofs.DeviceLemmas.{passed_on}
@@ -55,8 +56,9 @@ returns-clause-written g c = λ facts list honest read.
     (passed_on (IsDumpOf facts list old new) (IsBegunDump facts list old new)
     c.write_store-written.result c.into_disk.result c.with_disk.result
     c.with_disk.ensures
-    (dumped_list (ShowsList g.D.Disk engine) (facts_of engine) facts (look_ups engine).count list
-    old new opened.facts opened.holds.reads.count (inl opened.holds.reads)
+    (dumped_list (ShowsList g.D.Disk engine) (AreTableCounts engine) (facts_of engine) facts
+    (look_ups engine).count list old new opened.facts opened.holds.reads.count
+    (inl opened.holds.reads)
     c.write_store-written.result c.write_store-written.ensures.dump))
 
 pub returns-clause-refused : goal.returns-clause-refused
@@ -70,8 +72,9 @@ returns-clause-refused g c = λ facts list honest read.
     (passed_on (IsDumpOf facts list old new) (IsBegunDump facts list old new)
     c.write_store-written.result c.into_disk.result c.with_disk.result
     c.with_disk.ensures
-    (dumped_list (ShowsList g.D.Disk engine) (facts_of engine) facts (look_ups engine).count list
-    old new opened.facts opened.holds.reads.count (inl opened.holds.reads)
+    (dumped_list (ShowsList g.D.Disk engine) (AreTableCounts engine) (facts_of engine) facts
+    (look_ups engine).count list old new opened.facts opened.holds.reads.count
+    (inl opened.holds.reads)
     c.write_store-written.result c.write_store-written.ensures.dump))
     (c.write_store-written.ensures.refused list opened.holds.reads)
 
@@ -83,7 +86,8 @@ returns-clause-meant g c = λ facts list honest were.
     let new = g.W.Write.contents c.write_store-written.new.out in
     passed_on (IsDumpOf facts list old new) (IsBegunDump facts list old new)
     c.write_store-written.result c.into_disk.result c.with_disk.result c.with_disk.ensures
-    (dumped_list (ShowsList g.D.Disk engine) (facts_of engine) facts (look_ups engine).count list
+    (dumped_list (ShowsList g.D.Disk engine) (AreTableCounts engine) (facts_of engine) facts
+    (look_ups engine).count list
     (g.W.Write.contents c.args.out.now) (g.W.Write.contents c.write_store-written.new.out)
     opened.facts opened.meant.count (inr opened.meant) c.write_store-written.result
     c.write_store-written.ensures.dump)
@@ -95,7 +99,8 @@ returns-clause-printed g c =
     let new = g.W.Write.contents c.write_store-written.new.out in
     passed_on (IsSomeDump old new) (IsSomeBegun old new) c.write_store-written.result
     c.into_disk.result c.with_disk.result c.with_disk.ensures
-    (dumped_some (ShowsList g.D.Disk engine) (facts_of engine) (look_ups engine).count
+    (dumped_some (ShowsList g.D.Disk engine) (AreTableCounts engine) (facts_of engine)
+    (look_ups engine).count
     (g.W.Write.contents c.args.out.now) (g.W.Write.contents c.write_store-written.new.out)
     c.write_store-written.result c.write_store-written.ensures.dump)
 

@@ -1,7 +1,8 @@
 use Rattle.std.proofs.Common.{inr, rules, subst}
 use Rattle.std.specs.Prelude.{MatchResult}
 use Rattle.engine.specs.{facts_of, look_ups}
-use Rattle.dumps.specs.Dumped.{IsBegunFor, IsDumpFor, IsDumpRefusal, IsOfOpened, ShowsList}
+use Rattle.dumps.specs.Dumped.{AreTableCounts, IsBegunFor, IsDumpFor, IsDumpRefusal, IsOfOpened}
+use Rattle.dumps.specs.Dumped.{ShowsList}
 use Rattle.dumps.proofs.DeviceLemmas.{output_of_opened, refused_as_passed, text_of_opened}
 use Rattle.dumps.proofs.RowWalkLemmas.{all_for, begun_for, shown_still}
 use Rattle.dumps.proofs.StoreDumpLemmas.{all_readable, cut_in_numbers, cut_in_rows, dumped}
@@ -12,8 +13,9 @@ use Rattle.dumps.proofs.store_dump.write_store.Goals as goal
 pub returns-in_err-write_numbers-clause-dump : goal.returns-in_err-write_numbers-clause-dump
 returns-in_err-write_numbers-clause-dump g c =
     let numbers = c.in_err-write_numbers.ensures in
-    let cut = cut_in_numbers (ShowsList g.D.Disk c.args.engine.now) (facts_of c.args.engine.now)
-    (look_ups c.args.engine.now).count numbers.0 c.pages_agree.ensures.agree
+    let old = c.args.engine.now in
+    let cut = cut_in_numbers (ShowsList g.D.Disk old) (AreTableCounts old) (facts_of old)
+    (look_ups old).count numbers.0 numbers.2 c.pages_agree.ensures.agree
     (g.W.Write.contents c.args.out.now) (g.W.Write.contents c.write_numbers.new.out)
     numbers.1.1 in
     search (rules, cut)
@@ -39,8 +41,9 @@ returns-in_err-count-clause-dump g c =
     c.in_err-count.ensures.rows in
     let out = g.W.Write.contents c.args.out.now in
     let new = g.W.Write.contents c.write_rows.new.out in
-    let cut = subst (λ n. IsBegunFor IsShown (facts_of old) n out new) is
-    (cut_in_rows IsShown (facts_of old) c.count-at.result numbers.0 out
+    let AreCounts = AreTableCounts old in
+    let cut = subst (λ n. IsBegunFor IsShown AreCounts (facts_of old) n out new) is
+    (cut_in_rows IsShown AreCounts (facts_of old) c.count-at.result numbers.0 numbers.2 out
     (g.W.Write.contents c.write_numbers.new.out) new (rw (← is) at numbers.1) begun) in
     search (rules, cut)
 
@@ -70,10 +73,13 @@ returns-clause-dump g c =
       reads = c.set_committed.ensures.stays.reads list;
       meant = c.set_committed.ensures.stays.meant list;
     })) c.in_ok-count.count first second c.in_ok-count.ensures.rows in
-    subst (λ n. MatchResult c.write_count.result (λ _. IsDumpFor IsShown (facts_of old) n out new)
-    (λ _. IsBegunFor IsShown (facts_of old) n out new)) is
-    (dumped IsShown (facts_of old) c.count-at.result numbers.0 c.in_ok-count.count
-    c.write_count.result out first second new (rw (← is) at numbers.1) all c.write_count.ensures)
+    let AreCounts = AreTableCounts old in
+    subst (λ n. MatchResult c.write_count.result
+    (λ _. IsDumpFor IsShown AreCounts (facts_of old) n out new)
+    (λ _. IsBegunFor IsShown AreCounts (facts_of old) n out new)) is
+    (dumped IsShown AreCounts (facts_of old) c.count-at.result numbers.0 numbers.2
+    c.in_ok-count.count c.write_count.result out first second new (rw (← is) at numbers.1) all
+    c.write_count.ensures)
 
 pub returns-clause-refused : goal.returns-clause-refused
 returns-clause-refused g c = λ list reads.

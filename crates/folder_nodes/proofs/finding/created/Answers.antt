@@ -1,4 +1,4 @@
-use Rattle.engine.specs.KeepingLemmas.{kept_as}
+use Rattle.disk.specs.KeepingLemmas.{kept_as}
 use Rattle.folder_nodes.proofs.FindingLemmas.{device_stopped}
 use Rattle.folder_nodes.proofs.finding.created.Goals as goal
 

@@ -1,5 +1,5 @@
 -- The files are looked at; then the node is created, or refused.
-use Rattle.engine.specs.KeepingLemmas.{kept_as, neither}
+use Rattle.disk.specs.KeepingLemmas.{kept_as, neither}
 use Rattle.folder_nodes.proofs.FindingLemmas.{answers, device_listed, kept_on, not_device}
 use Rattle.folder_nodes.proofs.finding.created_again.Goals as goal
 

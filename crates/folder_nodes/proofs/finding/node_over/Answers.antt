@@ -2,7 +2,7 @@
 use Rattle.std.proofs.Common.{inl, inr, refl, subst, sym, true≢false, ◌∙◌}
 use Rattle.disk.specs.{contents}
 use Rattle.disk.specs.StillLemmas.{spares_more}
-use Rattle.engine.specs.KeepingLemmas.{kept_as, neither}
+use Rattle.disk.specs.KeepingLemmas.{kept_as, neither}
 use Rattle.node.specs.{DiskRefines}
 use Rattle.folder_nodes.specs.Finding.{StartsFrom}
 use Rattle.engine.specs.{AreShut, kept_files}

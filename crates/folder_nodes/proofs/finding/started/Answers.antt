@@ -1,4 +1,4 @@
-use Rattle.engine.specs.KeepingLemmas.{kept_as}
+use Rattle.disk.specs.KeepingLemmas.{kept_as}
 use Rattle.folder_nodes.proofs.FindingLemmas.{device_stopped, env_stopped}
 use Rattle.folder_nodes.specs.Finding.{StartFailure}
 use Rattle.std.proofs.Common.{inl, inr, subst, sym}

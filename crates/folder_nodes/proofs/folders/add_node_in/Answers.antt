@@ -13,4 +13,4 @@ returns-clause-found g c =
     on_ok c.add_node.result c.add_node.ensures (λ adds.
     found_more c.args.folder.now c.args.limits.now c.args.id c.in_ok-node.node
     c.args.nodes.now.items c.add_node.new.nodes.items c.in_ok-node.ensures.path adds
-    c.in_ok-node.ensures.limits c.in_ok-node.ensures.found)
+    c.in_ok-node.ensures.own c.in_ok-node.ensures.limits c.in_ok-node.ensures.found)

@@ -9,7 +9,7 @@ returns-clause-printed g c = record {
   is = world_of_found c.args.folder.now c.args.script.now.setup _ c.in_ok-nodes.nodes.items
       c.in-Ok.ensures c.in_ok-nodes.ensures.nodes c.in_ok-nodes.ensures.found
       c.over-world.result c.over-world.ensures.nodes c.over-world.ensures.configs
-      c.over-world.ensures.none.lines;
+      c.over-world.ensures.none c.over-world.ensures.limits c.over-world.ensures.goes_on;
   printed = c.in_ok-run_world.ensures.printed c.over-world.ensures.none.lines;
 }
 
@@ -34,14 +34,10 @@ pub returns-in_err-run_world-clause-failed : goal.returns-in_err-run_world-claus
 returns-in_err-run_world-clause-failed g c =
     let failed = cut_short c.args.folder.now c.args.script.now.setup
     c.args.script.now.statements.items (g.W.Write.contents c.args.out.now)
-    (g.W.Write.contents c.run_world.new.out) c.in_err-run_world.field-0.0
-    c.in_err-run_world.ensures.cause
-    (record {
-      world = c.over-world.result;
-      is = world_of_found c.args.folder.now c.args.script.now.setup _ c.in_ok-nodes.nodes.items
-          c.in-Ok.ensures c.in_ok-nodes.ensures.nodes c.in_ok-nodes.ensures.found
-          c.over-world.result c.over-world.ensures.nodes c.over-world.ensures.configs
-          c.over-world.ensures.none.lines;
-      begun = c.in_err-run_world.ensures.printed c.over-world.ensures.none.lines;
-    }) in
+    (g.W.Write.contents c.run_world.new.out) c.over-world.result c.in_err-run_world.field-0.0
+    (world_of_found c.args.folder.now c.args.script.now.setup _ c.in_ok-nodes.nodes.items
+    c.in-Ok.ensures c.in_ok-nodes.ensures.nodes c.in_ok-nodes.ensures.found
+    c.over-world.result c.over-world.ensures.nodes c.over-world.ensures.configs
+    c.over-world.ensures.none c.over-world.ensures.limits c.over-world.ensures.goes_on)
+    (c.in_err-run_world.ensures.printed c.over-world.ensures.none.lines) in
     search (rules, failed)

@@ -1,7 +1,7 @@
 use Rattle.std.proofs.Common.{ap, rules, ◌∙◌}
 use Rattle.client.specs.ScriptRuns.{run_of}
 use Rattle.program.specs.FolderRuns.{has_stop}
-use Rattle.program.proofs.FolderEnds.{ends_early, output_or_memory, printed_report}
+use Rattle.program.proofs.FolderEnds.{ends_early, output_or_memory, printed_report, report_fails}
 use Rattle.program.proofs.folder_run.run_world.Goals as goal
 
 pub returns-clause-run : goal.returns-clause-run
@@ -32,8 +32,11 @@ returns-in_err-ran-clause-cause g c =
 
 pub returns-in_err-ran-clause-printed : goal.returns-in_err-ran-clause-printed
 returns-in_err-ran-clause-printed g c = λ none.
-    let begun = c.in_err-ran.ensures.reported.begun in
-    search (rules, begun)
+    let fails = report_fails c.args.world c.run_script-ran.new.world
+    c.args.script.now.statements.items (g.W.Write.contents c.args.out.now)
+    (g.W.Write.contents c.run_script-ran.new.out) c.in_err-ran.field-0.0
+    c.in_err-ran.ensures.reported in
+    search (rules, fails)
 
 pub returns-clause-printed : goal.returns-clause-printed
 returns-clause-printed g c = λ none.

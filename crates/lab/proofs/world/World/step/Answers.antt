@@ -1,11 +1,12 @@
 use Rattle.std.proofs.Common.{List, [], ◌∷◌, Option, ℕ, length, false, true, refl, ap, subst, sym}
-use Rattle.std.proofs.Common.{◌∙◌}
+use Rattle.std.proofs.Common.{◌≡◌, ◌∙◌}
 use Rattle.std.specs.Prelude.{OnOk}
 use Rattle.std.specs.List.{AllZip}
 use Rattle.std.proofs.lemmas.Bool.{false≢true}
 use Rattle.std.proofs.lemmas.Option.{MatchOption-at_none}
-use Rattle.std.proofs.lemmas.Result.{on_ok_weaker}
-use Rattle.carriers.specs.{HasCarriedMore, delivery_lost}
+use Rattle.std.proofs.lemmas.Result.{on_err_weaker, on_ok_weaker}
+use Rattle.carriers.specs.{DeliveryWasLost, HasCarriedMore, delivery_lost}
+use Rattle.events.specs.declared.EventContent.{EventContent}
 use Rattle.lab.specs.declared.delivery.Posted.{Posted}
 use Rattle.lab.specs.declared.report.Line.{Line}
 use Rattle.lab.specs.declared.sim_node.SimNode.{SimNode}
@@ -18,10 +19,13 @@ use Rattle.lab.specs.LinesSoFar.{AreEventLines, sim_node_ids}
 use Rattle.lab.specs.OutcomeLines.{outcome_lines, own_lines, replies_by}
 use Rattle.lab.specs.Transmissions.{frame_sent}
 use Rattle.lab.specs.Worlds.{HasKept, HasNoNode, HaveLimits, IsIndexOf, PostedRefines}
-use Rattle.lab.proofs.LinesSoFarLemmas.{adds_none, adds_one}
+use Rattle.lab.proofs.LinesSoFarLemmas.{adds_none, adds_one, keeps_begun, keeps_nothing}
+use Rattle.lab.proofs.LinesSoFarLemmas.{keeps_partly, keeps_unbegun, loses_none, loses_nothing}
+use Rattle.lab.proofs.LinesSoFarLemmas.{on_err, on_ok}
 use Rattle.lab.proofs.Moves.{limited, same_ids}
 use Rattle.lab.proofs.OutcomeLines.{absent_lines, by_kind, dispatched_lines, lost_lines}
 use Rattle.lab.proofs.OutcomeLines.{nothing_lines, outcome_arrives}
+use Rattle.lab.proofs.SentLines.{loss_shown, lost_carried, nothing_shown, outcome_shown}
 use Rattle.lab.proofs.WorldSteps.{IsFoundFor, delivered_after, ends_so, ends_with, ignored_after}
 use Rattle.lab.proofs.WorldSteps.{keeps_limits, lost_applied, nothing_applied}
 use Rattle.lab.proofs.world.World.step.Goals as goal
@@ -203,7 +207,8 @@ returns-in-Nothing-clause-adds g c =
     let i = c.in-Some.request in
     on_ok_weaker c.keep.result (adds_one c.args.self.now begun
     (record begun { carrier = c.delivery_of.new.carrier }) c.keep.new.self
-    c.args.event.now _ _ c.in_ok-begin.ensures.begun refl refl refl refl
+    c.args.event.now _ _ c.in_ok-begin.ensures.begun refl refl refl
+    (nothing_shown _ _ c.one.ensures) refl refl
     (c.names_node.ensures.0 c.if-not-names_node.false)
     (λ _. subst (AreEventLines kind) (sym c.one.ensures) (by_kind kind (line.Nothing ∷ [])
     (λ certain. nothing_lines begun.configs [] i kind
@@ -218,7 +223,8 @@ returns-in-Lost-clause-adds g c =
     let i = c.in-Some.request in
     on_ok_weaker c.keep-in-Lost.result (adds_one c.args.self.now begun
     (record begun { carrier = c.delivery_of.new.carrier }) c.keep-in-Lost.new.self
-    c.args.event.now _ _ c.in_ok-begin.ensures.begun refl refl refl refl
+    c.args.event.now _ _ c.in_ok-begin.ensures.begun refl refl refl
+    (loss_shown _ _ c.one-in-Lost.ensures) refl refl
     (c.names_node.ensures.0 c.if-not-names_node.false)
     (λ _. subst (AreEventLines kind) (sym c.one-in-Lost.ensures) (by_kind kind (line.Lost ∷ [])
     (λ certain. lost_lines begun.configs [] i kind
@@ -240,7 +246,8 @@ returns-in_default-index_of-clause-adds g c =
     c.index_of.ensures) in
     on_ok_weaker c.keep-in_default-index_of.result (adds_one old begun
     (record begun { carrier = c.delivery_of.new.carrier }) c.keep-in_default-index_of.new.self
-    c.args.event.now _ _ c.in_ok-begin.ensures.begun refl refl refl refl named
+    c.args.event.now _ _ c.in_ok-begin.ensures.begun refl refl refl
+    (nothing_shown _ _ c.one-in_default-index_of.ensures) refl refl named
     (λ its. subst (AreEventLines kind) (sym c.one-in_default-index_of.ensures)
     (by_kind kind (line.Nothing ∷ []) (λ certain. absent_lines begun.configs [] i x c.in-To.input
     kind begun.nodes.items old.configs
@@ -258,6 +265,10 @@ returns-clause-adds g c =
     let took = c.in_ok-outcome.ensures in
     on_ok_weaker c.keep-2.result (adds_one c.args.self.now begun (mid g c) c.keep-2.new.self
     event _ _ c.in_ok-begin.ensures.begun refl refl refl
+    (outcome_shown (g.C.Carrier.is_faithful c.delivery_of.new.carrier) g.C.Carrier.loses
+    (HasCarriedMore g.C.Carrier.has_carried c.delivery_of.new.carrier c.trace_of.new.carrier)
+    c.in-To.id (epoch_in event.kind) c.in_ok-outcome.outcome c.in_ok-lines.lines
+    begun.frames.items c.trace_of.new.frames.items c.in_ok-lines.ensures.posted (follow g c)) refl
     (same_ids begun.nodes.items c.in-To.id c.in-To.input event.fault begun.limits
     c.in_ok-outcome.outcome c.deliver.new.nodes.items took)
     (c.names_node.ensures.0 c.if-not-names_node.false)
@@ -269,3 +280,111 @@ returns-clause-adds g c =
     (subst (IsDeliverable begun.configs [] i event.kind) c.in-To.is
     (c.in_ok-delivery_of.ensures.found [] (λ carried. absurd (certain carried))))
     took.dispatched.outcome (follow g c)))) c.keep-2.ensures.kept
+
+-- ---- what was lost, in any world
+
+pub returns-then-not-names_node-clause-loses : goal.returns-then-not-names_node-clause-loses
+returns-then-not-names_node-clause-loses g c =
+    loses_nothing g.C.Carrier.loses c.args.self.now c.args.event.now
+
+pub returns-in-Nothing-clause-loses : goal.returns-in-Nothing-clause-loses
+returns-in-Nothing-clause-loses g c =
+    let begun = c.begin.new.self in
+    on_ok_weaker c.keep.result (loses_none g.C.Carrier.loses c.args.self.now begun
+    (record begun { carrier = c.delivery_of.new.carrier }) c.keep.new.self c.args.event.now _
+    c.in_ok-begin.ensures.begun refl) c.keep.ensures.kept
+
+pub returns-in-Lost-clause-loses : goal.returns-in-Lost-clause-loses
+returns-in-Lost-clause-loses g c =
+    let configs = c.begin.new.self.configs in
+    let kind = c.args.event.now.kind in
+    let i = c.in-Some.request in
+    on_ok c.keep-in-Lost.result (λ is. (
+      c.in_ok-delivery_of.ensures.lost (subst DeliveryWasLost (sym c.in-Lost.is) tt),
+      lost_carried [] kind (λ certain. subst (IsDeliverable configs [] i kind) c.in-Lost.is
+          (c.in_ok-delivery_of.ensures.found [] (λ carried. absurd (certain carried)))),
+    ))
+
+pub returns-in_default-index_of-clause-loses : goal.returns-in_default-index_of-clause-loses
+returns-in_default-index_of-clause-loses g c =
+    let begun = c.begin.new.self in
+    on_ok_weaker c.keep-in_default-index_of.result (loses_none g.C.Carrier.loses c.args.self.now
+    begun (record begun { carrier = c.delivery_of.new.carrier })
+    c.keep-in_default-index_of.new.self c.args.event.now _ c.in_ok-begin.ensures.begun refl)
+    c.keep-in_default-index_of.ensures.kept
+
+pub returns-clause-loses : goal.returns-clause-loses
+returns-clause-loses g c =
+    on_ok_weaker c.keep-2.result (loses_none g.C.Carrier.loses c.args.self.now c.begin.new.self
+    (mid g c) c.keep-2.new.self c.args.event.now _ c.in_ok-begin.ensures.begun refl)
+    c.keep-2.ensures.kept
+
+-- ---- a step that was refused, in any world
+
+pub returns-then-self-clause-refused : goal.returns-then-self-clause-refused
+returns-then-self-clause-refused g c =
+    keeps_nothing (λ (it : EventContent). it ≡ c.args.event.now) c.args.self.now
+
+pub returns-in_err-begin-clause-refused : goal.returns-in_err-begin-clause-refused
+returns-in_err-begin-clause-refused g c = on_err c.from_residual.result
+    (keeps_unbegun c.args.self.now c.begin.new.self c.args.event.now c.in_err-begin.ensures.refused)
+
+pub returns-in_default-clause-refused : goal.returns-in_default-clause-refused
+returns-in_default-clause-refused g c =
+    keeps_begun c.args.self.now c.begin.new.self c.begin.new.self c.args.event.now
+    c.in_ok-begin.ensures.begun refl refl refl refl
+
+pub returns-in_err-delivery_of-clause-refused : goal.returns-in_err-delivery_of-clause-refused
+returns-in_err-delivery_of-clause-refused g c =
+    let begun = c.begin.new.self in
+    on_err c.from_residual-in_err-delivery_of.result
+    (keeps_begun c.args.self.now begun (record begun { carrier = c.delivery_of.new.carrier })
+    c.args.event.now c.in_ok-begin.ensures.begun refl refl refl refl)
+
+pub returns-in-Nothing-clause-refused : goal.returns-in-Nothing-clause-refused
+returns-in-Nothing-clause-refused g c =
+    let begun = c.begin.new.self in
+    on_err_weaker c.keep.result (keeps_partly c.args.self.now begun
+    (record begun { carrier = c.delivery_of.new.carrier }) c.args.event.now
+    c.in_ok-begin.ensures.begun refl refl refl refl c.keep.new.self _) c.keep.ensures.refused
+
+pub returns-in-Lost-clause-refused : goal.returns-in-Lost-clause-refused
+returns-in-Lost-clause-refused g c =
+    let begun = c.begin.new.self in
+    on_err_weaker c.keep-in-Lost.result (keeps_partly c.args.self.now begun
+    (record begun { carrier = c.delivery_of.new.carrier }) c.args.event.now
+    c.in_ok-begin.ensures.begun refl refl refl refl c.keep-in-Lost.new.self _)
+    c.keep-in-Lost.ensures.refused
+
+pub returns-in_default-index_of-clause-refused : goal.returns-in_default-index_of-clause-refused
+returns-in_default-index_of-clause-refused g c =
+    let begun = c.begin.new.self in
+    on_err_weaker c.keep-in_default-index_of.result (keeps_partly c.args.self.now begun
+    (record begun { carrier = c.delivery_of.new.carrier }) c.args.event.now
+    c.in_ok-begin.ensures.begun refl refl refl refl c.keep-in_default-index_of.new.self _)
+    c.keep-in_default-index_of.ensures.refused
+
+pub returns-in_err-outcome-clause-refused : goal.returns-in_err-outcome-clause-refused
+returns-in_err-outcome-clause-refused g c =
+    let begun = c.begin.new.self in
+    on_err c.from_residual-in_err-outcome.result
+    (keeps_begun c.args.self.now begun (record begun {
+      nodes = c.deliver.new.nodes;
+      carrier = c.delivery_of.new.carrier;
+    }) c.args.event.now c.in_ok-begin.ensures.begun refl refl refl refl)
+
+pub returns-in_err-lines-clause-refused : goal.returns-in_err-lines-clause-refused
+returns-in_err-lines-clause-refused g c =
+    let begun = c.begin.new.self in
+    on_err c.from_residual-in_err-lines.result
+    (keeps_begun c.args.self.now begun (record begun {
+      nodes = c.deliver.new.nodes;
+      frames = c.trace_of.new.frames;
+      carrier = c.trace_of.new.carrier;
+    }) c.args.event.now c.in_ok-begin.ensures.begun refl refl refl refl)
+
+pub returns-clause-refused : goal.returns-clause-refused
+returns-clause-refused g c =
+    on_err_weaker c.keep-2.result (keeps_partly c.args.self.now c.begin.new.self (mid g c)
+    c.args.event.now c.in_ok-begin.ensures.begun refl refl refl refl c.keep-2.new.self _)
+    c.keep-2.ensures.refused

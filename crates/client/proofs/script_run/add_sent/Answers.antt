@@ -1,7 +1,7 @@
 use Rattle.std.proofs.Common.{◌≡◌, ◌+◌, ◌-◌, suc, arith, refl}
 use Rattle.std.proofs.Common.{append_assoc}
 use Rattle.client.proofs.Flowing.{places_after-push}
-use Rattle.client.proofs.script_run.add_places.Goals as goal
+use Rattle.client.proofs.script_run.add_sent.Goals as goal
 
 pub loop-sent-preserved : goal.loop-sent-preserved
 loop-sent-preserved c =

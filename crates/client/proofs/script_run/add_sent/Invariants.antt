@@ -1,6 +1,6 @@
 use Rattle.std.proofs.Common.{◌≡◌, ◌++◌, ◌-◌, ◌≤◌, max}
 use Rattle.client.specs.ScriptRuns.{places_after}
-use Rattle.client.proofs.script_run.add_places.Given as goal
+use Rattle.client.proofs.script_run.add_sent.Given as goal
 
 abbrev pub invariant-loop-sent : goal.invariant-loop-sent
 invariant-loop-sent l = record {
