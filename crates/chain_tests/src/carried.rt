@@ -16,19 +16,20 @@ pub enum Act {
 /// All frames that are left are delivered, and those that come of it.
 pub const FLOW: Act = Act::Flow(1_000);
 
-// A world, and the place of the next frame.
-struct Chain<C: Carrier + Drop> {
-    world: World<MemDisk, C>,
-    next: u64,
+/// A world, and the place of the next frame.
+pub struct Chain<C: Carrier + Drop> {
+    pub world: World<MemDisk, C>,
+    pub next: u64,
 }
 
 impl<C: Carrier + Drop> Chain<C> {
-    fn step(&mut self, rt: &impl Abort, alloc: Global, step: &Step) {
+    pub fn step(&mut self, rt: &impl Abort, alloc: Global, step: &Step) {
         let event = event(rt, alloc, step, Fault::None);
         self.world.step(alloc, &event).expect(rt, "a step");
     }
 
-    fn flow(&mut self, rt: &impl Abort, alloc: Global, most: u64) {
+    /// Delivers the next frames, so many at most, each once.
+    pub fn flow(&mut self, rt: &impl Abort, alloc: Global, most: u64) {
         for _ in 0..most {
             if self.next > self.world.sent() {
                 return;

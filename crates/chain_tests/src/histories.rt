@@ -194,7 +194,17 @@ pub fn taken_list(
 
 static KEYS: [&str; 3] = ["a", "b", "c"];
 
-/// Whether the store has the map of so many first batches: each key, and the number of its rows.
+// Whether the page has this row at this place.
+fn has_row(page: &Page, place: usize, key: &Key, value: &Value) -> bool {
+    match page.rows().get(place) {
+        Some(row) => {
+            row.key.as_bytes() == key.as_bytes() && row.value.as_bytes() == value.as_bytes()
+        }
+        None => false,
+    }
+}
+
+/// Whether the store has the map of so many first batches: each key, and exactly its rows.
 pub fn has_map(
     rt: &impl Abort,
     alloc: Global,
@@ -203,13 +213,18 @@ pub fn has_map(
     number: Number,
 ) -> bool {
     let first = list.get(..number.get() as usize).expect(rt, "batches");
-    let mut rows = 0usize;
+    let range = range_of(rt, alloc, ("", None, false, 9));
+    let page = engine.rows(alloc, number, &range).expect(rt, "rows");
+    let mut place = 0usize;
     for name in &KEYS {
         let key = key_of(rt, alloc, *name);
         let found = engine.get(alloc, number, &key).expect(rt, "a read");
         let want = match value_at(first, &key) {
             Some(value) => {
-                rows = rows.saturating_add(1);
+                if !has_row(&page, place, &key, value) {
+                    return false;
+                }
+                place = place.saturating_add(1);
                 Some(value.as_bytes())
             }
             None => None,
@@ -218,9 +233,7 @@ pub fn has_map(
             return false;
         }
     }
-    let range = range_of(rt, alloc, ("", None, false, 9));
-    let page = engine.rows(alloc, number, &range).expect(rt, "rows");
-    page.rows().len() == rows
+    place == page.rows().len() && !page.has_more()
 }
 
 /// Whether the store has each batch of the list that is not trimmed.
@@ -273,24 +286,12 @@ impl History<'_> {
             Reply::Refused { .. } => true,
             Reply::Committed { request, number } => self.has_commit(*request, *number),
             Reply::Value { number, value, .. } => self.has_value(number.get(), value),
-            Reply::Rows { number, page, .. } => self.has_rows(number.get(), page),
+            // No run reads rows.
+            Reply::Rows { .. } => false,
             Reply::Opened { number, .. } | Reply::Closed { number, .. } => {
                 number.get() <= self.list.len() as u64
             }
         }
-    }
-
-    // Whether the map at this number has these rows.
-    fn has_rows(&self, number: u64, page: &Page) -> bool {
-        let Some(first) = self.list.get(..number as usize) else {
-            return false;
-        };
-        for row in page.rows() {
-            if !is_value(value_at(first, &row.key), Some(row.value.as_bytes())) {
-                return false;
-            }
-        }
-        true
     }
 
     // Whether the key has this value at this number.

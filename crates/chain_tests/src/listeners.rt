@@ -120,6 +120,7 @@ fn crowd(rt: &impl Abort, host: &HostRuntime, address: SocketAddr) -> Vec<TcpStr
 fn a_full_queue_before_the_first_frame(rt: HostRuntime) {
     let (mut carrier, address) = carrier_at(&rt, rt);
     let streams = crowd(&rt, &rt, address);
+    assert!(rt; streams.len() < MANY, "a full queue");
     assert!(rt; !arrives(&rt, rt.alloc(), &mut carrier, FIRST), "lost");
     all_arrive(&rt, rt.alloc(), &mut carrier);
     drop(streams);

@@ -141,5 +141,6 @@ fn every_merge_with_a_fault_has_one_list(rt: HostRuntime) {
             }
         }
     }
+    // So many were counted. A call of the disk more or less in an event is to be explained.
     assert!(rt; struck == 1338, "{struck} faults struck");
 }

@@ -1,9 +1,9 @@
 // Ticks behind a removal: a node sends its new successor all that this lacks, 16 batches a turn,
 // from the first that is not known to be there.
 use crate::answers::{is_so, is_text};
-use crate::courses::{Step, configs_of, put_lines, put_node, take};
+use crate::carried::Chain;
+use crate::courses::{Step, configs_of, put_lines, put_node};
 use crate::items::{ONE, id_of};
-use disk::{Fault, MemDisk};
 use kv_types::Limits;
 use lab::{Direct, Line, Tended, World};
 use std::alloc::Global;
@@ -24,72 +24,49 @@ enum Act {
     Show(u16),
 }
 
-// A world, and the place of the next frame.
-#[derive(Drop)]
-struct Chain {
-    world: World<MemDisk, Direct>,
-    next: u64,
+// Whether the last event was a tend that did something.
+fn has_tended(chain: &Chain<Direct>) -> bool {
+    let Some(lines) = chain.world.report().last() else {
+        return false;
+    };
+    matches!(lines.as_slice().first(), Some(Line::Tended(Tended::Worked)))
 }
 
-impl Chain {
-    fn step(&mut self, rt: &impl Abort, alloc: Global, step: Step) {
-        take(rt, alloc, &mut self.world, &step, Fault::None);
-    }
-
-    fn flow(&mut self, rt: &impl Abort, alloc: Global, most: u64) {
-        for _ in 0..most {
-            if self.next > self.world.sent() {
-                return;
-            }
-            self.step(rt, alloc, Step::Deliver(self.next));
-            self.next = self.next.saturating_add(1);
+fn settle(rt: &impl Abort, alloc: Global, chain: &mut Chain<Direct>, node: u16) {
+    for _ in 0..100u8 {
+        chain.step(rt, alloc, &Step::Tend(node));
+        if !has_tended(chain) {
+            return;
         }
     }
+    is_so(rt, false, "an end of the tends");
+}
 
-    // Whether the last event was a tend that did something.
-    fn has_tended(&self) -> bool {
-        let Some(lines) = self.world.report().last() else {
-            return false;
-        };
-        matches!(lines.as_slice().first(), Some(Line::Tended(Tended::Worked)))
+// Puts the lines of the last event.
+fn put_last(rt: &impl Abort, chain: &Chain<Direct>, text: &mut String) {
+    if let Some(lines) = chain.world.report().last() {
+        put_lines(text, lines.as_slice()).expect(rt, "memory");
     }
+}
 
-    fn settle(&mut self, rt: &impl Abort, alloc: Global, node: u16) {
-        for _ in 0..100u8 {
-            self.step(rt, alloc, Step::Tend(node));
-            if !self.has_tended() {
-                return;
+// Does an act, and puts what is shown of it.
+fn show(rt: &impl Abort, alloc: Global, chain: &mut Chain<Direct>, text: &mut String, act: &Act) {
+    match act {
+        Act::Take(step) => {
+            chain.step(rt, alloc, step);
+            put_last(rt, chain, text);
+        }
+        Act::Submits(count) => {
+            for _ in 0..*count {
+                chain.step(rt, alloc, &Step::Submit(1, ONE));
             }
         }
-        is_so(rt, false, "an end of the tends");
-    }
-
-    // Puts the lines of the last event.
-    fn put_last(&self, rt: &impl Abort, text: &mut String) {
-        if let Some(lines) = self.world.report().last() {
-            put_lines(text, lines.as_slice()).expect(rt, "memory");
-        }
-    }
-
-    // Does an act, and puts what is shown of it.
-    fn act(&mut self, rt: &impl Abort, alloc: Global, text: &mut String, act: &Act) {
-        match *act {
-            Act::Take(step) => {
-                self.step(rt, alloc, step);
-                self.put_last(rt, text);
-            }
-            Act::Submits(count) => {
-                for _ in 0..count {
-                    self.step(rt, alloc, Step::Submit(1, ONE));
-                }
-            }
-            Act::Flow(most) => self.flow(rt, alloc, most),
-            Act::Lose => self.next = self.world.sent().saturating_add(1),
-            Act::Settle(node) => self.settle(rt, alloc, node),
-            Act::Show(node) => {
-                let id = id_of(rt, node);
-                put_node(text, id, &self.world.numbers(id)).expect(rt, "memory");
-            }
+        Act::Flow(most) => chain.flow(rt, alloc, *most),
+        Act::Lose => chain.next = chain.world.sent().saturating_add(1),
+        Act::Settle(node) => settle(rt, alloc, chain, *node),
+        Act::Show(node) => {
+            let id = id_of(rt, *node);
+            put_node(text, id, &chain.world.numbers(id)).expect(rt, "memory");
         }
     }
 }
@@ -239,8 +216,10 @@ fn what_a_new_successor_is_sent(rt: HostRuntime) {
         let mut chain = Chain { world, next: 1 };
         let mut text = String::new(rt.alloc());
         for act in *acts {
-            chain.act(&rt, rt.alloc(), &mut text, act);
+            show(&rt, rt.alloc(), &mut chain, &mut text, act);
         }
+        let Chain { world, next: _next } = chain;
+        world.close();
         is_text(&rt, &text, *want);
     }
 }

@@ -31,9 +31,21 @@ impl StreamAnswer {
         Ok(())
     }
 
+    // Whether a fault of the stream that was read stays, with what was read next.
+    fn stays(&self, next: &Result<Option<Vec<u8>>, FrameError>) -> bool {
+        match (self.fault, next) {
+            (None | Some(FrameError::Memory), _) => true,
+            (Some(fault), Err(again)) => fault == *again,
+            (Some(_), Ok(_)) => false,
+        }
+    }
+
     // What was read next: a frame, by its spelling, an incomplete one, or a fault. Whether it was a
     // frame.
     fn note(&mut self, stream: &[u8], next: Result<Option<Vec<u8>>, FrameError>) -> Result<bool> {
+        if !self.stays(&next) {
+            bail!("a fault that did not stay");
+        }
         match next {
             Ok(Some(spelled)) => {
                 let added = self.add(stream, &spelled);
@@ -89,7 +101,7 @@ fn next_of(alloc: Global, reader: &mut FrameReader) -> Result<Option<Vec<u8>>, F
 // What is read of a stream that is there at once.
 fn at_once(alloc: Global, stream: &[u8]) -> Result<StreamAnswer> {
     let mut found = NOTHING;
-    for _ in 0..stream.len() {
+    for _ in 0..stream.len().saturating_add(1) {
         let rest = stream.get(found.bytes..).unwrap_or_default();
         if !found.note(stream, first(alloc, rest))? {
             break;

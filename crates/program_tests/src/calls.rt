@@ -38,6 +38,17 @@ pub fn times(rt: &HostRuntime, bytes: &[u8], count: u32) -> Result<Vec<u8>, Allo
     Ok(all)
 }
 
+/// Fails the test unless each script prints its text alone, with status 0.
+pub fn all_print(rt: &impl Abort, host: &HostRuntime, rows: &[(&str, &str)]) {
+    for (script, out) in rows {
+        let outcome = ran(host, script.as_bytes());
+        assert!(rt;
+            outcome.prints(out.as_bytes(), b"") && outcome.status == 0,
+            "{script}"
+        );
+    }
+}
+
 /// A script, and what is told of it.
 pub type Fault = (&'static str, &'static str);
 

@@ -1,9 +1,10 @@
 // What a store has, written out: all its rows, over several pages, and what is refused.
 use crate::folders::{clear, dumped, dumps, empty_place, looped, path_in};
-use crate::streams::Full;
+use crate::streams::{Flushed, Full};
 use program::serve;
 use std::alloc::AllocError;
 use std::fs;
+use std::process::Abort;
 
 // So many keys in one batch, and so many batches: more rows than three pages have.
 const KEYS: u32 = 256;
@@ -45,6 +46,12 @@ fn long_rows(rt: &HostRuntime) -> Result<String, AllocError> {
     Ok(text)
 }
 
+// How many files a folder has.
+fn file_count(rt: &impl Abort, host: &HostRuntime, folder: &str) -> usize {
+    let entries = fs::read_dir(host, folder).expect(rt, "a folder");
+    entries.count()
+}
+
 #[test]
 fn rows_of_many_pages_are_written(rt: HostRuntime) {
     let place = empty_place(&rt, &rt, "pages");
@@ -59,7 +66,26 @@ fn rows_of_many_pages_are_written(rt: HostRuntime) {
     assert!(rt; outcome.out.as_slice().ends_with(rows.as_bytes()));
     let lines = outcome.out.iter().filter(|byte| **byte == b'\n').count();
     assert!(rt; lines == (KEYS * BATCHES + 1) as usize);
+    // Two slots, the four tables of the line, and the logs from the batches 21, 23, 25 and 27 on.
+    assert!(rt; file_count(&rt, &rt, folder.as_str()) == 10);
     clear(&rt, &rt, place.as_str());
+}
+
+// How many bytes are there at each flush of a dump of eleven rows of 17,414 bytes: after the line
+// of the numbers, after each page, with five new rows, four and two, and after the last line.
+const LONG_ENDS: &[usize] = &[60, 87_130, 156_786, 191_614, 191_628];
+
+// Whether a dump of the folder flushes there, and at no other place.
+fn is_flushed_by_pages(rt: &HostRuntime, folder: &str) -> bool {
+    let (taken, at, mut err) = (
+        Vec::new(rt.alloc()),
+        Vec::new(rt.alloc()),
+        Vec::new(rt.alloc()),
+    );
+    let words = ["chainstore", "dump", folder];
+    let (mut input, mut out) = (b"".as_slice(), Flushed { taken, at });
+    let status = serve(rt, &words, &mut input, &mut out, &mut err);
+    status == 0 && err.is_empty() && out.at.as_slice() == LONG_ENDS
 }
 
 // Rows so long that only five go into a page, with keys of the greatest length at its ends.
@@ -83,6 +109,7 @@ fn long_rows_are_written(rt: HostRuntime) {
     let folder = path_in(&rt, &rt, place.as_str(), "1");
     let outcome = dumped(&rt, folder.as_str());
     assert!(rt; outcome.status == 0 && outcome.out.as_slice().ends_with(text.as_bytes()));
+    assert!(rt; is_flushed_by_pages(&rt, folder.as_str()));
     clear(&rt, &rt, place.as_str());
 }
 

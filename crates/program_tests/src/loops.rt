@@ -228,19 +228,34 @@ fn another_node_is_refused(rt: HostRuntime) {
     clear(&rt, &rt, place.as_str());
 }
 
+// The slot of node 1 alone, whose gate is not open yet: generation and id; the gate and the length
+// of its record; next file, floor, flushed and epoch; the ids; log 3 from batch 1 added; no table;
+// the closed gate.
+const CLOSED: &[u8] = b"\x00\x00\x00\x00\x00\x00\x00\x00\x01\x00\x01\
+    \x01\x00\x00\x00\x37\
+    \x00\x00\x00\x00\x00\x00\x00\x04\x00\x00\x00\x00\x00\x00\x00\x00\
+    \x00\x00\x00\x00\x00\x00\x00\x00\x00\x00\x00\x00\
+    \x01\x00\x01\
+    \x00\x00\x00\x01\x00\x00\x00\x00\x00\x00\x00\x03\x00\x00\x00\x00\x00\x00\x00\x01\
+    \x00\x00\x00\x00\
+    \x00";
+
 // What a creation that was cut short may have left: the files that are there, and their bytes.
 const HALVES: &[&[(&str, &[u8])]] = &[
+    &[],
     &[("3", b"")],
     &[("3", b"\x00")],
     &[("3", b"\x00"), ("2", b"")],
+    &[("3", b"\x00"), ("2", b"\x00")],
     &[("3", b"\x00"), ("2", b"\x00"), ("1", b"")],
     &[("3", b"\x00"), ("2", b"\x00"), ("1", b"\x00\x00\x00\x00")],
+    &[("3", b"\x00"), ("2", b"\x00"), ("1", CLOSED)],
     &[("notes", b"of another"), ("03", b"")],
 ];
 
 #[test]
 fn a_half_created_folder_is_created(rt: HostRuntime) {
-    for files in HALVES {
+    for (row, files) in HALVES.iter().enumerate() {
         let place = empty_place(&rt, &rt, "half");
         let folder = path_in(&rt, &rt, place.as_str(), "1");
         fs::create_dir_all(&rt, folder.as_str()).expect(&rt, "a folder");
@@ -251,8 +266,7 @@ fn a_half_created_folder_is_created(rt: HostRuntime) {
         let script = "config 1\nsubmit 1 a=1\n";
         assert!(rt;
             loops(&rt, place.as_str(), script, "2: committed 1\n"),
-            "{}",
-            files.len()
+            "row {row}"
         );
         clear(&rt, &rt, place.as_str());
     }

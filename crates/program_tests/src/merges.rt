@@ -1,5 +1,5 @@
 // Scripts whose tends merge tables, by the limits that they set.
-use crate::calls::{prints_by_one_block, ran, times};
+use crate::calls::{all_print, prints_by_one_block, ran, times};
 use std::alloc::AllocError;
 use std::test::Fail;
 
@@ -40,13 +40,7 @@ const MERGES: &[(&str, &str)] = &[
 
 #[test]
 fn tends_merge_level_0(rt: HostRuntime) {
-    for (script, out) in MERGES {
-        let outcome = ran(&rt, script.as_bytes());
-        assert!(rt;
-            outcome.prints(out.as_bytes(), b"") && outcome.status == 0,
-            "{script}"
-        );
-    }
+    all_print(&rt, &rt, MERGES);
 }
 
 #[test]

@@ -1,5 +1,5 @@
 // Notices of later configurations: nodes that adopt them, and nodes that they leave out.
-use crate::calls::{Fault, all_told, first_silent, ran};
+use crate::calls::{Fault, all_print, all_told, first_silent};
 
 const RUNS: &[(&str, &str)] = &[
     // The head is left out, while it still takes a batch.
@@ -80,13 +80,7 @@ const RUNS: &[(&str, &str)] = &[
 
 #[test]
 fn notices_are_adopted_or_dropped(rt: HostRuntime) {
-    for (script, out) in RUNS {
-        let outcome = ran(&rt, script.as_bytes());
-        assert!(rt;
-            outcome.prints(out.as_bytes(), b"") && outcome.status == 0,
-            "{script}"
-        );
-    }
+    all_print(&rt, &rt, RUNS);
 }
 
 // Notices of another form.

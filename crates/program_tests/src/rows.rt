@@ -1,5 +1,5 @@
 // Pages of rows, both ways, and snapshots.
-use crate::calls::{prints_by_one_block, ran, times};
+use crate::calls::{all_print, prints_by_one_block, ran, times};
 use std::alloc::AllocError;
 use std::test::Fail;
 
@@ -84,13 +84,7 @@ const PAGES: &[(&str, &str)] = &[
 
 #[test]
 fn pages_and_snapshots(rt: HostRuntime) {
-    for (script, out) in PAGES {
-        let outcome = ran(&rt, script.as_bytes());
-        assert!(rt;
-            outcome.prints(out.as_bytes(), b"") && outcome.status == 0,
-            "{script}"
-        );
-    }
+    all_print(&rt, &rt, PAGES);
 }
 
 #[test]

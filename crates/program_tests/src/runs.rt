@@ -1,5 +1,5 @@
 // Scripts that run, and what is printed of each event.
-use crate::calls::ran;
+use crate::calls::all_print;
 
 const RUNS: &[(&str, &str)] = &[
     (
@@ -245,11 +245,5 @@ const RUNS: &[(&str, &str)] = &[
 
 #[test]
 fn scripts_print_what_happens(rt: HostRuntime) {
-    for (script, out) in RUNS {
-        let outcome = ran(&rt, script.as_bytes());
-        assert!(rt;
-            outcome.prints(out.as_bytes(), b"") && outcome.status == 0,
-            "{script}"
-        );
-    }
+    all_print(&rt, &rt, RUNS);
 }

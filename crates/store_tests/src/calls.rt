@@ -230,12 +230,12 @@ const SECOND_REWRITE: &[Called] = &[
 fn manifest_calls_so(rt: &impl Abort, alloc: Global, disk: &mut NotingDisk) -> [bool; 4] {
     let mut manifest = manifests::create(rt, alloc, disk);
     let is_created_so = disk.made(CREATION);
-    manifests::refusal_of_record(rt, alloc, disk, &mut manifest);
-    let is_changed_so = disk.made(RECORD);
-    manifests::refusal(rt, alloc, disk, &mut manifest);
-    let is_rewritten_so = disk.made(FIRST_REWRITE);
-    manifests::refusal(rt, alloc, disk, &mut manifest);
-    let is_again_so = disk.made(SECOND_REWRITE);
+    let refused = manifests::refusal_of_record(rt, alloc, disk, &mut manifest);
+    let is_changed_so = disk.made(RECORD) && refused.is_none();
+    let refused = manifests::refusal(rt, alloc, disk, &mut manifest);
+    let is_rewritten_so = disk.made(FIRST_REWRITE) && refused.is_none();
+    let refused = manifests::refusal(rt, alloc, disk, &mut manifest);
+    let is_again_so = disk.made(SECOND_REWRITE) && refused.is_none();
     [is_created_so, is_changed_so, is_rewritten_so, is_again_so]
 }
 

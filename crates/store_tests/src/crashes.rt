@@ -230,31 +230,6 @@ fn outcomes_of_a_crash(rt: HostRuntime) {
     all_hold(&rt, rt.alloc(), &OUTCOMES);
 }
 
-// A log of one record, its gate open, and a closed gate: 23 bytes.
-const LOG: &[u8] = &[
-    1, 0, 0, 0, 0x11, 0, 0, 0, 0, 0, 0, 0, 1, 0, 1, 1, 0, 1, 0x61, 0, 1, 0x31, 0,
-];
-
-// The next record behind the closed gate, and a closed gate: 22 bytes.
-const NEXT: &[u8] = &[
-    0, 0, 0, 0x11, 0, 0, 0, 0, 0, 0, 0, 2, 0, 1, 1, 0, 1, 0x61, 0, 1, 0x32, 0,
-];
-
-// Its record, a closed gate, and junk in place of the next.
-const STOPPED: &[u8] = &[
-    1, 0, 0, 0, 0x11, 0, 0, 0, 0, 0, 0, 0, 1, 0, 1, 1, 0, 1, 0x61, 0, 1, 0x31, 0, //
-    1, 1, 1, 1, 1, 1, 1, 1, 1, 1, 1, 1, 1, 1, 1, 1, 1, 1, 1, 1, 1, 1,
-];
-
-const IN_AN_APPEND: &[Act] = &[Act::Write(FILE, 0, LOG), SYNC, Act::Write(FILE, 23, NEXT)];
-
-#[test]
-fn a_log_that_stops_in_an_append(rt: HostRuntime) {
-    let junk = Choice::Bytes(&[1]);
-    let is_left = leaves_after(&rt, rt.alloc(), IN_AN_APPEND, junk, Some(STOPPED));
-    is_so(&rt, is_left, "another content");
-}
-
 // Files 2 and 9 were never synced, and file 5 was.
 const THREE_FILES: &[Act] = &[
     Act::Write(9, 0, b"nine!"),

@@ -93,15 +93,17 @@ impl Case for Limit {
 // 2^63, where the greatest number is one less.
 const BEHIND: u64 = 9223372036854775808;
 
-static LIMITS: [Limit; 8] = [
+static LIMITS: [Limit; 10] = [
     // The generation.
     Limit(1, MAX_NUMBER, None),
     Limit(1, BEHIND, DAMAGED),
-    // Next file and floor.
+    // Next file, floor and flushed.
     Limit(16, BEHIND, None),
     Limit(16, 9223372036854775809, DAMAGED),
     Limit(24, MAX_NUMBER, None),
     Limit(24, BEHIND, DAMAGED),
+    Limit(32, MAX_NUMBER, None),
+    Limit(32, BEHIND, DAMAGED),
     // The first number of the log.
     Limit(59, BEHIND, None),
     Limit(59, 9223372036854775809, DAMAGED),
@@ -113,13 +115,48 @@ fn numbers_at_their_limits(rt: HostRuntime) {
     all_hold(&rt, rt.alloc(), &LIMITS);
 }
 
+// Whether an open slot with this byte at this place is read. No byte but the slot's own and those
+// that are tried is asked for.
+fn is_read(at: usize, byte: u8) -> bool {
+    match at {
+        // The first bytes of generation, next file, floor, flushed and the log's first number.
+        1 | 16 | 24 | 32 | 59 => byte < 0x80,
+        // Ids, and the log's first number, are not 0.
+        10 | 46 | 66 => byte > 0,
+        // The open gate of the record, one id, and one log.
+        11 | 44 | 50 => byte == 1,
+        // The lengths of the record and the log's files that are tried are none of theirs.
+        15 | 58 => false,
+        // The next file is above the log's.
+        23 => byte > 3,
+        // The epoch.
+        43 => byte < 16,
+        // The closed gate.
+        71 => byte != 1,
+        // The other bytes of these numbers and ids.
+        2..=9 | 17..=22 | 25..=31 | 33..=39 | 45 | 60..=65 => true,
+        // The other bytes of lengths, of the epoch, and of the log's file are 0.
+        _ => byte == 0,
+    }
+}
+
+// The refusal of the slot with this byte at this place, of those that are tried.
+fn wanted(at: usize, byte: u8) -> Option<ManifestError> {
+    if at == 0 && byte != 1 {
+        NOT_CREATED
+    } else if at == 0 || is_read(at, byte) {
+        None
+    } else {
+        DAMAGED
+    }
+}
+
 #[test]
 fn each_byte_changed(rt: HostRuntime) {
     for at in 0..72 {
         for byte in &[0, 1, 2, 0x80, 0xff] {
             let refused = refusal_with(&rt, rt.alloc(), at, *byte);
-            let is_told = refused.is_none() || refused == DAMAGED || refused == NOT_CREATED;
-            holds_at(&rt, at, is_told);
+            holds_at(&rt, at, refused == wanted(at, *byte));
         }
     }
 }

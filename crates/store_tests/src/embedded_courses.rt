@@ -132,6 +132,7 @@ fn settle<D: Disk + Drop>(rt: &impl Abort, alloc: Global, store: &mut EmbeddedSt
             return;
         }
     }
+    is_so(rt, false, "an end of the tends");
 }
 
 pub fn opened<D: Disk + Drop>(rt: &impl Abort, alloc: Global, disk: D) -> EmbeddedStore<D> {

@@ -1,7 +1,7 @@
 // A folder as a disk beside the disk in memory, which answers the same calls the same: rows of
 // calls with their answers, and random calls of 40 files.
 use crate::cases::{holds_at, is_so};
-use crate::items::is_same;
+use crate::items::{filled, is_same, put};
 use crate::random_rows::Numbers;
 use dir_disk::DirDisk;
 use disk::{Disk, DiskError, MemDisk};
@@ -172,6 +172,38 @@ fn a_folder_answers_as_the_disk_in_memory(rt: HostRuntime) {
     remove_folder(&rt, &rt, folder.as_str());
 }
 
+/// A file, and its bytes.
+pub type Text = (u64, Vec<u8>);
+
+fn text_of<D: Disk>(rt: &impl Abort, alloc: Global, disk: &mut D, file: u64) -> Text {
+    let len = disk.length(file).expect(rt, "a length");
+    let mut bytes = filled(rt, alloc, 0, len as usize);
+    disk.read(file, 0, &mut bytes).expect(rt, "a read");
+    (file, bytes)
+}
+
+/// The files of a disk with their bytes.
+pub fn texts<D: Disk>(rt: &impl Abort, alloc: Global, disk: &mut D) -> Vec<Text> {
+    let mut texts = Vec::new(alloc);
+    for file in disk.files().expect(rt, "the files") {
+        put(rt, &mut texts, text_of(rt, alloc, disk, file));
+    }
+    texts
+}
+
+/// Whether these are the same files with the same bytes.
+pub fn are_same(found: &[Text], want: &[Text]) -> bool {
+    if found.len() != want.len() {
+        return false;
+    }
+    for (found, want) in found.iter().zip(want) {
+        if found.0 != want.0 || !is_same(&found.1, &want.1) {
+            return false;
+        }
+    }
+    true
+}
+
 // A call of one of 40 files, at random, with bytes of "0123456789abcdef".
 fn random_call(numbers: &mut Numbers) -> Call {
     let file = numbers.next() as u64 % 40;
@@ -204,6 +236,16 @@ fn agree<C: Disk, D: Disk>(
     true
 }
 
+// Whether both disks have the same files with the same bytes.
+fn have_same_files<C: Disk, D: Disk>(
+    rt: &impl Abort,
+    alloc: Global,
+    (first, second): (&mut C, &mut D),
+) -> bool {
+    let want = texts(rt, alloc, first);
+    are_same(&texts(rt, alloc, second), &want)
+}
+
 #[test]
 fn random_calls_of_40_files_have_the_same_answers(rt: HostRuntime) {
     let folder = empty_folder(&rt, &rt, "random");
@@ -216,6 +258,8 @@ fn random_calls_of_40_files_have_the_same_answers(rt: HostRuntime) {
             round,
             agree(&rt, &mut numbers, 400, (&mut memory, &mut disk)),
         );
+        let have_same = have_same_files(&rt, rt.alloc(), (&mut memory, &mut disk));
+        holds_at(&rt, round, have_same);
         drop(disk);
     }
     drop(memory);

@@ -1,8 +1,7 @@
 // A store in a folder: the bytes of its files, what an opening finds, and an opening that leaves
 // each byte as it was.
 use crate::cases::{holds_at, is_so};
-use crate::folder_rows::{disk_over, empty_folder, remove_folder};
-use crate::items::{filled, is_same, put};
+use crate::folder_rows::{Text, are_same, disk_over, empty_folder, remove_folder, texts};
 use crate::plain_store::{PlainStore, append, batch_at, created, get_agrees, opened, tends};
 use dir_disk::{DirDisk, Unchanged};
 use disk::{Disk, DiskError, MemDisk};
@@ -37,6 +36,7 @@ fn settle<D: Disk + Drop>(rt: &impl Abort, alloc: Global, engine: &mut Engine<D>
             return;
         }
     }
+    is_so(rt, false, "an end of the tends");
 }
 
 // A store of 60 batches of one put each, whose last log is not flushed.
@@ -67,37 +67,6 @@ fn has_all<D: Disk + Drop>(rt: &impl Abort, alloc: Global, engine: &mut Engine<D
         agree = agree && get_agrees(rt, alloc, engine, &plain, (place, BATCHES as u64));
     }
     agree
-}
-
-// A file, and its bytes.
-type Text = (u64, Vec<u8>);
-
-fn text_of<D: Disk>(rt: &impl Abort, alloc: Global, disk: &mut D, file: u64) -> Text {
-    let len = disk.length(file).expect(rt, "a length");
-    let mut bytes = filled(rt, alloc, 0, len as usize);
-    disk.read(file, 0, &mut bytes).expect(rt, "a read");
-    (file, bytes)
-}
-
-// The files of a disk with their bytes.
-fn texts<D: Disk>(rt: &impl Abort, alloc: Global, disk: &mut D) -> Vec<Text> {
-    let mut texts = Vec::new(alloc);
-    for file in disk.files().expect(rt, "the files") {
-        put(rt, &mut texts, text_of(rt, alloc, disk, file));
-    }
-    texts
-}
-
-fn are_same(found: &[Text], want: &[Text]) -> bool {
-    if found.len() != want.len() {
-        return false;
-    }
-    for (found, want) in found.iter().zip(want) {
-        if found.0 != want.0 || !is_same(&found.1, &want.1) {
-            return false;
-        }
-    }
-    true
 }
 
 // The facts of a store in this folder, after its creation.

@@ -282,13 +282,14 @@ fn which_slot_counts(rt: HostRuntime) {
     all_hold(&rt, rt.alloc(), &PAIRS);
 }
 
-// What becomes of a disk whose call was struck.
-static CHOICES: [Option<Choice>; 5] = [
-    None,
-    Some(Choice::Old),
-    Some(Choice::New),
-    Some(Choice::Bytes(&[0])),
-    Some(Choice::Bytes(&[1])),
+// What becomes of a disk whose call was struck, and whether the new version is opened where the
+// call was the write of the gate or the sync behind it.
+static CHOICES: [(Option<Choice>, bool); 5] = [
+    (None, true),
+    (Some(Choice::Old), false),
+    (Some(Choice::New), true),
+    (Some(Choice::Bytes(&[0])), false),
+    (Some(Choice::Bytes(&[1])), true),
 ];
 
 // Slots that are both open, of which the second counts.
@@ -298,8 +299,14 @@ fn both_open(rt: &impl Abort, alloc: Global) -> MemDisk {
 }
 
 // Whether a rewrite with this call struck is refused and fails from then on, and the version is
-// opened again, of one of both slots.
-fn is_left_by_rewrite(rt: &impl Abort, alloc: Global, call: u64, choice: Option<Choice>) -> bool {
+// opened again, of the slot with this generation.
+fn is_left_by_rewrite(
+    rt: &impl Abort,
+    alloc: Global,
+    call: u64,
+    choice: Option<Choice>,
+    generation: u64,
+) -> bool {
     let mut disk = both_open(rt, alloc);
     let mut manifest = open(rt, alloc, &mut disk);
     arm(&mut disk, Fault::Fail(call));
@@ -307,26 +314,31 @@ fn is_left_by_rewrite(rt: &impl Abort, alloc: Global, call: u64, choice: Option<
     let stays = refusal(rt, alloc, &mut disk, &mut manifest) == Some(ManifestError::Failed);
     mend(rt, alloc, &mut disk, choice);
     let opened = answer(rt, alloc, &mut disk);
-    is_refused
-        && stays
-        && (opened == Ok(2) || opened == Ok(3))
-        && numbers(rt, alloc, &mut disk) == NEW
+    is_refused && stays && opened == Ok(generation) && numbers(rt, alloc, &mut disk) == NEW
 }
 
-// A rewrite over an open gate makes seven calls.
+// A rewrite over an open gate makes seven calls. Until the sixth the new slot stands behind a
+// closed gate.
 #[test]
 fn rewrites_that_stop(rt: HostRuntime) {
     for call in 1..8 {
-        for choice in &CHOICES {
-            let is_left = is_left_by_rewrite(&rt, rt.alloc(), call, *choice);
+        for (choice, gated) in &CHOICES {
+            let generation = if call >= 6 && *gated { 3 } else { 2 };
+            let is_left = is_left_by_rewrite(&rt, rt.alloc(), call, *choice, generation);
             holds_at(&rt, call as usize, is_left);
         }
     }
 }
 
-// Whether a record with this call struck is refused and fails from then on, and the old version or
-// the new one is opened again.
-fn is_left_by_record(rt: &impl Abort, alloc: Global, call: u64, choice: Option<Choice>) -> bool {
+// Whether a record with this call struck is refused and fails from then on, and the version of
+// these numbers is opened again.
+fn is_left_by_record(
+    rt: &impl Abort,
+    alloc: Global,
+    call: u64,
+    choice: Option<Choice>,
+    want: &[u64; 6],
+) -> bool {
     let mut disk = both_open(rt, alloc);
     let mut manifest = open(rt, alloc, &mut disk);
     arm(&mut disk, Fault::Fail(call));
@@ -334,17 +346,16 @@ fn is_left_by_record(rt: &impl Abort, alloc: Global, call: u64, choice: Option<C
     let later = refusal_of_record(rt, alloc, &mut disk, &mut manifest);
     mend(rt, alloc, &mut disk, choice);
     let opened = numbers(rt, alloc, &mut disk);
-    refused == Some(ManifestError::Disk)
-        && later == Some(ManifestError::Failed)
-        && (opened == NEW || opened == RAISED)
+    refused == Some(ManifestError::Disk) && later == Some(ManifestError::Failed) && opened == *want
 }
 
-// A record makes four calls.
+// A record makes four calls. Until the third it stands behind a closed gate.
 #[test]
 fn records_that_stop(rt: HostRuntime) {
     for call in 1..5 {
-        for choice in &CHOICES {
-            let is_left = is_left_by_record(&rt, rt.alloc(), call, *choice);
+        for (choice, gated) in &CHOICES {
+            let want = if call >= 3 && *gated { &RAISED } else { &NEW };
+            let is_left = is_left_by_record(&rt, rt.alloc(), call, *choice, want);
             holds_at(&rt, call as usize, is_left);
         }
     }
@@ -363,7 +374,7 @@ fn is_left_by_opening(rt: &impl Abort, alloc: Global, call: u64, choice: Option<
 #[test]
 fn openings_that_stop(rt: HostRuntime) {
     for call in 1..8 {
-        for choice in &CHOICES {
+        for (choice, _) in &CHOICES {
             let is_left = is_left_by_opening(&rt, rt.alloc(), call, *choice);
             holds_at(&rt, call as usize, is_left);
         }

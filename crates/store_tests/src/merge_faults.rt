@@ -2,12 +2,12 @@
 use crate::cases::{has_memory, holds_at, is_so};
 use crate::crashes::Choice;
 use crate::faults::mend;
+use crate::full_stores::next_if_alone;
 use crate::merge_courses::{Course, Run, before_tend};
 use crate::merge_rows::STRUCK;
 use crate::plain_store::{PlainStore, opened_with, tend};
 use disk::{Crash, Disk, Fault, MemDisk};
 use engine::{EngineError, Tended};
-use manifest::Manifest;
 use std::alloc::Global;
 use std::process::Abort;
 
@@ -33,10 +33,7 @@ pub fn settles<D: Disk + Drop>(rt: &impl Abort, alloc: Global, run: &mut Run<D>)
 
 /// Whether the disk has the files that its manifest names, and no others.
 pub fn is_alone(rt: &impl Abort, alloc: Global, disk: &mut MemDisk) -> bool {
-    let manifest = Manifest::open(alloc, disk).expect(rt, "a manifest");
-    let (logs, tables) = (manifest.state().logs.len(), manifest.state().tables.len());
-    let files = disk.files().expect(rt, "the files");
-    files.len() == logs.saturating_add(tables).saturating_add(2)
+    next_if_alone(rt, alloc, disk).is_some()
 }
 
 // What is to be found: so many batches, and a floor of two.
@@ -159,6 +156,7 @@ fn strike(rt: &impl Abort, alloc: Global, course: &Course, which: usize, first: 
             return true;
         }
     }
+    is_so(rt, false, "a tend of less than 1,000 calls");
     false
 }
 
@@ -166,6 +164,7 @@ fn strike(rt: &impl Abort, alloc: Global, course: &Course, which: usize, first: 
 // call.
 #[test]
 fn a_fault_at_each_call_of_each_tend(rt: HostRuntime) {
+    let mut count = 0usize;
     for (index, course) in STRUCK.iter().enumerate() {
         for which in 0..100usize {
             let first = index
@@ -175,6 +174,9 @@ fn a_fault_at_each_call_of_each_tend(rt: HostRuntime) {
             if !strike(&rt, rt.alloc(), course, which, first) {
                 break;
             }
+            count = count.saturating_add(1);
         }
     }
+    // Eight, seven, eight and five.
+    is_so(&rt, count == 28, "the tends of all courses");
 }

@@ -148,8 +148,8 @@ fn a_changed_byte_is_damage(rt: HostRuntime) {
 /// The length of a block whose one entry has a key of one byte and a value of 5,000.
 const LONG: usize = 5_026;
 
-/// The places and lengths of the blocks: the second one is long.
-static BLOCKS: [(u64, usize); 3] = [(0, BLOCK), (27, LONG), (5_053, BLOCK)];
+/// The places and lengths of the blocks, and their keys: the second one is long.
+static BLOCKS: [(u64, usize, u8); 3] = [(0, BLOCK, b'a'), (27, LONG, b'b'), (5_053, BLOCK, b'c')];
 
 /// File 1 with these blocks, and a cache of three.
 fn three_blocks(rt: &impl Abort, alloc: Global) -> CachedDisk<MemDisk> {
@@ -162,11 +162,24 @@ fn three_blocks(rt: &impl Abort, alloc: Global) -> CachedDisk<MemDisk> {
     CachedDisk::new(alloc, disk, 3).expect(rt, "memory for the cache")
 }
 
+/// Whether a read answers a block of file 1 with this key, which stands at place 6.
+fn has_key(
+    alloc: Global,
+    files: &mut CachedDisk<MemDisk>,
+    (place, len): (u64, usize),
+    key: u8,
+) -> bool {
+    match files.block(alloc, 1, place, len) {
+        Ok(block) => block.bytes.get(6) == Some(&key),
+        Err(_) => false,
+    }
+}
+
 /// How many of the blocks a read answers.
 fn answered(alloc: Global, files: &mut CachedDisk<MemDisk>) -> usize {
     let mut count = 0usize;
-    for (place, len) in &BLOCKS {
-        if files.block(alloc, 1, *place, *len).is_ok() {
+    for (place, len, key) in &BLOCKS {
+        if has_key(alloc, files, (*place, *len), *key) {
             count = count.wrapping_add(1);
         }
     }

@@ -86,9 +86,9 @@ fn turned(rt: &impl Abort, alloc: Global, at: usize) -> Vec<u8> {
     bytes
 }
 
-/// Fails the test unless the byte at a place is missed, both where a bit of it is turned and where
-/// the file ends before it.
-fn is_missed(rt: &impl Abort, alloc: Global, whole: &[u8], at: usize) {
+/// Fails the test unless damage of the byte at a place is found, both where a bit of it is turned
+/// and where the file ends before it.
+fn is_found_at(rt: &impl Abort, alloc: Global, whole: &[u8], at: usize) {
     let is_so = is_damaged(rt, alloc, &turned(rt, alloc, at));
     assert!(rt; is_so, "byte {at}");
     let is_so = is_damaged(rt, alloc, whole.get(..at).unwrap_or_default());
@@ -101,7 +101,7 @@ fn damage_and_short_files_are_found(rt: HostRuntime) {
     let whole = smallest(&rt, alloc);
     assert!(rt; !is_damaged(&rt, alloc, &whole), "the sound table");
     for at in 0..134 {
-        is_missed(&rt, alloc, &whole, at);
+        is_found_at(&rt, alloc, &whole, at);
     }
 }
 

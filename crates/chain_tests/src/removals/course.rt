@@ -1,6 +1,6 @@
-// A run of 300 submits and four removals, by a fixed list of numbers that look like chance: frames
-// come again, late, out of order or never, tends merge, nodes stop and start, calls of a disk fail,
-// and each node hears of a new configuration early, late or never.
+// Runs of 300 submits and four removals, and of 180 and two, by fixed lists of numbers that look
+// like chance: frames come again, late, out of order or never, tends merge, nodes stop and start,
+// calls of a disk fail, and each node hears of a new configuration early, late or never.
 use crate::answers::is_so;
 use crate::courses::{Step, configs_of, event};
 use crate::items::{id_of, number};

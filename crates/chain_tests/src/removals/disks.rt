@@ -3,6 +3,7 @@ use crate::answers::is_so;
 use crate::items::{number, range_of};
 use crate::removals::history::{Asked, Edit, History, KEYS, Span, at};
 use crate::removals::lists::{Known, rows_of};
+use configurations::NodeId;
 use disk::MemDisk;
 use engine::Engine;
 use kv_types::{Batch, Limits};
@@ -76,6 +77,16 @@ fn list_of(rt: &impl Abort, alloc: Global, known: &Known, count: u64) -> Vec<u64
     list
 }
 
+// Whether these are the ids of a list, in its order.
+fn are_ids(own: &[NodeId], ids: &[u16]) -> bool {
+    for (id, want) in own.iter().zip(ids) {
+        if id.get() != *want {
+            return false;
+        }
+    }
+    own.len() == ids.len()
+}
+
 /// The list of a node, which its disk has: each batch that is not given up, and the map at each
 /// number from the floor on.
 pub fn list_on(
@@ -93,7 +104,7 @@ pub fn list_on(
     let epoch = engine.epoch().get();
     is_so(rt, epoch >= known.epoch, "an epoch that was told");
     let ids = lists.get(epoch as usize).copied().unwrap_or(&[]);
-    is_so(rt, engine.config().ids().len() == ids.len(), "its nodes");
+    is_so(rt, are_ids(engine.config().ids(), ids), "its nodes");
     let history = History { list: &list, asked };
     let floor = engine.floor().get();
     for number in floor..count.get().saturating_add(1) {
