@@ -3,7 +3,7 @@ use Rattle.std.proofs.Common.{◌≡◌, ◌<◌, ℕ, Bool, List, [], ◌++◌,
 use Rattle.std.proofs.Common.{append-nil, append_assoc, ap, arith, get_or, length-append, refl}
 use Rattle.std.proofs.Common.{subst, sym, ◌∙◌}
 use Rattle.std.proofs.Math.Seq.{drop-cons}
-use Rattle.std.proofs.lemmas.List.{length-map}
+use Rattle.std.proofs.lemmas.List.{map-append}
 use Rattle.std.proofs.lemmas.List.Elements.{All-append, All-from_recursion, All-weaker}
 use Rattle.disk.specs.declared.disk.Disk.{Ghosts}
 use Rattle.lab.specs.EventContent as lab
@@ -21,12 +21,12 @@ module _ {D C : Type 0} {g : Ghosts D} where
     own = [];
     took = sym (append-nil (events_so_far world));
     of = All-from_recursion is_own [] tt;
-    more = [];
+    ended = [];
+    begun = [];
     added = sym (append-nil (lines_so_far world));
+    lost = sym (append-nil (lost_so_far world));
     within = omega arith;
-    marks = [];
-    marked = sym (append-nil (lost_so_far world));
-    each = omega arith;
+    last = omega arith;
     configs = refl;
   }
 
@@ -38,42 +38,50 @@ module _ {D C : Type 0} {g : Ghosts D} where
     own = adds.own;
     took = adds.took;
     of = adds.of;
-    more = adds.more;
-    added = adds.added;
+    ended = adds.more;
+    begun = [];
+    added = adds.added ∙ ap (λ l. lines_so_far old ++ l) (sym (append-nil adds.more));
+    lost = adds.lost;
     within = omega (arith, adds.pairs);
-    marks = map is_lost adds.more;
-    marked = adds.lost;
-    each = omega (arith, length-map adds.more is_lost);
+    last = omega (arith, adds.pairs);
     configs = adds.configs;
   }
 
   -- and what was begun behind it
-  pub keeps_more : (is_own : lab.EventContent → Type 0) (old mid new : World D C g) →
-      KeepsLines is_own old mid → KeepsLines is_own mid new → KeepsLines is_own old new
-  keeps_more is_own old mid new before after = record {
+  pub keeps_more : (named : Type 0) (is_own : lab.EventContent → Type 0)
+      (are_lines : List Line → Type 0) (count : ℕ) (old mid new : World D C g) →
+      AddsLines named is_own are_lines count old mid → KeepsLines is_own mid new →
+      KeepsLines is_own old new
+  keeps_more named is_own are_lines count old mid new before after = record {
     own = before.own ++ after.own;
     took = after.took ∙ (ap (λ (l : List lab.EventContent). l ++ after.own) before.took
         ∙ append_assoc (events_so_far old) before.own after.own);
     of = All-append is_own before.own after.own before.of after.of;
-    more = before.more ++ after.more;
-    added = after.added ∙ (ap (λ (l : List (List Line)). l ++ after.more) before.added
-        ∙ append_assoc (lines_so_far old) before.more after.more);
+    ended = before.more ++ after.ended;
+    begun = after.begun;
+    added = after.added
+        ∙ (ap (λ (l : List (List Line)). l ++ (after.ended ++ after.begun)) before.added
+        ∙ append_assoc (lines_so_far old) before.more (after.ended ++ after.begun)
+        ∙ ap (λ (l : List (List Line)). lines_so_far old ++ l)
+        (sym (append_assoc before.more after.ended after.begun)));
+    lost = after.lost
+        ∙ (ap (λ (l : List Bool). l ++ map is_lost after.ended) before.lost
+        ∙ append_assoc (lost_so_far old) (map is_lost before.more) (map is_lost after.ended)
+        ∙ ap (λ (l : List Bool). lost_so_far old ++ l)
+        (sym (map-append is_lost before.more after.ended)));
     within = omega (
       arith,
-      before.within,
+      before.pairs,
       after.within,
-      length-append before.more after.more,
+      length-append before.more after.ended,
       length-append before.own after.own,
     );
-    marks = before.marks ++ after.marks;
-    marked = after.marked ∙ (ap (λ (l : List Bool). l ++ after.marks) before.marked
-        ∙ append_assoc (lost_so_far old) before.marks after.marks);
-    each = omega (
+    last = omega (
       arith,
-      before.each,
-      after.each,
-      length-append before.marks after.marks,
-      length-append before.more after.more,
+      before.pairs,
+      after.last,
+      length-append before.more after.ended,
+      length-append before.own after.own,
     );
     configs = after.configs ∙ before.configs;
   }
@@ -86,12 +94,12 @@ module _ {D C : Type 0} {g : Ghosts D} where
     own = keeps.own;
     took = keeps.took;
     of = All-weaker is_own is_other weaker keeps.own keeps.of;
-    more = keeps.more;
+    ended = keeps.ended;
+    begun = keeps.begun;
     added = keeps.added;
+    lost = keeps.lost;
     within = keeps.within;
-    marks = keeps.marks;
-    marked = keeps.marked;
-    each = keeps.each;
+    last = keeps.last;
     configs = keeps.configs;
   }
 

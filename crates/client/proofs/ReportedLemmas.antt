@@ -9,7 +9,7 @@ use Rattle.disk.specs.declared.disk.Disk.{Ghosts}
 use Rattle.lab.specs.declared.Line.{Line}
 use Rattle.lab.specs.declared.SimNode.{SimNode}
 use Rattle.lab.specs.declared.world.World.{World}
-use Rattle.lab.specs.{AddsLines, EventAddsLines, IsDownAmong}
+use Rattle.lab.specs.{AddsLines, EventAddsLines, IsDownAmong, MovesAtMostOne}
 use Rattle.lab.specs.{ShowsNumbers, configs_of, drops_in_steps, events_so_far, is_lost}
 use Rattle.lab.specs.{lines_so_far, lost_so_far, nodes_of, sent_so_far}
 use Rattle.lab.specs.NodeLists.{Configurations}
@@ -189,13 +189,15 @@ module _ {D C : Type 0} {g : Ghosts D} (old new : World D C g) (it : Statement)
     (turn : StatementResult) (old_left new_left : List ℕ) where
   pub reported_event : (event : lab.EventContent) → it.action ≡ Event event →
       turn ≡ record { line = it.line; events = 1; silent = 0; note = note.Nothing } →
-      EventAddsLines event old new → (IsRising 0 (sent_so_far old) old_left →
+      EventAddsLines event old new → MovesAtMostOne event old new →
+      (IsRising 0 (sent_so_far old) old_left →
       new_left ≡ left_after_event event.kind (old_left ++ places_between old new)) →
       IsReportedIn old new it turn old_left new_left
-  reported_event event is made adds left = rw made (record {
+  reported_event event is made adds moves left = rw made (record {
     answered = record { line = refl; did = rw is (refl, refl, refl) };
     shown = tt;
     adds = rw is adds;
+    moves = rw is moves;
     ends = rw is (λ named. (adds.more, adds.added, tt));
     stays = λ none. absurd (omega (arith, none));
     delivers = λ flow. absurd (no_flow event (sym is ∙ flow));
@@ -211,6 +213,7 @@ module _ {D C : Type 0} {g : Ghosts D} (old new : World D C g) (it : Statement)
     answered = record { line = refl; did = rw is (few, refl, busy_or_not new_left count ends) };
     shown = shows_busy (nodes_of old) new_left;
     adds = rw is adds;
+    moves = rw is tt;
     ends = rw is (λ named. (adds.more, adds.added, tt));
     stays = stays;
     delivers = λ flow. (delivers, refl);
@@ -231,6 +234,7 @@ module _ {D C : Type 0} {g : Ghosts D} (old new : World D C g) (it : Statement)
     answered = record { line = refl; did = rw is (few, (more, refl, refl)) };
     shown = shows_more (nodes_of old) more;
     adds = rw is adds;
+    moves = rw is tt;
     ends = rw is (λ named.
         let t = tends named in
         let own = same_more (lines_so_far old) adds.more t.0 (sym adds.added ∙ t.1) in (
@@ -256,6 +260,7 @@ module _ {D C : Type 0} {g : Ghosts D} (world : World D C g) (it : Statement)
     answered = record { line = refl; did = rw is (refl, refl, refl) };
     shown = tt;
     adds = adds_nothing it.action world;
+    moves = rw is tt;
     ends = rw is (λ named. ([], sym (append-nil (lines_so_far world)), tt));
     stays = λ _. refl;
     delivers = λ flow. absurd (no_invalid e (sym is ∙ flow));
@@ -271,6 +276,7 @@ module _ {D C : Type 0} {g : Ghosts D} (world : World D C g) (it : Statement)
     answered = record { line = refl; did = rw is (refl, refl, (numbers, refl)) };
     shown = shows_now (nodes_of world) node numbers own none;
     adds = adds_nothing it.action world;
+    moves = rw is tt;
     ends = rw is (λ named. ([], sym (append-nil (lines_so_far world)), tt));
     stays = λ _. refl;
     delivers = λ flow. absurd (no_show node (sym is ∙ flow));

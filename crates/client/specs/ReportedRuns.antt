@@ -12,7 +12,8 @@ use Rattle.lab.specs.EventContent.{EventContent}
 use Rattle.lab.specs.Numbers.{Numbers}
 use Rattle.lab.specs.EventKind.TheVariants.{Tend}
 use Rattle.lab.specs.{AddsLines, AreEventLines, HasItsNodes, IsDownAmong, KeepsLines}
-use Rattle.lab.specs.{ShowsNumbers, configs_of, events_so_far, lines_so_far, nodes_of, sent_so_far}
+use Rattle.lab.specs.{MovesAtMostOne, ShowsNumbers, configs_of, events_so_far, lines_so_far}
+use Rattle.lab.specs.{nodes_of, sent_so_far}
 use Rattle.lab.specs.NodeLists.{Configurations}
 use Rattle.scripts.specs.Scripts.{Names}
 use Rattle.scripts.specs.declared.statement.Action.{Action}
@@ -90,6 +91,11 @@ module _ {D C : Type 0} {g : Ghosts D} where
       AddsLines (Names (configs_of old) action) (IsActionEvent action) (AreActionLines action) count
       old new
 
+  -- an event was taken by one node at most, which stands as the lines of the event tell
+  abbrev pub MovesForEvent : Action → World D C g → World D C g → Type 0
+  MovesForEvent (Event event) old new = MovesAtMostOne event old new
+  MovesForEvent action old new = Unit {0}
+
   -- the places of the frames that were sent between two moments of a world
   abbrev pub places_between : World D C g → World D C g → List ℕ
   places_between old new = places_after (sent_so_far old) (sent_so_far new - sent_so_far old)
@@ -109,6 +115,7 @@ module _ {D C : Type 0} {g : Ghosts D} where
     pub answered : IsAnswered it turn
     pub shown : ShowsNow (nodes_of old) turn.note
     pub adds : ActionAddsLines it.action turn.events old new
+    pub moves : MovesForEvent it.action old new
     pub ends : Names (configs_of old) it.action →
         EndsIn it.action turn (lines_so_far old) (lines_so_far new)
     pub stays : turn.events ≡ 0 → new ≡ old

@@ -7,7 +7,8 @@ ghost use Rattle.std.specs.Prelude.{true};
 ghost use Rattle.kv_types.specs.{has};
 ghost use Rattle.lab.specs.NodeLists.{at_epoch};
 ghost use Rattle.lab.specs.declared.Line.{Line};
-ghost use Rattle.lab.specs.{Choice, EventAddsLines, KeepsLines, NamesNode, frames_in_steps};
+ghost use Rattle.lab.specs.{Choice, EventAddsLines, KeepsLines, MovesAtMostOne, NamesNode};
+ghost use Rattle.lab.specs.{frames_in_steps};
 ghost use Rattle.lab.specs.{configs_of, faultless, frames_of_step, lines_so_far};
 ghost use Rattle.client.specs.ReportedRuns.{ActionAddsLines, DeliversLeft, IsActionEvent};
 ghost use Rattle.client.specs.ReportedRuns.{IsReportedIn, places_between};
@@ -127,6 +128,7 @@ fn step<D: Crash + Drop, C: Carrier + Drop>(
         × (left.new.items ≡ left.old.items
         ++ places_after (frames_in_steps past.steps) (frames_of_step lines))) }
     ensures adds { OnOk result (EventAddsLines event.now world.old world.new) }
+    ensures moves { OnOk result (MovesAtMostOne event.now world.old world.new) }
     ensures left { OnOk result
         (left.new.items ≡ left.old.items ++ places_between world.old world.new) }
     ensures refused { OnErr result (KeepsLines (λ it. it ≡ event.now) world.old world.new) }

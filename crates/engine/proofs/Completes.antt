@@ -16,6 +16,7 @@ use Rattle.compaction.specs.declared.Merge.{Merge}
 use Rattle.compaction.specs.declared.error.MergeError.{MergeError}
 use Rattle.compaction.specs.declared.error.MergeError.TheVariants as merging
 use Rattle.compaction.specs.{AcceptsMerge, IsFitMergeEdit, IsLineOf, IsMergeEdit, MergeEditsKeep}
+use Rattle.compaction.specs.EditsLemmas.{zip_weaker}
 use Rattle.compaction.specs.Merges.{EndsMerge, HasEntriesLeft, HasTooManyTables, IsOutputTable}
 use Rattle.compaction.specs.Merges.{begun_number, merge_change, target_of}
 use Rattle.compaction.specs.Outputs.{IsOpenFile}
@@ -40,7 +41,7 @@ use Rattle.engine.specs.UnderWay.{HoldsWithMerge, IsMergeOf, WasMeantWithMerge}
 use Rattle.engine.proofs.Abandons.{ends, environment, fails_alike}
 use Rattle.engine.proofs.Advances.{own_file, own_named}
 use Rattle.engine.proofs.Beside.{meant_beside, represent_beside}
-use Rattle.engine.proofs.OutputTables.{output_durable, output_read, zip_each, zip_weaker}
+use Rattle.engine.proofs.OutputTables.{output_durable, output_read, zip_each}
 
 -- what holds where an answer is `Full`
 of_full : (e : MergeError) (P : Type 0) → e ≡ merging.Full →

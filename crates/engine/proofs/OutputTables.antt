@@ -13,15 +13,7 @@ use Rattle.compaction.specs.Merges.{IsOutputTable}
 use Rattle.store_model.specs.{LevelTable}
 use Rattle.store_tables.specs.LevelTables.{IsTableOf, least_key}
 
--- what stands side by side does in a weaker relation
-pub zip_weaker : {A B : Type 0} (R Q : A → B → Type 0) → ((x : A) (y : B) → R x y → Q x y) →
-    (xs : List A) (ys : List B) → AllZip R xs ys → AllZip Q xs ys
-zip_weaker R Q so [] [] zip = tt
-zip_weaker R Q so [] (y ∷ ys) zip = absurd zip
-zip_weaker R Q so (x ∷ xs) [] zip = absurd zip
-zip_weaker R Q so (x ∷ xs) (y ∷ ys) zip = (so x y zip.0, zip_weaker R Q so xs ys zip.1)
-
--- and so each on the first side has what follows of it
+-- where two lists stand side by side, each on the first side has what follows of it
 pub zip_each : {A B : Type 0} (R : A → B → Type 0) (P : A → Type 0)
     → ((x : A) (y : B) → R x y → P x) →
     (xs : List A) (ys : List B) → AllZip R xs ys → All P xs

@@ -74,7 +74,8 @@ fn node_over_folder<R: Files<File = File> + Alloc<A = Global> + Clone + Drop>(
     }
 }
 
-// The node of one folder. A folder that answers otherwise while it is opened may have another one.
+// The node of one folder. Its id is compared once it runs, since nothing says that a folder answers
+// as it did when it was looked at.
 fn node_in<R: Files<File = File> + Alloc<A = Global> + Clone + Drop>(
     rt: &R,
     folder: &str,

@@ -27,7 +27,7 @@ use Rattle.lab.specs.Disks.{HasGrown, junk_at_end}
 use Rattle.lab.specs.Events.{line_cause}
 use Rattle.lab.specs.Outcomes.{DiskFits, DropsResting, HasCrashed, HasDispatched, IsAnswerAtRest}
 use Rattle.lab.specs.Outcomes.{IsDrop, IsIgnored, IsOutcomeOf, MarksFit}
-use Rattle.lab.specs.Outcomes.{OutcomeRefines, Rests, RestsOn, StateFollows}
+use Rattle.lab.specs.Outcomes.{OutcomeRefines, Rests, RestsOn, StandsByOutcome, StateFollows}
 use Rattle.lab.specs.Outcomes.{StopsByItself, TendsNot, has_struck_in, input_junk}
 use Rattle.lab.specs.SimNodes.{IsDown, StateIsReady, StateIsSound, StateRefines, disk_in}
 use Rattle.lab.specs.Stops.{IsDownAfter, StopsWithDisk}
@@ -103,6 +103,7 @@ pub answered_only : {D : Type 0} (g : Ghosts D) (limits : Limits) (it : Fault)
 answered_only g limits it node_input old output ready outcome may ignored refines follows = record {
   ready = ready;
   outcome = outcome;
+  stands = (λ down. down, λ down. down);
   refines = refines;
   disk = λ honest. record {
     spared = idle_in g it old;
@@ -232,6 +233,8 @@ module _ {D : Type 0} (g : Ghosts D) (it : Fault) (was new : NodeState D g) (did
         record {
           ready = stops.down.ready;
           outcome = subst (IsOutcomeOf node_input) (sym stops.told) (outcome _);
+          stands = subst (λ (d : StepOutcome). StandsByOutcome was d new) (sym stops.told)
+              stops.down.is;
           refines = refines;
           disk = λ honest. subst (λ (j : Option Junk).
               DiskFits g.state g.failures g.past j it struck did (disk_in was) new) (sym unstopped)

@@ -28,3 +28,5 @@ mod FaultMarks
 mod OutcomeLines
 mod SentLines
 mod LinesSoFarLemmas
+mod StepEnds
+mod Standing

@@ -1,8 +1,9 @@
 -- What an event adds to the events of a world and their lines.
-use Rattle.std.proofs.Common.{◌≡◌, Bool, List, [], ◌∷◌, ◌++◌, ◌∙◌, append-nil, ap, refl, sym}
+use Rattle.std.proofs.Common.{◌≡◌, ◌≤◌, Bool, List, [], ◌∷◌, ◌++◌, ◌∙◌, append-nil, ap, refl, sym}
 use Rattle.std.proofs.Common.{Err, Ok, Result, arith, drop, false, inl, inr, length, length-append}
 use Rattle.std.proofs.Common.{true}
 use Rattle.std.specs.Prelude.{OnErr, OnOk}
+use Rattle.std.proofs.lemmas.Result.{on_err_weaker, on_ok_weaker}
 use Rattle.std.proofs.lemmas.List.Elements.{All-from_recursion}
 use Rattle.configurations.specs.{at_epoch}
 use Rattle.disk.specs.declared.disk.Disk.{Ghosts}
@@ -96,14 +97,14 @@ module _ {D C : Type 0} {g : Ghosts D} where
 
   -- ---- an event that was not lost
 
-  pub loses_none : (loses : Type 0) (old begun mid new : World D C g) (event : EventContent)
-      (lines : List Line) → HasBegunEvent old begun event →
-      lost_so_far mid ≡ lost_so_far begun → HasKept mid new false lines →
-      LosesCarried loses event old new
-  loses_none loses old begun mid new event lines begins same_lost keeps = λ is.
-      absurd (pushed_apart (lost_so_far old)
-      (sym (keeps.marked ∙ ap (λ (l : List Bool). l ++ false ∷ [])
-      (same_lost ∙ ap (λ (w : World D C g). w.lost.items) begins.others)) ∙ is))
+  pub loses_none : {T E : Type 0} (r : Result T E) (loses : Type 0) (event : EventContent)
+      {old begun : World D C g} (mid new : World D C g) (lines : List Line) →
+      HasBegunEvent old begun event → OnOk r (HasKept mid new false lines) →
+      lost_so_far mid ≡ lost_so_far begun → OnOk r (LosesCarried loses event old new)
+  loses_none r loses event {old = old} mid new lines begins keeps same_lost =
+      on_ok_weaker r (λ kept is. absurd (pushed_apart (lost_so_far old)
+      (sym (kept.marked ∙ ap (λ (l : List Bool). l ++ false ∷ [])
+      (same_lost ∙ ap (λ (w : World D C g). w.lost.items) begins.others)) ∙ is))) keeps
 
   pub loses_nothing : (loses : Type 0) (world : World D C g) (event : EventContent) →
       LosesCarried loses event world world
@@ -118,12 +119,12 @@ module _ {D C : Type 0} {g : Ghosts D} where
     own = [];
     took = sym (append-nil (events_so_far world));
     of = All-from_recursion is_own [] tt;
-    more = [];
+    ended = [];
+    begun = [];
     added = sym (append-nil (lines_so_far world));
+    lost = sym (append-nil (lost_so_far world));
     within = omega arith;
-    marks = [];
-    marked = sym (append-nil (lost_so_far world));
-    each = omega arith;
+    last = omega arith;
     configs = refl;
   }
 
@@ -134,14 +135,14 @@ module _ {D C : Type 0} {g : Ghosts D} where
     own = [];
     took = n.taken ∙ sym (append-nil (events_so_far old));
     of = All-from_recursion (λ (it : EventContent). it ≡ event) [] tt;
-    more = [];
+    ended = [];
+    begun = [];
     added = ap (λ (w : World D C g). w.steps.items) n.others
         ∙ sym (append-nil (lines_so_far old));
-    within = omega arith;
-    marks = [];
-    marked = ap (λ (w : World D C g). w.lost.items) n.others
+    lost = ap (λ (w : World D C g). w.lost.items) n.others
         ∙ sym (append-nil (lost_so_far old));
-    each = omega arith;
+    within = omega arith;
+    last = omega arith;
     configs = ap (λ (w : World D C g). w.configs) n.others;
   }
 
@@ -166,45 +167,49 @@ module _ {D C : Type 0} {g : Ghosts D} where
       own = event ∷ [];
       took = same_events ∙ begins.taken;
       of = All-from_recursion (λ (it : EventContent). it ≡ event) (event ∷ []) (refl, tt);
-      more = [];
+      ended = [];
+      begun = [];
       added = lines_then ∙ sym (append-nil (lines_so_far old));
+      lost = lost_then ∙ sym (append-nil (lost_so_far old));
       within = omega arith;
-      marks = [];
-      marked = lost_then ∙ sym (append-nil (lost_so_far old));
-      each = omega arith;
+      last = omega arith;
       configs = configs_then;
     }
 
     pub keeps_partly : (new : World D C g) (lines : List Line) → HasPartlyKept mid new lines →
         KeepsLines (λ it. it ≡ event) old new
     keeps_partly new lines p =
-        let events = ap (λ (w : World D C g). w.events.items) p.others ∙ same_events
-        ∙ begins.taken in
-        let configs = ap (λ (w : World D C g). w.configs) p.others ∙ configs_then in
-        let own = All-from_recursion (λ (it : EventContent). it ≡ event) (event ∷ []) (refl, tt) in
+        let lines_kept : (begun_lines : List (List Line))
+        × (lines_so_far new ≡ lines_so_far old ++ begun_lines) × (length begun_lines ≤ 1) =
         elim p.kept [
-          | inl is ↦ record {
-            own = event ∷ [];
-            took = events;
-            of = own;
-            more = [];
-            added = is ∙ lines_then ∙ sym (append-nil (lines_so_far old));
-            within = omega arith;
-            marks = [];
-            marked = p.marked ∙ lost_then ∙ sym (append-nil (lost_so_far old));
-            each = omega arith;
-            configs = configs;
-          }
-          | inr is ↦ record {
-            own = event ∷ [];
-            took = events;
-            of = own;
-            more = lines ∷ [];
-            added = is ∙ ap (λ (l : List (List Line)). l ++ lines ∷ []) lines_then;
-            within = omega arith;
-            marks = [];
-            marked = p.marked ∙ lost_then ∙ sym (append-nil (lost_so_far old));
-            each = omega arith;
-            configs = configs;
-          }
-        ]
+          | inl is ↦ ([], is ∙ lines_then ∙ sym (append-nil (lines_so_far old)), omega arith)
+          | inr is ↦ (
+            lines ∷ [],
+            is ∙ ap (λ (l : List (List Line)). l ++ lines ∷ []) lines_then,
+            omega arith,
+          )
+        ] in
+        record {
+          own = event ∷ [];
+          took = ap (λ (w : World D C g). w.events.items) p.others ∙ same_events ∙ begins.taken;
+          of = All-from_recursion (λ (it : EventContent). it ≡ event) (event ∷ []) (refl, tt);
+          ended = [];
+          begun = lines_kept.0;
+          added = lines_kept.1;
+          lost = p.marked ∙ lost_then ∙ sym (append-nil (lost_so_far old));
+          within = omega (arith, lines_kept.2);
+          last = omega arith;
+          configs = ap (λ (w : World D C g). w.configs) p.others ∙ configs_then;
+        }
+
+  -- .. if they could be
+  pub keeps_after : {T E : Type 0} (r : Result T E) (event : EventContent)
+      {old begun : World D C g} (mid new : World D C g) (lines : List Line) →
+      HasBegunEvent old begun event → OnErr r (HasPartlyKept mid new lines) →
+      events_so_far mid ≡ events_so_far begun → lines_so_far mid ≡ lines_so_far begun →
+      lost_so_far mid ≡ lost_so_far begun → configs_of mid ≡ configs_of begun →
+      OnErr r (KeepsLines (λ it. it ≡ event) old new)
+  keeps_after r event {old = old} {begun = begun} mid new lines begins
+      refused same_events same same_lost same_configs =
+      on_err_weaker r (keeps_partly old begun mid event begins same_events same same_lost
+      same_configs new lines) refused

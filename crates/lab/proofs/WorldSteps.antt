@@ -2,6 +2,7 @@
 use Rattle.std.proofs.Common.{◌≡◌, ℕ, suc, ◌+◌, ◌≤◌, List, [], ◌∷◌, ◌++◌, length, true, false}
 use Rattle.std.proofs.Common.{Bool, Result, Ok, Err, refl, sym, ap, ap₂, subst, ◌∙◌, arith}
 use Rattle.std.specs.Prelude.{MatchResult, OnErr, OnOk}
+use Rattle.std.specs.List.{AllZip}
 use Rattle.std.specs.Result.{IsErrAnd}
 use Rattle.disk.specs.declared.disk.Disk.{Ghosts}
 use Rattle.std.proofs.lemmas.Bool.{false≢true}
@@ -11,7 +12,7 @@ use Rattle.kv_types.specs.declared.bounds.TheConstants.{MAX_NUMBER}
 use Rattle.kv_types.specs.declared.Limits.{Limits}
 use Rattle.kv_types.specs.{BatchContent}
 use Rattle.configurations.specs.{Configurations}
-use Rattle.chain_model.specs.{SystemState, first_state, node_of}
+use Rattle.chain_model.specs.{Message as ModelFrame, SystemState, first_state, node_of}
 use Rattle.carriers.specs.declared.Carrier.{Ghosts as Carriers}
 use Rattle.carriers.specs.declared.Delivery.{Delivery}
 use Rattle.carriers.specs.declared.Delivery.TheVariants as delivery
@@ -26,12 +27,13 @@ use Rattle.lab.specs.declared.sim_node.SimNode.{SimNode}
 use Rattle.lab.specs.declared.world.World.{World}
 use Rattle.lab.specs.Events.{NamesNode}
 use Rattle.lab.specs.Arrivals.{RepliesArrive}
+use Rattle.lab.specs.Deliveries.{IsCarriedEvent, IsDeliverable}
 use Rattle.lab.specs.SimNodes.{Choice, HasArrived, StateRefines}
 use Rattle.lab.specs.Posting.{FramesFollow}
 use Rattle.lab.specs.Traces.{modelled_from}
 use Rattle.lab.specs.Transmissions.{frame_sent, replies_sent}
 use Rattle.lab.specs.Worlds.{FollowRun, HasApplied, HasBegunEvent, HasFollowed, HasKept, HasNoNode}
-use Rattle.lab.specs.Worlds.{HasRun, HaveLimits, NodesRefine, RunRefines}
+use Rattle.lab.specs.Worlds.{HasRun, HaveLimits, NodesRefine, PostedRefines, RunRefines}
 use Rattle.lab.specs.Worlds.{SimNodeRefines, WorldHasEnded, WorldKeepsLimits, WorldRun}
 use Rattle.lab.specs.Worlds.{asked_after, extended, outcome_after}
 use Rattle.lab.proofs.Growing.{follow_limited, length-steps, nodes-push, run-push}
@@ -172,7 +174,7 @@ ends_so {D = D} {C = C} {g = g} (Ok v) mid new lost lines ended keeps fails =
 ends_so (Err e) mid new lost lines ended keeps fails = fails ∙ ended
 
 -- what was found on the way of the event in place i is a delivery of it, by a faithful carrier
-abbrev pub IsFoundFor : {D C : Type 0} {g : Ghosts D} → Carriers C → World D C g → ℕ → EventKind
+abbrev IsFoundFor : {D C : Type 0} {g : Ghosts D} → Carriers C → World D C g → ℕ → EventKind
     → Delivery → Type 0
 IsFoundFor h world i kind found = h.is_faithful world.carrier →
     FitsDelivery world.configs world.frames.items i kind found
@@ -182,9 +184,12 @@ module _ {D C : Type 0} {g : Ghosts D} (h : Carriers C) (in_order : AlwaysInOrde
     (old begun : World D C g) (event : EventContent) (begins : HasBegunEvent old begun event)
     (n i : ℕ)
     (long : n ≡ begun.steps.len) (few : n + 1 ≤ MAX_NUMBER) (at : i ≡ n + 1) (found : Delivery)
-    (here : IsFoundFor h begun i event.kind found) (may : DeliveryWasLost found → h.loses)
+    (lent : List Posted) (same : lent ≡ begun.frames.items)
+    (finds : (frames : List (ModelFrame BatchContent)) →
+    (IsCarriedEvent event.kind → AllZip PostedRefines lent frames × h.is_faithful begun.carrier) →
+    IsDeliverable begun.configs frames i event.kind found) (may : DeliveryWasLost found → h.loses)
     (after : C) (asked : HasCarriedMore h.has_carried begun.carrier after
-    (frame_sent begun.frames.items i event.kind (delivery_lost found)))
+    (frame_sent lent i event.kind (delivery_lost found)))
     (faithful : h.is_faithful begun.carrier → h.is_faithful after)
     (is_named : NamesNode old.configs event.kind) (past : WorldRun) (run : HasRun h old past) where
   pub next : IsNext past.events i
@@ -196,6 +201,10 @@ module _ {D C : Type 0} {g : Ghosts D} (h : Carriers C) (in_order : AlwaysInOrde
 
   abbrev posted : List Posted
   posted = old.frames.items
+
+  here : IsFoundFor h begun i event.kind found
+  here = λ carries frames each. finds frames
+      (λ _. (subst (λ (l : List Posted). AllZip PostedRefines l frames) (sym same) each, carries))
 
   -- it fits the configurations of the run, and so does the node that the event names
   fits : FitsDelivery past.configs posted i event.kind found
@@ -216,7 +225,9 @@ module _ {D C : Type 0} {g : Ghosts D} (h : Carriers C) (in_order : AlwaysInOrde
   asked_so lost is = subst (λ (b : Bool). HasCarriedMore h.has_carried old.carrier after
       (frame_sent posted i event.kind b)) is
       (subst (λ (w : World D C g). HasCarriedMore h.has_carried w.carrier after
-      (frame_sent w.frames.items i event.kind (delivery_lost found))) begins.others asked)
+      (frame_sent w.frames.items i event.kind (delivery_lost found))) begins.others
+      (subst (λ (l : List Posted). HasCarriedMore h.has_carried begun.carrier after
+      (frame_sent l i event.kind (delivery_lost found))) same asked))
 
   -- what it is then, where no node did anything
   abbrev pub idle : World D C g

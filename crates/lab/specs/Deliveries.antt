@@ -1,5 +1,5 @@
 -- What an event delivers to a simulated node: the node's id and its input.
-use Rattle.std.specs.Prelude.{◌≡◌, ℕ, ◌<◌, ◌≤◌, List, length, Some, None}
+use Rattle.std.specs.Prelude.{◌≡◌, ℕ, ◌<◌, ◌≤◌, IfSome, List, length, Some, None}
 use Rattle.kv_types.specs.{BatchContent, place}
 use Rattle.configurations.specs.{Configurations, at_epoch}
 use Rattle.chain_model.specs as model_frame
@@ -16,7 +16,7 @@ use Rattle.events.specs.declared.EventKind.TheVariants.{Submit, Get, Rows, Open,
 use Rattle.events.specs.declared.EventKind.TheVariants.{Deliver, Notice, Tick, Tend, Start}
 use Rattle.events.specs.declared.EventKind.TheVariants.{Stop}
 use Rattle.lab.specs.declared.delivery.Posted.{Posted}
-use Rattle.lab.specs.Events.{MayBeLost}
+use Rattle.lab.specs.Events.{MayBeLost, node_in}
 
 -- no list of frames has anything in this place, the first being 1
 abbrev pub HasNoFrame : {A : Type 0} → List A → ℕ → Type 0
@@ -84,3 +84,9 @@ module _ (cs : Configurations) (frames : List (model_frame.Message BatchContent)
   IsDeliverable i kind delivery.Nothing = HasNoDelivery kind
   IsDeliverable i kind delivery.Lost = MayBeLost frames kind
   IsDeliverable i kind (delivery.To x node_input) = IsDeliveryOf i kind x node_input
+
+-- what is delivered is for the node that the event names, if it names one
+abbrev pub IsForNamed : EventKind → Delivery → Type 0
+IsForNamed kind delivery.Nothing = Unit {0}
+IsForNamed kind delivery.Lost = Unit {0}
+IsForNamed kind (delivery.To x node_input) = IfSome (node_in kind) (λ node. x ≡ node)

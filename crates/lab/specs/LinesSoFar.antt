@@ -1,19 +1,29 @@
 -- The events of a world so far and their lines, whatever the world has run before.
 use Rattle.std.specs.Prelude.{◌≡◌, ◌≤◌, ◌+◌, ℕ, Bool, List, [], ◌∷◌, ◌++◌, All, None, length, map}
-use Rattle.std.specs.Prelude.{◌⊎◌, false, true}
+use Rattle.std.specs.Prelude.{◌↔◌, ◌⊎◌, IfSome, IsErr, MatchResult, OnErr, Result, false}
+use Rattle.std.specs.Prelude.{get_or, slice_set}
+use Rattle.std.specs.Prelude.{suc, true}
+use Rattle.kv_types.specs.declared.Limits.{Limits}
 use Rattle.configurations.specs.{Configurations, at_epoch}
 use Rattle.disk.specs.declared.disk.Disk.{Ghosts}
 use Rattle.chain_model.specs.declared.DropReason.TheVariants as reason
+use Rattle.node.specs.declared.Reply.{Reply}
+use Rattle.carriers.specs.declared.NodeInput.{NodeInput}
 use Rattle.events.specs.declared.EventContent.{EventContent}
 use Rattle.events.specs.declared.EventKind.{EventKind}
 use Rattle.events.specs.declared.EventKind.TheVariants.{Notice, Start, Stop, Tend}
+use Rattle.lab.specs.declared.input.StepOutcome.{StepOutcome}
+use Rattle.lab.specs.declared.node_state.NodeState.{NodeState}
 use Rattle.lab.specs.declared.report.Line.{Line}
 use Rattle.lab.specs.declared.report.Line.TheVariants as line
 use Rattle.lab.specs.declared.sim_node.SimNode.{SimNode}
 use Rattle.lab.specs.declared.world.World.{World}
-use Rattle.lab.specs.Deliveries.{IsCarriedEvent}
-use Rattle.lab.specs.Events.{NamesNode}
-use Rattle.lab.specs.Worlds.{frames_in_steps}
+use Rattle.lab.specs.Deliveries.{HasNoDelivery, IsCarriedEvent, IsDeliveryOf}
+use Rattle.lab.specs.Events.{NamesNode, epoch_in, node_in}
+use Rattle.lab.specs.OutcomeLines.{own_lines, replies_by}
+use Rattle.lab.specs.Outcomes.{HasDispatched, RunsWith}
+use Rattle.lab.specs.SimNodes.{IsDown}
+use Rattle.lab.specs.Worlds.{HasNoNode, IsIndexOf, WorldHasEnded, frames_in_steps}
 
 -- ---- the lines that an event has, whatever its node is
 
@@ -91,6 +101,60 @@ drops_in_steps (step ∷ steps) = drops_of_step step + drops_in_steps steps
 abbrev pub sim_node_ids : {D : Type 0} {g : Ghosts D} → List (SimNode D g) → List ℕ
 sim_node_ids sims = map (λ sim. sim.id) sims
 
+-- the line of an event that no node took
+abbrev pub IsOfNoNode : Line → Type 0
+IsOfNoNode line.Nothing = Unit {0}
+IsOfNoNode line.Lost = Unit {0}
+IsOfNoNode it = ⊥
+
+-- node x stands as the lines of an event tell that it took: one that started is up with these
+-- numbers, one that stopped is down, and any other is up or down as it was
+abbrev pub StandsAfter : {D : Type 0} {g : Ghosts D} → ℕ → List Line → (old new : NodeState D g)
+    → Type 0
+StandsAfter x (line.Started node epoch count committed ∷ []) old new =
+    (node ≡ x) × RunsWith epoch count committed new
+StandsAfter x (line.Stopped node cause ∷ []) old new = (node ≡ x) × IsDown new
+StandsAfter x lines old new = IsDown new ↔ IsDown old
+
+-- Node x took this input with the fault of this event, and these limits if that started it. The
+-- lines are those of its outcome, after so many frames, and of replies, no more than it gave. The
+-- node stands as they tell.
+pub record AppliesEvent {D : Type 0} {g : Ghosts D} (event : EventContent)
+    (node_input : NodeInput) (given : Limits) (sent x : ℕ) (lines : List Line)
+    (old new : NodeState D g) : Type 0 where
+  pub did : StepOutcome
+  pub took : HasDispatched g given event.fault node_input old new did
+  pub heard : List Reply
+  pub shows : lines ≡ own_lines x (epoch_in event.kind) sent did
+      ++ map (λ reply. line.Replied reply) heard
+  pub few : length heard ≤ length (replies_by did)
+  pub stands : StandsAfter x lines old new
+
+-- No node took an event: its line tells of a loss, or that there was nothing to do. Of one that
+-- is not carried that is so only where the list lacks its epoch, or no node has the id that the
+-- event names.
+pub record MovesNone {D : Type 0} {g : Ghosts D} (cs : Configurations) (event : EventContent)
+    (lines : List Line) (old new : List (SimNode D g)) : Type 0 where
+  pub same : new ≡ old
+  pub line : IsOneLine IsOfNoNode lines
+  pub why : (IsCarriedEvent event.kind → ⊥) →
+      HasNoDelivery cs [] event.kind ⊎ IfSome (node_in event.kind) (HasNoNode old)
+
+-- The node at this index took an event that has these lines: the input that the event brings, if it
+-- is not carried. It has its id still, and the event names it if it names one. Every other node is
+-- as it was.
+pub record MovesNode {D : Type 0} {g : Ghosts D} (cs : Configurations) (event : EventContent)
+    (given : Limits) (sent : ℕ) (lines : List Line) (old new : List (SimNode D g)) : Type 0 where
+  pub index : ℕ
+  pub sim : SimNode D g
+  pub at : IsIndexOf old index sim.id
+  pub others : new ≡ slice_set old index sim
+  pub named : IfSome (node_in event.kind) (λ x. sim.id ≡ x)
+  pub node_input : NodeInput
+  pub brings : (IsCarriedEvent event.kind → ⊥) → IsDeliveryOf cs [] 0 event.kind sim.id node_input
+  pub applies : AppliesEvent event node_input given sent sim.id lines
+      (get_or old index sim).state sim.state
+
 module _ {D C : Type 0} {g : Ghosts D} where
   -- the lines of each event so far
   abbrev pub lines_so_far : World D C g → List (List Line)
@@ -160,19 +224,35 @@ module _ {D C : Type 0} {g : Ghosts D} where
   LosesCarried loses event old new =
       lost_so_far new ≡ lost_so_far old ++ true ∷ [] → loses × IsCarriedEvent event.kind
 
+  -- an event that has these lines behind all others was taken by one node, or by none
+  abbrev pub MovesAtMostOne : EventContent → World D C g → World D C g → Type 0
+  MovesAtMostOne event old new =
+      (lines : List Line) → lines_so_far new ≡ lines_so_far old ++ lines ∷ [] →
+      MovesNone (configs_of old) event lines (nodes_of old) (nodes_of new)
+      ⊎ MovesNode (configs_of old) event old.limits (sent_so_far old) lines (nodes_of old)
+      (nodes_of new)
+
+  -- A step that is refused ends the world, and begins one event at most; one that is answered does
+  -- not end it. In a world that had ended it is refused, and changes nothing.
+  pub record EndsIfRefused {T E : Type 0} (result : Result T E) (old new : World D C g) : Type 0
+    where
+      pub ends : MatchResult result (λ _. WorldHasEnded new → ⊥) (λ _. WorldHasEnded new)
+      pub again : WorldHasEnded old → IsErr result × (new ≡ old)
+      pub once : OnErr result (length (events_so_far new) ≤ suc (length (events_so_far old)))
+
   -- The world has the events, lines and losses that it had, and perhaps more behind them: events,
-  -- each of them such (`is_own`), the lines of the first of these, and whether the first of those
-  -- were lost.
+  -- each of them such (`is_own`). All of these but the last have ended: with their lines, and lost
+  -- exactly where these say so. The last one may have its lines, or none.
   pub record KeepsLines (is_own : EventContent → Type 0) (old new : World D C g) : Type 0 where
     pub own : List EventContent
     pub took : events_so_far new ≡ events_so_far old ++ own
     pub of : All is_own own
-    pub more : List (List Line)
-    pub added : lines_so_far new ≡ lines_so_far old ++ more
-    pub within : length more ≤ length own
-    pub marks : List Bool
-    pub marked : lost_so_far new ≡ lost_so_far old ++ marks
-    pub each : length marks ≤ length more
+    pub ended : List (List Line)
+    pub begun : List (List Line)
+    pub added : lines_so_far new ≡ lines_so_far old ++ (ended ++ begun)
+    pub lost : lost_so_far new ≡ lost_so_far old ++ map is_lost ended
+    pub within : length ended + length begun ≤ length own
+    pub last : length own ≤ suc (length ended)
     pub configs : configs_of new ≡ configs_of old
 
   -- the event was not begun, and the world has ended and is as it was otherwise

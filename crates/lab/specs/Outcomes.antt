@@ -1,5 +1,5 @@
 -- The outcomes of a simulated node: the state that each input leaves, and its disk.
-use Rattle.std.specs.Prelude.{◌≡◌, ◌⊎◌, ℕ, List, [], ◌∷◌, length, Option}
+use Rattle.std.specs.Prelude.{◌≡◌, ◌↔◌, ◌⊎◌, ℕ, List, [], ◌∷◌, length, Option}
 use Rattle.std.specs.Prelude.{Bool, Some, None, IsSome, true, false}
 use Rattle.kv_types.specs.declared.Limits.{Limits}
 use Rattle.kv_types.specs.{BatchContent}
@@ -23,7 +23,7 @@ use Rattle.node.specs.declared.Stop.{Stop as Cause}
 use Rattle.node.specs.declared.Stop.TheVariants.{Disk, Memory}
 use Rattle.engine.specs.{IsTendAnswer, facts_of}
 use Rattle.node.specs.{answer_to_tend, facts_for, has_risen}
-use Rattle.node.specs.{replies_of, disk_of, engine_of, HasLongFile}
+use Rattle.node.specs.{replies_of, disk_of, engine_of, node_core, HasLongFile}
 use Rattle.carriers.specs.declared.NodeInput.{NodeInput}
 use Rattle.carriers.specs.declared.NodeInput.TheVariants as to_node
 use Rattle.lab.specs.declared.input.StepOutcome.{StepOutcome}
@@ -334,12 +334,30 @@ IsOutcomeOf (to_node.Stop junk) (done.Stopped cause) = cause ≡ None
 IsOutcomeOf (to_node.Stop junk) (done.Answered output) = IsDrop reason.NotRunning output
 IsOutcomeOf _ _ = ⊥
 
+-- a node that is up has these numbers
+abbrev pub RunsWith : {D : Type 0} {g : Ghosts D} → (epoch count committed : ℕ) → NodeState D g
+    → Type 0
+RunsWith epoch count committed (Up node) =
+    (epoch ≡ (node_core node.value).epoch) × (count ≡ (node_core node.value).count)
+    × (committed ≡ (node_core node.value).committed)
+RunsWith epoch count committed (Down disk) = ⊥
+
+-- a node stands as its outcome tells: one that started is up with these numbers, one that stopped
+-- is down, and any other is up or down as it was
+abbrev pub StandsByOutcome : {D : Type 0} {g : Ghosts D} → NodeState D g → StepOutcome
+    → NodeState D g → Type 0
+StandsByOutcome old (done.Answered output) new = IsDown new ↔ IsDown old
+StandsByOutcome old (done.Started epoch count committed) new = RunsWith epoch count committed new
+StandsByOutcome old (done.Stopped cause) new = IsDown new
+StandsByOutcome old (done.Tended answer) new = IsDown new ↔ IsDown old
+
 -- a node in the old state took this input, with this fault armed, and these limits if it was
 -- started: its new state and its outcome
 pub record HasDispatched {D : Type 0} (g : Ghosts D) (given : Limits) (fault : Fault)
     (node_input : NodeInput) (old new : NodeState D g) (did : StepOutcome) : Type 0 where
   pub ready : StateIsReady new
   pub outcome : IsOutcomeOf node_input did
+  pub stands : StandsByOutcome old did new
   pub refines : (x : ℕ) (n : Machine) → StateRefines g.is_honest g.state old x n →
       OutcomeRefines g.is_honest g.state fault
       (has_struck_in g.past fault (disk_in old) new) x n node_input old new did

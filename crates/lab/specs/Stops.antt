@@ -17,12 +17,13 @@ use Rattle.lab.specs.declared.node_state.NodeState.{NodeState}
 use Rattle.lab.specs.Disks.{IsMarkedSo, junk_at_end}
 use Rattle.lab.specs.Events.{line_cause}
 use Rattle.lab.specs.Outcomes.{HasCrashed}
-use Rattle.lab.specs.SimNodes.{StateHasLimits, StateIsReady, StateRefines, disk_in}
+use Rattle.lab.specs.SimNodes.{IsDown, StateHasLimits, StateIsReady, StateRefines, disk_in}
 
 module _ {D : Type 0} (g : Ghosts D) (disk : D) where
   -- a node that had this disk is down, and the disk crashed with this junk
   pub record IsDownAfter (junk : Junk) (new : NodeState D g) : Type 0 where
     pub ready : StateIsReady new
+    pub is : IsDown new
     pub crashes : g.is_honest disk → HasCrashed g.state g.failures g.past junk disk new
     pub refines : (x : ℕ) (n : Machine) (a : Answer BatchContent) → g.is_honest disk →
         StopRefines (g.state disk) x n a → StateRefines g.is_honest g.state new x (stopped n)

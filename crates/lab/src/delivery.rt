@@ -5,7 +5,8 @@ ghost use Rattle.kv_types.specs.{BatchContent};
 ghost use Rattle.configurations.specs.{Configurations};
 ghost use Rattle.chain_model.specs.{Message as ModelFrame};
 ghost use Rattle.carriers.specs.{DeliveryWasLost, HasCarriedMore, delivery_lost};
-ghost use Rattle.lab.specs.Deliveries.{HasNoFrame, IsCarriedEvent, IsDeliverable, IsPostedAt};
+ghost use Rattle.lab.specs.Deliveries.{HasNoFrame, IsCarriedEvent, IsDeliverable, IsForNamed};
+ghost use Rattle.lab.specs.Deliveries.{IsPostedAt};
 ghost use Rattle.lab.specs.Transmissions.{frame_sent};
 ghost use Rattle.lab.specs.Worlds.{PostedRefines};
 
@@ -88,6 +89,7 @@ fn submitted<C: Carrier>(
     ensures asked { (posted : List Posted) → IfOk result (λ it. HasCarriedMore C.has_carried
         carrier.old carrier.new
         (frame_sent posted request (EventKind.Submit node batch.now) (delivery_lost it))) }
+    ensures addressed { IfOk result (IsForNamed (EventKind.Submit node batch.now)) }
 {
     let batch = batch.clone()?;
     send_request(alloc, carrier, node, Frame::Submit { request, batch })
@@ -110,6 +112,7 @@ fn looked_up<C: Carrier>(
     ensures asked { (posted : List Posted) → IfOk result (λ it. HasCarriedMore C.has_carried
         carrier.old carrier.new (frame_sent posted request
         (EventKind.Get node key.now at) (delivery_lost it))) }
+    ensures addressed { IfOk result (IsForNamed (EventKind.Get node key.now at)) }
 {
     let key = key.clone()?;
     send_request(alloc, carrier, node, Frame::Get { request, at, key })
@@ -131,6 +134,7 @@ fn delivery_of_kind<C: Carrier>(
     ensures lost { IfOk result (λ it. DeliveryWasLost it → C.loses) }
     ensures asked { IfOk result (λ it. HasCarriedMore C.has_carried carrier.old carrier.new
         (frame_sent posted.now request kind.now (delivery_lost it))) }
+    ensures addressed { IfOk result (IsForNamed kind.now) }
 {
     match kind {
         EventKind::Submit { node, batch } => submitted(alloc, carrier, request, *node, batch),
@@ -173,6 +177,7 @@ pub fn delivery_of<C: Carrier>(
     ensures lost { IfOk result (λ it. DeliveryWasLost it → C.loses) }
     ensures asked { IfOk result (λ it. HasCarriedMore C.has_carried carrier.old carrier.new
         (frame_sent posted.now request event.now.kind (delivery_lost it))) }
+    ensures addressed { IfOk result (IsForNamed event.now.kind) }
 {
     match event.kind() {
         LentKind::Deliver(place) => delivered(alloc, carrier, posted, place),

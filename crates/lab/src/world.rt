@@ -1,5 +1,5 @@
 // A world of simulated nodes, stepped event by event.
-ghost use Rattle.std.specs.Prelude.{◌≡◌, IfOk, IfSome, IsErr, MatchOption, MatchResult};
+ghost use Rattle.std.specs.Prelude.{◌≡◌, IfOk, IfSome, IsErr, MatchOption};
 ghost use Rattle.std.specs.Prelude.{OnErr, OnOk, false, true};
 ghost use Rattle.std.specs.List.{AllZip};
 ghost use Rattle.configurations.specs.{Lawful, at_epoch};
@@ -12,8 +12,9 @@ ghost use Rattle.lab.specs.Worlds.{HasMoved, HasNoNode, HasRun, HaveLimits, IsCr
 ghost use Rattle.lab.specs.Worlds.{IsDownAmong, IsReportOf, IsRunSoFar, ShowsNumbers};
 ghost use Rattle.lab.specs.Worlds.{WorldHasEnded, WorldHasLimits, WorldKeepsLimits, WorldRun};
 ghost use Rattle.lab.specs.Worlds.{direct_carrier, empty_run, frames_in_steps, losses_of};
-ghost use Rattle.lab.specs.LinesSoFar.{EventAddsLines, HasNotBegun, HasPartlyKept, HasRunNothing};
-ghost use Rattle.lab.specs.LinesSoFar.{KeepsLines, LosesCarried};
+ghost use Rattle.lab.specs.LinesSoFar.{EndsIfRefused, EventAddsLines, HasNotBegun};
+ghost use Rattle.lab.specs.LinesSoFar.{HasPartlyKept, HasRunNothing, KeepsLines, LosesCarried};
+ghost use Rattle.lab.specs.LinesSoFar.{MovesAtMostOne};
 ghost use Rattle.lab.specs.LinesSoFar.{configs_of, events_so_far, lines_so_far, lost_so_far};
 ghost use Rattle.lab.specs.LinesSoFar.{nodes_of, sent_so_far};
 ghost use Rattle.lab.specs.Transmissions.{carrier_of};
@@ -97,12 +98,7 @@ fn index_of<D: Disk + Drop>(nodes: &[SimNode<D>], id: NodeId) -> Option<usize>
     ensures { MatchOption result (HasNoNode nodes.now id)
         (λ index. IsIndexOf nodes.now index id) }
 {
-    for index in 0..nodes.len() {
-        if nodes[index].id == id {
-            return Some(index);
-        }
-    }
-    None
+    nodes.iter().position(|node| node.id == id)
 }
 
 // Dispatches what an event delivers to the node at this index, with the event's fault: the outcome.
@@ -338,15 +334,14 @@ impl<D: Crash + Drop, C: Carrier + Drop> World<D, C> {
     /// Applies an event to the node that it is for, or loses it. One that names a node which the
     /// world does not have does nothing. After an error the world is at its end: every later step
     /// is refused, and what `numbers` says of it is left open: a node may be lost. It has the
-    /// events, lines and losses that it had, and perhaps the event and its lines behind them.
+    /// events, lines and losses that it had, and perhaps the event behind them, with lines or not.
     pub fn step(&mut self, alloc: Global, event: &Event) -> Result<(), LabError>
         ensures ran { (run : WorldRun) → HasRun C.Carrier self.old run →
             OnOk result (HasApplied C.Carrier self.old self.new run event.now) }
-        ensures ends { MatchResult result (λ _. WorldHasEnded self.new
-            → ⊥) (λ _. WorldHasEnded self.new) }
-        ensures again { WorldHasEnded self.old → IsErr result × (self.new ≡ self.old) }
+        ensures ends { EndsIfRefused result self.old self.new }
         ensures limits { OnOk result (WorldKeepsLimits self.old self.new) }
         ensures adds { OnOk result (EventAddsLines event.now self.old self.new) }
+        ensures moves { OnOk result (MovesAtMostOne event.now self.old self.new) }
         ensures loses { OnOk result (LosesCarried C.loses event.now self.old self.new) }
         ensures refused { OnErr result
             (KeepsLines (λ it. it ≡ event.now) self.old self.new) }

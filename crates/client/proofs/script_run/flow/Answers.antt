@@ -5,7 +5,7 @@ use Rattle.scripts.specs.Scripts.{Names}
 use Rattle.client.specs.ReportedRuns.{AreActionLines, IsActionEvent}
 use Rattle.client.specs.ScriptRuns.{delivery, followed_by}
 use Rattle.client.proofs.Flowing.{Flows, flows_none, flows_on, flowed_all, flowed_most, emptied}
-use Rattle.client.proofs.KeptLines.{keeps_added, keeps_more, keeps_weaker}
+use Rattle.client.proofs.KeptLines.{keeps_more, keeps_weaker}
 use Rattle.client.proofs.PlacesBetween.{Delivers, delivered_all, delivered_most, delivers_none}
 use Rattle.client.proofs.PlacesBetween.{delivers_on}
 use Rattle.client.proofs.ReportedLemmas.{adds_delivery, adds_more, adds_nothing}
@@ -101,12 +101,10 @@ returns-clause-delivers g c = (
 pub returns-in_err-happen-clause-refused : goal.returns-in_err-happen-clause-refused
 returns-in_err-happen-clause-refused g c =
     let is_own = IsActionEvent Flow in
-    let before = keeps_added (Names (configs_of c.args.world.now) Flow) is_own
-    (AreActionLines Flow) c.loop-count.count c.args.world.now c.loop-count.world
-    c.loop-count.invariant.1.1 in
     let after = keeps_weaker (λ (it : EventContent). it ≡ delivery c.in-Some.place) is_own
     c.loop-count.world c.happen.new.world (λ it is. (c.in-Some.place, is))
     c.in_err-happen.ensures.refused in
-    let kept = keeps_more is_own c.args.world.now c.loop-count.world c.happen.new.world before after
-    in
+    let kept = keeps_more (Names (configs_of c.args.world.now) Flow) is_own (AreActionLines Flow)
+    c.loop-count.count c.args.world.now c.loop-count.world c.happen.new.world
+    c.loop-count.invariant.1.1 after in
     search (rules, kept)

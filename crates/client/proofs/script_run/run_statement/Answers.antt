@@ -68,8 +68,9 @@ returns-in_ok-step-in-Event-clause-reported g c =
     let kind = c.in-Event.event.kind in
     reported_event old new c.args.statement.now c.result_of.result c.args.left.now.items
     c.remove_delivered.new.left.items c.in-Event.event c.in-Event.is c.result_of.ensures
-    c.in_ok-step-in-Event.ensures.adds (left_of_event old new kind c.args.left.now.items
-    c.step.new.left.items c.remove_delivered.new.left.items c.in_ok-step-in-Event.ensures.left
+    c.in_ok-step-in-Event.ensures.adds c.in_ok-step-in-Event.ensures.moves
+    (left_of_event old new kind c.args.left.now.items c.step.new.left.items
+    c.remove_delivered.new.left.items c.in_ok-step-in-Event.ensures.left
     c.remove_delivered.ensures)
 
 pub returns-in-Invalid-clause-reported : goal.returns-in-Invalid-clause-reported

@@ -4,7 +4,7 @@ use Rattle.lab.specs.{configs_of, lines_so_far}
 use Rattle.scripts.specs.Scripts.{Names}
 use Rattle.client.specs.ReportedRuns.{AreActionLines, IsActionEvent}
 use Rattle.client.specs.ScriptRuns.{followed_by, tending}
-use Rattle.client.proofs.KeptLines.{keeps_added, keeps_more}
+use Rattle.client.proofs.KeptLines.{keeps_more}
 use Rattle.client.proofs.PlacesBetween.{leaves_none, leaves_on}
 use Rattle.client.proofs.Settling.{settles_none, settles_on, settled, settled_most}
 use Rattle.client.proofs.Tends.{none_worked, settled_at_bound, settled_now, worked_more}
@@ -117,9 +117,7 @@ pub returns-in_err-happen-clause-refused : goal.returns-in_err-happen-clause-ref
 returns-in_err-happen-clause-refused g c =
     let node = c.args.node in
     let is_own = IsActionEvent (Settle node) in
-    let before = keeps_added (Names (configs_of c.args.world.now) (Settle node)) is_own
+    let kept = keeps_more (Names (configs_of c.args.world.now) (Settle node)) is_own
     (AreActionLines (Settle node)) c.loop-count.count c.args.world.now c.loop-count.world
-    c.loop-count.invariant.1.1 in
-    let kept = keeps_more is_own c.args.world.now c.loop-count.world c.happen.new.world before
-    c.in_err-happen.ensures.refused in
+    c.happen.new.world c.loop-count.invariant.1.1 c.in_err-happen.ensures.refused in
     search (rules, kept)

@@ -2,9 +2,10 @@ use Rattle.std.proofs.Common.{◌∙◌, ap, subst, sym}
 use Rattle.std.specs.Prelude.{IfOk}
 use Rattle.carriers.specs.{HasCarriedMore, delivery_lost}
 use Rattle.events.specs.declared.EventKind.{EventKind}
-use Rattle.lab.specs.Deliveries.{IsCarriedEvent, IsDeliverable}
-use Rattle.events.specs.{shared_kind}
+use Rattle.lab.specs.Deliveries.{IsCarriedEvent, IsDeliverable, IsForNamed}
+use Rattle.events.specs.{node_in, shared_kind}
 use Rattle.lab.specs.Transmissions.{frame_sent}
+use Rattle.lab.proofs.Found.{for_any}
 use Rattle.lab.proofs.delivery.delivery_of.Goals as goal
 
 pub returns-in-Deliver-clause-found : goal.returns-in-Deliver-clause-found
@@ -70,3 +71,23 @@ returns-in-Kept-clause-asked g c =
     HasCarriedMore g.C.Carrier.has_carried c.args.carrier.now c.delivery_of_kind.new.carrier
     (frame_sent c.args.posted.now c.args.request kind (delivery_lost it))))
     (sym is) (c.delivery_of_kind.ensures.asked)
+
+pub returns-in-Deliver-clause-addressed : goal.returns-in-Deliver-clause-addressed
+returns-in-Deliver-clause-addressed g c =
+    for_any c.args.event.now.kind
+    (ap node_in (sym c.kind.ensures ∙ ap shared_kind c.in-Deliver.is)) c.delivered.result
+
+pub returns-in-Submit-clause-addressed : goal.returns-in-Submit-clause-addressed
+returns-in-Submit-clause-addressed g c =
+    subst (λ (kind : EventKind). IfOk c.submitted.result (IsForNamed kind))
+    (sym (sym c.kind.ensures ∙ ap shared_kind c.in-Submit.is)) c.submitted.ensures.addressed
+
+pub returns-in-Get-clause-addressed : goal.returns-in-Get-clause-addressed
+returns-in-Get-clause-addressed g c =
+    subst (λ (kind : EventKind). IfOk c.looked_up.result (IsForNamed kind))
+    (sym (sym c.kind.ensures ∙ ap shared_kind c.in-Get.is)) c.looked_up.ensures.addressed
+
+pub returns-in-Kept-clause-addressed : goal.returns-in-Kept-clause-addressed
+returns-in-Kept-clause-addressed g c =
+    subst (λ (kind : EventKind). IfOk c.delivery_of_kind.result (IsForNamed kind))
+    (sym (sym c.kind.ensures ∙ ap shared_kind c.in-Kept.is)) c.delivery_of_kind.ensures.addressed

@@ -1,9 +1,11 @@
-use Rattle.std.proofs.Common.{subst, sym}
+use Rattle.std.proofs.Common.{[], ap, subst, sym}
 use Rattle.std.specs.Prelude.{IfOk}
-use Rattle.carriers.specs.{HasCarriedMore, delivery_lost}
+use Rattle.carriers.specs.{HasCarriedMore, delivery_lost, request_input}
+use Rattle.events.specs.{node_in}
 use Rattle.events.specs.declared.EventKind.{EventKind}
-use Rattle.lab.specs.Deliveries.{IsCarriedEvent, IsDeliverable}
+use Rattle.lab.specs.Deliveries.{IsCarriedEvent, IsDeliverable, IsForNamed}
 use Rattle.lab.specs.Transmissions.{frame_sent}
+use Rattle.lab.proofs.Found.{for_any, for_noticed, sent_to_named}
 use Rattle.lab.proofs.delivery.delivery_of_kind.Goals as goal
 
 pub returns-in-Deliver-clause-found : goal.returns-in-Deliver-clause-found
@@ -54,3 +56,39 @@ returns-in-Get-clause-asked g c =
     HasCarriedMore g.C.Carrier.has_carried c.args.carrier.now c.looked_up.new.carrier
     (frame_sent c.args.posted.now c.args.request kind (delivery_lost it))))
     (sym c.in-Get.is) (c.looked_up.ensures.asked c.args.posted.now)
+
+-- ---- the node that the event names
+
+pub returns-in-Deliver-clause-addressed : goal.returns-in-Deliver-clause-addressed
+returns-in-Deliver-clause-addressed g c =
+    for_any c.args.kind.now (ap node_in c.in-Deliver.is) c.delivered.result
+
+pub returns-in-Notice-clause-addressed : goal.returns-in-Notice-clause-addressed
+returns-in-Notice-clause-addressed g c =
+    for_noticed c.args.configs.now c.args.kind.now _ _ (ap node_in c.in-Notice.is)
+    c.noticed.result (c.noticed.ensures.found 0 [])
+
+pub returns-in-Submit-clause-addressed : goal.returns-in-Submit-clause-addressed
+returns-in-Submit-clause-addressed g c =
+    subst (λ (kind : EventKind). IfOk c.submitted.result (IsForNamed kind)) (sym c.in-Submit.is)
+    c.submitted.ensures.addressed
+
+pub returns-in-Get-clause-addressed : goal.returns-in-Get-clause-addressed
+returns-in-Get-clause-addressed g c =
+    subst (λ (kind : EventKind). IfOk c.looked_up.result (IsForNamed kind)) (sym c.in-Get.is)
+    c.looked_up.ensures.addressed
+
+pub returns-in_ok-range-in-Rows-clause-addressed : goal.returns-in_ok-range-in-Rows-clause-addressed
+returns-in_ok-range-in-Rows-clause-addressed g c =
+    sent_to_named request_input c.args.kind.now _ (ap node_in c.in-Rows.is)
+    c.send_request.result c.send_request.ensures.addressed
+
+pub returns-in-Open-clause-addressed : goal.returns-in-Open-clause-addressed
+returns-in-Open-clause-addressed g c =
+    sent_to_named request_input c.args.kind.now _ (ap node_in c.in-Open.is)
+    c.send_request-in-Open.result c.send_request-in-Open.ensures.addressed
+
+pub returns-in-Close-clause-addressed : goal.returns-in-Close-clause-addressed
+returns-in-Close-clause-addressed g c =
+    sent_to_named request_input c.args.kind.now _ (ap node_in c.in-Close.is)
+    c.send_request-in-Close.result c.send_request-in-Close.ensures.addressed

@@ -16,6 +16,7 @@ returns g c =
     (sym boxed.ensures.ok)
     (record {
       ready = ready_down g.D.Disk (holding boxed.field-0 left);
+      is = tt;
       crashes = λ honest. record {
         crashes = e.crashes honest;
         count = e.count;

@@ -23,6 +23,11 @@ returns-in_ok-new-in-Ok g c =
     c.arm-in-Ok.new.self _ boxed.ensures.ok (record {
       ready = search rules;
       outcome = tt;
+      stands = (
+        c.epoch-epoch.ensures.own,
+        c.count-count.ensures.own,
+        c.committed-committed.ensures.own,
+      );
       refines = λ x n r.
           let represents = subst (λ (s : State). DiskAlwaysRefines s x n)
           (same_state (c.arm.ensures.same r.0)) r.1 in

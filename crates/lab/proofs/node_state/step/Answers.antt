@@ -21,6 +21,7 @@ returns-in-Ok g c = λ limits.
     c.as_mut-node.ensures.value (record {
       ready = search rules;
       outcome = tt;
+      stands = (λ down. down, λ down. down);
       refines = λ x n r.
           let a = (c.in-Ok.ensures.ends x n (c.arm.ensures.refines x n r)).done in
           Answers r.core.running (c.arm-in-Ok.ensures.refines x _ a.runs) (

@@ -23,6 +23,7 @@ returns-in-Ok g c = λ limits.
     c.as_mut-node.ensures.value (record {
       ready = search rules;
       outcome = tt;
+      stands = (λ down. down, λ down. down);
       refines = λ x n r.
           let a = (c.in-Ok.ensures.ends x n (c.arm.ensures.refines x n r)).done in
           Tends r.core.running (tends_armed g.D.Disk x n _ _ a.0

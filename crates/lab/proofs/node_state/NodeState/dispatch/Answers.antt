@@ -72,6 +72,7 @@ returns-in_ok-state-in-Stop g c =
     c.args.limits.now c.args.fault c.in-Stop.is c.in-Up.is (record {
       ready = e.ready;
       outcome = refl;
+      stands = e.is;
       refines = λ x n r.
           let rests = c.disk_in_box.ensures.rests x n r in
           let stopped_now = elim (e.refines x n (silent n) (subst g.D.Disk.is_honest same r.honest)

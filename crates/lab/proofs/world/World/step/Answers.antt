@@ -1,33 +1,33 @@
-use Rattle.std.proofs.Common.{List, [], ◌∷◌, Option, ℕ, length, false, true, refl, ap, subst, sym}
-use Rattle.std.proofs.Common.{◌≡◌, ◌∙◌}
+mod Moves
+use Rattle.std.proofs.Common.{List, [], ◌∷◌, length, false, true, refl, ap, subst, sym}
+use Rattle.std.proofs.Common.{◌≡◌, ◌∙◌, Err, arith}
 use Rattle.std.specs.Prelude.{OnOk}
-use Rattle.std.specs.List.{AllZip}
 use Rattle.std.proofs.lemmas.Bool.{false≢true}
 use Rattle.std.proofs.lemmas.Option.{MatchOption-at_none}
-use Rattle.std.proofs.lemmas.Result.{on_err_weaker, on_ok_weaker}
-use Rattle.carriers.specs.{DeliveryWasLost, HasCarriedMore, delivery_lost}
+use Rattle.std.proofs.lemmas.Result.{on_ok_weaker}
+use Rattle.carriers.specs.{DeliveryWasLost, HasCarriedMore}
 use Rattle.events.specs.declared.EventContent.{EventContent}
-use Rattle.lab.specs.declared.delivery.Posted.{Posted}
 use Rattle.lab.specs.declared.report.Line.{Line}
 use Rattle.lab.specs.declared.sim_node.SimNode.{SimNode}
 use Rattle.lab.specs.declared.world.World.{World}
 use Rattle.lab.specs.declared.report.Line.TheVariants as line
-use Rattle.lab.specs.Arrivals.{RepliesFollow}
 use Rattle.lab.specs.Deliveries.{IsDeliverable}
 use Rattle.lab.specs.Events.{epoch_in}
 use Rattle.lab.specs.LinesSoFar.{AreEventLines, sim_node_ids}
-use Rattle.lab.specs.OutcomeLines.{outcome_lines, own_lines, replies_by}
-use Rattle.lab.specs.Transmissions.{frame_sent}
-use Rattle.lab.specs.Worlds.{HasKept, HasNoNode, HaveLimits, IsIndexOf, PostedRefines}
+use Rattle.lab.specs.OutcomeLines.{outcome_lines}
+use Rattle.lab.specs.Worlds.{HasKept, HasNoNode, HaveLimits, IsIndexOf}
 use Rattle.lab.proofs.LinesSoFarLemmas.{adds_none, adds_one, keeps_begun, keeps_nothing}
-use Rattle.lab.proofs.LinesSoFarLemmas.{keeps_partly, keeps_unbegun, loses_none, loses_nothing}
+use Rattle.lab.proofs.LinesSoFarLemmas.{keeps_after, keeps_unbegun, loses_none, loses_nothing}
 use Rattle.lab.proofs.LinesSoFarLemmas.{on_err, on_ok}
 use Rattle.lab.proofs.Moves.{limited, same_ids}
 use Rattle.lab.proofs.OutcomeLines.{absent_lines, by_kind, dispatched_lines, lost_lines}
 use Rattle.lab.proofs.OutcomeLines.{nothing_lines, outcome_arrives}
 use Rattle.lab.proofs.SentLines.{loss_shown, lost_carried, nothing_shown, outcome_shown}
-use Rattle.lab.proofs.WorldSteps.{IsFoundFor, delivered_after, ends_so, ends_with, ignored_after}
+use Rattle.lab.proofs.StepEnds.{ends_again, ends_begun, ends_kept, ends_not, ends_now, moves_none}
+use Rattle.lab.proofs.WorldSteps.{delivered_after, ignored_after}
 use Rattle.lab.proofs.WorldSteps.{keeps_limits, lost_applied, nothing_applied}
+use Rattle.lab.proofs.world.World.step.Answers.Moves.{absent_moves, follow, found, loss_moves}
+use Rattle.lab.proofs.world.World.step.Answers.Moves.{mid, node_moves, nothing_moves}
 use Rattle.lab.proofs.world.World.step.Goals as goal
 
 -- no frame has the place, or no configuration the epoch: the event is kept with the line of that
@@ -35,25 +35,15 @@ pub returns-in-Nothing-clause-ran : goal.returns-in-Nothing-clause-ran
 returns-in-Nothing-clause-ran g c = λ past run.
     let begun = c.begin.new.self in
     let event = c.args.event.now in
-    let found = c.in_ok-delivery_of.field-0 in
-    let mid : World g.row.D.Denot g.row.C.Denot g.D.Disk =
-    record begun { carrier = c.delivery_of.new.carrier } in
-    let here : IsFoundFor g.C.Carrier begun c.in-Some.request event.kind found =
-    λ faithful frames each. c.in_ok-delivery_of.ensures.found frames
-    (λ _. (
-      subst (λ (l : List Posted). AllZip PostedRefines l frames) (sym c.deref.ensures.value) each,
-      faithful,
-    )) in
-    let asked = subst (λ (l : List Posted). HasCarriedMore g.C.Carrier.has_carried begun.carrier
-    c.delivery_of.new.carrier (frame_sent l c.in-Some.request event.kind (delivery_lost found)))
-    c.deref.ensures.value c.in_ok-delivery_of.ensures.asked in
     on_ok_weaker c.keep.result (nothing_applied g.C.Carrier c.in_order.ensures c.args.self.now begun
     event c.in_ok-begin.ensures.begun c.len.result c.in-Some.request c.len.ensures
-    c.in-Some.ensures.0 c.in-Some.ensures.1 found here c.in_ok-delivery_of.ensures.lost
-    c.delivery_of.new.carrier asked c.in_ok-delivery_of.ensures.faithful.1
-    (c.names_node.ensures.0 c.if-not-names_node.false) past run c.in-Nothing.is
-    c.keep.new.self)
-    (subst (λ (l : List Line). OnOk c.keep.result (HasKept mid c.keep.new.self false l))
+    c.in-Some.ensures.0 c.in-Some.ensures.1 c.in_ok-delivery_of.field-0 c.deref.result.now
+    c.deref.ensures.value c.in_ok-delivery_of.ensures.found c.in_ok-delivery_of.ensures.lost
+    c.delivery_of.new.carrier c.in_ok-delivery_of.ensures.asked
+    c.in_ok-delivery_of.ensures.faithful.1
+    (c.names_node.ensures.0 c.if-not-names_node.false) past run c.in-Nothing.is c.keep.new.self)
+    (subst (λ (l : List Line). OnOk c.keep.result
+    (HasKept (record begun { carrier = c.delivery_of.new.carrier }) c.keep.new.self false l))
     c.one.ensures c.keep.ensures.kept)
 
 -- it was lost, and is kept so
@@ -61,27 +51,17 @@ pub returns-in-Lost-clause-ran : goal.returns-in-Lost-clause-ran
 returns-in-Lost-clause-ran g c = λ past run.
     let begun = c.begin.new.self in
     let event = c.args.event.now in
-    let found = c.in_ok-delivery_of.field-0 in
-    let mid : World g.row.D.Denot g.row.C.Denot g.D.Disk =
-    record begun { carrier = c.delivery_of.new.carrier } in
-    let here : IsFoundFor g.C.Carrier begun c.in-Some.request event.kind found =
-    λ faithful frames each. c.in_ok-delivery_of.ensures.found frames
-    (λ _. (
-      subst (λ (l : List Posted). AllZip PostedRefines l frames) (sym c.deref.ensures.value) each,
-      faithful,
-    )) in
-    let asked = subst (λ (l : List Posted). HasCarriedMore g.C.Carrier.has_carried begun.carrier
-    c.delivery_of.new.carrier (frame_sent l c.in-Some.request event.kind (delivery_lost found)))
-    c.deref.ensures.value c.in_ok-delivery_of.ensures.asked in
     on_ok_weaker c.keep-in-Lost.result (lost_applied g.C.Carrier c.in_order.ensures c.args.self.now
     begun
     event c.in_ok-begin.ensures.begun c.len.result c.in-Some.request c.len.ensures
-    c.in-Some.ensures.0 c.in-Some.ensures.1 found here c.in_ok-delivery_of.ensures.lost
-    c.delivery_of.new.carrier asked c.in_ok-delivery_of.ensures.faithful.1
+    c.in-Some.ensures.0 c.in-Some.ensures.1 c.in_ok-delivery_of.field-0 c.deref.result.now
+    c.deref.ensures.value c.in_ok-delivery_of.ensures.found c.in_ok-delivery_of.ensures.lost
+    c.delivery_of.new.carrier c.in_ok-delivery_of.ensures.asked
+    c.in_ok-delivery_of.ensures.faithful.1
     (c.names_node.ensures.0 c.if-not-names_node.false) past run c.in-Lost.is
     c.keep-in-Lost.new.self)
-    (subst (λ (l : List Line). OnOk c.keep-in-Lost.result (HasKept mid c.keep-in-Lost.new.self true
-    l))
+    (subst (λ (l : List Line). OnOk c.keep-in-Lost.result (HasKept
+    (record begun { carrier = c.delivery_of.new.carrier }) c.keep-in-Lost.new.self true l))
     c.one-in-Lost.ensures c.keep-in-Lost.ensures.kept)
 
 -- the world has the node
@@ -89,21 +69,13 @@ pub returns-in_default-index_of-clause-ran : goal.returns-in_default-index_of-cl
 returns-in_default-index_of-clause-ran g c = λ past run.
     let begun = c.begin.new.self in
     let event = c.args.event.now in
-    let found = c.in_ok-delivery_of.field-0 in
-    let here : IsFoundFor g.C.Carrier begun c.in-Some.request event.kind found =
-    λ faithful frames each. c.in_ok-delivery_of.ensures.found frames
-    (λ _. (
-      subst (λ (l : List Posted). AllZip PostedRefines l frames) (sym c.deref.ensures.value) each,
-      faithful,
-    )) in
-    let asked = subst (λ (l : List Posted). HasCarriedMore g.C.Carrier.has_carried begun.carrier
-    c.delivery_of.new.carrier (frame_sent l c.in-Some.request event.kind (delivery_lost found)))
-    c.deref.ensures.value c.in_ok-delivery_of.ensures.asked in
     on_ok_weaker c.keep-in_default-index_of.result (λ keeps. ignored_after g.C.Carrier
     c.in_order.ensures c.args.self.now begun event
     c.in_ok-begin.ensures.begun c.len.result c.in-Some.request c.len.ensures
-    c.in-Some.ensures.0 c.in-Some.ensures.1 found here c.in_ok-delivery_of.ensures.lost
-    c.delivery_of.new.carrier asked c.in_ok-delivery_of.ensures.faithful.1
+    c.in-Some.ensures.0 c.in-Some.ensures.1 c.in_ok-delivery_of.field-0 c.deref.result.now
+    c.deref.ensures.value c.in_ok-delivery_of.ensures.found c.in_ok-delivery_of.ensures.lost
+    c.delivery_of.new.carrier c.in_ok-delivery_of.ensures.asked
+    c.in_ok-delivery_of.ensures.faithful.1
     (c.names_node.ensures.0 c.if-not-names_node.false) past run c.in-To.id c.in-To.input c.in-To.is
     (subst (λ (l : List (SimNode g.row.D.Denot g.D.Disk)). HasNoNode l c.in-To.id)
     c.deref-2.ensures.value
@@ -111,54 +83,16 @@ returns-in_default-index_of-clause-ran g c = λ past run.
     (λ index. IsIndexOf c.deref-2.result.now index c.in-To.id) c.in_default-index_of.is
     c.index_of.ensures)) _) c.keep-in_default-index_of.ensures.kept
 
--- memory was wanted for the lines
-pub returns-in_err-lines-clause-ends : goal.returns-in_err-lines-clause-ends
-returns-in_err-lines-clause-ends g c =
-    ends_with _ _ _ c.from_residual-in_err-lines.result
-    c.from_residual-in_err-lines.ensures.1
-    (ap (λ (w : World g.row.D.Denot g.row.C.Denot g.D.Disk). w.ended)
-    c.in_ok-begin.ensures.begun.others)
-
--- the world once its node took the step, and its replies were carried
-abbrev mid : (g : _) (c : goal.After-keep-2 g) → World g.row.D.Denot g.row.C.Denot g.D.Disk
-mid g c = record c.begin.new.self {
-  nodes = c.deliver.new.nodes;
-  frames = c.trace_of.new.frames;
-  carrier = c.trace_of.new.carrier;
-}
-
--- what follows the lines of its outcome
-follow : (g : _) (c : goal.After-keep-2 g) → RepliesFollow
-    (g.C.Carrier.is_faithful c.delivery_of.new.carrier) g.C.Carrier.loses
-    (HasCarriedMore g.C.Carrier.has_carried c.delivery_of.new.carrier c.trace_of.new.carrier)
-    c.in-To.id (replies_by c.in_ok-outcome.outcome)
-    (own_lines c.in-To.id (epoch_in c.args.event.now.kind)
-    (length c.begin.new.self.frames.items) c.in_ok-outcome.outcome) c.in_ok-lines.lines
-follow g c = subst (λ (e : Option ℕ). RepliesFollow
-    (g.C.Carrier.is_faithful c.delivery_of.new.carrier) g.C.Carrier.loses
-    (HasCarriedMore g.C.Carrier.has_carried c.delivery_of.new.carrier c.trace_of.new.carrier)
-    c.in-To.id (replies_by c.in_ok-outcome.outcome)
-    (own_lines c.in-To.id e (length c.begin.new.self.frames.items) c.in_ok-outcome.outcome)
-    c.in_ok-lines.lines) c.epoch.ensures c.in_ok-lines.ensures.lines
-
 pub returns-clause-ran : goal.returns-clause-ran
 returns-clause-ran g c = λ past run.
     let begun = c.begin.new.self in
     let event = c.args.event.now in
-    let found = c.in_ok-delivery_of.field-0 in
-    let here : IsFoundFor g.C.Carrier begun c.in-Some.request event.kind found =
-    λ faithful frames each. c.in_ok-delivery_of.ensures.found frames
-    (λ _. (
-      subst (λ (l : List Posted). AllZip PostedRefines l frames) (sym c.deref.ensures.value) each,
-      faithful,
-    )) in
-    let asked = subst (λ (l : List Posted). HasCarriedMore g.C.Carrier.has_carried begun.carrier
-    c.delivery_of.new.carrier (frame_sent l c.in-Some.request event.kind (delivery_lost found)))
-    c.deref.ensures.value c.in_ok-delivery_of.ensures.asked in
     on_ok_weaker c.keep-2.result (delivered_after g.C.Carrier c.in_order.ensures c.args.self.now
     begun event c.in_ok-begin.ensures.begun c.len.result c.in-Some.request c.len.ensures
-    c.in-Some.ensures.0 c.in-Some.ensures.1 found here c.in_ok-delivery_of.ensures.lost
-    c.delivery_of.new.carrier asked c.in_ok-delivery_of.ensures.faithful.1
+    c.in-Some.ensures.0 c.in-Some.ensures.1 c.in_ok-delivery_of.field-0 c.deref.result.now
+    c.deref.ensures.value c.in_ok-delivery_of.ensures.found c.in_ok-delivery_of.ensures.lost
+    c.delivery_of.new.carrier c.in_ok-delivery_of.ensures.asked
+    c.in_ok-delivery_of.ensures.faithful.1
     (c.names_node.ensures.0 c.if-not-names_node.false) past run c.in-To.id c.in-To.input c.in-To.is
     (mid g c) c.keep-2.new.self (outcome_lines c.in-To.id (epoch_in event.kind)
     (length begun.frames.items) c.in_ok-outcome.outcome) c.in_ok-lines.lines refl
@@ -172,15 +106,6 @@ returns-clause-ran g c = λ past run.
     (HasCarriedMore g.C.Carrier.has_carried c.delivery_of.new.carrier c.trace_of.new.carrier)
     c.in-To.id (epoch_in event.kind) (length begun.frames.items) c.in_ok-outcome.outcome
     c.in_ok-lines.lines (follow g c))) c.keep-2.ensures.kept
-
-pub returns-clause-ends : goal.returns-clause-ends
-returns-clause-ends g c =
-    ends_so c.keep-2.result (mid g c) c.keep-2.new.self false c.in_ok-lines.lines
-    (ap (λ (w : World g.row.D.Denot g.row.C.Denot g.D.Disk). w.ended)
-    c.in_ok-begin.ensures.begun.others) c.keep-2.ensures.kept c.keep-2.ensures.ends
-
-pub returns-clause-again : goal.returns-clause-again
-returns-clause-again g c = λ ended. absurd (false≢true (sym c.if-self.false ∙ ended))
 
 pub returns-clause-limits : goal.returns-clause-limits
 returns-clause-limits g c =
@@ -277,9 +202,7 @@ returns-clause-adds g c =
     g.C.Carrier.loses
     (HasCarriedMore g.C.Carrier.has_carried c.delivery_of.new.carrier c.trace_of.new.carrier)
     event.kind (length begun.frames.items) c.in_ok-outcome.outcome c.in_ok-lines.lines
-    (subst (IsDeliverable begun.configs [] i event.kind) c.in-To.is
-    (c.in_ok-delivery_of.ensures.found [] (λ carried. absurd (certain carried))))
-    took.dispatched.outcome (follow g c)))) c.keep-2.ensures.kept
+    (found g c certain) took.dispatched.outcome (follow g c)))) c.keep-2.ensures.kept
 
 -- ---- what was lost, in any world
 
@@ -288,11 +211,8 @@ returns-then-not-names_node-clause-loses g c =
     loses_nothing g.C.Carrier.loses c.args.self.now c.args.event.now
 
 pub returns-in-Nothing-clause-loses : goal.returns-in-Nothing-clause-loses
-returns-in-Nothing-clause-loses g c =
-    let begun = c.begin.new.self in
-    on_ok_weaker c.keep.result (loses_none g.C.Carrier.loses c.args.self.now begun
-    (record begun { carrier = c.delivery_of.new.carrier }) c.keep.new.self c.args.event.now _
-    c.in_ok-begin.ensures.begun refl) c.keep.ensures.kept
+returns-in-Nothing-clause-loses g c = loses_none c.keep.result g.C.Carrier.loses
+    c.args.event.now _ _ _ c.in_ok-begin.ensures.begun c.keep.ensures.kept refl
 
 pub returns-in-Lost-clause-loses : goal.returns-in-Lost-clause-loses
 returns-in-Lost-clause-loses g c =
@@ -307,17 +227,12 @@ returns-in-Lost-clause-loses g c =
 
 pub returns-in_default-index_of-clause-loses : goal.returns-in_default-index_of-clause-loses
 returns-in_default-index_of-clause-loses g c =
-    let begun = c.begin.new.self in
-    on_ok_weaker c.keep-in_default-index_of.result (loses_none g.C.Carrier.loses c.args.self.now
-    begun (record begun { carrier = c.delivery_of.new.carrier })
-    c.keep-in_default-index_of.new.self c.args.event.now _ c.in_ok-begin.ensures.begun refl)
-    c.keep-in_default-index_of.ensures.kept
+    loses_none c.keep-in_default-index_of.result g.C.Carrier.loses c.args.event.now _ _ _
+    c.in_ok-begin.ensures.begun c.keep-in_default-index_of.ensures.kept refl
 
 pub returns-clause-loses : goal.returns-clause-loses
-returns-clause-loses g c =
-    on_ok_weaker c.keep-2.result (loses_none g.C.Carrier.loses c.args.self.now c.begin.new.self
-    (mid g c) c.keep-2.new.self c.args.event.now _ c.in_ok-begin.ensures.begun refl)
-    c.keep-2.ensures.kept
+returns-clause-loses g c = loses_none c.keep-2.result g.C.Carrier.loses c.args.event.now _ _ _
+    c.in_ok-begin.ensures.begun c.keep-2.ensures.kept refl
 
 -- ---- a step that was refused, in any world
 
@@ -342,27 +257,17 @@ returns-in_err-delivery_of-clause-refused g c =
     c.args.event.now c.in_ok-begin.ensures.begun refl refl refl refl)
 
 pub returns-in-Nothing-clause-refused : goal.returns-in-Nothing-clause-refused
-returns-in-Nothing-clause-refused g c =
-    let begun = c.begin.new.self in
-    on_err_weaker c.keep.result (keeps_partly c.args.self.now begun
-    (record begun { carrier = c.delivery_of.new.carrier }) c.args.event.now
-    c.in_ok-begin.ensures.begun refl refl refl refl c.keep.new.self _) c.keep.ensures.refused
+returns-in-Nothing-clause-refused g c = keeps_after c.keep.result c.args.event.now _ _ _
+    c.in_ok-begin.ensures.begun c.keep.ensures.refused refl refl refl refl
 
 pub returns-in-Lost-clause-refused : goal.returns-in-Lost-clause-refused
-returns-in-Lost-clause-refused g c =
-    let begun = c.begin.new.self in
-    on_err_weaker c.keep-in-Lost.result (keeps_partly c.args.self.now begun
-    (record begun { carrier = c.delivery_of.new.carrier }) c.args.event.now
-    c.in_ok-begin.ensures.begun refl refl refl refl c.keep-in-Lost.new.self _)
-    c.keep-in-Lost.ensures.refused
+returns-in-Lost-clause-refused g c = keeps_after c.keep-in-Lost.result c.args.event.now _ _ _
+    c.in_ok-begin.ensures.begun c.keep-in-Lost.ensures.refused refl refl refl refl
 
 pub returns-in_default-index_of-clause-refused : goal.returns-in_default-index_of-clause-refused
 returns-in_default-index_of-clause-refused g c =
-    let begun = c.begin.new.self in
-    on_err_weaker c.keep-in_default-index_of.result (keeps_partly c.args.self.now begun
-    (record begun { carrier = c.delivery_of.new.carrier }) c.args.event.now
-    c.in_ok-begin.ensures.begun refl refl refl refl c.keep-in_default-index_of.new.self _)
-    c.keep-in_default-index_of.ensures.refused
+    keeps_after c.keep-in_default-index_of.result c.args.event.now _ _ _ c.in_ok-begin.ensures.begun
+    c.keep-in_default-index_of.ensures.refused refl refl refl refl
 
 pub returns-in_err-outcome-clause-refused : goal.returns-in_err-outcome-clause-refused
 returns-in_err-outcome-clause-refused g c =
@@ -384,7 +289,78 @@ returns-in_err-lines-clause-refused g c =
     }) c.args.event.now c.in_ok-begin.ensures.begun refl refl refl refl)
 
 pub returns-clause-refused : goal.returns-clause-refused
-returns-clause-refused g c =
-    on_err_weaker c.keep-2.result (keeps_partly c.args.self.now c.begin.new.self (mid g c)
-    c.args.event.now c.in_ok-begin.ensures.begun refl refl refl refl c.keep-2.new.self _)
-    c.keep-2.ensures.refused
+returns-clause-refused g c = keeps_after c.keep-2.result c.args.event.now _ _ _
+    c.in_ok-begin.ensures.begun c.keep-2.ensures.refused refl refl refl refl
+
+-- ---- the nodes of any world
+
+pub returns-then-not-names_node-clause-moves : goal.returns-then-not-names_node-clause-moves
+returns-then-not-names_node-clause-moves g c = moves_none c.args.event.now c.args.self.now
+
+pub returns-in-Nothing-clause-moves : goal.returns-in-Nothing-clause-moves
+returns-in-Nothing-clause-moves = nothing_moves
+
+pub returns-in-Lost-clause-moves : goal.returns-in-Lost-clause-moves
+returns-in-Lost-clause-moves = loss_moves
+
+pub returns-in_default-index_of-clause-moves : goal.returns-in_default-index_of-clause-moves
+returns-in_default-index_of-clause-moves = absent_moves
+
+pub returns-clause-moves : goal.returns-clause-moves
+returns-clause-moves = node_moves
+
+-- ---- whether it ends
+
+pub returns-then-self-clause-ends : goal.returns-then-self-clause-ends
+returns-then-self-clause-ends g c = ends_again _ c.args.self.now c.if-self.true
+
+pub returns-then-not-names_node-clause-ends : goal.returns-then-not-names_node-clause-ends
+returns-then-not-names_node-clause-ends g c = ends_not _ c.args.self.now c.if-self.false
+
+pub returns-in_err-begin-clause-ends : goal.returns-in_err-begin-clause-ends
+returns-in_err-begin-clause-ends g c =
+    ends_now _ c.from_residual.result c.args.self.now c.begin.new.self c.from_residual.ensures.1
+    c.if-self.false c.in_err-begin.ensures.ends
+    (omega (arith, ap length c.in_err-begin.ensures.refused.taken))
+
+pub returns-in_default-clause-ends : goal.returns-in_default-clause-ends
+returns-in_default-clause-ends g c =
+    ends_begun (λ _. Unit {0}) (Err _) c.begin.new.self tt c.if-self.false
+    c.in_ok-begin.ensures.begun refl refl
+
+pub returns-in_err-delivery_of-clause-ends : goal.returns-in_err-delivery_of-clause-ends
+returns-in_err-delivery_of-clause-ends g c =
+    ends_begun _ c.from_residual-in_err-delivery_of.result _
+    c.from_residual-in_err-delivery_of.ensures.1 c.if-self.false c.in_ok-begin.ensures.begun
+    refl refl
+
+pub returns-in-Nothing-clause-ends : goal.returns-in-Nothing-clause-ends
+returns-in-Nothing-clause-ends g c = ends_kept c.keep.result _ _ _ _ c.if-self.false
+    c.in_ok-begin.ensures.begun c.keep.ensures.kept c.keep.ensures.ends c.keep.ensures.refused
+    refl refl
+
+pub returns-in-Lost-clause-ends : goal.returns-in-Lost-clause-ends
+returns-in-Lost-clause-ends g c = ends_kept c.keep-in-Lost.result _ _ _ _ c.if-self.false
+    c.in_ok-begin.ensures.begun c.keep-in-Lost.ensures.kept c.keep-in-Lost.ensures.ends
+    c.keep-in-Lost.ensures.refused refl refl
+
+pub returns-in_default-index_of-clause-ends : goal.returns-in_default-index_of-clause-ends
+returns-in_default-index_of-clause-ends g c = ends_kept c.keep-in_default-index_of.result _ _ _ _
+    c.if-self.false c.in_ok-begin.ensures.begun c.keep-in_default-index_of.ensures.kept
+    c.keep-in_default-index_of.ensures.ends c.keep-in_default-index_of.ensures.refused refl refl
+
+pub returns-in_err-outcome-clause-ends : goal.returns-in_err-outcome-clause-ends
+returns-in_err-outcome-clause-ends g c =
+    ends_begun _ c.from_residual-in_err-outcome.result _
+    c.from_residual-in_err-outcome.ensures.1 c.if-self.false c.in_ok-begin.ensures.begun
+    refl refl
+
+pub returns-in_err-lines-clause-ends : goal.returns-in_err-lines-clause-ends
+returns-in_err-lines-clause-ends g c =
+    ends_begun _ c.from_residual-in_err-lines.result _ c.from_residual-in_err-lines.ensures.1
+    c.if-self.false c.in_ok-begin.ensures.begun refl refl
+
+pub returns-clause-ends : goal.returns-clause-ends
+returns-clause-ends g c = ends_kept c.keep-2.result _ _ _ _ c.if-self.false
+    c.in_ok-begin.ensures.begun c.keep-2.ensures.kept c.keep-2.ensures.ends
+    c.keep-2.ensures.refused refl refl
