@@ -10,6 +10,6 @@ pub mod StatementResults
 pub mod StatementRuns
 pub mod PrintedRuns
 pub mod PlacesBetween
-pub mod KeptLines
+pub mod RunsActions
 pub mod ReportedLemmas
 pub mod StatementReports

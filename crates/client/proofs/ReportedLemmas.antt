@@ -9,7 +9,8 @@ use Rattle.disk.specs.declared.disk.Disk.{Ghosts}
 use Rattle.lab.specs.declared.Line.{Line}
 use Rattle.lab.specs.declared.SimNode.{SimNode}
 use Rattle.lab.specs.declared.world.World.{World}
-use Rattle.lab.specs.{AddsLines, EventAddsLines, IsDownAmong, MovesAtMostOne}
+use Rattle.carriers.specs.declared.Carrier.{Ghosts as Carriers}
+use Rattle.lab.specs.{AddsLines, EventAddsLines, IsDownAmong}
 use Rattle.lab.specs.{ShowsNumbers, configs_of, drops_in_steps, events_so_far, is_lost}
 use Rattle.lab.specs.{lines_so_far, lost_so_far, nodes_of, sent_so_far}
 use Rattle.lab.specs.NodeLists.{Configurations}
@@ -27,9 +28,10 @@ use Rattle.client.specs.ScriptRuns.{shown}
 use Rattle.client.specs.declared.statement_result.StatementResult.{StatementResult}
 use Rattle.client.specs.ReportedRuns.{ActionAddsLines, AreActionLines}
 use Rattle.client.specs.ReportedRuns.{DeliversLeft, IsActionEvent, IsReportedIn}
-use Rattle.client.specs.ReportedRuns.{ShowsNow, places_between}
+use Rattle.client.specs.ReportedRuns.{RunsAction, ShowsNow, places_between}
 use Rattle.client.proofs.Flowing.{frames_in_steps-more}
 use Rattle.client.proofs.PlacesBetween.{none_between}
+use Rattle.client.proofs.RunsActions.{runs_none}
 use Rattle.client.proofs.Tends.{HasTendedOn, TellsWhetherWorked, same_more, shows_last}
 
 -- ---- events and lines
@@ -185,19 +187,19 @@ module _ {D : Type 0} {g : Ghosts D} (sims : List (SimNode D g)) where
   shows_more true = tt
   shows_more false = tt
 
-module _ {D C : Type 0} {g : Ghosts D} (old new : World D C g) (it : Statement)
+module _ {D C : Type 0} {g : Ghosts D} (h : Carriers C) (old new : World D C g) (it : Statement)
     (turn : StatementResult) (old_left new_left : List ℕ) where
   pub reported_event : (event : lab.EventContent) → it.action ≡ Event event →
       turn ≡ record { line = it.line; events = 1; silent = 0; note = note.Nothing } →
-      EventAddsLines event old new → MovesAtMostOne event old new →
+      EventAddsLines event old new → RunsAction h (Event event) 1 old new →
       (IsRising 0 (sent_so_far old) old_left →
       new_left ≡ left_after_event event.kind (old_left ++ places_between old new)) →
-      IsReportedIn old new it turn old_left new_left
-  reported_event event is made adds moves left = rw made (record {
+      IsReportedIn h old new it turn old_left new_left
+  reported_event event is made adds runs left = rw made (record {
     answered = record { line = refl; did = rw is (refl, refl, refl) };
     shown = tt;
     adds = rw is adds;
-    moves = rw is moves;
+    runs = rw is runs;
     ends = rw is (λ named. (adds.more, adds.added, tt));
     stays = λ none. absurd (omega (arith, none));
     delivers = λ flow. absurd (no_flow event (sym is ∙ flow));
@@ -207,13 +209,14 @@ module _ {D C : Type 0} {g : Ghosts D} (old new : World D C g) (it : Statement)
   pub reported_flow : (count : ℕ) → it.action ≡ Flow →
       turn ≡ record { line = it.line; events = count; silent = 0; note = busy new_left } →
       count ≤ most → ActionAddsLines Flow count old new → (new_left ≡ []) ⊎ (count ≡ most) →
-      (count ≡ 0 → new ≡ old) → DeliversLeft old new old_left new_left →
-      IsReportedIn old new it turn old_left new_left
-  reported_flow count is made few adds ends stays delivers = rw made (record {
+      RunsAction h Flow count old new → (count ≡ 0 → new ≡ old) →
+      DeliversLeft old new old_left new_left →
+      IsReportedIn h old new it turn old_left new_left
+  reported_flow count is made few adds ends runs stays delivers = rw made (record {
     answered = record { line = refl; did = rw is (few, refl, busy_or_not new_left count ends) };
     shown = shows_busy (nodes_of old) new_left;
     adds = rw is adds;
-    moves = rw is tt;
+    runs = rw is runs;
     ends = rw is (λ named. (adds.more, adds.added, tt));
     stays = stays;
     delivers = λ flow. (delivers, refl);
@@ -228,13 +231,14 @@ module _ {D C : Type 0} {g : Ghosts D} (old new : World D C g) (it : Statement)
         note = (if more then note.Busy else note.Nothing);
       } → count ≤ most → ActionAddsLines (Settle node) count old new →
       (Names (configs_of old) (Settle node) → HasTendedOn (lines_so_far old) (lines_so_far new)) →
-      TellsWhetherWorked (lines_so_far new) more → (count ≡ 0 → new ≡ old) →
-      new_left ≡ old_left ++ places_between old new → IsReportedIn old new it turn old_left new_left
-  reported_settle node count more is made few adds tends told stays left = rw made (record {
+      TellsWhetherWorked (lines_so_far new) more → RunsAction h (Settle node) count old new →
+      (count ≡ 0 → new ≡ old) → new_left ≡ old_left ++ places_between old new →
+      IsReportedIn h old new it turn old_left new_left
+  reported_settle node count more is made few adds tends told runs stays left = rw made (record {
     answered = record { line = refl; did = rw is (few, (more, refl, refl)) };
     shown = shows_more (nodes_of old) more;
     adds = rw is adds;
-    moves = rw is tt;
+    runs = rw is runs;
     ends = rw is (λ named.
         let t = tends named in
         let own = same_more (lines_so_far old) adds.more t.0 (sym adds.added ∙ t.1) in (
@@ -251,16 +255,16 @@ module _ {D C : Type 0} {g : Ghosts D} (old new : World D C g) (it : Statement)
     left = rw is (λ up. left);
   })
 
-module _ {D C : Type 0} {g : Ghosts D} (world : World D C g) (it : Statement)
+module _ {D C : Type 0} {g : Ghosts D} (h : Carriers C) (world : World D C g) (it : Statement)
     (turn : StatementResult) (left : List ℕ) where
   pub reported_invalid : (e : KvError) → it.action ≡ Invalid e →
       turn ≡ record { line = it.line; events = 0; silent = 0; note = note.Invalid e } →
-      IsReportedIn world world it turn left left
+      IsReportedIn h world world it turn left left
   reported_invalid e is made = rw made (record {
     answered = record { line = refl; did = rw is (refl, refl, refl) };
     shown = tt;
     adds = adds_nothing it.action world;
-    moves = rw is tt;
+    runs = runs_none h it.action world;
     ends = rw is (λ named. ([], sym (append-nil (lines_so_far world)), tt));
     stays = λ _. refl;
     delivers = λ flow. absurd (no_invalid e (sym is ∙ flow));
@@ -271,12 +275,12 @@ module _ {D C : Type 0} {g : Ghosts D} (world : World D C g) (it : Statement)
       turn ≡ record { line = it.line; events = 0; silent = 0; note = shown node numbers } →
       IfSome numbers (ShowsNumbers (nodes_of world) node) →
       MatchOption numbers (IsDownAmong (nodes_of world) node) (λ _. Unit {0}) →
-      IsReportedIn world world it turn left left
+      IsReportedIn h world world it turn left left
   reported_show node numbers is made own none = rw made (record {
     answered = record { line = refl; did = rw is (refl, refl, (numbers, refl)) };
     shown = shows_now (nodes_of world) node numbers own none;
     adds = adds_nothing it.action world;
-    moves = rw is tt;
+    runs = runs_none h it.action world;
     ends = rw is (λ named. ([], sym (append-nil (lines_so_far world)), tt));
     stays = λ _. refl;
     delivers = λ flow. absurd (no_show node (sym is ∙ flow));

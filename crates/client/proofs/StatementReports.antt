@@ -7,8 +7,8 @@ use Rattle.std.specs.Io.KnownBytes.{Appends}
 use Rattle.disk.specs.declared.disk.Disk.{Ghosts}
 use Rattle.lab.specs.declared.Line.{Line}
 use Rattle.lab.specs.declared.world.World.{World}
-use Rattle.lab.specs.{HasItsNodes, KeepsLines}
-use Rattle.lab.specs.{configs_of}
+use Rattle.carriers.specs.declared.Carrier.{Ghosts as Carriers}
+use Rattle.lab.specs.{HasItsNodes, configs_of}
 use Rattle.lab.specs.{lines_so_far, sent_so_far}
 use Rattle.lab.specs.NodeLists.{Configurations}
 use Rattle.scripts.specs.declared.statement.Statement.{Statement}
@@ -17,7 +17,7 @@ use Rattle.client.specs.ScriptRuns.{IsRising, left_after}
 use Rattle.client.specs.declared.statement_result.StatementResult.{StatementResult}
 use Rattle.client.specs.PrintedRuns.{AppendsPart}
 use Rattle.client.specs.ReportedRuns.{AreLinesOf, AreReported}
-use Rattle.client.specs.ReportedRuns.{IsFirstEvent, IsReportedIn}
+use Rattle.client.specs.ReportedRuns.{IsCutAtFirst, IsReportedIn}
 use Rattle.client.specs.ReportedRuns.{ReportIsCut, ReportIsPrinted, places_between}
 use Rattle.client.specs.ReportedRuns.AreReported.{NoStatement, OneMore}
 use Rattle.client.specs.Text.{result_text}
@@ -47,13 +47,13 @@ no_write is = absurd cc
 no_memory : Write ≡ Memory → ⊥
 no_memory is = absurd cc
 
-module _ {D C : Type 0} {g : Ghosts D} where
+module _ {D C : Type 0} {g : Ghosts D} (h : Carriers C) where
   -- the first statements were run in a world and printed
   pub record ReportsSoFar (first now : World D C g) (left : List ℕ) (done : List Statement)
       (places : List ℕ) (before : ℕ) (old new : Option (List ℕ)) : Type 0 where
     pub steps : List (List Line)
     pub text : List ℕ
-    pub are : AreReported first now left done places steps text
+    pub are : AreReported h first now left done places steps text
     pub rising : IsRising 0 (sent_so_far now) left
     pub configs : configs_of now ≡ configs_of first
     pub nodes : HasItsNodes first → HasItsNodes now
@@ -79,7 +79,7 @@ module _ {D C : Type 0} {g : Ghosts D} where
   pub cut_in_memory : (first world now : World D C g) (left : List ℕ) (all : List Statement) (i : ℕ)
       (places : List ℕ) (before : ℕ) (old new : Option (List ℕ)) → i < length all →
       ReportsSoFar first world left (take i all) places before old new →
-      KeepsLines (IsFirstEvent (drop i all)) world now → ReportIsCut Memory first now all old new
+      IsCutAtFirst h (drop i all) world now → ReportIsCut h Memory first now all old new
   cut_in_memory first world now left all i places before old new within r kept = record {
     count = i;
     within = within;
@@ -100,25 +100,26 @@ module _ {D C : Type 0} {g : Ghosts D} where
   pub all_reported : (first now : World D C g) (left : List ℕ) (done all : List Statement)
       (places : List ℕ) (before : ℕ) (old new : Option (List ℕ)) → done ≡ all →
       ReportsSoFar first now left done places before old new →
-      ReportIsPrinted first now all old new
+      ReportIsPrinted h first now all old new
   all_reported first now left done all places before old new is r = record {
     left = left;
     places = places;
     steps = r.steps;
     text = r.text;
     are = subst (λ (l : List Statement).
-        AreReported first now left l places r.steps r.text) is r.are;
+        AreReported h first now left l places r.steps r.text) is r.are;
     added = r.added;
     wrote = r.wrote;
   }
 
 -- the next statement was run, and its text made of its own lines
-module _ {D C : Type 0} {g : Ghosts D} (first world now : World D C g) (left next : List ℕ)
+module _ {D C : Type 0} {g : Ghosts D} (h : Carriers C) (first world now : World D C g)
+    (left next : List ℕ)
     (all : List Statement) (i : ℕ) (d it : Statement) (turn : StatementResult)
     (places more_places : List ℕ) (before : ℕ) (steps found : List (List Line)) (text : List ℕ)
     (old mid : Option (List ℕ)) (within : i < length all) (at : it ≡ get_or all i d)
-    (r : ReportsSoFar first world left (take i all) places before old mid)
-    (is : IsReportedIn world now it turn left next) (reports : steps ≡ lines_so_far now)
+    (r : ReportsSoFar h first world left (take i all) places before old mid)
+    (is : IsReportedIn h world now it turn left next) (reports : steps ≡ lines_so_far now)
     (behind : found ≡ drop before steps)
     (added : more_places ≡ places ++ replicate turn.events turn.line)
     (made : text ≡ result_text more_places turn found) where
@@ -138,7 +139,7 @@ module _ {D C : Type 0} {g : Ghosts D} (first world now : World D C g) (left nex
   left_now : next ≡ left_after it.action (left ++ places_between world now)
   left_now = is.left r.rising
 
-  one_more : AreReported first now next (take (suc i) all) more_places
+  one_more : AreReported h first now next (take (suc i) all) more_places
       (r.steps ++ is.adds.more) (r.text ++ text)
   one_more =
       let own = own_lines (lines_so_far world) is.adds.more steps found before r.count
@@ -155,7 +156,7 @@ module _ {D C : Type 0} {g : Ghosts D} (first world now : World D C g) (left nex
 
   -- .. of which the output took a beginning
   pub cut_in_output : (new : Option (List ℕ)) → AppendsPart mid new text →
-      ReportIsCut Write first now all old new
+      ReportIsCut h Write first now all old new
   cut_in_output new part = record {
     count = i;
     within = within;
@@ -183,7 +184,7 @@ module _ {D C : Type 0} {g : Ghosts D} (first world now : World D C g) (left nex
 
   -- .. which was written
   pub reports_more : (new : Option (List ℕ)) → Appends mid new text →
-      ReportsSoFar first now next (take (suc i) all) more_places (length steps) old new
+      ReportsSoFar h first now next (take (suc i) all) more_places (length steps) old new
   reports_more new wrote = record {
     steps = r.steps ++ is.adds.more;
     text = r.text ++ text;

@@ -11,9 +11,10 @@ use Rattle.lab.specs.declared.world.World.{World}
 use Rattle.lab.specs.EventContent.{EventContent}
 use Rattle.lab.specs.Numbers.{Numbers}
 use Rattle.lab.specs.EventKind.TheVariants.{Tend}
-use Rattle.lab.specs.{AddsLines, AreEventLines, HasItsNodes, IsDownAmong, KeepsLines}
-use Rattle.lab.specs.{MovesAtMostOne, ShowsNumbers, configs_of, events_so_far, lines_so_far}
-use Rattle.lab.specs.{nodes_of, sent_so_far}
+use Rattle.carriers.specs.declared.Carrier.{Ghosts as Carriers}
+use Rattle.lab.specs.{AddsLines, AreEventLines, HasItsNodes, IsDownAmong, RunsEvents}
+use Rattle.lab.specs.{ShowsNumbers, StepIsRefused, StepsOnce, configs_of, events_so_far}
+use Rattle.lab.specs.{lines_so_far, nodes_of, sent_so_far}
 use Rattle.lab.specs.NodeLists.{Configurations}
 use Rattle.scripts.specs.Scripts.{Names}
 use Rattle.scripts.specs.declared.statement.Action.{Action}
@@ -58,6 +59,14 @@ IsActionEvent Flow it = (place : ℕ) × (it ≡ delivery place)
 IsActionEvent (Settle node) it = it ≡ tending node
 IsActionEvent (Show node) it = ⊥
 
+-- how many events such a statement has at most
+abbrev pub most_events : Action → ℕ
+most_events (Event event) = 1
+most_events (Invalid e) = 0
+most_events Flow = most
+most_events (Settle node) = most
+most_events (Show node) = 0
+
 -- these are lines of one event of such a statement, whatever its node is
 abbrev pub AreActionLines : Action → List Line → Type 0
 AreActionLines (Event event) lines = AreEventLines event.kind lines
@@ -91,10 +100,28 @@ module _ {D C : Type 0} {g : Ghosts D} where
       AddsLines (Names (configs_of old) action) (IsActionEvent action) (AreActionLines action) count
       old new
 
-  -- an event was taken by one node at most, which stands as the lines of the event tell
-  abbrev pub MovesForEvent : Action → World D C g → World D C g → Type 0
-  MovesForEvent (Event event) old new = MovesAtMostOne event old new
-  MovesForEvent action old new = Unit {0}
+  -- so many events of a statement were run in a world, one after another, each as in any world
+  pub record RunsAction (h : Carriers C) (action : Action) (count : ℕ) (old new : World D C g)
+      : Type 0 where
+    pub events : List EventContent
+    pub own : All (IsActionEvent action) events
+    pub each : length events ≡ count
+    pub runs : RunsEvents h old events new
+
+  -- the step of an event was not begun, or was refused; or it was run, and nothing behind it
+  abbrev pub StepIsCut : Carriers C → EventContent → World D C g → World D C g → Type 0
+  StepIsCut h event old new =
+      (new ≡ old) ⊎ StepIsRefused h event old new ⊎ StepsOnce h event old new
+
+  -- a statement ended early at one of its events, and those before that were run
+  pub record ActionIsCut (h : Carriers C) (action : Action) (old new : World D C g) : Type 0 where
+    pub count : ℕ
+    pub few : count < most_events action
+    pub mid : World D C g
+    pub runs : RunsAction h action count old mid
+    pub event : EventContent
+    pub own : IsActionEvent action event
+    pub cut : StepIsCut h event mid new
 
   -- the places of the frames that were sent between two moments of a world
   abbrev pub places_between : World D C g → World D C g → List ℕ
@@ -110,12 +137,12 @@ module _ {D C : Type 0} {g : Ghosts D} where
   -- A statement was run so, and this is what it answered. One without events leaves the world as
   -- it was. A flow is told busy exactly where it leaves frames. Where the places of the frames that
   -- are left rose, these are left now.
-  pub record IsReportedIn (old new : World D C g) (it : Statement) (turn : StatementResult)
-      (old_left new_left : List ℕ) : Type 0 where
+  pub record IsReportedIn (h : Carriers C) (old new : World D C g) (it : Statement)
+      (turn : StatementResult) (old_left new_left : List ℕ) : Type 0 where
     pub answered : IsAnswered it turn
     pub shown : ShowsNow (nodes_of old) turn.note
     pub adds : ActionAddsLines it.action turn.events old new
-    pub moves : MovesForEvent it.action old new
+    pub runs : RunsAction h it.action turn.events old new
     pub ends : Names (configs_of old) it.action →
         EndsIn it.action turn (lines_so_far old) (lines_so_far new)
     pub stays : turn.events ≡ 0 → new ≡ old
@@ -137,58 +164,60 @@ pub record AreLinesOf (cs : Configurations) (has_nodes : Type 0) (it : Statement
 -- Statements were run so, one after another, from the first of these worlds to the other, where no
 -- frame was left: the frames that are left now, where in the script the events stand, the lines of
 -- these, and the text of all.
-pub data AreReported {D C : Type 0} {g : Ghosts D} (first : World D C g) : World D C g → List ℕ
-    → List Statement → List ℕ → List (List Line) → List ℕ → Type 0 where
-  NoStatement : AreReported first first [] [] [] [] []
+pub data AreReported {D C : Type 0} {g : Ghosts D} (h : Carriers C) (first : World D C g)
+    : World D C g → List ℕ → List Statement → List ℕ → List (List Line) → List ℕ → Type 0 where
+  NoStatement : AreReported h first first [] [] [] [] []
   OneMore : (before behind : World D C g) (left next : List ℕ) (done : List Statement)
       (places : List ℕ) (steps : List (List Line)) (text : List ℕ) →
-      AreReported first before left done places steps text →
+      AreReported h first before left done places steps text →
       (it : Statement) (turn : StatementResult) (own : List (List Line)) →
-      IsReportedIn before behind it turn left next →
+      IsReportedIn h before behind it turn left next →
       next ≡ left_after it.action (left ++ places_between before behind) →
       lines_so_far behind ≡ lines_so_far before ++ own →
       AreLinesOf (configs_of first) (HasItsNodes first) it turn own →
-      AreReported first behind next (done ++ it ∷ [])
+      AreReported h first behind next (done ++ it ∷ [])
       (places ++ replicate turn.events turn.line) (steps ++ own)
       (text ++ result_text (places ++ replicate turn.events turn.line) turn own)
 
--- this is an event of the first of these statements
-abbrev pub IsFirstEvent : List Statement → EventContent → Type 0
-IsFirstEvent [] event = ⊥
-IsFirstEvent (it ∷ statements) event = IsActionEvent it.action event
+-- the first of these statements ended early at one of its events; or it was run, and ended before
+-- its text was made
+abbrev pub IsCutAtFirst : {D C : Type 0} {g : Ghosts D} → Carriers C → List Statement
+    → (old new : World D C g) → Type 0
+IsCutAtFirst h [] old new = ⊥
+IsCutAtFirst h (it ∷ statements) old new = ActionIsCut h it.action old new
+    ⊎ ((turn : StatementResult) × IsAnswered it turn × RunsAction h it.action turn.events old new)
 
 module _ {D C : Type 0} {g : Ghosts D} where
   -- the statements were run in a world, which has their lines behind those that it had, and exactly
   -- the text of these was written
-  pub record ReportIsPrinted (old new : World D C g) (statements : List Statement)
-      (before after : Option (List ℕ)) : Type 0 where
+  pub record ReportIsPrinted (h : Carriers C) (old new : World D C g)
+      (statements : List Statement) (before after : Option (List ℕ)) : Type 0 where
     pub left : List ℕ
     pub places : List ℕ
     pub steps : List (List Line)
     pub text : List ℕ
-    pub are : AreReported old new left statements places steps text
+    pub are : AreReported h old new left statements places steps text
     pub added : lines_so_far new ≡ lines_so_far old ++ steps
     pub wrote : Appends before after text
 
   -- behind so many first of these statements one more was run, and of its text this is a beginning
-  pub record ReportsOneMore (old new : World D C g) (statements : List Statement) (count : ℕ)
-      (text part : List ℕ) : Type 0 where
+  pub record ReportsOneMore (h : Carriers C) (old new : World D C g)
+      (statements : List Statement) (count : ℕ) (text part : List ℕ) : Type 0 where
     pub left : List ℕ
     pub places : List ℕ
     pub steps : List (List Line)
     pub next : List ℕ
-    pub are : AreReported old new left (take (suc count) statements) places steps (text ++ next)
+    pub are : AreReported h old new left (take (suc count) statements) places steps (text ++ next)
     pub added : lines_so_far new ≡ lines_so_far old ++ steps
     pub beginning : ℕ
     pub is : part ≡ take beginning next
 
   -- Statements were run in a world, and this ended them early, at the statement behind so many
   -- first ones. The text of these was written. Where memory was short, nothing more was, and the
-  -- world has the events, lines and losses that it had behind these, and perhaps events of the next
-  -- one and their lines. Where the output took no more, the next one was run too, and a beginning
-  -- of its text was written.
-  pub record ReportIsCut (error : RunError) (old new : World D C g) (statements : List Statement)
-      (before after : Option (List ℕ)) : Type 0 where
+  -- world is as these left it, or as the first events of the next one did. Where the output took no
+  -- more, the next one was run too, and a beginning of its text was written.
+  pub record ReportIsCut (h : Carriers C) (error : RunError) (old new : World D C g)
+      (statements : List Statement) (before after : Option (List ℕ)) : Type 0 where
     pub count : ℕ
     pub within : count < length statements
     pub behind : World D C g
@@ -196,10 +225,10 @@ module _ {D C : Type 0} {g : Ghosts D} where
     pub places : List ℕ
     pub steps : List (List Line)
     pub text : List ℕ
-    pub are : AreReported old behind left (take count statements) places steps text
+    pub are : AreReported h old behind left (take count statements) places steps text
     pub added : lines_so_far behind ≡ lines_so_far old ++ steps
     pub part : List ℕ
     pub wrote : Appends before after (text ++ part)
     pub memory : error ≡ Memory →
-        (part ≡ []) × KeepsLines (IsFirstEvent (drop count statements)) behind new
-    pub output : error ≡ Write → ReportsOneMore old new statements count text part
+        (part ≡ []) × IsCutAtFirst h (drop count statements) behind new
+    pub output : error ≡ Write → ReportsOneMore h old new statements count text part

@@ -67,9 +67,9 @@ pub fn run_script<D: Crash + Drop, C: Carrier + Drop, W: Write>(
 
     // In any world: what is printed is the text of the lines that it reports.
     ensures reported { MatchResult result
-        (λ _. ReportIsPrinted world.old world.new script.now.statements.items
+        (λ _. ReportIsPrinted C.Carrier world.old world.new script.now.statements.items
         (W.contents out.old) (W.contents out.new))
-        (λ error. ReportIsCut error world.old world.new script.now.statements.items
+        (λ error. ReportIsCut C.Carrier error world.old world.new script.now.statements.items
         (W.contents out.old) (W.contents out.new)) }
 {
     let mut left = VecDeque::new(alloc);

@@ -7,11 +7,10 @@ ghost use Rattle.std.specs.Prelude.{true};
 ghost use Rattle.kv_types.specs.{has};
 ghost use Rattle.lab.specs.NodeLists.{at_epoch};
 ghost use Rattle.lab.specs.declared.Line.{Line};
-ghost use Rattle.lab.specs.{Choice, EventAddsLines, KeepsLines, MovesAtMostOne, NamesNode};
-ghost use Rattle.lab.specs.{frames_in_steps};
-ghost use Rattle.lab.specs.{configs_of, faultless, frames_of_step, lines_so_far};
-ghost use Rattle.client.specs.ReportedRuns.{ActionAddsLines, DeliversLeft, IsActionEvent};
-ghost use Rattle.client.specs.ReportedRuns.{IsReportedIn, places_between};
+ghost use Rattle.lab.specs.{Choice, NamesNode, StepsOnce, configs_of, faultless, frames_in_steps};
+ghost use Rattle.lab.specs.{frames_of_step, lines_so_far};
+ghost use Rattle.client.specs.ReportedRuns.{ActionAddsLines, ActionIsCut, DeliversLeft};
+ghost use Rattle.client.specs.ReportedRuns.{IsReportedIn, RunsAction, StepIsCut, places_between};
 ghost use Rattle.client.specs.ScriptRuns.{HasRunTo, HasSettled, HasTurned, IsRising};
 ghost use Rattle.client.specs.ScriptRuns.{Stretch, busy, deliveries, followed_by};
 ghost use Rattle.client.specs.ScriptRuns.{has_worked};
@@ -127,11 +126,10 @@ fn step<D: Crash + Drop, C: Carrier + Drop>(
         × HasRunTo C.Carrier world.new setup (followed_by past (one_step event.now choice lines))
         × (left.new.items ≡ left.old.items
         ++ places_after (frames_in_steps past.steps) (frames_of_step lines))) }
-    ensures adds { OnOk result (EventAddsLines event.now world.old world.new) }
-    ensures moves { OnOk result (MovesAtMostOne event.now world.old world.new) }
+    ensures steps { OnOk result (StepsOnce C.Carrier event.now world.old world.new) }
     ensures left { OnOk result
         (left.new.items ≡ left.old.items ++ places_between world.old world.new) }
-    ensures refused { OnErr result (KeepsLines (λ it. it ≡ event.now) world.old world.new) }
+    ensures refused { OnErr result (StepIsCut C.Carrier event.now world.old world.new) }
 {
     let before = world.sent();
     world.step(alloc, event)?;
@@ -152,10 +150,10 @@ fn happen<D: Crash + Drop, C: Carrier + Drop>(
         (followed_by past (one_step (faultless kind) choice lines))
         × (left.new.items ≡ left.old.items
         ++ places_after (frames_in_steps past.steps) (frames_of_step lines))) }
-    ensures adds { OnOk result (EventAddsLines (faultless kind) world.old world.new) }
+    ensures steps { OnOk result (StepsOnce C.Carrier (faultless kind) world.old world.new) }
     ensures left { OnOk result
         (left.new.items ≡ left.old.items ++ places_between world.old world.new) }
-    ensures refused { OnErr result (KeepsLines (λ it. it ≡ faultless kind) world.old world.new) }
+    ensures refused { OnErr result (StepIsCut C.Carrier (faultless kind) world.old world.new) }
 {
     let event = Event::faultless(alloc, kind)?;
     let done = step(alloc, world, left, &event);
@@ -182,8 +180,9 @@ fn flow<D: Crash + Drop, C: Carrier + Drop>(
         × ((left.new.items ≡ []) ⊎ (count ≡ most))) }
     ensures delivers { IfOk result (λ count. (count ≡ 0 → world.new ≡ world.old)
         × DeliversLeft world.old world.new left.old.items left.new.items) }
-    ensures refused { OnErr result
-        (KeepsLines (IsActionEvent Action.Flow) world.old world.new) }
+    ensures runs { IfOk result
+        (λ count. RunsAction C.Carrier Action.Flow count world.old world.new) }
+    ensures refused { OnErr result (ActionIsCut C.Carrier Action.Flow world.old world.new) }
 {
     let mut count = 0;
     while count < MOST {
@@ -229,8 +228,10 @@ fn settle<D: Crash + Drop, C: Carrier + Drop>(
         × HasSettled own) }
     ensures left { IfOk result (λ count. (count ≡ 0 → world.new ≡ world.old)
         × (left.new.items ≡ left.old.items ++ places_between world.old world.new)) }
+    ensures runs { IfOk result
+        (λ count. RunsAction C.Carrier (Action.Settle node) count world.old world.new) }
     ensures refused { OnErr result
-        (KeepsLines (IsActionEvent (Action.Settle node)) world.old world.new) }
+        (ActionIsCut C.Carrier (Action.Settle node) world.old world.new) }
 {
     let mut count = 0;
     while count < MOST {
@@ -256,10 +257,10 @@ pub fn run_statement<D: Crash + Drop, C: Carrier + Drop>(
         IsRising 0 (frames_in_steps past.steps) left.old.items →
         IfOk result (λ turn. HasTurned C.Carrier setup past statement.now turn world.old world.new
         left.old.items left.new.items) }
-    ensures reported { IfOk result (λ turn. IsReportedIn world.old world.new statement.now turn
-        left.old.items left.new.items) }
+    ensures reported { IfOk result (λ turn. IsReportedIn C.Carrier world.old world.new
+        statement.now turn left.old.items left.new.items) }
     ensures refused { OnErr result
-        (KeepsLines (IsActionEvent statement.now.action) world.old world.new) }
+        (ActionIsCut C.Carrier statement.now.action world.old world.new) }
 {
     let line = statement.line;
     match &statement.action {

@@ -30,3 +30,4 @@ mod SentLines
 mod LinesSoFarLemmas
 mod StepEnds
 mod Standing
+mod AnyWorlds

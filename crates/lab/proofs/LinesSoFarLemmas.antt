@@ -201,15 +201,3 @@ module _ {D C : Type 0} {g : Ghosts D} where
           last = omega arith;
           configs = ap (λ (w : World D C g). w.configs) p.others ∙ configs_then;
         }
-
-  -- .. if they could be
-  pub keeps_after : {T E : Type 0} (r : Result T E) (event : EventContent)
-      {old begun : World D C g} (mid new : World D C g) (lines : List Line) →
-      HasBegunEvent old begun event → OnErr r (HasPartlyKept mid new lines) →
-      events_so_far mid ≡ events_so_far begun → lines_so_far mid ≡ lines_so_far begun →
-      lost_so_far mid ≡ lost_so_far begun → configs_of mid ≡ configs_of begun →
-      OnErr r (KeepsLines (λ it. it ≡ event) old new)
-  keeps_after r event {old = old} {begun = begun} mid new lines begins
-      refused same_events same same_lost same_configs =
-      on_err_weaker r (keeps_partly old begun mid event begins same_events same same_lost
-      same_configs new lines) refused

@@ -2,7 +2,6 @@
 use Rattle.std.proofs.Common.{◌≤◌, ℕ, suc, List, [], ◌∷◌, ◌++◌, length, Option, Some, None}
 use Rattle.std.proofs.Common.{append-nil, arith, refl, subst, sym}
 use Rattle.std.specs.Prelude.{◌↔◌}
-use Rattle.kv_types.specs.declared.Limits.{Limits}
 use Rattle.disk.specs.declared.disk.Disk.{Ghosts}
 use Rattle.chain_model.specs.declared.DropReason.{DropReason}
 use Rattle.chain_core.specs.declared.Sent.{Sent}
@@ -10,17 +9,15 @@ use Rattle.link_messages.specs.declared.Frame.{Frame}
 use Rattle.link_messages.specs.declared.Frame.TheVariants as frame
 use Rattle.node.specs.declared.Reply.{Reply}
 use Rattle.carriers.specs.{Transmission}
-use Rattle.carriers.specs.declared.NodeInput.{NodeInput}
-use Rattle.events.specs.declared.EventContent.{EventContent}
 use Rattle.lab.specs.declared.input.StepOutcome.{StepOutcome}
 use Rattle.lab.specs.declared.input.StepOutcome.TheVariants as done
 use Rattle.lab.specs.declared.node_state.NodeState.{NodeState}
 use Rattle.lab.specs.declared.report.Line.{Line}
 use Rattle.lab.specs.declared.report.Line.TheVariants as line
 use Rattle.lab.specs.Arrivals.{RepliesFollow}
-use Rattle.lab.specs.Events.{dropped_lines, epoch_in}
-use Rattle.lab.specs.LinesSoFar.{AppliesEvent, StandsAfter}
-use Rattle.lab.specs.Outcomes.{HasDispatched, StandsByOutcome}
+use Rattle.lab.specs.Events.{dropped_lines}
+use Rattle.lab.specs.LinesSoFar.{StandsAfter}
+use Rattle.lab.specs.Outcomes.{StandsByOutcome}
 use Rattle.lab.specs.OutcomeLines.{adopted_lines, own_lines, replies_by, sent_as, sent_lines}
 use Rattle.lab.specs.SimNodes.{IsDown}
 use Rattle.lab.proofs.Arrivals.{replied}
@@ -78,19 +75,11 @@ by_outcome x told n (done.Tended answer) heard old new few stands =
     none_heard (λ (l : List Line). StandsAfter x l old new) (line.Tended answer ∷ []) heard few
     stands
 
--- a node took an event, and these lines arrived
-pub applied_so : {D : Type 0} {g : Ghosts D} (event : EventContent) (given : Limits) (n x : ℕ)
-    (faithful loses : Type 0) (asks : List Transmission → Type 0) (did : StepOutcome)
-    (lines : List Line) → RepliesFollow faithful loses asks x (replies_by did)
-    (own_lines x (epoch_in event.kind) n did) lines → (node_input : NodeInput) →
-    (old new : NodeState D g) → HasDispatched g given event.fault node_input old new did →
-    AppliesEvent event node_input given n x lines old new
-applied_so event given n x faithful loses asks did lines follow node_input old new took = record {
-  did = did;
-  took = took;
-  heard = follow.heard;
-  shows = follow.lines;
-  few = follow.few;
-  stands = subst (λ (l : List Line). StandsAfter x l old new) (sym follow.lines)
-      (by_outcome x (epoch_in event.kind) n did follow.heard old new follow.few took.stands);
-}
+-- so does the node that took an event of which these lines arrived
+pub stands_so : {D : Type 0} {g : Ghosts D} (x : ℕ) (told : Option ℕ) (n : ℕ) (did : StepOutcome)
+    (faithful loses : Type 0) (asks : List Transmission → Type 0) (lines : List Line) →
+    RepliesFollow faithful loses asks x (replies_by did) (own_lines x told n did) lines →
+    (old new : NodeState D g) → StandsByOutcome old did new → StandsAfter x lines old new
+stands_so x told n did faithful loses asks lines follow old new stands =
+    subst (λ (l : List Line). StandsAfter x l old new) (sym follow.lines)
+    (by_outcome x told n did follow.heard old new follow.few stands)

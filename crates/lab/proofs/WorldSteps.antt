@@ -12,7 +12,7 @@ use Rattle.kv_types.specs.declared.bounds.TheConstants.{MAX_NUMBER}
 use Rattle.kv_types.specs.declared.Limits.{Limits}
 use Rattle.kv_types.specs.{BatchContent}
 use Rattle.configurations.specs.{Configurations}
-use Rattle.chain_model.specs.{Message as ModelFrame, SystemState, first_state, node_of}
+use Rattle.chain_model.specs.{SystemState, first_state, node_of}
 use Rattle.carriers.specs.declared.Carrier.{Ghosts as Carriers}
 use Rattle.carriers.specs.declared.Delivery.{Delivery}
 use Rattle.carriers.specs.declared.Delivery.TheVariants as delivery
@@ -27,7 +27,7 @@ use Rattle.lab.specs.declared.sim_node.SimNode.{SimNode}
 use Rattle.lab.specs.declared.world.World.{World}
 use Rattle.lab.specs.Events.{NamesNode}
 use Rattle.lab.specs.Arrivals.{RepliesArrive}
-use Rattle.lab.specs.Deliveries.{IsCarriedEvent, IsDeliverable}
+use Rattle.lab.specs.Deliveries.{IsBrought}
 use Rattle.lab.specs.SimNodes.{Choice, HasArrived, StateRefines}
 use Rattle.lab.specs.Posting.{FramesFollow}
 use Rattle.lab.specs.Traces.{modelled_from}
@@ -36,6 +36,7 @@ use Rattle.lab.specs.Worlds.{FollowRun, HasApplied, HasBegunEvent, HasFollowed, 
 use Rattle.lab.specs.Worlds.{HasRun, HaveLimits, NodesRefine, PostedRefines, RunRefines}
 use Rattle.lab.specs.Worlds.{SimNodeRefines, WorldHasEnded, WorldKeepsLimits, WorldRun}
 use Rattle.lab.specs.Worlds.{asked_after, extended, outcome_after}
+use Rattle.lab.proofs.Found.{found_of}
 use Rattle.lab.proofs.Growing.{follow_limited, length-steps, nodes-push, run-push}
 use Rattle.lab.proofs.Moves.{HasStepped, limited}
 use Rattle.lab.proofs.Transmissions.{carried_both}
@@ -185,9 +186,8 @@ module _ {D C : Type 0} {g : Ghosts D} (h : Carriers C) (in_order : AlwaysInOrde
     (n i : ℕ)
     (long : n ≡ begun.steps.len) (few : n + 1 ≤ MAX_NUMBER) (at : i ≡ n + 1) (found : Delivery)
     (lent : List Posted) (same : lent ≡ begun.frames.items)
-    (finds : (frames : List (ModelFrame BatchContent)) →
-    (IsCarriedEvent event.kind → AllZip PostedRefines lent frames × h.is_faithful begun.carrier) →
-    IsDeliverable begun.configs frames i event.kind found) (may : DeliveryWasLost found → h.loses)
+    (brought : IsBrought begun.configs (h.is_faithful begun.carrier) lent i event.kind found)
+    (may : DeliveryWasLost found → h.loses)
     (after : C) (asked : HasCarriedMore h.has_carried begun.carrier after
     (frame_sent lent i event.kind (delivery_lost found)))
     (faithful : h.is_faithful begun.carrier → h.is_faithful after)
@@ -203,7 +203,8 @@ module _ {D C : Type 0} {g : Ghosts D} (h : Carriers C) (in_order : AlwaysInOrde
   posted = old.frames.items
 
   here : IsFoundFor h begun i event.kind found
-  here = λ carries frames each. finds frames
+  here = λ carries frames each. found_of begun.configs (h.is_faithful begun.carrier) lent i
+      event.kind found brought frames
       (λ _. (subst (λ (l : List Posted). AllZip PostedRefines l frames) (sym same) each, carries))
 
   -- it fits the configurations of the run, and so does the node that the event names

@@ -1,22 +1,25 @@
 -- What an event delivers to a simulated node: the node's id and its input.
-use Rattle.std.specs.Prelude.{◌≡◌, ℕ, ◌<◌, ◌≤◌, IfSome, List, length, Some, None}
+use Rattle.std.specs.Prelude.{◌≡◌, ℕ, ◌<◌, ◌≤◌, List, [], length, Option, Some, None}
 use Rattle.kv_types.specs.{BatchContent, place}
 use Rattle.configurations.specs.{Configurations, at_epoch}
 use Rattle.chain_model.specs as model_frame
 use Rattle.link_messages.specs.declared.Frame.{Frame}
+use Rattle.link_messages.specs.declared.Frame.TheVariants as frame
 use Rattle.chain_core.specs.declared.Input.TheVariants as input
 use Rattle.chain_core.specs.{frame_as}
 use Rattle.carriers.specs.declared.Delivery.{Delivery}
 use Rattle.carriers.specs.declared.Delivery.TheVariants as delivery
 use Rattle.carriers.specs.declared.NodeInput.{NodeInput}
 use Rattle.carriers.specs.declared.NodeInput.TheVariants as to_node
-use Rattle.carriers.specs.{input_of}
+use Rattle.carriers.specs.{IsSentTo, input_of, request_input}
+use Rattle.carriers.specs.Carriers.{IsSpelling}
+use Rattle.carriers.specs.Deliveries.{IsAddressedTo}
 use Rattle.events.specs.declared.EventKind.{EventKind}
 use Rattle.events.specs.declared.EventKind.TheVariants.{Submit, Get, Rows, Open, Close}
 use Rattle.events.specs.declared.EventKind.TheVariants.{Deliver, Notice, Tick, Tend, Start}
 use Rattle.events.specs.declared.EventKind.TheVariants.{Stop}
 use Rattle.lab.specs.declared.delivery.Posted.{Posted}
-use Rattle.lab.specs.Events.{MayBeLost, node_in}
+use Rattle.lab.specs.Events.{MayBeLost}
 
 -- no list of frames has anything in this place, the first being 1
 abbrev pub HasNoFrame : {A : Type 0} → List A → ℕ → Type 0
@@ -85,8 +88,33 @@ module _ (cs : Configurations) (frames : List (model_frame.Message BatchContent)
   IsDeliverable i kind delivery.Lost = MayBeLost frames kind
   IsDeliverable i kind (delivery.To x node_input) = IsDeliveryOf i kind x node_input
 
--- what is delivered is for the node that the event names, if it names one
-abbrev pub IsForNamed : EventKind → Delivery → Type 0
-IsForNamed kind delivery.Nothing = Unit {0}
-IsForNamed kind delivery.Lost = Unit {0}
-IsForNamed kind (delivery.To x node_input) = IfSome (node_in kind) (λ node. x ≡ node)
+-- ---- what is brought in any world, by any carrier
+
+-- A request was sent to this node. It arrives there or is lost: by a faithful carrier as it was
+-- sent, and by any as some frame.
+abbrev pub IsRequestTo : Type 0 → ℕ → Frame → Delivery → Type 0
+IsRequestTo faithful node sent it =
+    IsAddressedTo request_input node it × (faithful → IsSentTo node (request_input sent) it)
+
+-- So does a posted frame, if there is one: by a faithful carrier as the frame that its bytes spell.
+abbrev pub IsPostedTo : Type 0 → Option Posted → Delivery → Type 0
+IsPostedTo faithful None it = it ≡ delivery.Nothing
+IsPostedTo faithful (Some posted) it =
+    IsAddressedTo input_of posted.to it × (faithful → (sent : Frame) →
+    IsSpelling posted.bytes.items sent → IsSentTo posted.to (input_of sent) it)
+
+-- what the event in place i brings after these posted frames, where this is the list of
+-- configurations and the carrier is perhaps faithful
+abbrev pub IsBrought : Configurations → Type 0 → List Posted → ℕ → EventKind → Delivery → Type 0
+IsBrought cs faithful posted i (Submit node batch) it =
+    IsRequestTo faithful node (frame.Submit i batch) it
+IsBrought cs faithful posted i (Get node key at) it =
+    IsRequestTo faithful node (frame.Get i at key) it
+IsBrought cs faithful posted i (Rows node range at) it =
+    IsRequestTo faithful node (frame.Rows i at range) it
+IsBrought cs faithful posted i (Open node at) it =
+    IsRequestTo faithful node (frame.Open i at) it
+IsBrought cs faithful posted i (Close node number) it =
+    IsRequestTo faithful node (frame.Close i number) it
+IsBrought cs faithful posted i (Deliver p) it = IsPostedTo faithful (place posted p) it
+IsBrought cs faithful posted i kind it = IsDeliverable cs [] i kind it

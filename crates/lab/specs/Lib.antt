@@ -32,7 +32,8 @@ pub use Rattle.events.specs.declared.kind.EventKind
 pub use Rattle.lab.specs.Events.{NamesNode, node_in}
 pub use Rattle.events.specs.{delivered_place, faultless}
 pub use Rattle.lab.specs.LinesSoFar.{AddsLines, AreEventLines, EventAddsLines, HasItsNodes}
-pub use Rattle.lab.specs.LinesSoFar.{HasRunNothing, KeepsLines, LosesCarried, MovesAtMostOne}
+pub use Rattle.lab.specs.LinesSoFar.{HasRunNothing, KeepsLines, LeavesNodes, LosesCarried}
+pub use Rattle.lab.specs.LinesSoFar.{MovesAtMostOne, RunsEvents, StepIsRefused, StepsOnce}
 pub use Rattle.lab.specs.LinesSoFar.{configs_of}
 pub use Rattle.lab.specs.LinesSoFar.{drops_in_steps, events_so_far, is_lost, lines_so_far}
 pub use Rattle.lab.specs.LinesSoFar.{lost_so_far, nodes_of, sent_so_far, sim_node_ids}

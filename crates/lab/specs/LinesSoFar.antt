@@ -1,29 +1,37 @@
 -- The events of a world so far and their lines, whatever the world has run before.
 use Rattle.std.specs.Prelude.{◌≡◌, ◌≤◌, ◌+◌, ℕ, Bool, List, [], ◌∷◌, ◌++◌, All, None, length, map}
-use Rattle.std.specs.Prelude.{◌↔◌, ◌⊎◌, IfSome, IsErr, MatchResult, OnErr, Result, false}
-use Rattle.std.specs.Prelude.{get_or, slice_set}
-use Rattle.std.specs.Prelude.{suc, true}
+use Rattle.std.specs.Prelude.{◌↔◌, ◌⊎◌, IsErr, MatchResult, Result, false}
+use Rattle.std.specs.Prelude.{get_or, suc, true}
+use Rattle.std.specs.List.{remove}
 use Rattle.kv_types.specs.declared.Limits.{Limits}
 use Rattle.configurations.specs.{Configurations, at_epoch}
 use Rattle.disk.specs.declared.disk.Disk.{Ghosts}
 use Rattle.chain_model.specs.declared.DropReason.TheVariants as reason
-use Rattle.node.specs.declared.Reply.{Reply}
+use Rattle.carriers.specs.{HasCarriedMore, delivery_lost}
+use Rattle.carriers.specs.declared.Carrier.{Ghosts as Carriers}
+use Rattle.carriers.specs.declared.Delivery.{Delivery}
+use Rattle.carriers.specs.declared.Delivery.TheVariants as delivery
 use Rattle.carriers.specs.declared.NodeInput.{NodeInput}
 use Rattle.events.specs.declared.EventContent.{EventContent}
 use Rattle.events.specs.declared.EventKind.{EventKind}
 use Rattle.events.specs.declared.EventKind.TheVariants.{Notice, Start, Stop, Tend}
+use Rattle.lab.specs.declared.delivery.Posted.{Posted}
 use Rattle.lab.specs.declared.input.StepOutcome.{StepOutcome}
 use Rattle.lab.specs.declared.node_state.NodeState.{NodeState}
 use Rattle.lab.specs.declared.report.Line.{Line}
 use Rattle.lab.specs.declared.report.Line.TheVariants as line
 use Rattle.lab.specs.declared.sim_node.SimNode.{SimNode}
 use Rattle.lab.specs.declared.world.World.{World}
-use Rattle.lab.specs.Deliveries.{HasNoDelivery, IsCarriedEvent, IsDeliveryOf}
-use Rattle.lab.specs.Events.{NamesNode, epoch_in, node_in}
-use Rattle.lab.specs.OutcomeLines.{own_lines, replies_by}
-use Rattle.lab.specs.Outcomes.{HasDispatched, RunsWith}
+use Rattle.lab.specs.Arrivals.{RepliesFollow}
+use Rattle.lab.specs.Deliveries.{IsBrought, IsCarriedEvent}
+use Rattle.lab.specs.Events.{NamesNode, epoch_in}
+use Rattle.lab.specs.OutcomeLines.{own_lines, replies_by, sent_by}
+use Rattle.lab.specs.Outcomes.{RunsWith}
+use Rattle.lab.specs.Posting.{HasPosted, HasPostedPart}
 use Rattle.lab.specs.SimNodes.{IsDown}
-use Rattle.lab.specs.Worlds.{HasNoNode, IsIndexOf, WorldHasEnded, frames_in_steps}
+use Rattle.lab.specs.Transmissions.{frame_sent}
+use Rattle.lab.specs.Worlds.{HasMoved, HasNoNode, IsIndexOf, WorldHasEnded, WorldKeepsLimits}
+use Rattle.lab.specs.Worlds.{frames_in_steps}
 
 -- ---- the lines that an event has, whatever its node is
 
@@ -101,12 +109,6 @@ drops_in_steps (step ∷ steps) = drops_of_step step + drops_in_steps steps
 abbrev pub sim_node_ids : {D : Type 0} {g : Ghosts D} → List (SimNode D g) → List ℕ
 sim_node_ids sims = map (λ sim. sim.id) sims
 
--- the line of an event that no node took
-abbrev pub IsOfNoNode : Line → Type 0
-IsOfNoNode line.Nothing = Unit {0}
-IsOfNoNode line.Lost = Unit {0}
-IsOfNoNode it = ⊥
-
 -- node x stands as the lines of an event tell that it took: one that started is up with these
 -- numbers, one that stopped is down, and any other is up or down as it was
 abbrev pub StandsAfter : {D : Type 0} {g : Ghosts D} → ℕ → List Line → (old new : NodeState D g)
@@ -116,44 +118,14 @@ StandsAfter x (line.Started node epoch count committed ∷ []) old new =
 StandsAfter x (line.Stopped node cause ∷ []) old new = (node ≡ x) × IsDown new
 StandsAfter x lines old new = IsDown new ↔ IsDown old
 
--- Node x took this input with the fault of this event, and these limits if that started it. The
--- lines are those of its outcome, after so many frames, and of replies, no more than it gave. The
--- node stands as they tell.
-pub record AppliesEvent {D : Type 0} {g : Ghosts D} (event : EventContent)
-    (node_input : NodeInput) (given : Limits) (sent x : ℕ) (lines : List Line)
-    (old new : NodeState D g) : Type 0 where
-  pub did : StepOutcome
-  pub took : HasDispatched g given event.fault node_input old new did
-  pub heard : List Reply
-  pub shows : lines ≡ own_lines x (epoch_in event.kind) sent did
-      ++ map (λ reply. line.Replied reply) heard
-  pub few : length heard ≤ length (replies_by did)
-  pub stands : StandsAfter x lines old new
-
--- No node took an event: its line tells of a loss, or that there was nothing to do. Of one that
--- is not carried that is so only where the list lacks its epoch, or no node has the id that the
--- event names.
-pub record MovesNone {D : Type 0} {g : Ghosts D} (cs : Configurations) (event : EventContent)
-    (lines : List Line) (old new : List (SimNode D g)) : Type 0 where
-  pub same : new ≡ old
-  pub line : IsOneLine IsOfNoNode lines
-  pub why : (IsCarriedEvent event.kind → ⊥) →
-      HasNoDelivery cs [] event.kind ⊎ IfSome (node_in event.kind) (HasNoNode old)
-
--- The node at this index took an event that has these lines: the input that the event brings, if it
--- is not carried. It has its id still, and the event names it if it names one. Every other node is
--- as it was.
-pub record MovesNode {D : Type 0} {g : Ghosts D} (cs : Configurations) (event : EventContent)
-    (given : Limits) (sent : ℕ) (lines : List Line) (old new : List (SimNode D g)) : Type 0 where
-  pub index : ℕ
-  pub sim : SimNode D g
-  pub at : IsIndexOf old index sim.id
-  pub others : new ≡ slice_set old index sim
-  pub named : IfSome (node_in event.kind) (λ x. sim.id ≡ x)
-  pub node_input : NodeInput
-  pub brings : (IsCarriedEvent event.kind → ⊥) → IsDeliveryOf cs [] 0 event.kind sim.id node_input
-  pub applies : AppliesEvent event node_input given sent sim.id lines
-      (get_or old index sim).state sim.state
+-- What came of an event was taken by none of these nodes: its line tells that there was nothing to
+-- do, also where no node has the id, or that it was lost.
+abbrev pub IsPassedOver : {D : Type 0} {g : Ghosts D} → List (SimNode D g) → Delivery → List Line
+    → Type 0
+IsPassedOver sims delivery.Nothing lines = lines ≡ line.Nothing ∷ []
+IsPassedOver sims delivery.Lost lines = lines ≡ line.Lost ∷ []
+IsPassedOver sims (delivery.To x node_input) lines =
+    HasNoNode sims x × (lines ≡ line.Nothing ∷ [])
 
 module _ {D C : Type 0} {g : Ghosts D} where
   -- the lines of each event so far
@@ -186,6 +158,14 @@ module _ {D C : Type 0} {g : Ghosts D} where
   -- the nodes of a world
   abbrev pub nodes_of : World D C g → List (SimNode D g)
   nodes_of world = world.nodes.items
+
+  -- the frames that were sent so far
+  abbrev pub frames_of : World D C g → List Posted
+  frames_of world = world.frames.items
+
+  -- the place of the next event, from 1
+  abbrev pub next_place : World D C g → ℕ
+  next_place world = suc (length (lines_so_far world))
 
   -- the world has the nodes of its first configuration, and no others
   abbrev pub HasItsNodes : World D C g → Type 0
@@ -224,21 +204,66 @@ module _ {D C : Type 0} {g : Ghosts D} where
   LosesCarried loses event old new =
       lost_so_far new ≡ lost_so_far old ++ true ∷ [] → loses × IsCarriedEvent event.kind
 
-  -- an event that has these lines behind all others was taken by one node, or by none
-  abbrev pub MovesAtMostOne : EventContent → World D C g → World D C g → Type 0
-  MovesAtMostOne event old new =
-      (lines : List Line) → lines_so_far new ≡ lines_so_far old ++ lines ∷ [] →
-      MovesNone (configs_of old) event lines (nodes_of old) (nodes_of new)
-      ⊎ MovesNode (configs_of old) event old.limits (sent_so_far old) lines (nodes_of old)
-      (nodes_of new)
+  -- this came of the next event of a world, by its carrier
+  abbrev pub Brings : Carriers C → EventContent → World D C g → Delivery → Type 0
+  Brings h event old it = IsBrought (configs_of old) (h.is_faithful old.carrier) (frames_of old)
+      (next_place old) event.kind it
 
-  -- A step that is refused ends the world, and begins one event at most; one that is answered does
-  -- not end it. In a world that had ended it is refused, and changes nothing.
+  -- between two moments the carrier was asked for what this event sends
+  abbrev pub AsksFor : Carriers C → EventContent → World D C g → Bool → C → Type 0
+  AsksFor h event old lost now = HasCarriedMore h.has_carried old.carrier now
+      (frame_sent (frames_of old) (next_place old) event.kind lost)
+
+  -- No node took an event, which has these lines: all is as it was, but what the carrier was asked.
+  pub record MovesNone (h : Carriers C) (event : EventContent) (lines : List Line)
+      (old new : World D C g) : Type 0 where
+    pub it : Delivery
+    pub brought : Brings h event old it
+    pub says : IsPassedOver (nodes_of old) it lines
+    pub nodes : nodes_of new ≡ nodes_of old
+    pub frames : frames_of new ≡ frames_of old
+    pub asked : AsksFor h event old (delivery_lost it) new.carrier
+
+  -- Node x took an event, which has these lines: the input that came of it, with its fault. The
+  -- frames that the node sent are posted. The lines are those of its outcome, and then of those
+  -- replies that the carrier brought, which was asked for each. The node stands as they tell.
+  pub record MovesNode (h : Carriers C) (event : EventContent) (lines : List Line)
+      (old new : World D C g) : Type 0 where
+    pub x : ℕ
+    pub node_input : NodeInput
+    pub did : StepOutcome
+    pub brought : Brings h event old (delivery.To x node_input)
+    pub took : HasMoved (nodes_of old) x node_input event.fault old.limits did (nodes_of new)
+    pub sends : HasPosted (frames_of old) x (sent_by did) (frames_of new)
+    pub mid : C
+    pub asked : AsksFor h event old false mid
+    pub follow : RepliesFollow (h.is_faithful old.carrier) h.loses
+        (HasCarriedMore h.has_carried mid new.carrier) x (replies_by did)
+        (own_lines x (epoch_in event.kind) (sent_so_far old) did) lines
+    pub stands : StandsAfter x lines (get_or (nodes_of old) took.index took.sim).state
+        took.sim.state
+
+  -- an event that has these lines behind all others was taken by one node, or by none
+  abbrev pub MovesAtMostOne : Carriers C → EventContent → World D C g → World D C g → Type 0
+  MovesAtMostOne h event old new =
+      (lines : List Line) → lines_so_far new ≡ lines_so_far old ++ lines ∷ [] →
+      MovesNone h event lines old new ⊎ MovesNode h event lines old new
+
+  -- What the step of an event does in any world, by any carrier, which stays as faithful as it was.
+  pub record StepsOnce (h : Carriers C) (event : EventContent) (old new : World D C g) : Type 0
+    where
+      pub adds : EventAddsLines event old new
+      pub moves : MovesAtMostOne h event old new
+      pub loses : LosesCarried h.loses event old new
+      pub limits : WorldKeepsLimits old new
+      pub carrier : h.is_faithful new.carrier ↔ h.is_faithful old.carrier
+
+  -- A step that is refused ends the world, and one that is answered does not. In a world that had
+  -- ended it is refused, and changes nothing.
   pub record EndsIfRefused {T E : Type 0} (result : Result T E) (old new : World D C g) : Type 0
     where
       pub ends : MatchResult result (λ _. WorldHasEnded new → ⊥) (λ _. WorldHasEnded new)
       pub again : WorldHasEnded old → IsErr result × (new ≡ old)
-      pub once : OnErr result (length (events_so_far new) ≤ suc (length (events_so_far old)))
 
   -- The world has the events, lines and losses that it had, and perhaps more behind them: events,
   -- each of them such (`is_own`). All of these but the last have ended: with their lines, and lost
@@ -255,6 +280,40 @@ module _ {D C : Type 0} {g : Ghosts D} where
     pub last : length own ≤ suc (length ended)
     pub configs : configs_of new ≡ configs_of old
 
+  -- the node that was to take an event was lost, for want of memory, and all others are as they were
+  pub record LosesNode (h : Carriers C) (event : EventContent) (old new : World D C g) : Type 0
+    where
+      pub x : ℕ
+      pub node_input : NodeInput
+      pub brought : Brings h event old (delivery.To x node_input)
+      pub index : ℕ
+      pub at : IsIndexOf (nodes_of old) index x
+      pub nodes : nodes_of new ≡ remove (nodes_of old) index
+      pub frames : frames_of new ≡ frames_of old
+
+  -- node x took an event, and of the frames that it sent so many first ones are posted
+  pub record SendsPart (h : Carriers C) (event : EventContent) (old new : World D C g) : Type 0
+    where
+      pub x : ℕ
+      pub node_input : NodeInput
+      pub did : StepOutcome
+      pub brought : Brings h event old (delivery.To x node_input)
+      pub took : HasMoved (nodes_of old) x node_input event.fault old.limits did (nodes_of new)
+      pub sends : HasPostedPart (frames_of old) x (sent_by did) (frames_of new)
+
+  -- What the step of an event leaves of nodes and frames where it is refused: all; or all but the
+  -- node that was to take it; or it was taken, and perhaps some of its frames are missing.
+  abbrev pub LeavesNodes : Carriers C → EventContent → World D C g → World D C g → Type 0
+  LeavesNodes h event old new = ((nodes_of new ≡ nodes_of old) × (frames_of new ≡ frames_of old))
+      ⊎ LosesNode h event old new ⊎ SendsPart h event old new
+
+  -- What the step of an event leaves where it is refused: it begins this event at most.
+  pub record StepIsRefused (h : Carriers C) (event : EventContent) (old new : World D C g) : Type 0
+    where
+      pub keeps : KeepsLines (λ it. it ≡ event) old new
+      pub left : LeavesNodes h event old new
+      pub once : length (events_so_far new) ≤ suc (length (events_so_far old))
+
   -- the event was not begun, and the world has ended and is as it was otherwise
   pub record HasNotBegun (old new : World D C g) : Type 0 where
     pub taken : new.events.items ≡ old.events.items
@@ -267,3 +326,11 @@ module _ {D C : Type 0} {g : Ghosts D} where
         ⊎ (new.steps.items ≡ old.steps.items ++ lines ∷ [])
     pub marked : new.lost.items ≡ old.lost.items
     pub others : new ≡ record old { lost = new.lost; steps = new.steps }
+
+-- A world ran these events, one after another, and each step of it is as in any world.
+pub data RunsEvents {D C : Type 0} {g : Ghosts D} (h : Carriers C) (first : World D C g)
+    : List EventContent → World D C g → Type 0 where
+  NoEvent : RunsEvents h first [] first
+  OneEvent : (events : List EventContent) (event : EventContent) (before behind : World D C g) →
+      RunsEvents h first events before → StepsOnce h event before behind →
+      RunsEvents h first (events ++ event ∷ []) behind

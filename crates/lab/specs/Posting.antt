@@ -1,5 +1,5 @@
 -- Frames that nodes send: each is posted behind those before it.
-use Rattle.std.specs.Prelude.{◌≡◌, ℕ, List, ◌++◌, Option, Some, None, All}
+use Rattle.std.specs.Prelude.{◌≡◌, ℕ, List, ◌++◌, Option, Some, None, All, take}
 use Rattle.std.specs.List.{AllZip}
 use Rattle.link_messages.specs.{IsFrame, HasBounds, frame_bytes}
 use Rattle.chain_core.specs.declared.Sent.{Sent}
@@ -19,6 +19,10 @@ pub record HasPosted (old : List Posted) (x : ℕ) (sent : List Sent) (new : Lis
     pub more : List Posted
     pub whole : new ≡ old ++ more
     pub each : AllZip (IsPosted x) more sent
+
+-- of these frames of node x so many first ones are posted
+abbrev pub HasPostedPart : List Posted → ℕ → List Sent → List Posted → Type 0
+HasPostedPart old x sent new = (count : ℕ) × HasPosted old x (take count sent) new
 
 -- the frames that an event posts have as their sender the node that it acted on, if it acted on one
 abbrev pub FramesFollow : Option (ℕ × Machine) → List Posted → List Posted → Type 0

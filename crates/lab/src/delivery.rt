@@ -1,14 +1,9 @@
 // Posted frames, and what an event delivers to which node.
-ghost use Rattle.std.specs.Prelude.{◌↔◌, ℕ, List, IfOk, MatchOption};
-ghost use Rattle.std.specs.List.{AllZip};
-ghost use Rattle.kv_types.specs.{BatchContent};
+ghost use Rattle.std.specs.Prelude.{◌↔◌, [], ℕ, List, IfOk, MatchOption};
 ghost use Rattle.configurations.specs.{Configurations};
-ghost use Rattle.chain_model.specs.{Message as ModelFrame};
 ghost use Rattle.carriers.specs.{DeliveryWasLost, HasCarriedMore, delivery_lost};
-ghost use Rattle.lab.specs.Deliveries.{HasNoFrame, IsCarriedEvent, IsDeliverable, IsForNamed};
-ghost use Rattle.lab.specs.Deliveries.{IsPostedAt};
+ghost use Rattle.lab.specs.Deliveries.{HasNoFrame, IsBrought, IsDeliverable, IsPostedAt};
 ghost use Rattle.lab.specs.Transmissions.{frame_sent};
-ghost use Rattle.lab.specs.Worlds.{PostedRefines};
 
 use crate::{Carrier, Event, EventKind, LabError};
 use carriers::{Delivery, NodeInput, send_posted, send_request};
@@ -46,9 +41,8 @@ fn delivered<C: Carrier>(
     place: u64,
 ) -> Result<Delivery, LabError>
     ensures faithful { C.is_faithful carrier.new ↔ C.is_faithful carrier.old }
-    ensures found { (cs : Configurations) (i : ℕ) (frames : List (ModelFrame BatchContent)) →
-        AllZip PostedRefines posted.now frames → C.is_faithful carrier.old →
-        IfOk result (IsDeliverable cs frames i (EventKind.Deliver place)) }
+    ensures brought { (cs : Configurations) (i : ℕ) → IfOk result
+        (IsBrought cs (C.is_faithful carrier.old) posted.now i (EventKind.Deliver place)) }
     ensures lost { IfOk result (λ it. DeliveryWasLost it → C.loses) }
     ensures asked { (i : ℕ) → IfOk result (λ it. HasCarriedMore C.has_carried carrier.old
         carrier.new (frame_sent posted.now i (EventKind.Deliver place) (delivery_lost it))) }
@@ -61,8 +55,8 @@ fn delivered<C: Carrier>(
 
 // The node that is told of an epoch, and its configuration as an input, where the list has it.
 fn noticed(configs: &Configs, node: NodeId, epoch: Epoch) -> Result<Delivery, LabError>
-    ensures found { (i : ℕ) (frames : List (ModelFrame BatchContent)) →
-        IfOk result (IsDeliverable configs.now frames i (EventKind.Notice node epoch)) }
+    ensures found { (i : ℕ) →
+        IfOk result (IsDeliverable configs.now [] i (EventKind.Notice node epoch)) }
     ensures kept { IfOk result (λ it. DeliveryWasLost it → ⊥) }
 {
     let Some(config) = configs.at(epoch) else {
@@ -82,14 +76,13 @@ fn submitted<C: Carrier>(
     batch: &Batch,
 ) -> Result<Delivery, LabError>
     ensures faithful { C.is_faithful carrier.new ↔ C.is_faithful carrier.old }
-    ensures found { (cs : Configurations) (frames : List (ModelFrame BatchContent)) →
-        C.is_faithful carrier.old →
-        IfOk result (IsDeliverable cs frames request (EventKind.Submit node batch.now)) }
+    ensures brought { (cs : Configurations) (posted : List Posted) → IfOk result
+        (IsBrought cs (C.is_faithful carrier.old) posted request
+        (EventKind.Submit node batch.now)) }
     ensures lost { IfOk result (λ it. DeliveryWasLost it → C.loses) }
     ensures asked { (posted : List Posted) → IfOk result (λ it. HasCarriedMore C.has_carried
         carrier.old carrier.new
         (frame_sent posted request (EventKind.Submit node batch.now) (delivery_lost it))) }
-    ensures addressed { IfOk result (IsForNamed (EventKind.Submit node batch.now)) }
 {
     let batch = batch.clone()?;
     send_request(alloc, carrier, node, Frame::Submit { request, batch })
@@ -105,14 +98,13 @@ fn looked_up<C: Carrier>(
     at: Option<Number>,
 ) -> Result<Delivery, LabError>
     ensures faithful { C.is_faithful carrier.new ↔ C.is_faithful carrier.old }
-    ensures found { (cs : Configurations) (frames : List (ModelFrame BatchContent)) →
-        C.is_faithful carrier.old → IfOk result
-        (IsDeliverable cs frames request (EventKind.Get node key.now at)) }
+    ensures brought { (cs : Configurations) (posted : List Posted) → IfOk result
+        (IsBrought cs (C.is_faithful carrier.old) posted request
+        (EventKind.Get node key.now at)) }
     ensures lost { IfOk result (λ it. DeliveryWasLost it → C.loses) }
     ensures asked { (posted : List Posted) → IfOk result (λ it. HasCarriedMore C.has_carried
         carrier.old carrier.new (frame_sent posted request
         (EventKind.Get node key.now at) (delivery_lost it))) }
-    ensures addressed { IfOk result (IsForNamed (EventKind.Get node key.now at)) }
 {
     let key = key.clone()?;
     send_request(alloc, carrier, node, Frame::Get { request, at, key })
@@ -128,13 +120,11 @@ fn delivery_of_kind<C: Carrier>(
     kind: &EventKind,
 ) -> Result<Delivery, LabError>
     ensures faithful { C.is_faithful carrier.new ↔ C.is_faithful carrier.old }
-    ensures found { (frames : List (ModelFrame BatchContent)) → (IsCarriedEvent kind.now →
-        AllZip PostedRefines posted.now frames × C.is_faithful carrier.old) →
-        IfOk result (IsDeliverable configs.now frames request kind.now) }
+    ensures brought { IfOk result
+        (IsBrought configs.now (C.is_faithful carrier.old) posted.now request kind.now) }
     ensures lost { IfOk result (λ it. DeliveryWasLost it → C.loses) }
     ensures asked { IfOk result (λ it. HasCarriedMore C.has_carried carrier.old carrier.new
         (frame_sent posted.now request kind.now (delivery_lost it))) }
-    ensures addressed { IfOk result (IsForNamed kind.now) }
 {
     match kind {
         EventKind::Submit { node, batch } => submitted(alloc, carrier, request, *node, batch),
@@ -171,13 +161,11 @@ pub fn delivery_of<C: Carrier>(
     event: &Event,
 ) -> Result<Delivery, LabError>
     ensures faithful { C.is_faithful carrier.new ↔ C.is_faithful carrier.old }
-    ensures found { (frames : List (ModelFrame BatchContent)) → (IsCarriedEvent event.now.kind →
-        AllZip PostedRefines posted.now frames × C.is_faithful carrier.old) →
-        IfOk result (IsDeliverable configs.now frames request event.now.kind) }
+    ensures brought { IfOk result
+        (IsBrought configs.now (C.is_faithful carrier.old) posted.now request event.now.kind) }
     ensures lost { IfOk result (λ it. DeliveryWasLost it → C.loses) }
     ensures asked { IfOk result (λ it. HasCarriedMore C.has_carried carrier.old carrier.new
         (frame_sent posted.now request event.now.kind (delivery_lost it))) }
-    ensures addressed { IfOk result (IsForNamed event.now.kind) }
 {
     match event.kind() {
         LentKind::Deliver(place) => delivered(alloc, carrier, posted, place),

@@ -1,11 +1,11 @@
 // The trace of a step: its lines, the frames that it posts, and the replies that it sends.
-ghost use Rattle.std.specs.Prelude.{◌≡◌, ◌↔◌, ◌+◌, [], ◌∷◌, ◌++◌, length, IfOk, OnOk};
+ghost use Rattle.std.specs.Prelude.{◌≡◌, ◌↔◌, ◌+◌, [], ◌∷◌, ◌++◌, length, IfOk, OnErr, OnOk};
 ghost use Rattle.carriers.specs.{HasCarriedMore};
 ghost use Rattle.lab.specs.Arrivals.{RepliesFollow};
 ghost use Rattle.lab.specs.OutcomeLines.{adopted_lines, lines_before_replies, own_lines};
 ghost use Rattle.lab.specs.OutcomeLines.{replies_by, sent_by, sent_line, sent_lines};
 ghost use Rattle.lab.specs.Events.{dropped_lines};
-ghost use Rattle.lab.specs.Posting.{HasPosted};
+ghost use Rattle.lab.specs.Posting.{HasPosted, HasPostedPart};
 
 use crate::delivery::Posted;
 use crate::input::StepOutcome;
@@ -52,7 +52,7 @@ fn line_of(place: u64, sent: &Sent) -> Line
     }
 }
 
-// Posts a frame that is sent, in the next place.
+// Posts a frame that is sent, in the next place, or nothing.
 fn post(
     alloc: Global,
     frames: &mut Vec<Posted>,
@@ -64,15 +64,17 @@ fn post(
         (HasPosted frames.old.items from (sent.now ∷ []) frames.new.items) }
     ensures lines { OnOk result (lines.new
         ≡ lines.old ++ sent_line (length frames.old.items + 1) sent.now ∷ []) }
+    ensures refused { OnErr result (frames.new.items ≡ frames.old.items) }
 {
     let bytes = write(alloc, &sent.frame)?;
+    let place = frames.len() as u64 + 1;
+    lines.push(alloc, line_of(place, sent))?;
     let to = sent.to;
     frames.push(Posted { from, to, bytes })?;
-    lines.push(alloc, line_of(frames.len() as u64, sent))?;
     Ok(())
 }
 
-// Posts all frames that are sent, one after another.
+// Posts all frames that are sent, one after another, or the first of them.
 fn post_all(
     alloc: Global,
     frames: &mut Vec<Posted>,
@@ -83,6 +85,8 @@ fn post_all(
     ensures posted { OnOk result (HasPosted frames.old.items from sent.now frames.new.items) }
     ensures lines { OnOk result (lines.new
         ≡ lines.old ++ sent_lines (length frames.old.items) sent.now) }
+    ensures refused { OnErr result
+        (HasPostedPart frames.old.items from sent.now frames.new.items) }
 {
     for it in sent {
         post(alloc, frames, lines, from, it)?;
@@ -137,6 +141,8 @@ fn trace_output<C: Carrier>(
     ensures lines { IfOk result (RepliesFollow (C.is_faithful carrier.old) C.loses
         (HasCarriedMore C.has_carried carrier.old carrier.new) id output.replies
         (lines_before_replies id told (length frames.old.items) output)) }
+    ensures refused { OnErr result
+        (HasPostedPart frames.old.items id output.frames frames.new.items) }
 {
     let mut lines = Lines::new();
     trace_drop(alloc, &mut lines, output.dropped)?;
@@ -147,7 +153,8 @@ fn trace_output<C: Carrier>(
 }
 
 /// Posts the frames that a node sent, carries its replies to the client, and makes the lines of its
-/// outcome, where it was told of an epoch or not. A reply that does not arrive has none.
+/// outcome, where it was told of an epoch or not. A reply that does not arrive has none. Where this
+/// is refused, the first of the frames are posted.
 pub fn trace_of<C: Carrier>(
     alloc: Global,
     carrier: &mut C,
@@ -162,6 +169,8 @@ pub fn trace_of<C: Carrier>(
     ensures lines { IfOk result (RepliesFollow (C.is_faithful carrier.old) C.loses
         (HasCarriedMore C.has_carried carrier.old carrier.new) id (replies_by outcome)
         (own_lines id told (length frames.old.items) outcome)) }
+    ensures refused { OnErr result
+        (HasPostedPart frames.old.items id (sent_by outcome) frames.new.items) }
 {
     let line = match outcome {
         StepOutcome::Answered(output) => {

@@ -1,7 +1,7 @@
 // A world of simulated nodes, stepped event by event.
-ghost use Rattle.std.specs.Prelude.{◌≡◌, IfOk, IfSome, IsErr, MatchOption};
+ghost use Rattle.std.specs.Prelude.{◌≡◌, ◌⊎◌, IfOk, IfSome, IsErr, MatchOption};
 ghost use Rattle.std.specs.Prelude.{OnErr, OnOk, false, true};
-ghost use Rattle.std.specs.List.{AllZip};
+ghost use Rattle.std.specs.List.{AllZip, remove};
 ghost use Rattle.configurations.specs.{Lawful, at_epoch};
 ghost use Rattle.kv_types.specs.{has};
 ghost use Rattle.lab.specs.SimNodes.{StateHasLimits};
@@ -10,11 +10,10 @@ ghost use Rattle.lab.specs.History.{OneHistory};
 ghost use Rattle.lab.specs.Worlds.{AreCreated, HasApplied, HasBegunEvent, HasHistory, HasKept};
 ghost use Rattle.lab.specs.Worlds.{HasMoved, HasNoNode, HasRun, HaveLimits, IsCreated, IsIndexOf};
 ghost use Rattle.lab.specs.Worlds.{IsDownAmong, IsReportOf, IsRunSoFar, ShowsNumbers};
-ghost use Rattle.lab.specs.Worlds.{WorldHasEnded, WorldHasLimits, WorldKeepsLimits, WorldRun};
+ghost use Rattle.lab.specs.Worlds.{WorldHasEnded, WorldHasLimits, WorldRun};
 ghost use Rattle.lab.specs.Worlds.{direct_carrier, empty_run, frames_in_steps, losses_of};
-ghost use Rattle.lab.specs.LinesSoFar.{EndsIfRefused, EventAddsLines, HasNotBegun};
-ghost use Rattle.lab.specs.LinesSoFar.{HasPartlyKept, HasRunNothing, KeepsLines, LosesCarried};
-ghost use Rattle.lab.specs.LinesSoFar.{MovesAtMostOne};
+ghost use Rattle.lab.specs.LinesSoFar.{EndsIfRefused, HasNotBegun, HasPartlyKept};
+ghost use Rattle.lab.specs.LinesSoFar.{HasRunNothing, StepIsRefused, StepsOnce};
 ghost use Rattle.lab.specs.LinesSoFar.{configs_of, events_so_far, lines_so_far, lost_so_far};
 ghost use Rattle.lab.specs.LinesSoFar.{nodes_of, sent_so_far};
 ghost use Rattle.lab.specs.Transmissions.{carrier_of};
@@ -112,8 +111,10 @@ fn deliver<D: Crash + Drop>(
     limits: &Limits,
 ) -> Result<StepOutcome, AllocError>
     requires { IsIndexOf nodes.old.items index delivery.0 }
-    ensures { IfOk result (λ did. HasMoved nodes.old.items delivery.0 delivery.1
+    ensures moved { IfOk result (λ did. HasMoved nodes.old.items delivery.0 delivery.1
         event.now.fault limits.now did nodes.new.items) }
+    ensures refused { OnErr result ((nodes.new.items ≡ nodes.old.items)
+        ⊎ (nodes.new.items ≡ remove nodes.old.items index)) }
 {
     let (id, input) = delivery;
     let fault = match event.fault() {
@@ -332,19 +333,15 @@ impl<D: Disk + Drop, C: Carrier + Drop> World<D, C> {
 
 impl<D: Crash + Drop, C: Carrier + Drop> World<D, C> {
     /// Applies an event to the node that it is for, or loses it. One that names a node which the
-    /// world does not have does nothing. After an error the world is at its end: every later step
-    /// is refused, and what `numbers` says of it is left open: a node may be lost. It has the
-    /// events, lines and losses that it had, and perhaps the event behind them, with lines or not.
+    /// first configuration lacks does nothing. After an error the world is at its end: every later
+    /// step is refused. It has the events, lines and losses that it had, and perhaps the event
+    /// behind them, with lines or not; the node that the event is for may be lost.
     pub fn step(&mut self, alloc: Global, event: &Event) -> Result<(), LabError>
         ensures ran { (run : WorldRun) → HasRun C.Carrier self.old run →
             OnOk result (HasApplied C.Carrier self.old self.new run event.now) }
         ensures ends { EndsIfRefused result self.old self.new }
-        ensures limits { OnOk result (WorldKeepsLimits self.old self.new) }
-        ensures adds { OnOk result (EventAddsLines event.now self.old self.new) }
-        ensures moves { OnOk result (MovesAtMostOne event.now self.old self.new) }
-        ensures loses { OnOk result (LosesCarried C.loses event.now self.old self.new) }
-        ensures refused { OnErr result
-            (KeepsLines (λ it. it ≡ event.now) self.old self.new) }
+        ensures steps { OnOk result (StepsOnce C.Carrier event.now self.old self.new) }
+        ensures refused { OnErr result (StepIsRefused C.Carrier event.now self.old self.new) }
     {
         if self.ended {
             return Err(LabError::Memory);

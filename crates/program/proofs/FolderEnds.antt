@@ -38,7 +38,7 @@ use Rattle.program.specs.FolderFailures.{IsLoopFailureOf, dump_failure_line, loo
 use Rattle.program.specs.FolderRuns.{DumpEnds, EndsEarly, FailsInFolders, HasFoundNodes}
 use Rattle.program.specs.FolderRuns.{IsOfScript, IsPrintedReport, IsRunInFolders}
 use Rattle.program.specs.FolderRuns.{IsWorldOfFound, LoopEnds, LoopHasFailed, ReportFails}
-use Rattle.program.specs.FolderRuns.{SpellsStatements, has_stop, stopped_status}
+use Rattle.program.specs.FolderRuns.{SpellsStatements, has_stop, loopback, stopped_status}
 
 -- ---- a run in a world
 
@@ -57,12 +57,12 @@ output_or_memory run.Write = inl refl
 output_or_memory run.Memory = inr refl
 
 -- statements were printed as a world without lines reported them
-pub printed_report : {D C : Type 0} {g : Ghosts D} (world now : World D C g)
+pub printed_report : {D C : Type 0} {g : Ghosts D} (h : Carriers C) (world now : World D C g)
     (statements : List Statement) (old new : Option (List ℕ)) (steps : List (List Line))
-    (stopped : Bool) → lines_so_far world ≡ [] → ReportIsPrinted world now statements old new →
+    (stopped : Bool) → lines_so_far world ≡ [] → ReportIsPrinted h world now statements old new →
     steps ≡ lines_so_far now → stopped ≡ has_stop steps →
-    IsPrintedReport world statements old new stopped
-printed_report world now statements old new steps stopped none report is stops = record {
+    IsPrintedReport h world statements old new stopped
+printed_report h world now statements old new steps stopped none report is stops = record {
   now = now;
   report = report;
   stops = stops ∙ ap has_stop (is ∙ report.added
@@ -70,12 +70,12 @@ printed_report world now statements old new steps stopped none report is stops =
 }
 
 -- statements were run in a world, and this ended them early
-pub report_fails : {D C : Type 0} {g : Ghosts D} (world now : World D C g)
+pub report_fails : {D C : Type 0} {g : Ghosts D} (h : Carriers C) (world now : World D C g)
     (statements : List Statement) (old new : Option (List ℕ)) (error : RunError) →
-    ReportIsCut error world now statements old new →
-    ReportFails world statements old new (failure_of error)
-report_fails world now statements old new run.Write cut = record { now = now; cut = cut }
-report_fails world now statements old new run.Memory cut = record { now = now; cut = cut }
+    ReportIsCut h error world now statements old new →
+    ReportFails h world statements old new (failure_of error)
+report_fails h world now statements old new run.Write cut = record { now = now; cut = cut }
+report_fails h world now statements old new run.Memory cut = record { now = now; cut = cut }
 
 -- ---- a run at the nodes of a script
 
@@ -141,7 +141,7 @@ no_carrier {R} {g} folder setup statements out f found (inr is) =
 pub cut_short : {R : Type 0} {g : Ghosts (DirDisk R)} (folder : List ℕ) (setup : Setup)
     (statements : List Statement) (old new : Option (List ℕ))
     (world : World (DirDisk R) (TcpCarrier R) g) (f : Failure) →
-    IsWorldOfFound folder setup world → ReportFails world statements old new f →
+    IsWorldOfFound folder setup world → ReportFails loopback world statements old new f →
     FailsInFolders g folder setup statements old new (Run f)
 cut_short folder setup statements old new world Output is fails =
     record { world = world; is = is; cut = fails }

@@ -95,26 +95,26 @@ EndsEarly g h setup statements old new (Script fault) = ⊥
 
 -- The statements were run in this world. Just the text of the lines that it then has of them was
 -- written, and this is whether a node stopped by itself in these.
-pub record IsPrintedReport {D C : Type 0} {g : Ghosts D} (world : World D C g)
+pub record IsPrintedReport {D C : Type 0} {g : Ghosts D} (h : Carriers C) (world : World D C g)
     (statements : List Statement) (old new : Option (List ℕ)) (stopped : Bool) : Type 0 where
   pub now : World D C g
-  pub report : ReportIsPrinted world now statements old new
+  pub report : ReportIsPrinted h world now statements old new
   pub stops : stopped ≡ has_stop report.steps
 
 -- a run of the statements in this world ended early for this
-pub record IsCutReport {D C : Type 0} {g : Ghosts D} (error : RunError) (world : World D C g)
-    (statements : List Statement) (old new : Option (List ℕ)) : Type 0 where
+pub record IsCutReport {D C : Type 0} {g : Ghosts D} (h : Carriers C) (error : RunError)
+    (world : World D C g) (statements : List Statement) (old new : Option (List ℕ)) : Type 0 where
   pub now : World D C g
-  pub cut : ReportIsCut error world now statements old new
+  pub cut : ReportIsCut h error world now statements old new
 
 -- how a run in this world fails: where the output takes no more, within the text of a statement;
 -- where memory is wanted, behind the text of some first statements
-abbrev pub ReportFails : {D C : Type 0} {g : Ghosts D} → World D C g → List Statement →
-    Option (List ℕ) → Option (List ℕ) → Failure → Type 0
-ReportFails world statements old new Output = IsCutReport run.Write world statements old new
-ReportFails world statements old new Memory = IsCutReport run.Memory world statements old new
-ReportFails world statements old new Unreadable = ⊥
-ReportFails world statements old new (Script fault) = ⊥
+abbrev pub ReportFails : {D C : Type 0} {g : Ghosts D} → Carriers C → World D C g →
+    List Statement → Option (List ℕ) → Option (List ℕ) → Failure → Type 0
+ReportFails h world statements old new Output = IsCutReport h run.Write world statements old new
+ReportFails h world statements old new Memory = IsCutReport h run.Memory world statements old new
+ReportFails h world statements old new Unreadable = ⊥
+ReportFails h world statements old new (Script fault) = ⊥
 
 -- what was read, where that is known, spells a script without a fault, where no fault of a disk may
 -- be spelled: what it sets up, and statements that name only nodes of the first configuration; and
@@ -138,6 +138,14 @@ pub record HasFoundNodes {R : Type 0} (g : Ghosts (DirDisk R)) (folder : List �
   pub ids : sim_ids nodes ≡ at_epoch setup.configs 0
   pub each : All (IsFoundIn folder setup.limits) nodes
 
+-- what a connection is as a carrier: it is faithful, and may lose anything
+abbrev pub loopback : {R : Type 0} → Carriers (TcpCarrier R)
+loopback = record {
+  is_faithful = λ carrier. Unit {0};
+  loses = Unit {0};
+  has_carried = λ carrier asked. Unit {0};
+}
+
 -- The world has the configurations and the limits that were set up, and has run nothing yet: no
 -- event, line or frame. It is not at its end. Its nodes are those that were found, one of each of
 -- the first configuration.
@@ -158,7 +166,7 @@ pub record IsRunInFolders {R : Type 0} (g : Ghosts (DirDisk R)) (folder : List �
     (statements : List Statement) (old new : Option (List ℕ)) (stopped : Bool) : Type 0 where
   pub world : World (DirDisk R) (TcpCarrier R) g
   pub is : IsWorldOfFound folder setup world
-  pub printed : IsPrintedReport world statements old new stopped
+  pub printed : IsPrintedReport loopback world statements old new stopped
 
 -- a run of the statements in such a world ended early for this
 pub record IsCutInFolders {R : Type 0} (g : Ghosts (DirDisk R)) (folder : List ℕ)
@@ -166,7 +174,7 @@ pub record IsCutInFolders {R : Type 0} (g : Ghosts (DirDisk R)) (folder : List �
     : Type 0 where
   pub world : World (DirDisk R) (TcpCarrier R) g
   pub is : IsWorldOfFound folder setup world
-  pub cut : IsCutReport error world statements old new
+  pub cut : IsCutReport loopback error world statements old new
 
 -- How a run of a script in folders fails. Where the output took no more, it had begun, and ended at
 -- a statement; where memory is wanted, so too, or nothing is written. A folder's fault is that of a

@@ -82,9 +82,9 @@ fn run_world<D: Crash + Drop, C: Carrier + Drop, W: Write>(
 
     // In any world that has no line yet.
     ensures printed { lines_so_far world ≡ [] → MatchResult result
-        (IsPrintedReport world script.now.statements.items (W.contents out.old)
+        (IsPrintedReport C.Carrier world script.now.statements.items (W.contents out.old)
         (W.contents out.new))
-        (ReportFails world script.now.statements.items (W.contents out.old)
+        (ReportFails C.Carrier world script.now.statements.items (W.contents out.old)
         (W.contents out.new)) }
 {
     let ran = run_script(alloc, script, &mut world, out);

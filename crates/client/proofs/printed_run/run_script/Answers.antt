@@ -1,14 +1,12 @@
 use Rattle.std.specs.Prelude.{string_bytes}
-use Rattle.std.proofs.Common.{add-one, ap, length, rules, subst, sym}
+use Rattle.std.proofs.Common.{add-one, ap, inl, inr, length, rules, subst, sym}
 use Rattle.std.proofs.lemmas.List.{take_all}
 use Rattle.scripts.specs.declared.statement.Statement.{Statement}
-use Rattle.lab.specs.{configs_of}
-use Rattle.client.specs.ReportedRuns.{AreActionLines, IsActionEvent}
 use Rattle.client.specs.ScriptRuns.{no_stretch, run_of}
 use Rattle.scripts.specs.Scripts.{Names}
-use Rattle.client.proofs.KeptLines.{keeps_added, keeps_first}
 use Rattle.client.proofs.PrintedRuns.{ended_in_memory, ended_in_write, printed, prints_more}
 use Rattle.client.proofs.PrintedRuns.{prints_none}
+use Rattle.client.proofs.RunsActions.{cut_at_first}
 use Rattle.client.proofs.StatementReports.{all_reported, cut_in_memory, cut_in_output, reports_more}
 use Rattle.client.proofs.StatementReports.{reports_none}
 use Rattle.client.proofs.printed_run.run_script.Goals as goal
@@ -23,7 +21,7 @@ loop-statement-init g c = (
       c.args.script.now.setup _ (g.W.Write.contents c.args.out.now) ready.none
       (ap length (c.report-before.ensures.steps past run))
       (c.report-before.ensures.run past run) (c.report-before.ensures.history past run)),
-  rw (c.new-left.ensures.items, c.new-places.ensures.items) (reports_none c.args.world.now _
+  rw (c.new-left.ensures.items, c.new-places.ensures.items) (reports_none g.C.Carrier c.args.world.now _
       (g.W.Write.contents c.args.out.now) (ap length c.report-before.ensures.kept)),
 )
 
@@ -96,7 +94,7 @@ loop-statement-preserved g c = (
       c.in_ok-make_text.ensures.places c.in_ok-make_text.ensures.text _
       (rw c.as_bytes.ensures.value at c.in_ok-print.ensures.whole)),
   let same = c.deref-statement-items.ensures.value in
-      rw add-one (reports_more c.args.world.now c.loop-statement.world c.run_statement.new.world
+      rw add-one (reports_more g.C.Carrier c.args.world.now c.loop-statement.world c.run_statement.new.world
       c.loop-statement.left.items c.run_statement.new.left.items
       c.args.script.now.statements.items c.loop-statement.statement-index _
       c.statement-item.result c.in_ok-turn.turn c.loop-statement.places.items
@@ -121,42 +119,41 @@ returns-clause-printed g c = λ ready.
 
 pub returns-in_err-turn-clause-reported : goal.returns-in_err-turn-clause-reported
 returns-in_err-turn-clause-reported g c =
+    let h = g.C.Carrier in
     let all = c.args.script.now.statements.items in
     let i = c.loop-statement.statement-index in
     let same = c.deref-statement-items.ensures.value in
-    let kept = keeps_first all i _ c.statement-item.result c.loop-statement.world
+    let at_first = cut_at_first h all i _ c.statement-item.result c.loop-statement.world
     c.run_statement.new.world (rw same at c.loop-statement-test.true)
-    (rw same at c.statement-item.is) c.in_err-turn.ensures.refused in
-    let cut = cut_in_memory c.args.world.now c.loop-statement.world c.run_statement.new.world
+    (rw same at c.statement-item.is) (inl c.in_err-turn.ensures.refused) in
+    let cut = cut_in_memory h c.args.world.now c.loop-statement.world c.run_statement.new.world
     c.loop-statement.left.items all i
     c.loop-statement.places.items c.loop-statement.before (g.W.Write.contents c.args.out.now)
     (g.W.Write.contents c.loop-statement.out) (rw same at c.loop-statement-test.true)
-    c.loop-statement.invariant.1 kept in
+    c.loop-statement.invariant.1 at_first in
     search (rules, cut)
 
 pub returns-in_err-make_text-clause-reported : goal.returns-in_err-make_text-clause-reported
 returns-in_err-make_text-clause-reported g c =
+    let h = g.C.Carrier in
     let all = c.args.script.now.statements.items in
     let i = c.loop-statement.statement-index in
     let same = c.deref-statement-items.ensures.value in
-    let it = c.statement-item.result in
-    let kept = keeps_first all i _ it c.loop-statement.world
+    let report = c.in_ok-turn.ensures.reported in
+    let at_first = cut_at_first h all i _ c.statement-item.result c.loop-statement.world
     c.run_statement.new.world (rw same at c.loop-statement-test.true)
-    (rw same at c.statement-item.is)
-    (keeps_added (Names (configs_of c.loop-statement.world) it.action) (IsActionEvent it.action)
-    (AreActionLines it.action) c.in_ok-turn.turn.events c.loop-statement.world
-    c.run_statement.new.world c.in_ok-turn.ensures.reported.adds) in
-    let cut = cut_in_memory c.args.world.now c.loop-statement.world c.run_statement.new.world
+    (rw same at c.statement-item.is) (inr (c.in_ok-turn.turn, report.answered, report.runs)) in
+    let cut = cut_in_memory h c.args.world.now c.loop-statement.world c.run_statement.new.world
     c.loop-statement.left.items all i
     c.loop-statement.places.items c.loop-statement.before (g.W.Write.contents c.args.out.now)
     (g.W.Write.contents c.loop-statement.out) (rw same at c.loop-statement-test.true)
-    c.loop-statement.invariant.1 kept in
+    c.loop-statement.invariant.1 at_first in
     search (rules, cut)
 
 pub returns-in_err-print-clause-reported : goal.returns-in_err-print-clause-reported
 returns-in_err-print-clause-reported g c =
     let same = c.deref-statement-items.ensures.value in
-    let cut = cut_in_output c.args.world.now c.loop-statement.world c.run_statement.new.world
+    let cut = cut_in_output g.C.Carrier c.args.world.now c.loop-statement.world c.run_statement.new.world
     c.loop-statement.left.items c.run_statement.new.left.items
     c.args.script.now.statements.items c.loop-statement.statement-index _
     c.statement-item.result c.in_ok-turn.turn c.loop-statement.places.items
@@ -170,7 +167,7 @@ returns-in_err-print-clause-reported g c =
 
 pub returns-clause-reported : goal.returns-clause-reported
 returns-clause-reported g c =
-    all_reported c.args.world.now c.loop-statement.world c.loop-statement.left.items _
+    all_reported g.C.Carrier c.args.world.now c.loop-statement.world c.loop-statement.left.items _
     c.args.script.now.statements.items
     c.loop-statement.places.items c.loop-statement.before (g.W.Write.contents c.args.out.now)
     (g.W.Write.contents c.loop-statement.out)

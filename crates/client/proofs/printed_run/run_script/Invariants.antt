@@ -11,6 +11,6 @@ invariant-loop-statement g l = (
     Prints g.C.Carrier l.world l.script.setup l.left.items
     (take l.statement-index l.script.statements.items) l.places.items l.before
     (g.W.Write.contents l.fn.out) (g.W.Write.contents l.out))
-    × ReportsSoFar l.fn.world l.world l.left.items
+    × ReportsSoFar g.C.Carrier l.fn.world l.world l.left.items
     (take l.statement-index l.script.statements.items) l.places.items l.before
     (g.W.Write.contents l.fn.out) (g.W.Write.contents l.out)

@@ -1,14 +1,10 @@
-use Rattle.std.proofs.Common.{◌≡◌, ℕ, List, subst, add-one, arith, inl, inr, rules}
-use Rattle.lab.specs.EventContent.{EventContent}
-use Rattle.lab.specs.{configs_of}
-use Rattle.scripts.specs.Scripts.{Names}
-use Rattle.client.specs.ReportedRuns.{AreActionLines, IsActionEvent}
+use Rattle.std.proofs.Common.{ℕ, List, subst, add-one, arith, inl, inr, refl, rules}
 use Rattle.client.specs.ScriptRuns.{delivery, followed_by}
 use Rattle.client.proofs.Flowing.{Flows, flows_none, flows_on, flowed_all, flowed_most, emptied}
-use Rattle.client.proofs.KeptLines.{keeps_more, keeps_weaker}
 use Rattle.client.proofs.PlacesBetween.{Delivers, delivered_all, delivered_most, delivers_none}
 use Rattle.client.proofs.PlacesBetween.{delivers_on}
 use Rattle.client.proofs.ReportedLemmas.{adds_delivery, adds_more, adds_nothing}
+use Rattle.client.proofs.RunsActions.{cut_behind, runs_more, runs_none}
 use Rattle.scripts.specs.declared.statement.Action.TheVariants.{Flow}
 use Rattle.client.proofs.script_run.flow.Goals as goal
 
@@ -18,6 +14,7 @@ loop-count-init g c = (
   λ setup past run. flows_none c.args.world.now setup past c.args.left.now.items run,
   (omega arith, adds_nothing Flow c.args.world.now),
   delivers_none c.args.world.now c.args.left.now.items,
+  runs_none g.C.Carrier Flow c.args.world.now,
 )
 
 pub returns-in_default-clause-ran : goal.returns-in_default-clause-ran
@@ -46,12 +43,15 @@ loop-count-preserved g c = (
     adds_more Flow c.args.world.now c.loop-count.world c.happen.new.world
         c.loop-count.count c.loop-count.invariant.1.1
         (adds_delivery c.in-Some.place c.loop-count.world c.happen.new.world
-        c.in_ok-happen.ensures.adds),
+        c.in_ok-happen.ensures.steps.adds),
   ),
   rw add-one (delivers_on c.args.world.now c.loop-count.world c.happen.new.world
       c.args.left.now.items c.loop-count.left.items c.pop_front.new.self.items
       c.happen.new.left.items c.loop-count.count c.in-Some.place c.loop-count.invariant.2
-      c.in-Some.ensures.items c.in_ok-happen.ensures.adds c.in_ok-happen.ensures.left),
+      c.in-Some.ensures.items c.in_ok-happen.ensures.steps.adds c.in_ok-happen.ensures.left),
+  runs_more g.C.Carrier Flow c.args.world.now c.loop-count.world c.happen.new.world
+      c.loop-count.count (delivery c.in-Some.place) c.loop-count.invariant.3
+      (c.in-Some.place, refl) c.in_ok-happen.ensures.steps,
 )
 
 pub returns-clause-ran : goal.returns-clause-ran
@@ -97,14 +97,18 @@ returns-clause-delivers g c = (
       c.loop-count.invariant.1.0 (omega (arith, c.loop-count-test.false)),
 )
 
+-- ---- its events in any world
+
+pub returns-in_default-clause-runs : goal.returns-in_default-clause-runs
+returns-in_default-clause-runs g c = c.loop-count.invariant.3
+
+pub returns-clause-runs : goal.returns-clause-runs
+returns-clause-runs g c = c.loop-count.invariant.3
+
 -- memory is wanted behind some of them
 pub returns-in_err-happen-clause-refused : goal.returns-in_err-happen-clause-refused
 returns-in_err-happen-clause-refused g c =
-    let is_own = IsActionEvent Flow in
-    let after = keeps_weaker (λ (it : EventContent). it ≡ delivery c.in-Some.place) is_own
-    c.loop-count.world c.happen.new.world (λ it is. (c.in-Some.place, is))
-    c.in_err-happen.ensures.refused in
-    let kept = keeps_more (Names (configs_of c.args.world.now) Flow) is_own (AreActionLines Flow)
-    c.loop-count.count c.args.world.now c.loop-count.world c.happen.new.world
-    c.loop-count.invariant.1.1 after in
-    search (rules, kept)
+    let cut = cut_behind g.C.Carrier Flow c.args.world.now c.loop-count.world c.happen.new.world
+    c.loop-count.count (delivery c.in-Some.place) (omega (arith, c.loop-count-test.true))
+    c.loop-count.invariant.3 (c.in-Some.place, refl) c.in_err-happen.ensures.refused in
+    search (rules, cut)

@@ -1,8 +1,10 @@
-use Rattle.std.proofs.Common.{List, ◌+◌, ◌++◌, refl, ap, sym, subst, ◌∙◌, append_assoc, rules}
+use Rattle.std.proofs.Common.{List, ◌+◌, ◌++◌, refl, ap, arith, sym, subst, ◌∙◌, append_assoc}
+use Rattle.std.proofs.Common.{rules}
 use Rattle.lab.specs.declared.Line.{Line}
-use Rattle.lab.specs.{KeepsLines, frames_in_steps, frames_of_step}
+use Rattle.lab.specs.{frames_in_steps, frames_of_step}
 use Rattle.scripts.specs.declared.statement.Action.{Action}
-use Rattle.client.specs.ReportedRuns.{IsActionEvent}
+use Rattle.scripts.specs.declared.statement.Action.TheVariants.{Event}
+use Rattle.client.specs.ReportedRuns.{ActionIsCut}
 use Rattle.client.specs.ScriptRuns.{run_of}
 use Rattle.client.specs.declared.statement_result.Note.TheVariants as note
 use Rattle.client.proofs.Leaving.{all_rise}
@@ -11,6 +13,7 @@ use Rattle.client.proofs.StatementResults.{turned_by_event, turned_by_flow, turn
 use Rattle.client.proofs.StatementResults.{turned_by_show, turned_without}
 use Rattle.client.proofs.ReportedLemmas.{reported_event, reported_flow, reported_invalid}
 use Rattle.client.proofs.ReportedLemmas.{reported_settle, reported_show}
+use Rattle.client.proofs.RunsActions.{cut_behind, runs_none, runs_one}
 use Rattle.client.proofs.script_run.run_statement.Goals as goal
 
 pub returns-in_ok-step-in-Event-clause-ran : goal.returns-in_ok-step-in-Event-clause-ran
@@ -66,40 +69,44 @@ returns-in_ok-step-in-Event-clause-reported g c =
     let old = c.args.world.now in
     let new = c.step.new.world in
     let kind = c.in-Event.event.kind in
-    reported_event old new c.args.statement.now c.result_of.result c.args.left.now.items
-    c.remove_delivered.new.left.items c.in-Event.event c.in-Event.is c.result_of.ensures
-    c.in_ok-step-in-Event.ensures.adds c.in_ok-step-in-Event.ensures.moves
+    reported_event g.C.Carrier old new c.args.statement.now c.result_of.result
+    c.args.left.now.items c.remove_delivered.new.left.items c.in-Event.event c.in-Event.is
+    c.result_of.ensures c.in_ok-step-in-Event.ensures.steps.adds
+    (runs_one g.C.Carrier (Event c.in-Event.event) old new c.in-Event.event refl
+    c.in_ok-step-in-Event.ensures.steps)
     (left_of_event old new kind c.args.left.now.items c.step.new.left.items
     c.remove_delivered.new.left.items c.in_ok-step-in-Event.ensures.left
     c.remove_delivered.ensures)
 
 pub returns-in-Invalid-clause-reported : goal.returns-in-Invalid-clause-reported
 returns-in-Invalid-clause-reported g c =
-    reported_invalid c.args.world.now c.args.statement.now c.result_of-in-Invalid.result
+    reported_invalid g.C.Carrier c.args.world.now c.args.statement.now c.result_of-in-Invalid.result
     c.args.left.now.items c.in-Invalid.error c.in-Invalid.is c.result_of-in-Invalid.ensures
 
 pub returns-in_ok-events-in-Flow-clause-reported : goal.returns-in_ok-events-in-Flow-clause-reported
 returns-in_ok-events-in-Flow-clause-reported g c =
     let went = c.in_ok-events-in-Flow.ensures.adds in
     let more = c.in_ok-events-in-Flow.ensures.delivers in
-    reported_flow c.args.world.now c.flow.new.world c.args.statement.now c.result_of-in-Flow.result
+    reported_flow g.C.Carrier c.args.world.now c.flow.new.world c.args.statement.now c.result_of-in-Flow.result
     c.args.left.now.items c.flow.new.left.items c.in_ok-events-in-Flow.events c.in-Flow.is
-    (rw c.busy.ensures at c.result_of-in-Flow.ensures) went.0 went.1 went.2 more.0 more.1
+    (rw c.busy.ensures at c.result_of-in-Flow.ensures) went.0 went.1 went.2
+    c.in_ok-events-in-Flow.ensures.runs more.0 more.1
 
 pub returns-in_ok-tends-in-Settle-clause-reported
     : goal.returns-in_ok-tends-in-Settle-clause-reported
 returns-in_ok-tends-in-Settle-clause-reported g c =
     let went = c.in_ok-tends-in-Settle.ensures.adds in
     let more = c.in_ok-tends-in-Settle.ensures.left in
-    reported_settle c.args.world.now c.settle.new.world c.args.statement.now
+    reported_settle g.C.Carrier c.args.world.now c.settle.new.world c.args.statement.now
     c.settled_result.result c.args.left.now.items c.settle.new.left.items c.in-Settle.node
     c.in_ok-tends-in-Settle.tends c.tend_has_worked.result
     c.in-Settle.is c.settled_result.ensures went.0 went.1
-    c.in_ok-tends-in-Settle.ensures.tends c.tend_has_worked.ensures more.0 more.1
+    c.in_ok-tends-in-Settle.ensures.tends c.tend_has_worked.ensures
+    c.in_ok-tends-in-Settle.ensures.runs more.0 more.1
 
 pub returns-in-Show-clause-reported : goal.returns-in-Show-clause-reported
 returns-in-Show-clause-reported g c =
-    reported_show c.args.world.now c.args.statement.now c.result_of-in-Show.result
+    reported_show g.C.Carrier c.args.world.now c.args.statement.now c.result_of-in-Show.result
     c.args.left.now.items c.in-Show.node
     c.numbers.result c.in-Show.is (rw c.shown-note.ensures at c.result_of-in-Show.ensures)
     c.numbers.ensures.own c.numbers.ensures.none
@@ -108,19 +115,23 @@ returns-in-Show-clause-reported g c =
 
 pub returns-in_err-step-in-Event-clause-refused : goal.returns-in_err-step-in-Event-clause-refused
 returns-in_err-step-in-Event-clause-refused g c =
-    let kept = subst (λ (a : Action). KeepsLines (IsActionEvent a) c.args.world.now
-    c.step.new.world) (sym c.in-Event.is) c.in_err-step-in-Event.ensures.refused in
-    search (rules, kept)
+    let old = c.args.world.now in
+    let event = c.in-Event.event in
+    let cut = subst (λ (a : Action). ActionIsCut g.C.Carrier a old c.step.new.world)
+    (sym c.in-Event.is) (cut_behind g.C.Carrier (Event event) old old c.step.new.world 0 event
+    (omega arith) (runs_none g.C.Carrier (Event event) old) refl
+    c.in_err-step-in-Event.ensures.refused) in
+    search (rules, cut)
 
 pub returns-in_err-events-in-Flow-clause-refused : goal.returns-in_err-events-in-Flow-clause-refused
 returns-in_err-events-in-Flow-clause-refused g c =
-    let kept = subst (λ (a : Action). KeepsLines (IsActionEvent a) c.args.world.now
-    c.flow.new.world) (sym c.in-Flow.is) c.in_err-events-in-Flow.ensures.refused in
-    search (rules, kept)
+    let cut = subst (λ (a : Action). ActionIsCut g.C.Carrier a c.args.world.now c.flow.new.world)
+    (sym c.in-Flow.is) c.in_err-events-in-Flow.ensures.refused in
+    search (rules, cut)
 
 pub returns-in_err-tends-in-Settle-clause-refused
     : goal.returns-in_err-tends-in-Settle-clause-refused
 returns-in_err-tends-in-Settle-clause-refused g c =
-    let kept = subst (λ (a : Action). KeepsLines (IsActionEvent a) c.args.world.now
+    let cut = subst (λ (a : Action). ActionIsCut g.C.Carrier a c.args.world.now
     c.settle.new.world) (sym c.in-Settle.is) c.in_err-tends-in-Settle.ensures.refused in
-    search (rules, kept)
+    search (rules, cut)

@@ -1,10 +1,9 @@
-use Rattle.std.proofs.Common.{◌++◌, ◌∙◌, add-one, arith, rules, subst, sym}
+use Rattle.std.proofs.Common.{◌++◌, ◌∙◌, add-one, arith, refl, rules, subst, sym}
 use Rattle.lab.specs.NodeLists.{Configurations}
-use Rattle.lab.specs.{configs_of, lines_so_far}
+use Rattle.lab.specs.{lines_so_far}
 use Rattle.scripts.specs.Scripts.{Names}
-use Rattle.client.specs.ReportedRuns.{AreActionLines, IsActionEvent}
 use Rattle.client.specs.ScriptRuns.{followed_by, tending}
-use Rattle.client.proofs.KeptLines.{keeps_more}
+use Rattle.client.proofs.RunsActions.{cut_behind, runs_more, runs_none}
 use Rattle.client.proofs.PlacesBetween.{leaves_none, leaves_on}
 use Rattle.client.proofs.Settling.{settles_none, settles_on, settled, settled_most}
 use Rattle.client.proofs.Tends.{none_worked, settled_at_bound, settled_now, worked_more}
@@ -20,6 +19,7 @@ loop-count-init g c = (
   (omega arith, adds_nothing (Settle c.args.node) c.args.world.now),
   λ named. none_worked (lines_so_far c.args.world.now),
   leaves_none c.args.world.now c.args.left.now.items,
+  runs_none g.C.Carrier (Settle c.args.node) c.args.world.now,
 )
 
 -- a tend did not work
@@ -46,10 +46,10 @@ loop-count-preserved g c = (
   (
     omega (arith, c.loop-count-test.true),
     adds_more (Settle c.args.node) c.args.world.now c.loop-count.world c.happen.new.world
-        c.loop-count.count c.loop-count.invariant.1.1 c.in_ok-happen.ensures.adds,
+        c.loop-count.count c.loop-count.invariant.1.1 c.in_ok-happen.ensures.steps.adds,
   ),
   λ named.
-      let adds = c.in_ok-happen.ensures.adds in
+      let adds = c.in_ok-happen.ensures.steps.adds in
       let here = subst (λ (cs : Configurations). Names cs (Settle c.args.node))
       (sym c.loop-count.invariant.1.1.configs) named in
       worked_more (lines_so_far c.args.world.now) (lines_so_far c.loop-count.world)
@@ -59,7 +59,10 @@ loop-count-preserved g c = (
       c.if-not-tend_has_worked.false,
   leaves_on c.args.world.now c.loop-count.world c.happen.new.world c.args.left.now.items
       c.loop-count.left.items c.happen.new.left.items c.loop-count.count (tending c.args.node)
-      c.loop-count.invariant.3 c.in_ok-happen.ensures.adds c.in_ok-happen.ensures.left,
+      c.loop-count.invariant.3 c.in_ok-happen.ensures.steps.adds c.in_ok-happen.ensures.left,
+  runs_more g.C.Carrier (Settle c.args.node) c.args.world.now c.loop-count.world
+      c.happen.new.world c.loop-count.count (tending c.args.node) c.loop-count.invariant.4 refl
+      c.in_ok-happen.ensures.steps,
 )
 
 -- the bound is reached
@@ -73,7 +76,7 @@ pub returns-then-not-tend_has_worked-clause-adds : goal.returns-then-not-tend_ha
 returns-then-not-tend_has_worked-clause-adds g c = (
   omega (arith, c.loop-count-test.true),
   adds_more (Settle c.args.node) c.args.world.now c.loop-count.world c.happen.new.world
-      c.loop-count.count c.loop-count.invariant.1.1 c.in_ok-happen.ensures.adds,
+      c.loop-count.count c.loop-count.invariant.1.1 c.in_ok-happen.ensures.steps.adds,
 )
 
 pub returns-clause-adds : goal.returns-clause-adds
@@ -84,7 +87,7 @@ returns-clause-adds g c = c.loop-count.invariant.1
 pub returns-then-not-tend_has_worked-clause-tends
     : goal.returns-then-not-tend_has_worked-clause-tends
 returns-then-not-tend_has_worked-clause-tends g c = λ named.
-    let adds = c.in_ok-happen.ensures.adds in
+    let adds = c.in_ok-happen.ensures.steps.adds in
     let here = subst (λ (cs : Configurations). Names cs (Settle c.args.node))
     (sym c.loop-count.invariant.1.1.configs) named in
     settled_now (lines_so_far c.args.world.now) (lines_so_far c.loop-count.world)
@@ -105,19 +108,29 @@ pub returns-then-not-tend_has_worked-clause-left : goal.returns-then-not-tend_ha
 returns-then-not-tend_has_worked-clause-left g c =
     let l = leaves_on c.args.world.now c.loop-count.world c.happen.new.world
     c.args.left.now.items c.loop-count.left.items c.happen.new.left.items c.loop-count.count
-    (tending c.args.node) c.loop-count.invariant.3 c.in_ok-happen.ensures.adds
+    (tending c.args.node) c.loop-count.invariant.3 c.in_ok-happen.ensures.steps.adds
     c.in_ok-happen.ensures.left in
     (l.stays, l.behind)
 
 pub returns-clause-left : goal.returns-clause-left
 returns-clause-left g c = (c.loop-count.invariant.3.stays, c.loop-count.invariant.3.behind)
 
+-- ---- its events in any world
+
+pub returns-then-not-tend_has_worked-clause-runs : goal.returns-then-not-tend_has_worked-clause-runs
+returns-then-not-tend_has_worked-clause-runs g c =
+    runs_more g.C.Carrier (Settle c.args.node) c.args.world.now c.loop-count.world
+    c.happen.new.world c.loop-count.count (tending c.args.node) c.loop-count.invariant.4 refl
+    c.in_ok-happen.ensures.steps
+
+pub returns-clause-runs : goal.returns-clause-runs
+returns-clause-runs g c = c.loop-count.invariant.4
+
 -- memory is wanted behind some tends
 pub returns-in_err-happen-clause-refused : goal.returns-in_err-happen-clause-refused
 returns-in_err-happen-clause-refused g c =
-    let node = c.args.node in
-    let is_own = IsActionEvent (Settle node) in
-    let kept = keeps_more (Names (configs_of c.args.world.now) (Settle node)) is_own
-    (AreActionLines (Settle node)) c.loop-count.count c.args.world.now c.loop-count.world
-    c.happen.new.world c.loop-count.invariant.1.1 c.in_err-happen.ensures.refused in
-    search (rules, kept)
+    let cut = cut_behind g.C.Carrier (Settle c.args.node) c.args.world.now c.loop-count.world
+    c.happen.new.world c.loop-count.count (tending c.args.node)
+    (omega (arith, c.loop-count-test.true)) c.loop-count.invariant.4 refl
+    c.in_err-happen.ensures.refused in
+    search (rules, cut)

@@ -5,7 +5,7 @@ use Rattle.lab.specs.{configs_of, lines_so_far}
 use Rattle.scripts.specs.Scripts.{Names}
 use Rattle.scripts.specs.declared.setup.Setup.{Setup}
 use Rattle.scripts.specs.declared.statement.Action.TheVariants.{Settle}
-use Rattle.client.specs.ReportedRuns.{ActionAddsLines}
+use Rattle.client.specs.ReportedRuns.{ActionAddsLines, RunsAction}
 use Rattle.client.specs.ScriptRuns.{HasRunTo, Stretch, most}
 use Rattle.client.proofs.PlacesBetween.{LeavesSent}
 use Rattle.client.proofs.Settling.{Settles}
@@ -21,6 +21,7 @@ invariant-loop-count g l = ((setup : Setup) (past : Stretch) →
     × (Names (configs_of l.fn.world) (Settle l.fn.node) →
     HaveWorked (lines_so_far l.fn.world) (lines_so_far l.world) l.count)
     × LeavesSent l.fn.world l.world l.fn.left.items l.left.items l.count
+    × RunsAction g.C.Carrier (Settle l.fn.node) l.count l.fn.world l.world
 
 abbrev pub decreases-loop-count : goal.decreases-loop-count
 decreases-loop-count g l = most - l.count

@@ -29,7 +29,7 @@ loop-event-preserved c =
         choices = was.0 ++ ran.choice ∷ [];
         steps = was.1 ++ ran.lines ∷ [];
       })) more ran.run,
-      c.in_ok-step.ensures.limits c.args.limits.now was.3,
+      c.in_ok-step.ensures.steps.limits c.args.limits.now was.3,
     )
 
 -- all events were applied

@@ -1,7 +1,9 @@
 use Rattle.std.proofs.Common.{length, refl, subst, sym}
+use Rattle.std.specs.Prelude.{OnErr}
 use Rattle.carriers.specs.{HasCarriedMore}
 use Rattle.lab.specs.Arrivals.{RepliesFollow}
-use Rattle.lab.specs.OutcomeLines.{own_lines, replies_by}
+use Rattle.lab.specs.OutcomeLines.{own_lines, replies_by, sent_by}
+use Rattle.lab.specs.Posting.{HasPostedPart}
 use Rattle.lab.specs.declared.input.StepOutcome.{StepOutcome}
 use Rattle.lab.specs.declared.input.StepOutcome.TheVariants as done
 use Rattle.lab.specs.declared.report.Line.TheVariants as line
@@ -37,3 +39,8 @@ returns-clause-lines g c =
           (done.Stopped w.in-Stopped.cause) (line.Stopped x w.in-Stopped.cause)
           c.match-outcome.line c.one.result none refl refl w.line-is c.one.ensures)
     ]
+
+pub returns-in-Answered-clause-refused : goal.returns-in-Answered-clause-refused
+returns-in-Answered-clause-refused g c = subst (λ (did : StepOutcome). OnErr c.trace_output.result
+    (HasPostedPart c.args.frames.now.items c.args.id (sent_by did)
+    c.trace_output.new.frames.items)) (sym c.in-Answered.is) c.trace_output.ensures.refused

@@ -5,8 +5,8 @@ use Rattle.lab.proofs.Moves.{moved}
 use Rattle.lab.proofs.world.deliver.Goals as goal
 
 -- the node took the input with the event's fault, and stands at its place again
-pub returns : goal.returns
-returns g c =
+pub returns-clause-moved : goal.returns-clause-moved
+returns-clause-moved g c =
     let it = c.args.delivery in
     let state = c.in_ok-state.state in
     let did = c.in_ok-state.outcome in

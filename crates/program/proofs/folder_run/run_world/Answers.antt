@@ -32,7 +32,7 @@ returns-in_err-ran-clause-cause g c =
 
 pub returns-in_err-ran-clause-printed : goal.returns-in_err-ran-clause-printed
 returns-in_err-ran-clause-printed g c = λ none.
-    let fails = report_fails c.args.world c.run_script-ran.new.world
+    let fails = report_fails g.C.Carrier c.args.world c.run_script-ran.new.world
     c.args.script.now.statements.items (g.W.Write.contents c.args.out.now)
     (g.W.Write.contents c.run_script-ran.new.out) c.in_err-ran.field-0.0
     c.in_err-ran.ensures.reported in
@@ -40,7 +40,7 @@ returns-in_err-ran-clause-printed g c = λ none.
 
 pub returns-clause-printed : goal.returns-clause-printed
 returns-clause-printed g c = λ none.
-    printed_report c.args.world c.run_script-ran.new.world c.args.script.now.statements.items
+    printed_report g.C.Carrier c.args.world c.run_script-ran.new.world c.args.script.now.statements.items
     (g.W.Write.contents c.args.out.now) (g.W.Write.contents c.run_script-ran.new.out)
     c.report.result.now c.has_stop-stopped.result none c.in_ok-ran.ensures.reported
     c.report.ensures.kept c.has_stop-stopped.ensures
