@@ -1,10 +1,10 @@
 //! A cursor over the map of a store at a number.
 ghost use Rattle.std.specs.Prelude.{◌≡◌, ◌↔◌, List, None, IfOk, IsTrue, MatchResult, true, false};
-ghost use Rattle.std.specs.Prelude.{option_copied};
+ghost use Rattle.std.specs.Prelude.{IsOk, option_copied};
 ghost use Rattle.kv_types.specs.{BatchContent};
 ghost use Rattle.engine.specs.EngineError.TheVariants.{Memory};
 ghost use Rattle.embedded_store.specs.Cursors.{CursorIsOf, FindsIn, FindsRow, IsAnyRow};
-ghost use Rattle.embedded_store.specs.Cursors.{IsAtOrBehind, IsOnPage, MovesRowCursor};
+ghost use Rattle.embedded_store.specs.Cursors.{IsAtOrBehind, IsOnPage, MovesRowCursor, NeedsNoRead};
 ghost use Rattle.embedded_store.specs.Cursors.{StepsIn, StepsUnread, StepsWhereRead};
 ghost use Rattle.embedded_store.specs.Cursors.{cursor_number, cursor_row};
 ghost use Rattle.embedded_store.specs.Cursors.{place_in_span, span_before, span_beside, span_from};
@@ -221,6 +221,8 @@ impl RowCursor {
         ensures moves { MovesRowCursor D.Disk store.old store.new self.old self.new
             (StepsUnread backward self.old self.new) result }
         ensures finds { StepsIn D.Disk store.old self.old self.new backward result }
+        ensures unread { NeedsNoRead backward self.old →
+            (store.new ≡ store.old) × IsOk result }
     {
         if self.steps(backward) {
             return Ok(());
@@ -234,7 +236,8 @@ impl RowCursor {
         }
     }
 
-    /// Steps to the next row, or to none behind the last one. On no row it stays so.
+    /// Steps to the next row, or to none behind the last one. On no row it stays so. Where it needs
+    /// no read, it succeeds over an ended store too.
     pub fn next<D: Disk + Drop>(
         &mut self,
         alloc: Global,
@@ -243,11 +246,14 @@ impl RowCursor {
         ensures moves { MovesRowCursor D.Disk store.old store.new self.old self.new
             (StepsUnread false self.old self.new) result }
         ensures finds { StepsIn D.Disk store.old self.old self.new false result }
+        ensures unread { NeedsNoRead false self.old →
+            (store.new ≡ store.old) × IsOk result }
     {
         self.step(alloc, store, false)
     }
 
-    /// Steps to the row before, or to none before the first one. On no row it stays so.
+    /// Steps to the row before, or to none before the first one. On no row it stays so. Where it
+    /// needs no read, it succeeds over an ended store too.
     pub fn prev<D: Disk + Drop>(
         &mut self,
         alloc: Global,
@@ -256,6 +262,8 @@ impl RowCursor {
         ensures moves { MovesRowCursor D.Disk store.old store.new self.old self.new
             (StepsUnread true self.old self.new) result }
         ensures finds { StepsIn D.Disk store.old self.old self.new true result }
+        ensures unread { NeedsNoRead true self.old →
+            (store.new ≡ store.old) × IsOk result }
     {
         self.step(alloc, store, true)
     }
