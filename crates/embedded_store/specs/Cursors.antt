@@ -156,7 +156,7 @@ StepsIn g store before now backward result =
     IfOk result (λ _. CursorIsOf list now
     × StepsRow backward (cursor_map before list) (cursor_row before) (cursor_row now))
 
--- ---- private calls
+-- ---- the ranges that moves read
 
 -- the range of the rows from a key on
 abbrev pub span_from : List ℕ → Span
@@ -171,6 +171,8 @@ span_before key = record { from = []; to = key; backward = true; limit = ROWS }
 abbrev pub span_beside : Bool → Row → Span
 span_beside false row = span_from row.key
 span_beside true row = span_before (Some row.key)
+
+-- ---- private calls
 
 -- the place in the walk of that range where the row behind this one stands
 abbrev pub place_in_span : Bool → ℕ

@@ -1,6 +1,6 @@
 //! A cursor over the map of a store at a number.
 ghost use Rattle.std.specs.Prelude.{◌≡◌, ◌↔◌, List, None, IfOk, IsTrue, MatchResult, true, false};
-ghost use Rattle.std.specs.Prelude.{IsOk, option_copied};
+ghost use Rattle.std.specs.Prelude.{IfSome, IsOk, [], option_copied};
 ghost use Rattle.kv_types.specs.{BatchContent};
 ghost use Rattle.engine.specs.EngineError.TheVariants.{Memory};
 ghost use Rattle.embedded_store.specs.Cursors.{CursorIsOf, FindsIn, FindsRow, IsAnyRow};
@@ -8,7 +8,7 @@ ghost use Rattle.embedded_store.specs.Cursors.{IsAtOrBehind, IsOnPage, MovesRowC
 ghost use Rattle.embedded_store.specs.Cursors.{StepsIn, StepsUnread, StepsWhereRead};
 ghost use Rattle.embedded_store.specs.Cursors.{cursor_number, cursor_row};
 ghost use Rattle.embedded_store.specs.Cursors.{place_in_span, span_before, span_beside, span_from};
-ghost use Rattle.embedded_store.specs.Stores.{ShowsBatches};
+ghost use Rattle.embedded_store.specs.Stores.{MeetsDamageIn, ShowsBatches};
 
 use crate::EmbeddedStore;
 use disk::Disk;
@@ -22,7 +22,8 @@ use std::mem;
 const ROWS: u32 = 64;
 
 /// A place in the map of a store at a number: on a row, or on none. It has some rows at hand, and
-/// reads others from the store, which each move is lent. A refused move leaves it where it stood.
+/// reads others from the store, which each move is lent. A refused move leaves it where it stood;
+/// it is `Damaged` only where a table is damaged whose keys meet the range that it reads.
 #[derive(Debug, Drop)]
 pub struct RowCursor {
     at: Number,
@@ -123,6 +124,7 @@ impl RowCursor {
         ensures moves { MovesRowCursor D.Disk store.old store.new self.old self.new ⊥ result }
         ensures finds { (list : List BatchContent) → ShowsBatches D.Disk store.old list →
             IfOk result (λ _. IsOnPage list range.now place self.old self.new) }
+        ensures damaged { MeetsDamageIn D.Disk store.old range.now result }
     {
         pages_agree(); // law: a page has the rows of its range
         maps_agree(); // law: a map's rows were put by a batch
@@ -147,6 +149,7 @@ impl RowCursor {
         ensures moves { MovesRowCursor D.Disk store.old store.new self.old self.new ⊥ result }
         ensures finds { FindsIn D.Disk store.old self.old self.new
             (λ map. FindsRow false map (IsAtOrBehind key.now)) result }
+        ensures damaged { MeetsDamageIn D.Disk store.old (span_from key.now) result }
     {
         let Ok(key) = key.clone() else {
             return Err(EngineError::Memory);
@@ -166,6 +169,7 @@ impl RowCursor {
         ensures moves { MovesRowCursor D.Disk store.old store.new self.old self.new ⊥ result }
         ensures finds { FindsIn D.Disk store.old self.old self.new
             (λ map. FindsRow false map IsAnyRow) result }
+        ensures damaged { MeetsDamageIn D.Disk store.old (span_from []) result }
     {
         match Key::new(Vec::new(alloc)) {
             Ok(key) => self.seek(alloc, store, &key),
@@ -182,6 +186,7 @@ impl RowCursor {
         ensures moves { MovesRowCursor D.Disk store.old store.new self.old self.new ⊥ result }
         ensures finds { FindsIn D.Disk store.old self.old self.new
             (λ map. FindsRow true map IsAnyRow) result }
+        ensures damaged { MeetsDamageIn D.Disk store.old (span_before None) result }
     {
         match rows_before(alloc, None) {
             Ok(range) => self.read(alloc, store, &range, 0),
@@ -223,6 +228,8 @@ impl RowCursor {
         ensures finds { StepsIn D.Disk store.old self.old self.new backward result }
         ensures unread { NeedsNoRead backward self.old →
             (store.new ≡ store.old) × IsOk result }
+        ensures damaged { IfSome (cursor_row self.old) (λ row.
+            MeetsDamageIn D.Disk store.old (span_beside backward row) result) }
     {
         if self.steps(backward) {
             return Ok(());
@@ -248,6 +255,8 @@ impl RowCursor {
         ensures finds { StepsIn D.Disk store.old self.old self.new false result }
         ensures unread { NeedsNoRead false self.old →
             (store.new ≡ store.old) × IsOk result }
+        ensures damaged { IfSome (cursor_row self.old) (λ row.
+            MeetsDamageIn D.Disk store.old (span_beside false row) result) }
     {
         self.step(alloc, store, false)
     }
@@ -264,6 +273,8 @@ impl RowCursor {
         ensures finds { StepsIn D.Disk store.old self.old self.new true result }
         ensures unread { NeedsNoRead true self.old →
             (store.new ≡ store.old) × IsOk result }
+        ensures damaged { IfSome (cursor_row self.old) (λ row.
+            MeetsDamageIn D.Disk store.old (span_beside true row) result) }
     {
         self.step(alloc, store, true)
     }

@@ -1,5 +1,10 @@
-use Rattle.std.proofs.Common.{◌≡◌, Some, subst, sym}
+use Rattle.std.proofs.Common.{◌≡◌, Option, Some, subst, sym}
+use Rattle.std.specs.Prelude.{IfSome}
+use Rattle.kv_types.specs.{Span}
+use Rattle.kv_types.specs.declared.row.Row.{Row}
 use Rattle.embedded_store.specs.Cursors.{IsOnPage, MovesRowCursor, StepsUnread, cursor_row}
+use Rattle.embedded_store.specs.Cursors.{span_beside}
+use Rattle.embedded_store.specs.Stores.{MeetsDamageIn}
 use Rattle.embedded_store.specs.declared.cursor.RowCursor.{RowCursor}
 use Rattle.embedded_store.proofs.Cursors.{if_ok, moves_more, needs_read, steps_found}
 use Rattle.embedded_store.proofs.cursor.RowCursor.step.Goals as goal
@@ -43,3 +48,16 @@ returns-in-Err-clause-unread g c = λ needs.
     absurd (needs_read c.args.backward c.args.self.now row
     (subst (λ (b : RowCursor). cursor_row b ≡ Some row) same (sym c.in-Some.ensures))
     c.if-steps.ensures.1 needs)
+
+-- it reads the rows beside the one on which it stood
+pub returns-in-Ok-clause-damaged : goal.returns-in-Ok-clause-damaged
+returns-in-Ok-clause-damaged g c =
+    let same : c.steps.new.self ≡ c.args.self.now = c.if-steps.ensures.0 in
+    let row = c.in-Some.row.now in
+    let store = c.args.store.now in
+    let at : cursor_row c.args.self.now ≡ Some row =
+    subst (λ (b : RowCursor). cursor_row b ≡ Some row) same (sym c.in-Some.ensures) in
+    subst (λ (a : Option Row). IfSome a (λ r. MeetsDamageIn g.D.Disk store
+    (span_beside c.args.backward r) c.read.result)) (sym at)
+    (subst (λ (s : Span). MeetsDamageIn g.D.Disk store s c.read.result) c.in-Ok.ensures
+    c.read.ensures.damaged)
