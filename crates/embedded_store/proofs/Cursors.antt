@@ -1,6 +1,6 @@
 -- Where a cursor stands behind a read of rows.
 use Rattle.std.proofs.Common.{◌≡◌, ◌≤◌, ◌+◌, ◌⊎◌, inl, inr, ℕ, suc, Bool, true, false, List, []}
-use Rattle.std.proofs.Common.{◌∷◌, ◌++◌, length, Option, Some, None, arith, refl, sym, subst}
+use Rattle.std.proofs.Common.{◌∷◌, ◌++◌, ◌∙◌, length, Option, Some, None, arith, refl, sym, subst}
 use Rattle.std.specs.List.{All, slice_get}
 use Rattle.std.specs.Prelude.{Result, Ok, Err, IfOk}
 use Rattle.kv_types.specs.declared.row.Row.{Row}
@@ -19,7 +19,8 @@ use Rattle.kv_types.specs.Pages.{IsRowOf, IsWithin, Map, PrecedesRow}
 use Rattle.disk.specs.declared.Disk.{Ghosts}
 use Rattle.engine.specs.EngineError.{EngineError}
 use Rattle.embedded_store.specs.Cursors.{AreNeighbours, CursorIsOf, FindsRow, HasRow, IsAnyRow}
-use Rattle.embedded_store.specs.Cursors.{IsAtOrBehind, IsOnPage, MovesRowCursor, ReadsUnless}
+use Rattle.embedded_store.specs.Cursors.{HasReadNext, IsAtOrBehind, IsOnPage, MovesRowCursor}
+use Rattle.embedded_store.specs.Cursors.{NeedsNoRead, ReadsUnless}
 use Rattle.embedded_store.specs.Cursors.{StepsRow, cursor_map, cursor_number, cursor_row}
 use Rattle.embedded_store.specs.Cursors.{place_in_span, span_before, span_beside, span_from}
 use Rattle.embedded_store.specs.Stores.{first_batches}
@@ -203,6 +204,13 @@ steps_found backward list span place before now row at same there are on =
       subst (λ (a : Option Row). StepsRow backward (cursor_map before list) a (cursor_row now))
           (sym at) found.1,
     )
+
+-- a cursor on a row needs a read, where the row that follows is not among those that were read
+pub needs_read : (backward : Bool) (cursor : RowCursor) (row : Row) →
+    cursor_row cursor ≡ Some row → (HasReadNext backward cursor → ⊥) →
+    NeedsNoRead backward cursor → ⊥
+needs_read backward cursor row at none (inl off) = let both = sym at ∙ off in cc
+needs_read backward cursor row at none (inr there) = none there
 
 -- what follows from an answer's promise is so of the answer
 pub if_ok : {T E : Type 0} {P Q : Type 0} (result : Result T E) → (P → Q) → IfOk result (λ _. P) →

@@ -1,6 +1,6 @@
 -- A cursor over the map of a store at a number: on which row it stands, and what its moves promise.
-use Rattle.std.specs.Prelude.{◌≡◌, ◌⊎◌, ◌+◌, ◌≤◌, ◌++◌, ℕ, suc, List, [], Option, Some, None}
-use Rattle.std.specs.Prelude.{Bool, true, false, length}
+use Rattle.std.specs.Prelude.{◌≡◌, ◌≢◌, ◌⊎◌, ◌+◌, ◌<◌, ◌≤◌, ◌++◌, ℕ, suc, List, []}
+use Rattle.std.specs.Prelude.{Bool, true, false, length, Option, Some, None}
 use Rattle.std.specs.Prelude.{IsSome, Result, IfErr, IfOk, MatchResult}
 use Rattle.std.specs.List.{slice_get}
 use Rattle.kv_types.specs.{BatchContent, Rows, Span, map_of, row_size}
@@ -126,6 +126,19 @@ abbrev pub StepsUnread : Bool → (before now : RowCursor) → Type 0
 StepsUnread backward before now =
     ((cursor_row before ≡ None) × (now ≡ before)) ⊎ StepsAmongRead backward before now
 
+-- The row that follows in the direction is on the page that was read last: one place on, where the
+-- page was read in this direction, and else one place back.
+abbrev pub HasReadNext : Bool → RowCursor → Type 0
+HasReadNext backward cursor =
+    ((backward ≡ cursor.is_backward) × (cursor.place + 1 < length cursor.page.rows))
+    ⊎ ((backward ≢ cursor.is_backward) × (0 < cursor.place)
+    × (cursor.place < length cursor.page.rows))
+
+-- a step in the direction needs no read: the cursor stands on no row, or the one that follows is on
+-- the page that was read last
+abbrev pub NeedsNoRead : Bool → RowCursor → Type 0
+NeedsNoRead backward cursor = (cursor_row cursor ≡ None) ⊎ HasReadNext backward cursor
+
 -- a move that answers leaves the cursor on the row of its map that is said, or on none, and what it
 -- has read is of that map
 abbrev pub FindsIn : {D : Type 0} (g : Ghosts D) → EmbeddedStore D g → (before now : RowCursor) →
@@ -143,7 +156,7 @@ StepsIn g store before now backward result =
     IfOk result (λ _. CursorIsOf list now
     × StepsRow backward (cursor_map before list) (cursor_row before) (cursor_row now))
 
--- ---- private calls
+-- ---- the ranges that moves read
 
 -- the range of the rows from a key on
 abbrev pub span_from : List ℕ → Span
@@ -158,6 +171,8 @@ span_before key = record { from = []; to = key; backward = true; limit = ROWS }
 abbrev pub span_beside : Bool → Row → Span
 span_beside false row = span_from row.key
 span_beside true row = span_before (Some row.key)
+
+-- ---- private calls
 
 -- the place in the walk of that range where the row behind this one stands
 abbrev pub place_in_span : Bool → ℕ
@@ -174,8 +189,9 @@ pub record IsOnPage (list : List BatchContent) (span : Span) (place : ℕ) (befo
   pub backward : now.is_backward ≡ span.backward
   pub number : now.at ≡ before.at
 
--- the cursor stands on the row that follows among those that it has read; or none does, and it
--- stands where it stood
+-- the cursor stands on the row that follows on the page that was read last; or that is not on it,
+-- and the cursor stands where it stood
 abbrev pub StepsWhereRead : Bool → (before now : RowCursor) → Bool → Type 0
 StepsWhereRead backward before now true = StepsAmongRead backward before now
-StepsWhereRead backward before now false = now ≡ before
+StepsWhereRead backward before now false =
+    (now ≡ before) × (HasReadNext backward before → ⊥)

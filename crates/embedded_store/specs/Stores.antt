@@ -1,7 +1,7 @@
 -- A store that stands alone: the list of its batches, and what its calls make of it.
 use Rattle.std.specs.Prelude.{◌≡◌, ◌⊎◌, ℕ, ◌+◌, ◌<◌, List, [], ◌∷◌, ◌++◌, length, take, false}
-use Rattle.std.specs.Prelude.{Option, Some, None, Result, Ok, Err, OnOk}
-use Rattle.kv_types.specs.{BatchContent}
+use Rattle.std.specs.Prelude.{Option, Some, None, Result, Ok, Err, IsErrOf, OnOk}
+use Rattle.kv_types.specs.{BatchContent, Span}
 use Rattle.kv_types.specs.declared.Limits.{Limits}
 use Rattle.disk.specs.{AlwaysLeaves, IsEnvironmental, IsSameBut}
 use Rattle.disk.specs.declared.Disk.{Ghosts}
@@ -11,8 +11,8 @@ use Rattle.engine.specs.EngineError.TheVariants as engine
 use Rattle.engine.specs.declared.Engine.{Engine}
 use Rattle.engine.specs.declared.snapshots.TheConstants.{MAX_SNAPSHOTS}
 use Rattle.engine.specs.{EngineHolds, EngineWasMeant, HasNearlyFullLog, IsOldOrNewSince}
-use Rattle.engine.specs.{HasEnded, KeepsEngine, LookUps, MergeStays, WereOneOf, engine_disk}
-use Rattle.engine.specs.{facts_of, look_ups, newest_log_file}
+use Rattle.engine.specs.{HasEnded, KeepsEngine, LookUps, MergeStays, OneIsDamagedIn, WereOneOf}
+use Rattle.engine.specs.{engine_disk, engine_version, facts_of, look_ups, newest_log_file}
 use Rattle.embedded_store.specs.declared.store.EmbeddedStore.{EmbeddedStore}
 
 module _ {D : Type 0} {g : Ghosts D} where
@@ -90,6 +90,15 @@ IsReadRefusal told (Some at) e =
     IsEnvironmental engine.Disk engine.Memory e
     ⊎ ((e ≡ engine.TooOld) × (at < told.facts.floor) × (is_open at told.snapshots ≡ false))
     ⊎ ((e ≡ engine.NotCommitted) × (told.count < at))
+
+-- of each list that the store shows: the call is refused for damage only where a file of a table
+-- whose keys meet the range does not read as it was meant to
+abbrev pub MeetsDamageIn : {D T : Type 0} (g : Ghosts D) → EmbeddedStore D g → Span →
+    Result T EngineError → Type 0
+MeetsDamageIn g store range result =
+    (list : List BatchContent) → ShowsBatches g store list → IsErrOf result engine.Damaged →
+    OneIsDamagedIn range (g.state (store_disk store))
+    (engine_version (store_engine store)).version.tables
 
 -- ---- snapshots
 

@@ -1,14 +1,14 @@
 //! A cursor over the map of a store at a number.
 ghost use Rattle.std.specs.Prelude.{◌≡◌, ◌↔◌, List, None, IfOk, IsTrue, MatchResult, true, false};
-ghost use Rattle.std.specs.Prelude.{option_copied};
+ghost use Rattle.std.specs.Prelude.{IfSome, IsOk, [], option_copied};
 ghost use Rattle.kv_types.specs.{BatchContent};
 ghost use Rattle.engine.specs.EngineError.TheVariants.{Memory};
 ghost use Rattle.embedded_store.specs.Cursors.{CursorIsOf, FindsIn, FindsRow, IsAnyRow};
-ghost use Rattle.embedded_store.specs.Cursors.{IsAtOrBehind, IsOnPage, MovesRowCursor};
+ghost use Rattle.embedded_store.specs.Cursors.{IsAtOrBehind, IsOnPage, MovesRowCursor, NeedsNoRead};
 ghost use Rattle.embedded_store.specs.Cursors.{StepsIn, StepsUnread, StepsWhereRead};
 ghost use Rattle.embedded_store.specs.Cursors.{cursor_number, cursor_row};
 ghost use Rattle.embedded_store.specs.Cursors.{place_in_span, span_before, span_beside, span_from};
-ghost use Rattle.embedded_store.specs.Stores.{ShowsBatches};
+ghost use Rattle.embedded_store.specs.Stores.{MeetsDamageIn, ShowsBatches};
 
 use crate::EmbeddedStore;
 use disk::Disk;
@@ -22,7 +22,8 @@ use std::mem;
 const ROWS: u32 = 64;
 
 /// A place in the map of a store at a number: on a row, or on none. It has some rows at hand, and
-/// reads others from the store, which each move is lent. A refused move leaves it where it stood.
+/// reads others from the store, which each move is lent. A refused move leaves it where it stood;
+/// it is `Damaged` only where a table is damaged whose keys meet the range that it reads.
 #[derive(Debug, Drop)]
 pub struct RowCursor {
     at: Number,
@@ -123,6 +124,7 @@ impl RowCursor {
         ensures moves { MovesRowCursor D.Disk store.old store.new self.old self.new ⊥ result }
         ensures finds { (list : List BatchContent) → ShowsBatches D.Disk store.old list →
             IfOk result (λ _. IsOnPage list range.now place self.old self.new) }
+        ensures damaged { MeetsDamageIn D.Disk store.old range.now result }
     {
         pages_agree(); // law: a page has the rows of its range
         maps_agree(); // law: a map's rows were put by a batch
@@ -147,6 +149,7 @@ impl RowCursor {
         ensures moves { MovesRowCursor D.Disk store.old store.new self.old self.new ⊥ result }
         ensures finds { FindsIn D.Disk store.old self.old self.new
             (λ map. FindsRow false map (IsAtOrBehind key.now)) result }
+        ensures damaged { MeetsDamageIn D.Disk store.old (span_from key.now) result }
     {
         let Ok(key) = key.clone() else {
             return Err(EngineError::Memory);
@@ -166,6 +169,7 @@ impl RowCursor {
         ensures moves { MovesRowCursor D.Disk store.old store.new self.old self.new ⊥ result }
         ensures finds { FindsIn D.Disk store.old self.old self.new
             (λ map. FindsRow false map IsAnyRow) result }
+        ensures damaged { MeetsDamageIn D.Disk store.old (span_from []) result }
     {
         match Key::new(Vec::new(alloc)) {
             Ok(key) => self.seek(alloc, store, &key),
@@ -182,6 +186,7 @@ impl RowCursor {
         ensures moves { MovesRowCursor D.Disk store.old store.new self.old self.new ⊥ result }
         ensures finds { FindsIn D.Disk store.old self.old self.new
             (λ map. FindsRow true map IsAnyRow) result }
+        ensures damaged { MeetsDamageIn D.Disk store.old (span_before None) result }
     {
         match rows_before(alloc, None) {
             Ok(range) => self.read(alloc, store, &range, 0),
@@ -221,6 +226,10 @@ impl RowCursor {
         ensures moves { MovesRowCursor D.Disk store.old store.new self.old self.new
             (StepsUnread backward self.old self.new) result }
         ensures finds { StepsIn D.Disk store.old self.old self.new backward result }
+        ensures unread { NeedsNoRead backward self.old →
+            (store.new ≡ store.old) × IsOk result }
+        ensures damaged { IfSome (cursor_row self.old) (λ row.
+            MeetsDamageIn D.Disk store.old (span_beside backward row) result) }
     {
         if self.steps(backward) {
             return Ok(());
@@ -234,7 +243,8 @@ impl RowCursor {
         }
     }
 
-    /// Steps to the next row, or to none behind the last one. On no row it stays so.
+    /// Steps to the next row, or to none behind the last one. On no row it stays so. Where it needs
+    /// no read, it succeeds over an ended store too.
     pub fn next<D: Disk + Drop>(
         &mut self,
         alloc: Global,
@@ -243,11 +253,16 @@ impl RowCursor {
         ensures moves { MovesRowCursor D.Disk store.old store.new self.old self.new
             (StepsUnread false self.old self.new) result }
         ensures finds { StepsIn D.Disk store.old self.old self.new false result }
+        ensures unread { NeedsNoRead false self.old →
+            (store.new ≡ store.old) × IsOk result }
+        ensures damaged { IfSome (cursor_row self.old) (λ row.
+            MeetsDamageIn D.Disk store.old (span_beside false row) result) }
     {
         self.step(alloc, store, false)
     }
 
-    /// Steps to the row before, or to none before the first one. On no row it stays so.
+    /// Steps to the row before, or to none before the first one. On no row it stays so. Where it
+    /// needs no read, it succeeds over an ended store too.
     pub fn prev<D: Disk + Drop>(
         &mut self,
         alloc: Global,
@@ -256,6 +271,10 @@ impl RowCursor {
         ensures moves { MovesRowCursor D.Disk store.old store.new self.old self.new
             (StepsUnread true self.old self.new) result }
         ensures finds { StepsIn D.Disk store.old self.old self.new true result }
+        ensures unread { NeedsNoRead true self.old →
+            (store.new ≡ store.old) × IsOk result }
+        ensures damaged { IfSome (cursor_row self.old) (λ row.
+            MeetsDamageIn D.Disk store.old (span_beside true row) result) }
     {
         self.step(alloc, store, true)
     }

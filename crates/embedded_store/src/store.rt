@@ -31,7 +31,7 @@ impl<D: Disk + Drop> EmbeddedStore<D> {
     ghost use Rattle.engine.specs.{IsCloseAnswer, IsNearlyFull, IsReadableAnswer, IsTendFile};
     ghost use Rattle.engine.specs.{IsTendOf, RaisesFactsAtMost, ReadsEngine, raised_facts};
     ghost use Rattle.disk.specs.{MakesCalls};
-    ghost use Rattle.engine.specs.{MemoryHas, NeedsNoDisk, OneIsDamagedIn, OneNamedLacksBlock};
+    ghost use Rattle.engine.specs.{MemoryHas, NeedsNoDisk, OneNamedLacksBlock};
     ghost use Rattle.engine.specs.{engine_version};
     ghost use Rattle.engine.specs.{look_ups, with_opened, with_closed};
     ghost use Rattle.engine.specs.Calls.{TendsAsDue};
@@ -40,9 +40,9 @@ impl<D: Disk + Drop> EmbeddedStore<D> {
     ghost use Rattle.engine.specs.Tended.TheVariants.{Idle};
     ghost use Rattle.embedded_store.specs.Cursors.{CursorIsOf, cursor_number, cursor_row};
     ghost use Rattle.embedded_store.specs.Stores.{HoldsBatches, IsReadRefusal, IsSnapshotRefusal};
-    ghost use Rattle.embedded_store.specs.Stores.{ShowsBatches, WritesBatch, first_batches};
-    ghost use Rattle.embedded_store.specs.Stores.{read_number, store_disk, store_engine, whether};
-    ghost use Rattle.embedded_store.specs.Stores.{with_one_written};
+    ghost use Rattle.embedded_store.specs.Stores.{MeetsDamageIn, ShowsBatches, WritesBatch};
+    ghost use Rattle.embedded_store.specs.Stores.{first_batches, read_number, store_disk};
+    ghost use Rattle.embedded_store.specs.Stores.{store_engine, whether, with_one_written};
 
     // The number that is read.
     fn number_of(&self, at: Option<Number>) -> Number
@@ -122,9 +122,7 @@ impl<D: Disk + Drop> EmbeddedStore<D> {
             (read_number (look_ups (store_engine self.old)) at) result }
         ensures refused { (list : List BatchContent) → HoldsBatches D.Disk self.old list →
             IfErr result (IsReadRefusal (look_ups (store_engine self.old)) at) }
-        ensures damaged { (list : List BatchContent) → ShowsBatches D.Disk self.old list →
-            IsErrOf result Damaged → OneIsDamagedIn range.now (D.state (store_disk self.old))
-            (engine_version (store_engine self.old)).version.tables }
+        ensures damaged { MeetsDamageIn D.Disk self.old range.now result }
     {
         let at = self.number_of(at);
         self.engine.rows(alloc, at, range)

@@ -28,14 +28,15 @@ use Rattle.store_files.specs.StoreFiles.{WereMeant, WereOneOf}
 
 -- ---- which reads are refused
 
--- a number is readable from the floor to the committed number
+-- The answer to a read at this number. Only where the number can be read it answers, or is refused
+-- for the device, for damage or for memory.
 abbrev pub IsReadableAnswer : {T : Type 0} → LookUps → ℕ → Result T EngineError → Type 0
 IsReadableAnswer told at (Ok x) = IsReadable told.facts.floor told.committed at
 IsReadableAnswer told at (Err engine.TooOld) = at < told.facts.floor
 IsReadableAnswer told at (Err engine.NotCommitted) = told.committed < at
-IsReadableAnswer told at (Err engine.Disk) = Unit {0}
-IsReadableAnswer told at (Err engine.Damaged) = Unit {0}
-IsReadableAnswer told at (Err engine.Memory) = Unit {0}
+IsReadableAnswer told at (Err engine.Disk) = IsReadable told.facts.floor told.committed at
+IsReadableAnswer told at (Err engine.Damaged) = IsReadable told.facts.floor told.committed at
+IsReadableAnswer told at (Err engine.Memory) = IsReadable told.facts.floor told.committed at
 IsReadableAnswer told at (Err engine.Failed) = Unit {0}
 IsReadableAnswer told at (Err engine.NotCreated) = ⊥
 IsReadableAnswer told at (Err engine.NoSuchSnapshot) = ⊥
@@ -202,8 +203,8 @@ IsTendAnswer old new =
     TendsInOrder (look_ups old).limits (least_read old) (tended_of old) (tended_of new)
 
 -- A tend does what is due: of files that hold a list, or else it is refused for the environment;
--- and of files that were meant to, or else a merge may have met damage too, where neither a rewrite
--- nor a flush is due. Of both a merge goes as it was planned.
+-- and of files that were meant to, or else it may be refused for damage too, where no rewrite and
+-- no flush is due. Of both a merge goes as it was planned.
 pub record TendsAsDue {D : Type 0} (g : Ghosts D) (old new : Engine D g)
     (result : Result Tended EngineError) : Type 0 where
   pub reads : (list : List BatchContent) → EngineReads g old list →

@@ -139,8 +139,8 @@ module _ {D : Type 0} where
   TendsInOrder limits floor old new answer =
       (it : TendsStore limits floor old new answer) × WasDue it
 
--- why a tend of files with damaged blocks is refused: for the environment; or for damage that a
--- merge met, where neither a rewrite nor a flush is due
+-- why a tend of files with damaged blocks is refused: for the environment; or for damage of any
+-- block, where neither a rewrite nor a flush is due
 abbrev pub IsTendRefusal : ℕ → StoreFiles → EngineError → Type 0
 IsTendRefusal limit old e =
     IsEnvironmental engine.Disk engine.Memory e
