@@ -1,6 +1,7 @@
 -- Events of a statement, run one after another in any world.
 use Rattle.std.proofs.Common.{◌≡◌, ◌<◌, ◌+◌, ℕ, suc, List, [], ◌∷◌, ◌++◌, length, drop, ◌⊎◌}
-use Rattle.std.proofs.Common.{All, arith, get_or, length-append, refl, subst, sym}
+use Rattle.std.proofs.Common.{All, Err, Ok, Result, arith, get_or, length-append, refl, subst, sym}
+use Rattle.std.specs.Prelude.{OnErr}
 use Rattle.std.proofs.Math.Seq.{drop-cons}
 use Rattle.std.proofs.lemmas.List.Elements.{All-append, All-from_recursion}
 use Rattle.disk.specs.declared.disk.Disk.{Ghosts}
@@ -14,6 +15,11 @@ use Rattle.scripts.specs.declared.statement.Statement.{Statement}
 use Rattle.client.specs.declared.statement_result.StatementResult.{StatementResult}
 use Rattle.client.specs.ReportedRuns.{ActionIsCut, IsActionEvent, IsAnswered, IsCutAtFirst}
 use Rattle.client.specs.ReportedRuns.{RunsAction, StepIsCut, most_events}
+
+-- what holds anyway holds of an error
+pub on_err : {T E P : Type 0} (result : Result T E) → P → OnErr result P
+on_err (Ok x) p = tt
+on_err (Err e) p = p
 
 module _ {D C : Type 0} {g : Ghosts D} (h : Carriers C) (action : Action) where
   -- none

@@ -3,6 +3,7 @@ use Rattle.client.specs.ReportedRuns.{StepIsCut}
 use Rattle.client.specs.ScriptRuns.{followed_by, one_step, run_of}
 use Rattle.client.proofs.Flowing.{added}
 use Rattle.client.proofs.PlacesBetween.{added_between}
+use Rattle.client.proofs.RunsActions.{on_err}
 use Rattle.client.proofs.script_run.step.Goals as goal
 
 pub returns-clause-ran : goal.returns-clause-ran
@@ -29,9 +30,7 @@ returns-clause-left g c = added_between c.sent-before.result c.sent.result _ _
 -- the world refused it
 pub returns-in_err-step-clause-refused : goal.returns-in_err-step-clause-refused
 returns-in_err-step-clause-refused g c =
-    let cut : StepIsCut g.C.Carrier c.args.event.now c.args.world.now c.step.new.self =
-    inr (inl c.in_err-step.ensures.refused) in
-    search (rules, cut)
+    on_err c.from_residual.result (inr (inl c.in_err-step.ensures.refused))
 
 -- the event was run, and memory is wanted for the places
 pub returns-in_err-add_sent-clause-refused : goal.returns-in_err-add_sent-clause-refused
