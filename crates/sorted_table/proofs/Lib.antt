@@ -9,6 +9,7 @@ pub mod KeptDisk
 pub mod TableLookups
 pub mod GreatestKeys
 -- cursors
+pub mod EntryPlacesLemmas
 pub mod StartSearches
 pub mod BlockNumbers
 pub mod FirstBlocks

@@ -1,4 +1,5 @@
 pub mod BlockPlaces
+pub mod EntryPlaces
 pub mod EntrySplits
 pub mod LineSizes
 pub mod LineSizesLemmas

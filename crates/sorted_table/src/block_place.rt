@@ -1,25 +1,44 @@
 //! A place in a block.
 ghost use Rattle.std.specs.Prelude.{◌≡◌, ◌<◌, ◌≤◌, ◌+◌, ◌-◌, List, Some, IfSome, IsTrue};
-ghost use Rattle.std.specs.Prelude.{IsSomeAnd, length};
+ghost use Rattle.std.specs.Prelude.{IsSomeAnd, length, slice_index};
+ghost use Rattle.std.proofs.Props.{props};
 ghost use Rattle.std.specs.Rc.{rc_slice_items};
 ghost use Rattle.kv_types.specs.{Entry, lent_key};
 ghost use Rattle.merge_iter.specs.{spot};
 ghost use Rattle.table_format.specs.{AreRising, IsBlock, lent_entry};
+ghost use Rattle.sorted_table.specs.EntryPlaces.{IsEntryFrom};
 ghost use Rattle.sorted_table.specs.EntrySplits.{SplitsEntries};
 
-use crate::starts::{count_before, entry_from};
+use crate::entry_place::EntryPlace;
+use crate::starts::count_before;
 use kv_types::LentKey;
 use merge_iter::Direction;
 use table_files::CheckedBlock;
 use table_format::LentEntry;
 
-/// An entry of a block. The block is that of a line of an index.
+/// An entry of a block. The block is that of a line of an index. The entry is parsed once, when
+/// the place moves to it.
 #[derive(Drop)]
 pub struct BlockPlace {
     line: usize,
     block: CheckedBlock,
     at: usize,
+    entry: EntryPlace,
     ghost within: { at < length (rc_slice_items block.starts) },
+    ghost stands: { IsEntryFrom (rc_slice_items block.bytes)
+        (slice_index (rc_slice_items block.starts) at) entry } by { Prim.hlevel props },
+}
+
+// Where the entry of this number stands in a block.
+fn entry_at(block: &CheckedBlock, at: usize) -> EntryPlace
+    requires { at < length (rc_slice_items block.now.starts) }
+    ensures { IsEntryFrom (rc_slice_items block.now.bytes)
+        (slice_index (rc_slice_items block.now.starts) at) result }
+{
+    match EntryPlace::read(&block.bytes, block.starts[at]) {
+        Some(entry) => entry,
+        None => unreachable!(),
+    }
 }
 
 impl BlockPlace {
@@ -36,7 +55,13 @@ impl BlockPlace {
         if block.starts.is_empty() {
             return None;
         }
-        Some(BlockPlace { line, block, at: 0 })
+        let entry = entry_at(&block, 0);
+        Some(BlockPlace {
+            line,
+            block,
+            at: 0,
+            entry,
+        })
     }
 
     /// The number of the block's line.
@@ -47,13 +72,20 @@ impl BlockPlace {
     }
 
     /// The entry.
+    #[inline(always)]
     pub fn entry(&self) -> LentEntry<'_>
         ensures { place_entry self.now ≡ Some (lent_entry result) }
     {
-        match entry_from(&self.block.bytes, self.block.starts[self.at]) {
-            Some(entry) => entry,
-            None => unreachable!(),
-        }
+        self.entry.lent(&self.block.bytes)
+    }
+
+    // Moves to the entry of this number.
+    fn move_to(&mut self, at: usize)
+        requires { at < length (rc_slice_items self.old.block.starts) }
+        ensures { IsMovedTo at self.old self.new }
+    {
+        self.entry = entry_at(&self.block, at);
+        self.at = at;
     }
 
     /// Moves to the next entry. Answers `false` on the last one, and stays there.
@@ -63,7 +95,7 @@ impl BlockPlace {
             × (self.old.at + 1 ≡ length (rc_slice_items self.old.block.starts)) }
     {
         if self.at + 1 < self.block.starts.len() {
-            self.at += 1;
+            self.move_to(self.at + 1);
             true
         } else {
             false
@@ -78,7 +110,7 @@ impl BlockPlace {
             × (self.old.at ≡ 0) }
     {
         if self.at > 0 {
-            self.at -= 1;
+            self.move_to(self.at - 1);
             true
         } else {
             false
@@ -90,10 +122,13 @@ impl BlockPlace {
         ensures same { IsMovedTo result.at self result }
         ensures end { IsAtEnd way result }
     {
-        self.at = match way {
+        let at = match way {
             Direction::Forward => 0,
             Direction::Backward => self.block.starts.len() - 1,
         };
+        if at != self.at {
+            self.move_to(at);
+        }
         self
     }
 
@@ -107,6 +142,7 @@ impl BlockPlace {
     {
         let block = &self.block;
         let at = count_before(&block.bytes, &block.starts, key, number);
-        self.at = at.min(block.starts.len() - 1);
+        let at = at.min(block.starts.len() - 1);
+        self.move_to(at);
     }
 }

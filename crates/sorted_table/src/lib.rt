@@ -3,6 +3,7 @@
 
 mod block;
 mod block_place;
+mod entry_place;
 mod found;
 pub mod laws;
 mod line_block;

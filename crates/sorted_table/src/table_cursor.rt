@@ -243,11 +243,10 @@ impl<D: Disk + Drop> Cursor for TableCursor<D> {
     }
 
     fn next(&mut self, files: &mut CachedDisk<D>) -> Result<(), CursorError> {
-        let Some(mut place) = self.place.take() else {
+        let Some(place) = &mut self.place else {
             return Err(CursorError::Failed);
         };
         if place.advance() {
-            self.place = Some(place);
             return Ok(());
         }
         let line = place.line() + 1;
@@ -255,15 +254,15 @@ impl<D: Disk + Drop> Cursor for TableCursor<D> {
     }
 
     fn prev(&mut self, files: &mut CachedDisk<D>) -> Result<(), CursorError> {
-        let Some(mut place) = self.place.take() else {
+        let Some(place) = &mut self.place else {
             return Err(CursorError::Failed);
         };
         if place.retreat() {
-            self.place = Some(place);
             return Ok(());
         }
         let line = place.line();
         if line == 0 {
+            self.place = None;
             self.has_failed = false;
             return Ok(());
         }
@@ -278,12 +277,11 @@ impl<D: Disk + Drop> Cursor for TableCursor<D> {
     ) -> Result<(), CursorError> {
         let line = line_place(&self.lines, key, number);
         self.reach(files, line)?;
-        let Some(mut place) = self.place.take() else {
+        let Some(place) = &mut self.place else {
             return Ok(());
         };
         // The last entry of the block is not before them, since its line is not.
         place.seek(key, number);
-        self.place = Some(place);
         Ok(())
     }
 

@@ -22,7 +22,8 @@ returns-clause-found c = λ entries rising reads some.
     let len = count_read bytes starts entries reads in
     elim (cases_lt c.count_before-at.result (length entries)) [
       | inl early ↦ subst (SplitsEntries entries place)
-          (sym (c.min-self.ensures ∙ min-eq_left (omega (arith, early, len, c.len.ensures)))) split
+          (sym (c.move_to.ensures.at_number ∙ c.min-at.ensures
+          ∙ min-eq_left (omega (arith, early, len, c.len.ensures)))) split
       | inr late ↦ absurd (some (subst (SplitsEntries entries place)
           (omega (arith, late, split.within)) split))
     ]

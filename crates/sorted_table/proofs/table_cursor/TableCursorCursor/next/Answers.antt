@@ -1,4 +1,4 @@
-use Rattle.std.proofs.Common.{◌+◌, ◌∙◌, ◌<◌, refl, ap, sym, subst, arith, IfSome, length, rules}
+use Rattle.std.proofs.Common.{◌+◌, ◌∙◌, ◌<◌, refl, ap, arith, length, rules}
 use Rattle.std.specs.Rc.{rc_slice_items}
 use Rattle.table_files.specs.{keeps_files_itself}
 use Rattle.sorted_table.specs.TableCursors.{IsPlaceIn}
@@ -14,8 +14,7 @@ returns-in_default g c = record {
   moves =
       cursor_moves _ (λ d. d.file) (λ d. rc_slice_items d.lines) (λ d. d.place) _ _
       c.args.files.now c.args.files.now (keeps_files_itself _ c.args.files.now) refl refl
-      (λ m honest agree t here.
-      subst (λ o. IfSome o (IsPlaceIn t.represents.blocks)) (sym c.take.ensures.after) tt);
+      (λ m honest agree t here. here);
   device = moves_itself _ c.args.files.now;
   causes = search rules;
   broken = search rules;
@@ -32,14 +31,14 @@ returns-then-advance g c = record {
       let p = c.in-Some.place in
       moved_in t.represents.blocks p c.advance.new.self (p.at + 1) (c.if-advance.ensures.moved refl)
       (here_of (IsPlaceIn t.represents.blocks) c.args.self.now.place p
-      (sym c.take.ensures.value ∙ c.in-Some.is) here));
+      c.in-Some.is here));
   device = moves_itself _ c.args.files.now;
   causes = search rules;
   broken = search rules;
   ends = search rules;
   finds = λ m s.
       finds_next_in _ _ s.1.table c.args.self.now.has_failed c.args.self.now.place c.in-Some.place
-      c.advance.new.self (sym c.take.ensures.value ∙ c.in-Some.is) s.1.here
+      c.advance.new.self c.in-Some.is s.1.here
       (c.if-advance.ensures.moved refl);
 }
 
@@ -50,7 +49,7 @@ overflow_add-line g c =
     let last = when_false c.advance.result _ c.if-advance.false c.advance.ensures.last in
     let within : p.line < length (rc_slice_items old.lines) =
     within_lines (rc_slice_items old.lines) p
-    (old.bounded p (sym c.take.ensures.value ∙ c.in-Some.is)) in
+    (old.bounded p c.in-Some.is) in
     let small = old.lines.items.value.small in
     let full = old.lines.items.value.ok in
     omega (arith, within, small, full, c.line-line.ensures, last.0.line)
@@ -72,14 +71,14 @@ returns g c = record {
       let new = c.enter.new.self in
       ends_ahead c.enter.result (rc_slice_items old.lines) (rc_slice_items new.lines) old.place
       c.in-Some.place (c.line-line.result + 1) new.has_failed new.place
-      (ap rc_slice_items c.enter.ensures.table.1) (sym c.take.ensures.value ∙ c.in-Some.is)
+      (ap rc_slice_items c.enter.ensures.table.1) c.in-Some.is
       (ap (λ n. n + 1) (c.line-line.ensures ∙ last.0.line)) new.bounded c.enter.ensures.entered;
   finds = λ m s.
       let last = when_false c.advance.result _ c.if-advance.false c.advance.ensures.last in
       let old = c.args.self.now in
       let new = c.enter.new.self in
       finds_next_block _ _ s.1.table c.enter.result old.has_failed old.place c.in-Some.place
-      (c.line-line.result + 1) new.has_failed new.place (sym c.take.ensures.value ∙ c.in-Some.is)
+      (c.line-line.result + 1) new.has_failed new.place c.in-Some.is
       s.1.here last.1 (ap (λ n. n + 1) (c.line-line.ensures ∙ last.0.line)) c.enter.ensures.entered
       (c.enter.ensures.reads (m c.args.self.now.file) s.0 s.2 s.1.table);
 }

@@ -1,4 +1,4 @@
-use Rattle.std.proofs.Common.{◌-◌, ◌∙◌, refl, ap, sym, subst, arith, IfSome, rules}
+use Rattle.std.proofs.Common.{◌-◌, ◌∙◌, None, refl, ap, sym, arith, rules}
 use Rattle.std.specs.Rc.{rc_slice_items}
 use Rattle.table_files.specs.{keeps_files_itself}
 use Rattle.sorted_table.specs.TableCursors.{IsPlaceIn}
@@ -15,8 +15,7 @@ returns-in_default g c = record {
   moves =
       cursor_moves _ (λ d. d.file) (λ d. rc_slice_items d.lines) (λ d. d.place) _ _
       c.args.files.now c.args.files.now (keeps_files_itself _ c.args.files.now) refl refl
-      (λ m honest agree t here.
-      subst (λ o. IfSome o (IsPlaceIn t.represents.blocks)) (sym c.take.ensures.after) tt);
+      (λ m honest agree t here. here);
   device = moves_itself _ c.args.files.now;
   causes = search rules;
   broken = search rules;
@@ -34,7 +33,7 @@ returns-then-retreat g c = record {
       moved_in t.represents.blocks p c.retreat.new.self (p.at - 1)
       (c.if-retreat.ensures.moved refl).0
       (here_of (IsPlaceIn t.represents.blocks) c.args.self.now.place p
-      (sym c.take.ensures.value ∙ c.in-Some.is) here));
+      c.in-Some.is here));
   device = moves_itself _ c.args.files.now;
   causes = search rules;
   broken = search rules;
@@ -42,7 +41,7 @@ returns-then-retreat g c = record {
   finds = λ m s.
       let moved = c.if-retreat.ensures.moved refl in
       finds_prev_in _ _ s.1.table c.args.self.now.has_failed c.args.self.now.place c.in-Some.place
-      c.retreat.new.self (sym c.take.ensures.value ∙ c.in-Some.is) s.1.here moved.0 moved.1;
+      c.retreat.new.self c.in-Some.is s.1.here moved.0 moved.1;
 }
 
 pub returns-then-line-eq0 : goal.returns-then-line-eq0
@@ -50,8 +49,7 @@ returns-then-line-eq0 g c = record {
   moves =
       cursor_moves _ (λ d. d.file) (λ d. rc_slice_items d.lines) (λ d. d.place) _ _
       c.args.files.now c.args.files.now (keeps_files_itself _ c.args.files.now) refl refl
-      (λ m honest agree t here.
-      subst (λ o. IfSome o (IsPlaceIn t.represents.blocks)) (sym c.take.ensures.after) tt);
+      (λ m honest agree t here. tt);
   device = moves_itself _ c.args.files.now;
   causes = search rules;
   broken = search rules;
@@ -59,10 +57,8 @@ returns-then-line-eq0 g c = record {
   finds = λ m s.
       let first = when_false c.retreat.result _ c.if-retreat.false c.retreat.ensures.first in
       finds_none_before _ _ s.1.table c.args.self.now.has_failed c.args.self.now.place
-      c.in-Some.place
-      c.take.new.self (sym c.take.ensures.value ∙ c.in-Some.is) s.1.here
-      (sym first.0.line ∙ (sym c.line-line.ensures ∙ c.if-line-eq0.true)) first.1
-      c.take.ensures.after;
+      c.in-Some.place None c.in-Some.is s.1.here
+      (sym first.0.line ∙ (sym c.line-line.ensures ∙ c.if-line-eq0.true)) first.1 refl;
 }
 
 pub returns : goal.returns
@@ -82,14 +78,14 @@ returns g c = record {
       let new = c.enter.new.self in
       ends_behind c.enter.result (rc_slice_items old.lines) (rc_slice_items new.lines) old.place
       c.in-Some.place (c.line-line.result - 1) new.has_failed new.place
-      (ap rc_slice_items c.enter.ensures.table.1) (sym c.take.ensures.value ∙ c.in-Some.is)
+      (ap rc_slice_items c.enter.ensures.table.1) c.in-Some.is
       (let some = c.if-line-eq0.false in
       omega (arith, c.line-line.ensures, first.0.line, some)) new.bounded c.enter.ensures.entered;
   finds = λ m s.
       let first = when_false c.retreat.result _ c.if-retreat.false c.retreat.ensures.first in
       let old = c.args.self.now in
       let new = c.enter.new.self in
-      let is = sym c.take.ensures.value ∙ c.in-Some.is in
+      let is = c.in-Some.is in
       finds_prev_block _ _ s.1.table c.enter.result old.has_failed old.place c.in-Some.place
       (c.line-line.result - 1) new.has_failed new.place is
       s.1.here (let some = c.if-line-eq0.false in

@@ -1,4 +1,4 @@
-use Rattle.std.proofs.Common.{◌≡◌, ◌∙◌, ap, sym, subst, arith, IfSome, rules}
+use Rattle.std.proofs.Common.{◌≡◌, ap, sym, subst, arith, IfSome, rules}
 use Rattle.std.specs.Rc.{rc_slice_items}
 use Rattle.kv_types.specs.{lent_key}
 use Rattle.table_format.specs.{block_entries}
@@ -30,7 +30,7 @@ returns-in_default g c = record {
       cursor_moves _ (λ d. d.file) (λ d. rc_slice_items d.lines) (λ d. d.place) _ _
       c.args.files.now c.reach.new.files c.reach.ensures.moved.keeps c.reach.ensures.table.0
       (ap rc_slice_items c.reach.ensures.table.1) (λ m honest agree t here.
-      subst (λ o. IfSome o (IsPlaceIn t.represents.blocks)) (sym c.take.ensures.after) tt);
+      subst (λ o. IfSome o (IsPlaceIn t.represents.blocks)) (sym c.in_default.is) tt);
   device = search rules;
   causes = search rules;
   broken = search rules;
@@ -38,13 +38,13 @@ returns-in_default g c = record {
       let lines = rc_slice_items c.args.self.now.lines in
       let n = c.line_place-line.result in
       let failed = c.reach.new.self.has_failed in
-      let off = subst (HasReached lines n failed) (sym c.take.ensures.value ∙ c.in_default.is)
+      let off = subst (HasReached lines n failed) c.in_default.is
       c.in_ok-reach.ensures.reached in
       finds_none_sought _ lines s.1.table
-      (lent_key c.args.key) c.args.number n failed c.take.new.self
+      (lent_key c.args.key) c.args.number n failed c.reach.new.self.place
       (omega (arith, c.line_place-line.ensures.within, c.deref.ensures.len))
       (line_place_in _ lines s.1.table (lent_key c.args.key) c.args.number c.deref.result.now n
-      c.deref.ensures.value c.line_place-line.ensures.place) off.1 off.0 c.take.ensures.after;
+      c.deref.ensures.value c.line_place-line.ensures.place) off.1 off.0 c.in_default.is;
 }
 
 pub returns : goal.returns
@@ -56,7 +56,7 @@ returns g c = record {
       let p = c.in-Some.place in
       moved_in t.represents.blocks p c.seek.new.self c.seek.new.self.at c.seek.ensures.same
       (here_of (IsPlaceIn t.represents.blocks) c.reach.new.self.place p
-      (sym c.take.ensures.value ∙ c.in-Some.is)
+      c.in-Some.is
       (c.in_ok-reach.ensures.reads m honest agree t here)));
   device = search rules;
   causes = search rules;
@@ -66,7 +66,7 @@ returns g c = record {
       let n = c.line_place-line.result in
       let t = s.1.table in
       let p = c.in-Some.place in
-      let on = sym c.take.ensures.value ∙ c.in-Some.is in
+      let on = c.in-Some.is in
       let there = here_of (IsPlaceIn t.represents.blocks) c.reach.new.self.place p on
       (c.in_ok-reach.ensures.reads (m c.args.self.now.file) s.0 s.2 t s.1.here) in
       let line : p.line ≡ n = subst (HasReached lines n c.reach.new.self.has_failed) on

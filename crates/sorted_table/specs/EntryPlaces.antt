@@ -1,0 +1,32 @@
+-- Entries of which the key and the value are found at places of the bytes.
+use Rattle.std.specs.Prelude.{◌≡◌, ℕ, ◌≤◌, List, length, slice_range, Some}
+use Rattle.std.specs.Option.{ForSome, option_map}
+use Rattle.kv_types.specs.{Entry}
+use Rattle.table_files.specs.{entry_read}
+use Rattle.sorted_table.specs.declared.entry_place.EntryPlace.{EntryPlace}
+use Rattle.sorted_table.specs.declared.entry_place.ByteSpan.{ByteSpan}
+
+-- the bytes of a span
+abbrev pub span_bytes : List ℕ → ByteSpan → List ℕ
+span_bytes bytes span = slice_range bytes span.start span.end
+
+-- the entry that has its key and its value at these places
+abbrev pub entry_in : List ℕ → EntryPlace → Entry
+entry_in bytes place = record {
+  key = span_bytes bytes place.key;
+  number = place.number;
+  value = option_map (span_bytes bytes) place.value;
+}
+
+-- the span lies in the bytes
+abbrev pub IsSpanIn : List ℕ → ByteSpan → Type 0
+IsSpanIn bytes span = (span.start ≤ span.end) × (span.end ≤ length bytes)
+
+-- the key and the value lie in the bytes
+abbrev pub IsPlacedIn : List ℕ → EntryPlace → Type 0
+IsPlacedIn bytes place = IsSpanIn bytes place.key × ForSome place.value (IsSpanIn bytes)
+
+-- the entry that is read from the start on has its key and its value at these places
+pub record IsEntryFrom (bytes : List ℕ) (start : ℕ) (place : EntryPlace) : Type 0 where
+  pub read : entry_read bytes start ≡ Some (entry_in bytes place)
+  pub within : IsPlacedIn bytes place
