@@ -1,3 +1,4 @@
 pub mod Faults
 pub mod Finding
 pub mod FoundNodes
+pub mod Searches

@@ -1,4 +1,4 @@
-// Why a folder has no node for a run.
+// Why a disk has no node for a run, and where a search for nodes ended.
 ghost use Rattle.std.specs.Prelude.{◌≡◌};
 ghost use Rattle.folder_nodes.specs.Faults.{disk_stop, lock_stop, manifest_stop};
 ghost use Rattle.folder_nodes.specs.declared.fault.FolderError.TheVariants as error;
@@ -6,7 +6,8 @@ ghost use Rattle.node.specs.declared.stop.Stop.TheVariants as stop;
 
 use configurations::NodeId;
 use dir_disk::LockError;
-use disk::DiskError;
+use disk::{Disk, DiskError};
+use lab::SimNode;
 use manifest::ManifestError;
 use node::Stop;
 use std::alloc::{AllocError, AllocFailed};
@@ -27,6 +28,16 @@ pub enum FolderError {
 pub struct FolderFault {
     pub id: NodeId,
     pub error: FolderError,
+}
+
+/// A search for nodes that ended at a fault.
+#[derive(Drop)]
+pub struct EndedSearch<D: Disk + Drop> {
+    /// The nodes that were found before.
+    pub found: Vec<SimNode<D>>,
+    pub fault: FolderFault,
+    /// What is left of the disk of the fault's node, if one was made.
+    pub disk: Option<D>,
 }
 
 impl From<Stop> for FolderError {

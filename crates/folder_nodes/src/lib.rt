@@ -4,7 +4,9 @@
 mod fault;
 mod finding;
 mod folders;
+mod search;
 
-pub use fault::{FolderError, FolderFault};
+pub use fault::{EndedSearch, FolderError, FolderFault};
 pub use finding::node_over;
 pub use folders::nodes_in;
+pub use search::{NodeDisks, nodes_over};

@@ -1,10 +1,9 @@
-use Rattle.std.proofs.Common.{arith}
-use Rattle.std.proofs.lemmas.Grind.{common_steps}
+use Rattle.std.proofs.Common.{refl}
+use Rattle.folder_nodes.proofs.FoundNodesLemmas.{all_found_in}
 use Rattle.folder_nodes.proofs.folders.nodes_in.Goals as goal
 
--- one node more is found
-pub loop-id-preserved : goal.loop-id-preserved
-loop-id-preserved g c = record {
-  ids = grind (arith, common_steps);
-  found = c.in_default.ensures.found c.loop-id.invariant.found;
-}
+-- each was found on the disk of its folder
+pub returns-in-Ok-clause-found : goal.returns-in-Ok-clause-found
+returns-in-Ok-clause-found g c = all_found_in (λ disk. refl) (λ disk. refl) _ (λ it. it.path.now)
+    (λ old new id result made. made) c.args.configs.now c.args.limits.now c.in-Ok.nodes.items _ _
+    c.in-Ok.ensures.found
