@@ -211,7 +211,8 @@ module _ {D C : Type 0} {g : Ghosts D} (h : Carriers C) (event : EventContent) w
     })) keeps
 
     idle_limits : {T E : Type 0} (r : Result T E) (new : World D C g) (lost : Bool)
-        (lines : List Line) → OnOk r (HasKept idle new lost lines) → OnOk r (WorldKeepsLimits old new)
+        (lines : List Line) → OnOk r (HasKept idle new lost lines) →
+        OnOk r (WorldKeepsLimits old new)
     idle_limits r new lost lines keeps = on_ok_weaker r (λ kept. keeps_limits h old begun idle new
         event begins lost lines refl kept (λ has. subst (λ (l : List (SimNode D g)).
         HaveLimits l old.limits) (sym (ap (λ (w : World D C g). nodes_of w) begins.others)) has))

@@ -280,7 +280,7 @@ module _ {D C : Type 0} {g : Ghosts D} where
     pub last : length own ≤ suc (length ended)
     pub configs : configs_of new ≡ configs_of old
 
-  -- the node that was to take an event was lost, for want of memory, and all others are as they were
+  -- the node that was to take an event was lost, for want of memory, and all else is as it was
   pub record LosesNode (h : Carriers C) (event : EventContent) (old new : World D C g) : Type 0
     where
       pub x : ℕ

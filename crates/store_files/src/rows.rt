@@ -54,9 +54,10 @@ impl StoreFiles {
         Ok(rows_at(alloc, cursors, at))
     }
 
-    /// The page of a range in the map of the first `at` batches. It reads the blocks of its rows
-    /// and of one more. `Damaged` only where a block of a table is damaged whose keys meet the
-    /// range.
+    /// The page of a range in the map of the first `at` batches. Its walk passes hidden entries
+    /// between its rows, and ends on the next row that is shown, also beyond the range; backward
+    /// with a bound it begins with a seek forward. `Damaged` only where a block of a table is
+    /// damaged whose keys meet the range.
     pub fn rows<D: Disk + Drop>(
         &self,
         alloc: Global,

@@ -21,7 +21,8 @@ loop-statement-init g c = (
       c.args.script.now.setup _ (g.W.Write.contents c.args.out.now) ready.none
       (ap length (c.report-before.ensures.steps past run))
       (c.report-before.ensures.run past run) (c.report-before.ensures.history past run)),
-  rw (c.new-left.ensures.items, c.new-places.ensures.items) (reports_none g.C.Carrier c.args.world.now _
+  rw (c.new-left.ensures.items, c.new-places.ensures.items) (reports_none g.C.Carrier
+      c.args.world.now _
       (g.W.Write.contents c.args.out.now) (ap length c.report-before.ensures.kept)),
 )
 
@@ -94,7 +95,8 @@ loop-statement-preserved g c = (
       c.in_ok-make_text.ensures.places c.in_ok-make_text.ensures.text _
       (rw c.as_bytes.ensures.value at c.in_ok-print.ensures.whole)),
   let same = c.deref-statement-items.ensures.value in
-      rw add-one (reports_more g.C.Carrier c.args.world.now c.loop-statement.world c.run_statement.new.world
+      rw add-one (reports_more g.C.Carrier c.args.world.now c.loop-statement.world
+      c.run_statement.new.world
       c.loop-statement.left.items c.run_statement.new.left.items
       c.args.script.now.statements.items c.loop-statement.statement-index _
       c.statement-item.result c.in_ok-turn.turn c.loop-statement.places.items
@@ -153,7 +155,8 @@ returns-in_err-make_text-clause-reported g c =
 pub returns-in_err-print-clause-reported : goal.returns-in_err-print-clause-reported
 returns-in_err-print-clause-reported g c =
     let same = c.deref-statement-items.ensures.value in
-    let cut = cut_in_output g.C.Carrier c.args.world.now c.loop-statement.world c.run_statement.new.world
+    let cut = cut_in_output g.C.Carrier c.args.world.now c.loop-statement.world
+    c.run_statement.new.world
     c.loop-statement.left.items c.run_statement.new.left.items
     c.args.script.now.statements.items c.loop-statement.statement-index _
     c.statement-item.result c.in_ok-turn.turn c.loop-statement.places.items

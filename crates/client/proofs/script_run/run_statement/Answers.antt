@@ -87,7 +87,8 @@ pub returns-in_ok-events-in-Flow-clause-reported : goal.returns-in_ok-events-in-
 returns-in_ok-events-in-Flow-clause-reported g c =
     let went = c.in_ok-events-in-Flow.ensures.adds in
     let more = c.in_ok-events-in-Flow.ensures.delivers in
-    reported_flow g.C.Carrier c.args.world.now c.flow.new.world c.args.statement.now c.result_of-in-Flow.result
+    reported_flow g.C.Carrier c.args.world.now c.flow.new.world c.args.statement.now
+    c.result_of-in-Flow.result
     c.args.left.now.items c.flow.new.left.items c.in_ok-events-in-Flow.events c.in-Flow.is
     (rw c.busy.ensures at c.result_of-in-Flow.ensures) went.0 went.1 went.2
     c.in_ok-events-in-Flow.ensures.runs more.0 more.1

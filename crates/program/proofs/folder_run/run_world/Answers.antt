@@ -40,7 +40,8 @@ returns-in_err-ran-clause-printed g c = λ none.
 
 pub returns-clause-printed : goal.returns-clause-printed
 returns-clause-printed g c = λ none.
-    printed_report g.C.Carrier c.args.world c.run_script-ran.new.world c.args.script.now.statements.items
+    printed_report g.C.Carrier c.args.world c.run_script-ran.new.world
+    c.args.script.now.statements.items
     (g.W.Write.contents c.args.out.now) (g.W.Write.contents c.run_script-ran.new.out)
     c.report.result.now c.has_stop-stopped.result none c.in_ok-ran.ensures.reported
     c.report.ensures.kept c.has_stop-stopped.ensures
