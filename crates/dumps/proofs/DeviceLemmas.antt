@@ -1,22 +1,26 @@
 -- What is kept of a device, and which refusals are of it.
 use Rattle.std.proofs.Common.{◌≡◌, ◌∙◌, ◌↔◌, ◌⊎◌, ℕ, List, Option, ap, inl, inr, refl, subst, sym}
 use Rattle.std.specs.Prelude.{IfErr, IsErrAnd, IsErrOf, IsNone, MatchResult, Result, Ok, Err}
-use Rattle.disk.specs.{Contents, IsEnvironmental, IsSame, KeepsDisk, contents, seen}
+use Rattle.disk.specs.{AreLeftOf, Contents, IsCrashOutcome, IsEnvironmental, IsSame, IsStill}
+use Rattle.disk.specs.{KeepsDisk, contents, seen}
 use Rattle.disk.specs.declared.Disk.{Ghosts}
 use Rattle.engine.specs.EngineError.{EngineError}
 use Rattle.engine.specs.EngineError.TheVariants as engine
 use Rattle.disk.specs.KeepingLemmas.{kept_as, kept_behind, neither, same_files, same_then_same}
 use Rattle.disk.specs.KeepingLemmas.{unchanged}
+use Rattle.disk.specs.MomentsLemmas.{join, weaker}
+use Rattle.disk.specs.StillLemmas.{still, still_more}
 use Rattle.engine.specs.declared.Engine.{Engine}
 use Rattle.engine.specs.{AreAlone, ExplainsRefusal, HasOpened, IsOwned, IsReadableAnswer, LookUps}
-use Rattle.engine.specs.{SparesFound, engine_disk, engine_files, engine_version}
+use Rattle.engine.specs.{SparesFound, SparesNamed, engine_disk, engine_files, engine_version}
+use Rattle.engine.specs.{kept_files}
 use Rattle.node.specs.Stops.{engine_stop}
 use Rattle.node.specs.declared.stop.Stop.TheVariants as stop
 use Rattle.dumps.specs.declared.dump_error.DumpError.{DumpError}
 use Rattle.dumps.specs.declared.dump_error.DumpError.TheVariants.{Store}
-use Rattle.dumps.specs.Dumped.{AreOpenedFiles, IsDumpRefusal, IsNotOpened, IsOfOpened}
-use Rattle.dumps.specs.Dumped.{IsOfOutput, LeavesDevice, ReturnsFiles, UnopenedRefusal}
-use Rattle.dumps.specs.Dumped.{WritesText}
+use Rattle.dumps.specs.Dumped.{AreOpenedFiles, DiskIsOnlyRead, HasOpenedFiles, IsDumpRefusal}
+use Rattle.dumps.specs.Dumped.{IsNotOpened, IsOfOpened, IsOfOutput, LeavesDevice}
+use Rattle.dumps.specs.Dumped.{UnopenedRefusal, WritesText, disk_of_dump}
 
 -- ---- errors
 
@@ -49,7 +53,12 @@ pub output_of_opened : (error : DumpError) → IsOfOutput error → IsOfOpened e
 output_of_opened error (inl is) none = cc
 output_of_opened error (inr is) none = cc
 
--- and one for a last row
+-- such a refusal is none of the device
+pub output_not_of_device : (error : DumpError) → IsOfOutput error → error ≡ Store stop.Disk → ⊥
+output_not_of_device error (inl is) fails = cc
+output_not_of_device error (inr is) fails = cc
+
+-- a refusal for a last row is one of a store that was created
 pub last_of_opened : {P : Type 0} (error : DumpError) →
     (error ≡ Store stop.Memory) ⊎ ((error ≡ Store stop.Damaged) × P) → IsOfOpened error
 last_of_opened error (inl is) none = cc
@@ -75,7 +84,15 @@ other_not_of_device (Ok x) error same other fails = absurd same
 other_not_of_device (Err x) error same other fails =
     let disk : x ≡ Store stop.Disk = cc in other (sym same ∙ disk)
 
--- and one of a text
+-- so is one of a text
+pub text_not_of_device : {T : Type 0} (text : List ℕ) (old new : Option (List ℕ))
+    (result : Result T DumpError) → WritesText text old new result →
+    IsErrOf result (Store stop.Disk) → ⊥
+text_not_of_device text old new (Ok x) writes fails = cc
+text_not_of_device text old new (Err error) writes fails =
+    let disk : error ≡ Store stop.Disk = cc in output_not_of_device error writes.0 disk
+
+-- and it is one of a store that was created
 pub text_of_opened : {T : Type 0} (text : List ℕ) (old new : Option (List ℕ))
     (result : Result T DumpError) → WritesText text old new result → IfErr result IsOfOpened
 text_of_opened text old new (Ok x) writes = tt
@@ -136,37 +153,58 @@ unopened left engine.Exhausted why = absurd why
 module _ {D : Type 0} (g : Ghosts D) where
   -- the opening did not fail, and this is told of the calls behind it
   pub kept_of_opened : {old mid new : D} {told : Type 0} → KeepsDisk g old mid ⊥ ⊥ IsOwned →
-      KeepsDisk g mid new told ⊥ IsSame → KeepsDisk g old new told ⊥ IsOwned
-  kept_of_opened before kept = kept_behind g (λ a b c owned same. tt) before (λ f. f) kept
+      DiskIsOnlyRead g mid new told → KeepsDisk g old new told ⊥ IsOwned
+  kept_of_opened before read = kept_behind g (λ a b c owned same. tt) before (λ f. f) read.kept
+
+  -- the same reads, whose failure is told in other words
+  pub read_as : {old new : D} {first told : Type 0} → (first ↔ told) →
+      DiskIsOnlyRead g old new first → DiskIsOnlyRead g old new told
+  read_as same read =
+      record { kept = kept_as g same (λ a b files. files) read.kept; still = read.still }
 
   -- no call was made
-  pub untouched : (disk : D) {told : Type 0} → (told → ⊥) → KeepsDisk g disk disk told ⊥ IsSame
-  untouched disk works =
-      kept_as g (neither (λ f. f) works) (λ a b same. same) (unchanged g same_files)
-
-  -- no call failed so far, nor in the next one
-  pub kept_more : {old mid new : D} {told : Type 0} → KeepsDisk g old mid ⊥ ⊥ IsSame →
-      KeepsDisk g mid new told ⊥ IsSame → (told → ⊥) → KeepsDisk g old new ⊥ ⊥ IsSame
-  kept_more before kept works = kept_behind g same_then_same before (λ f. f)
-      (kept_as g (neither works (λ f. f)) (λ a b same. same) kept)
+  pub untouched : (disk : D) {told : Type 0} → (told → ⊥) → DiskIsOnlyRead g disk disk told
+  untouched disk works = record {
+    kept = kept_as g (neither (λ f. f) works) (λ a b same. same) (unchanged g same_files);
+    still = λ honest. still (g.state disk) (g.past disk);
+  }
 
   -- no call failed so far, and this is told of the next one
-  pub kept_then : {old mid new : D} {told : Type 0} → KeepsDisk g old mid ⊥ ⊥ IsSame →
-      KeepsDisk g mid new told ⊥ IsSame → KeepsDisk g old new told ⊥ IsSame
-  kept_then before kept = kept_behind g same_then_same before (λ f. f) kept
+  pub read_then : {old mid new : D} {told : Type 0} → DiskIsOnlyRead g old mid ⊥ →
+      DiskIsOnlyRead g mid new told → DiskIsOnlyRead g old new told
+  read_then before read = record {
+    kept = kept_behind g same_then_same before.kept (λ f. f) read.kept;
+    still = λ honest. still_more (before.still honest)
+        (read.still (before.kept.honest.1 honest));
+  }
+
+  -- no call failed so far, nor in the next one
+  pub read_more : {old mid new : D} {told : Type 0} → DiskIsOnlyRead g old mid ⊥ →
+      DiskIsOnlyRead g mid new told → (told → ⊥) → DiskIsOnlyRead g old new ⊥
+  read_more before read works = read_then before (read_as (neither works (λ f. f)) read)
 
   -- no call failed so far, and so it is told
-  pub kept_as_told : {old new : D} {told : Type 0} → KeepsDisk g old new ⊥ ⊥ IsSame →
-      (told → ⊥) → KeepsDisk g old new told ⊥ IsSame
-  kept_as_told kept works = kept_as g (neither (λ f. f) works) (λ a b same. same) kept
+  pub read_as_told : {old new : D} {told : Type 0} → DiskIsOnlyRead g old new ⊥ → (told → ⊥) →
+      DiskIsOnlyRead g old new told
+  read_as_told read works = read_as (neither (λ f. f) works) read
 
   -- so it is where the refusal is passed on
-  pub kept_as_passed : {T U : Type 0} {old new : D} (result : Result T DumpError)
+  pub read_as_passed : {T U : Type 0} {old new : D} (result : Result T DumpError)
       (error : DumpError) → IsErrAnd result (λ x. x ≡ error) →
-      KeepsDisk g old new (IsErrOf {T = U} (Err error) (Store stop.Disk)) ⊥ IsSame →
-      KeepsDisk g old new (IsErrOf result (Store stop.Disk)) ⊥ IsSame
-  kept_as_passed result error same kept =
-      kept_as g (alike result error same) (λ a b files. files) kept
+      DiskIsOnlyRead g old new (IsErrOf {T = U} (Err error) (Store stop.Disk)) →
+      DiskIsOnlyRead g old new (IsErrOf result (Store stop.Disk))
+  read_as_passed result error same read = read_as (alike result error same) read
+
+  -- of these files an opening and reads behind it leave what they might have been before
+  pub named_behind : {old mid new : D} → (g.is_honest old → g.is_honest mid) →
+      SparesNamed g old mid → IsStill g mid new → SparesNamed g old new
+  named_behind {old} {mid} {new} keeps before still = λ version honest represents.
+      let AreLeft : Contents → Type 0 = AreLeftOf (kept_files version.version) (g.state old) in
+      let run = before version honest represents in
+      join AreLeft (g.state old) (g.state mid) (g.state new) (g.past old) (g.past mid) (g.past new)
+      run
+      (weaker (IsCrashOutcome (g.state mid)) AreLeft (g.state mid) (g.past mid) (g.state new)
+      (g.past new) run.now (still (keeps honest)))
 
 -- ---- the disk that is returned
 
@@ -242,15 +280,25 @@ module _ {D : Type 0} (g : Ghosts D) where
     alone = λ file other. subst (λ slot. IsNone (seen slot)) (sym (same file)) (alone file other);
   }
 
+  -- the disk behind what is passed on is the same
+  pub named_passed_on : {disk left : D} (written : Result (Unit {0}) DumpError) (own : D)
+      (result : Result D (DumpError × D)) → IsPassedOn written own result → own ≡ left →
+      SparesNamed g disk left → SparesNamed g disk (disk_of_dump result)
+  named_passed_on {disk} (Ok x) own result is same spares =
+      subst (SparesNamed g disk) (sym (ap disk_of_dump is ∙ same)) spares
+  named_passed_on {disk} (Err e) own result is same spares =
+      subst (SparesNamed g disk) (sym (ap disk_of_dump is ∙ same)) spares
+
+  -- so are its files
   pub files_passed_on : {disk left : D} (old new : Option (List ℕ))
       (written : Result (Unit {0}) DumpError) (own : D) (result : Result D (DumpError × D)) →
       IsPassedOn written own result → own ≡ left → IfErr written IsOfOpened →
-      AreOpenedFiles (g.state disk) (g.state left) → ReturnsFiles g disk old new result
+      AreOpenedFiles (g.state disk) (g.state left) → HasOpenedFiles g disk old new result
   files_passed_on {disk} {left} old new (Ok x) own result is same created files =
-      subst (ReturnsFiles g disk old new) (sym is)
+      subst (HasOpenedFiles g disk old new) (sym is)
       (subst (λ (d : D). AreOpenedFiles (g.state disk) (g.state d)) (sym same) files)
   files_passed_on {disk} {left} old new (Err e) own result is same created files =
-      subst (ReturnsFiles g disk old new) (sym is)
+      subst (HasOpenedFiles g disk old new) (sym is)
       (inl (
         subst (λ (d : D). AreOpenedFiles (g.state disk) (g.state d)) (sym same) files,
         created,

@@ -4,7 +4,6 @@ use Rattle.std.proofs.Common.{ap, false, length, length-append, refl, subst, sym
 use Rattle.std.proofs.lemmas.Grind.{flat_map-append}
 use Rattle.std.specs.List.{flat_map}
 use Rattle.std.specs.Io.KnownBytes.{Appends}
-use Rattle.disk.specs.{IsSame, KeepsDisk}
 use Rattle.disk.specs.declared.Disk.{Ghosts}
 use Rattle.engine.specs.declared.Engine.{Engine}
 use Rattle.engine.specs.{engine_disk, look_ups}
@@ -13,8 +12,8 @@ use Rattle.kv_types.specs.Order.{IsBelow, IsStrictOrder}
 use Rattle.kv_types.specs.Pages.{IsPage, PagesAgree, page_of}
 use Rattle.kv_types.specs.{BatchContent, Rows, map_of}
 use Rattle.client.specs.PrintedRuns.{AppendsPart}
-use Rattle.dumps.specs.Dumped.{AreAllWritten, AreBegun, AreWritten, ShowsList, StillShows}
-use Rattle.dumps.specs.Dumped.{row_line}
+use Rattle.dumps.specs.Dumped.{AreAllWritten, AreBegun, AreWritten, DiskIsOnlyRead, ShowsList}
+use Rattle.dumps.specs.Dumped.{StillShows, row_line}
 use Rattle.dumps.specs.Walks.{AreRowsOf, all_from}
 use Rattle.dumps.specs.Walks.StartsPage.{First}
 use Rattle.dumps.proofs.TextsLemmas.{appends_more, appends_none, part_behind, part_same}
@@ -23,7 +22,7 @@ use Rattle.dumps.proofs.WalksLemmas.{split_with_page, walk_on, walked_all}
 -- no call of an engine's disk has failed so far, and its look-ups are as they were
 pub record HasLooked {D : Type 0} (g : Ghosts D) (old now : Engine D g) : Type 0 where
   pub looks : look_ups now ≡ look_ups old
-  pub kept : KeepsDisk g (engine_disk old) (engine_disk now) ⊥ ⊥ IsSame
+  pub read : DiskIsOnlyRead g (engine_disk old) (engine_disk now) ⊥
 
 module _ {D : Type 0} {g : Ghosts D} where
   -- what an engine showed, it still shows

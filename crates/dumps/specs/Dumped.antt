@@ -7,12 +7,12 @@ use Rattle.std.specs.Fmt.{decimal}
 use Rattle.std.specs.Io.KnownBytes.{Appends}
 use Rattle.kv_types.specs.declared.row.Row.{Row}
 use Rattle.kv_types.specs.{BatchContent, map_of}
-use Rattle.disk.specs.{Contents, IsStill, KeepsDisk, State, contents}
+use Rattle.disk.specs.{Contents, IsSame, IsStill, KeepsDisk, State, contents}
 use Rattle.disk.specs.declared.Disk.{Ghosts}
 use Rattle.engine.specs.declared.Engine.{Engine}
 use Rattle.manifest.specs.{ManifestRepresents, NodeVersion}
 use Rattle.engine.specs.{AreAlone, AreReadAlike, AreShut, EngineReads, EngineWasMeant, Facts}
-use Rattle.engine.specs.{FilesRepresent, IsDamaged, IsNotCreated, IsOwned, WereMeant}
+use Rattle.engine.specs.{FilesRepresent, IsDamaged, IsNotCreated, IsOwned, SparesNamed, WereMeant}
 use Rattle.engine.specs.{kept_files, table_count}
 use Rattle.node.specs.declared.stop.Stop.TheVariants as stop
 use Rattle.client.specs.PrintedRuns.{AppendsPart}
@@ -203,7 +203,14 @@ pub record IsNotOpened {D : Type 0} (g : Ghosts D) (disk : D) (old new : Option 
   pub still : IfErr result (λ it. AreShut (contents (g.state disk)) ⊎ (IsDumpRefusal it.0 → ⊥) →
       IsStill g disk it.1)
 
--- ---- the disk that is returned
+-- ---- the disk
+
+-- A disk was only read: a failure is counted exactly where this is so, its files stay as they were,
+-- and a crash at any moment leaves what it might have left before.
+pub record DiskIsOnlyRead {D : Type 0} (g : Ghosts D) (old new : D) (has_failed : Type 0)
+    : Type 0 where
+  pub kept : KeepsDisk g old new has_failed ⊥ IsSame
+  pub still : IsStill g old new
 
 -- the disk behind an answer, or beside a refusal
 abbrev pub disk_of_dump : {D : Type 0} → Result D (DumpError × D) → D
@@ -225,9 +232,16 @@ pub record AreOpenedFiles (old new : State) : Type 0 where
   pub alone : AreAlone (kept_files version.version) new
 
 -- the disk that is returned has these files, and a store was created; or no store was opened
-abbrev pub ReturnsFiles : {D : Type 0} → Ghosts D → D → (old new : Option (List ℕ)) →
+abbrev pub HasOpenedFiles : {D : Type 0} → Ghosts D → D → (old new : Option (List ℕ)) →
     Result D (DumpError × D) → Type 0
-ReturnsFiles g disk old new (Ok left) = AreOpenedFiles (g.state disk) (g.state left)
-ReturnsFiles g disk old new (Err refused) =
+HasOpenedFiles g disk old new (Ok left) = AreOpenedFiles (g.state disk) (g.state left)
+HasOpenedFiles g disk old new (Err refused) =
     (AreOpenedFiles (g.state disk) (g.state refused.1) × IsOfOpened refused.0)
     ⊎ IsNotOpened g disk old new (Err refused)
+
+-- A crash at any moment of the dump leaves of the files that the version of the slots names what it
+-- might have left before. An honest disk is returned with the files of the store that was opened.
+pub record ReturnsFiles {D : Type 0} (g : Ghosts D) (disk : D) (old new : Option (List ℕ))
+    (result : Result D (DumpError × D)) : Type 0 where
+  pub named : SparesNamed g disk (disk_of_dump result)
+  pub files : g.is_honest disk → HasOpenedFiles g disk old new result

@@ -1,16 +1,15 @@
 // The rows of a store, page by page in the order of their keys.
 ghost use Rattle.std.specs.Prelude.{◌≡◌, ◌⊎◌, ◌∷◌, ◌++◌, [], List, drop, length, take};
-ghost use Rattle.std.specs.Prelude.{IfErr, IfOk, IsErrOf, MatchResult, OnOk};
+ghost use Rattle.std.specs.Prelude.{IfErr, IfOk, IsErrOf, MatchResult, OnOk, string_bytes};
 ghost use Rattle.std.specs.List.{flat_map};
-ghost use Rattle.disk.specs.{IsSame, KeepsDisk};
 ghost use Rattle.kv_types.specs.{BatchContent};
 ghost use Rattle.kv_types.specs.Pages.{page_of};
 ghost use Rattle.engine.specs.{EngineReads, IsReadable, engine_disk, look_ups};
 ghost use Rattle.node.specs.declared.stop.Stop.TheVariants as stop;
 ghost use Rattle.dumps.specs.declared.dump_error.DumpError.TheVariants.{Store};
 ghost use Rattle.dumps.specs.Walks.{all_from};
-ghost use Rattle.dumps.specs.Dumped.{AreAllWritten, AreBegun, IsDumpRefusal, IsOfOpened};
-ghost use Rattle.dumps.specs.Dumped.{ShowsList, StillShows, row_line};
+ghost use Rattle.dumps.specs.Dumped.{AreAllWritten, AreBegun, DiskIsOnlyRead, IsDumpRefusal};
+ghost use Rattle.dumps.specs.Dumped.{IsOfOpened, ShowsList, StillShows, row_line};
 
 use crate::dump_error::DumpError;
 use client::{RowText, print};
@@ -47,8 +46,8 @@ fn page_from<D: Disk + Drop>(
     ensures shows { OnOk result ((list : List BatchContent) →
         StillShows D.Disk engine.old engine.new list) }
     ensures looks { look_ups engine.new ≡ look_ups engine.old }
-    ensures device { KeepsDisk D.Disk (engine_disk engine.old) (engine_disk engine.new)
-        (IsErrOf result (Store stop.Disk)) ⊥ IsSame }
+    ensures device { DiskIsOnlyRead D.Disk (engine_disk engine.old) (engine_disk engine.new)
+        (IsErrOf result (Store stop.Disk)) }
     ensures refused { (list : List BatchContent) → EngineReads D.Disk engine.old list →
         IsReadable (look_ups engine.old).facts.floor (look_ups engine.old).committed at →
         IfErr result IsDumpRefusal }
@@ -64,15 +63,13 @@ fn page_from<D: Disk + Drop>(
 }
 
 // Makes the text of these rows, in place of what stood there.
-fn make_text(rows: &[Row], text: &mut Vec<u8>) -> Result<(), AllocError>
-    ensures { OnOk result (text.new.items ≡ flat_map row_line rows.now) }
+fn make_text(rows: &[Row], text: &mut String) -> Result<(), AllocError>
+    ensures { OnOk result (string_bytes text.new ≡ flat_map row_line rows.now) }
 {
     text.clear();
     for row in rows {
         let line = RowText(row);
-        if writeln!(text, "{line}").is_err() {
-            return Err(AllocError);
-        }
+        writeln!(text, "{line}")?;
     }
     Ok(())
 }
@@ -81,10 +78,7 @@ fn make_text(rows: &[Row], text: &mut Vec<u8>) -> Result<(), AllocError>
 fn behind(rows: &[Row], count: usize) -> &[Row]
     ensures { result.now ≡ drop count rows.now }
 {
-    match rows.get(count..) {
-        Some(behind) => behind,
-        None => &[],
-    }
+    rows.get(count..).unwrap_or(&[])
 }
 
 // The key of the last row. It is refused for memory, or where there is no row.
@@ -117,20 +111,20 @@ pub fn write_rows<D: Disk + Drop, W: Write>(
     ensures refused { (list : List BatchContent) → EngineReads D.Disk engine.old list →
         IsReadable (look_ups engine.old).facts.floor (look_ups engine.old).committed at →
         IfErr result IsDumpRefusal }
-    ensures device { KeepsDisk D.Disk (engine_disk engine.old) (engine_disk engine.new)
-        (IsErrOf result (Store stop.Disk)) ⊥ IsSame }
+    ensures device { DiskIsOnlyRead D.Disk (engine_disk engine.old) (engine_disk engine.new)
+        (IsErrOf result (Store stop.Disk)) }
     ensures created { IfErr result IsOfOpened }
 {
     byte_order_is_strict(); // law: byte order is a strict order of all keys
     pages_agree(); // law: the page as a function is the page of a map
     maps_agree(); // law: what a map has was put by an edit
-    let mut text = Vec::new(alloc);
+    let mut text = String::new(alloc);
     let (mut from, mut known, mut count) = (least_key(alloc)?, 0, 0u64);
     for _ in 0..u64::MAX {
         let page = page_from(alloc, engine, at, from)?;
         let rows = behind(page.rows(), known);
         make_text(rows, &mut text)?;
-        print(&text, out)?;
+        print(text.as_bytes(), out)?;
         let Some(more) = count.checked_add(rows.len() as u64) else {
             return Err(DumpError::Store(Stop::Memory));
         };

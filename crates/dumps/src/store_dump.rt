@@ -1,12 +1,12 @@
 // A store is opened and written out.
 ghost use Rattle.std.specs.Prelude.{◌≡◌, ℕ, List, Ok, Err, IfErr, IsErrOf, MatchResult, OnOk};
-ghost use Rattle.disk.specs.{IsSame, KeepsDisk, contents};
+ghost use Rattle.disk.specs.{contents};
 ghost use Rattle.kv_types.specs.{BatchContent};
 ghost use Rattle.engine.specs.{AreShut, EngineReads, Facts, FilesRepresent, WereMeant, engine_disk};
 ghost use Rattle.engine.specs.{facts_of, look_ups};
 ghost use Rattle.node.specs.declared.stop.Stop.TheVariants as stop;
 ghost use Rattle.dumps.specs.declared.dump_error.DumpError.TheVariants.{Store};
-ghost use Rattle.dumps.specs.Dumped.{AreTableCounts};
+ghost use Rattle.dumps.specs.Dumped.{AreTableCounts, DiskIsOnlyRead};
 ghost use Rattle.dumps.specs.Dumped.{IsBegunDump, IsBegunFor, IsCutDump, IsDumpFor, IsDumpOf};
 ghost use Rattle.dumps.specs.Dumped.{IsDumpRefusal, IsNotOpened, IsOfOpened, IsSomeBegun};
 ghost use Rattle.dumps.specs.Dumped.{IsSomeDump, LeavesDevice, ReturnsFiles, ShowsList};
@@ -19,7 +19,7 @@ use disk::Disk;
 use engine::Engine;
 use kv_types::laws::pages_agree;
 use kv_types::{Limits, Number};
-use node::{Numbers, Stop};
+use node::Numbers;
 use std::alloc::Global;
 use std::io::Write;
 
@@ -51,13 +51,10 @@ fn write_numbers<D: Disk + Drop, W: Write>(
         (store_line (look_ups engine.now).facts (look_ups engine.now).count tables)
         (W.contents out.old) (W.contents out.new) result × AreTableCounts engine.now tables }
 {
-    let mut text = Vec::new(alloc);
     let numbers = numbers_of(engine);
     let line = StoreText(engine.id(), &numbers);
-    if writeln!(text, "{line}").is_err() {
-        return Err(DumpError::Store(Stop::Memory));
-    }
-    print(&text, out)?;
+    let text = format!(in alloc; "{line}\n")?;
+    print(text.as_bytes(), out)?;
     Ok(())
 }
 
@@ -70,12 +67,9 @@ fn write_count<W: Write>(
 ) -> Result<(), DumpError>
     ensures { WritesText (count_line count at) (W.contents out.old) (W.contents out.new) result }
 {
-    let mut text = Vec::new(alloc);
     let at = at.get();
-    if writeln!(text, "rows {count} at {at}").is_err() {
-        return Err(DumpError::Store(Stop::Memory));
-    }
-    print(&text, out)?;
+    let text = format!(in alloc; "rows {count} at {at}\n")?;
+    print(text.as_bytes(), out)?;
     Ok(())
 }
 
@@ -103,8 +97,8 @@ fn write_store<D: Disk + Drop, W: Write>(
         (W.contents out.new)) }
     ensures refused { (list : List BatchContent) → EngineReads D.Disk engine.old list →
         IfErr result IsDumpRefusal }
-    ensures device { KeepsDisk D.Disk (engine_disk engine.old) (engine_disk engine.new)
-        (IsErrOf result (Store stop.Disk)) ⊥ IsSame }
+    ensures device { DiskIsOnlyRead D.Disk (engine_disk engine.old) (engine_disk engine.new)
+        (IsErrOf result (Store stop.Disk)) }
     ensures created { IfErr result IsOfOpened }
 {
     pages_agree(); // law: a map has a page in each range
@@ -147,10 +141,9 @@ pub fn dump_store<D: Disk + Drop, W: Write>(
         (λ _. IsSomeBegun (W.contents out.old) (W.contents out.new)) }
     ensures device { LeavesDevice D.Disk disk result }
 
-    // No file is changed behind the opening, and a store that was opened is not refused as one that
-    // was not created.
-    ensures files { D.is_honest disk → ReturnsFiles D.Disk disk (W.contents out.old)
-        (W.contents out.new) result }
+    // No file is changed behind the opening, also where a crash cuts the dump short. A store that
+    // was opened is not refused as one that was not created.
+    ensures files { ReturnsFiles D.Disk disk (W.contents out.old) (W.contents out.new) result }
 {
     pages_agree(); // law: a map has a page in each range
     let mut engine = match Engine::open(alloc, disk, &Limits::default()) {

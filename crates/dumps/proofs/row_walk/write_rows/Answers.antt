@@ -11,7 +11,7 @@ use Rattle.client.specs.PrintedRuns.{AppendsPart}
 use Rattle.dumps.specs.declared.dump_error.DumpError.TheVariants.{Store, Write}
 use Rattle.dumps.specs.Dumped.{AreWritten, ShowsList, row_line}
 use Rattle.dumps.specs.Walks.{all_from}
-use Rattle.dumps.proofs.DeviceLemmas.{answers, kept_as_passed, kept_as_told, kept_more, kept_then}
+use Rattle.dumps.proofs.DeviceLemmas.{answers, read_as_passed, read_as_told, read_more, read_then}
 use Rattle.dumps.proofs.DeviceLemmas.{last_of_opened, not_of_device, of_last_row}
 use Rattle.dumps.proofs.DeviceLemmas.{opened_as_passed, other_not_of_device}
 use Rattle.dumps.proofs.DeviceLemmas.{refused_as_passed, untouched}
@@ -25,7 +25,7 @@ pub loop-init : goal.loop-init
 loop-init g c =
     let out = g.W.Write.contents c.args.out.now in
     let IsShown = ShowsList g.D.Disk c.args.engine.now in (
-      record { looks = refl; kept = untouched g.D.Disk _ (λ f. f) },
+      record { looks = refl; read = untouched g.D.Disk _ (λ f. f) },
       shows_same c.args.engine.now,
       subst (λ key. AreWritten IsShown c.args.at key 0 0 out out) (sym c.in_ok-from.ensures.key)
           (none_written IsShown c.args.at c.pages_agree.ensures.agree out),
@@ -37,6 +37,13 @@ returns-in_err-from-clause-rows g c =
     let begun = begun_none (ShowsList g.D.Disk c.args.engine.now) c.args.at
     c.pages_agree.ensures.agree (g.W.Write.contents c.args.out.now) in
     search (rules, begun)
+
+pub returns-in_err-from-clause-device : goal.returns-in_err-from-clause-device
+returns-in_err-from-clause-device g c =
+    let memory = c.in_err-from.ensures.refused in
+    untouched g.D.Disk _
+    (other_not_of_device c.from_residual.result c.in_err-from.field-0.0 c.from_residual.ensures.1
+    (λ is. cc))
 
 -- the next page was refused
 pub returns-in_err-page-clause-rows : goal.returns-in_err-page-clause-rows
@@ -55,9 +62,9 @@ returns-in_err-page-clause-refused g c = λ list reads may.
 
 pub returns-in_err-page-clause-device : goal.returns-in_err-page-clause-device
 returns-in_err-page-clause-device g c =
-    kept_as_passed g.D.Disk c.from_residual-in_err-page.result c.in_err-page.field-0.0
+    read_as_passed g.D.Disk c.from_residual-in_err-page.result c.in_err-page.field-0.0
     c.from_residual-in_err-page.ensures.1
-    (kept_then g.D.Disk c.loop.invariant.0.kept c.in_err-page.ensures.device)
+    (read_then g.D.Disk c.loop.invariant.0.read c.in_err-page.ensures.device)
 
 pub returns-in_err-page-clause-created : goal.returns-in_err-page-clause-created
 returns-in_err-page-clause-created g c =
@@ -74,8 +81,8 @@ returns-in_err-make_text-clause-rows g c =
 
 pub returns-in_err-make_text-clause-device : goal.returns-in_err-make_text-clause-device
 returns-in_err-make_text-clause-device g c =
-    kept_as_told g.D.Disk
-    (kept_more g.D.Disk c.loop.invariant.0.kept c.in_ok-page.ensures.device answers)
+    read_as_told g.D.Disk
+    (read_more g.D.Disk c.loop.invariant.0.read c.in_ok-page.ensures.device answers)
     (other_not_of_device c.from_residual-in_err-make_text.result (Store stop.Memory)
     c.from_residual-in_err-make_text.ensures.1 (λ is. cc))
 
@@ -88,7 +95,7 @@ returns-in_err-print-clause-rows g c =
     let page = c.in_ok-page.page in
     let part : AppendsPart mid new (flat_map row_line (drop c.loop.known page.rows)) =
     rw (
-      c.deref.ensures.value,
+      c.as_bytes.ensures.value,
       c.in_ok-make_text.ensures,
       c.behind-rows.ensures,
       c.rows.ensures,
@@ -104,8 +111,8 @@ returns-in_err-print-clause-rows g c =
 
 pub returns-in_err-print-clause-device : goal.returns-in_err-print-clause-device
 returns-in_err-print-clause-device g c =
-    kept_as_told g.D.Disk
-    (kept_more g.D.Disk c.loop.invariant.0.kept c.in_ok-page.ensures.device answers)
+    read_as_told g.D.Disk
+    (read_more g.D.Disk c.loop.invariant.0.read c.in_ok-page.ensures.device answers)
     (other_not_of_device c.from_residual-in_err-print.result Write
     c.from_residual-in_err-print.ensures.1 (λ is. cc))
 
@@ -118,7 +125,7 @@ returns-in_default-clause-rows g c =
     let page = c.in_ok-page.page in
     let part : AppendsPart mid new (flat_map row_line (drop c.loop.known page.rows)) =
     rw (
-      c.deref.ensures.value,
+      c.as_bytes.ensures.value,
       c.in_ok-make_text.ensures,
       c.behind-rows.ensures,
       c.rows.ensures,
@@ -134,8 +141,8 @@ returns-in_default-clause-rows g c =
 
 pub returns-in_default-clause-device : goal.returns-in_default-clause-device
 returns-in_default-clause-device g c =
-    kept_as_told g.D.Disk
-    (kept_more g.D.Disk c.loop.invariant.0.kept c.in_ok-page.ensures.device answers)
+    read_as_told g.D.Disk
+    (read_more g.D.Disk c.loop.invariant.0.read c.in_ok-page.ensures.device answers)
     (λ fails. cc)
 
 pub returns-then-not-has_more-clause-rows : goal.returns-then-not-has_more-clause-rows
@@ -146,7 +153,7 @@ returns-then-not-has_more-clause-rows g c =
     let page = c.in_ok-page.page in
     let wrote : Appends mid new (flat_map row_line (drop c.loop.known page.rows)) =
     rw (
-      c.deref.ensures.value,
+      c.as_bytes.ensures.value,
       c.in_ok-make_text.ensures,
       c.behind-rows.ensures,
       c.rows.ensures,
@@ -165,8 +172,8 @@ returns-then-not-has_more-clause-rows g c =
 
 pub returns-then-not-has_more-clause-device : goal.returns-then-not-has_more-clause-device
 returns-then-not-has_more-clause-device g c =
-    kept_as_told g.D.Disk
-    (kept_more g.D.Disk c.loop.invariant.0.kept c.in_ok-page.ensures.device answers) answers
+    read_as_told g.D.Disk
+    (read_more g.D.Disk c.loop.invariant.0.read c.in_ok-page.ensures.device answers) answers
 
 -- a page behind which rows are left has a last one
 pub returns-in_err-from-2-clause-rows : goal.returns-in_err-from-2-clause-rows
@@ -177,7 +184,7 @@ returns-in_err-from-2-clause-rows g c =
     let page = c.in_ok-page.page in
     let part : AppendsPart mid new (flat_map row_line (drop c.loop.known page.rows)) =
     rw (
-      c.deref.ensures.value,
+      c.as_bytes.ensures.value,
       c.in_ok-make_text.ensures,
       c.behind-rows.ensures,
       c.rows.ensures,
@@ -205,8 +212,8 @@ returns-in_err-from-2-clause-refused g c = λ list reads may.
 
 pub returns-in_err-from-2-clause-device : goal.returns-in_err-from-2-clause-device
 returns-in_err-from-2-clause-device g c =
-    kept_as_told g.D.Disk
-    (kept_more g.D.Disk c.loop.invariant.0.kept c.in_ok-page.ensures.device answers)
+    read_as_told g.D.Disk
+    (read_more g.D.Disk c.loop.invariant.0.read c.in_ok-page.ensures.device answers)
     (not_of_device c.from_residual-in_err-from-2.result c.in_err-from-2.field-0.0
     c.from_residual-in_err-from-2.ensures.1 c.in_err-from-2.ensures.refused)
 
@@ -225,7 +232,7 @@ loop-preserved g c =
     let last = c.in_ok-from-2.ensures.key in
     let wrote : Appends mid new (flat_map row_line (drop c.loop.known page.rows)) =
     rw (
-      c.deref.ensures.value,
+      c.as_bytes.ensures.value,
       c.in_ok-make_text.ensures,
       c.behind-rows.ensures,
       c.rows.ensures,
@@ -238,7 +245,7 @@ loop-preserved g c =
     (shown_still c.args.engine.now c.loop.engine list (c.loop.invariant.1 list) shows) in (
       record {
         looks = c.in_ok-page.ensures.looks ∙ c.loop.invariant.0.looks;
-        kept = kept_more g.D.Disk c.loop.invariant.0.kept c.in_ok-page.ensures.device answers;
+        read = read_more g.D.Disk c.loop.invariant.0.read c.in_ok-page.ensures.device answers;
       },
       λ list. shows_on c.args.engine.now c.loop.engine c.page_from.new.engine list
           (c.loop.invariant.1 list) (c.in_ok-page.ensures.shows list),
@@ -261,4 +268,4 @@ returns-clause-rows g c =
 -- more rows or pages than can be counted
 pub returns-clause-device : goal.returns-clause-device
 returns-clause-device g c =
-    kept_as_told g.D.Disk c.loop.invariant.0.kept (λ fails. cc)
+    read_as_told g.D.Disk c.loop.invariant.0.read (λ fails. cc)

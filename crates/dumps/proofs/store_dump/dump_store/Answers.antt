@@ -3,8 +3,8 @@ use Rattle.engine.specs.{engine_disk, facts_of, look_ups}
 use Rattle.dumps.specs.Dumped.{AreTableCounts, IsBegunDump, IsDumpOf, IsSomeBegun, IsSomeDump}
 use Rattle.dumps.specs.Dumped.{ShowsList}
 use Rattle.dumps.proofs.DeviceLemmas.{files_passed_on, kept_of_opened, kept_of_refused}
-use Rattle.dumps.proofs.DeviceLemmas.{kept_passed_on, not_opened, of_engine, opened_files}
-use Rattle.dumps.proofs.DeviceLemmas.{passed_on}
+use Rattle.dumps.proofs.DeviceLemmas.{kept_passed_on, named_behind, named_passed_on, not_opened}
+use Rattle.dumps.proofs.DeviceLemmas.{of_engine, opened_files, passed_on}
 use Rattle.dumps.proofs.StoreDumpLemmas.{dumped_in_part, dumped_list, dumped_some, dumped_whole}
 use Rattle.dumps.proofs.StoreDumpLemmas.{none_begun, none_of_some}
 use Rattle.dumps.proofs.store_dump.dump_store.Goals as goal
@@ -36,9 +36,12 @@ returns-in-Err-clause-device g c =
     kept_of_refused g.D.Disk c.in-Err.e c.from.result c.from.ensures c.in-Err.ensures.kept
 
 pub returns-in-Err-clause-files : goal.returns-in-Err-clause-files
-returns-in-Err-clause-files g c = λ honest.
-    inr (not_opened g.D.Disk c.args.disk c.in-Err.disk (g.W.Write.contents c.args.out.now)
-    c.in-Err.e c.from.result c.from.ensures (c.in-Err.ensures.told honest) c.in-Err.ensures.still)
+returns-in-Err-clause-files g c = record {
+  named = c.in-Err.ensures.still.named;
+  files = λ honest. inr (not_opened g.D.Disk c.args.disk c.in-Err.disk
+      (g.W.Write.contents c.args.out.now) c.in-Err.e c.from.result c.from.ensures
+      (c.in-Err.ensures.told honest) c.in-Err.ensures.still);
+}
 
 -- it was opened, and shows no other list
 pub returns-clause-unopened : goal.returns-clause-unopened
@@ -112,12 +115,20 @@ returns-clause-device g c =
     (kept_of_opened g.D.Disk c.in-Ok.ensures.kept c.write_store-written.ensures.device)
 
 pub returns-clause-files : goal.returns-clause-files
-returns-clause-files g c = λ honest.
-    let works = c.in-Ok.ensures.kept.honest.1 honest in
-    files_passed_on g.D.Disk (g.W.Write.contents c.args.out.now)
-    (g.W.Write.contents c.write_store-written.new.out) c.write_store-written.result
-    c.into_disk.result c.with_disk.result c.with_disk.ensures c.into_disk.ensures
-    c.write_store-written.ensures.created
-    (opened_files g.D.Disk c.args.disk (engine_disk c.write_store-written.new.engine)
-    c.in-Ok.engine (c.in-Ok.ensures.alike honest) (c.in-Ok.ensures.fresh.swept works)
-    (c.write_store-written.ensures.device.files works))
+returns-clause-files g c =
+    let read = c.write_store-written.ensures.device in
+    record {
+      named = named_passed_on g.D.Disk c.write_store-written.result c.into_disk.result
+          c.with_disk.result c.with_disk.ensures c.into_disk.ensures
+          (named_behind g.D.Disk c.in-Ok.ensures.kept.honest.1 c.in-Ok.ensures.still.named
+          read.still);
+      files = λ honest.
+          let works = c.in-Ok.ensures.kept.honest.1 honest in
+          files_passed_on g.D.Disk (g.W.Write.contents c.args.out.now)
+          (g.W.Write.contents c.write_store-written.new.out) c.write_store-written.result
+          c.into_disk.result c.with_disk.result c.with_disk.ensures c.into_disk.ensures
+          c.write_store-written.ensures.created
+          (opened_files g.D.Disk c.args.disk (engine_disk c.write_store-written.new.engine)
+          c.in-Ok.engine (c.in-Ok.ensures.alike honest) (c.in-Ok.ensures.fresh.swept works)
+          (read.kept.files works));
+    }

@@ -7,7 +7,7 @@ pub returns-in_err-print : goal.returns-in_err-print
 returns-in_err-print g c = (
   c.numbers_of-numbers.result.tables,
   written_in_part _ (g.W.Write.contents c.args.out.now) (g.W.Write.contents c.print.new.out)
-      c.from_residual.result c.from_residual.ensures.1
+      c.from_residual-in_err-print.result c.from_residual-in_err-print.ensures.1
       (search (rules, c.in_err-print.ensures.part)),
   c.numbers_of-numbers.ensures.tables,
 )

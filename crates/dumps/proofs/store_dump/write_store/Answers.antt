@@ -1,9 +1,13 @@
 use Rattle.std.proofs.Common.{inr, rules, subst}
 use Rattle.std.specs.Prelude.{MatchResult}
+use Rattle.disk.specs.KeepingLemmas.{neither}
 use Rattle.engine.specs.{facts_of, look_ups}
 use Rattle.dumps.specs.Dumped.{AreTableCounts, IsBegunFor, IsDumpFor, IsDumpRefusal, IsOfOpened}
 use Rattle.dumps.specs.Dumped.{ShowsList}
-use Rattle.dumps.proofs.DeviceLemmas.{output_of_opened, refused_as_passed, text_of_opened}
+use Rattle.dumps.proofs.DeviceLemmas.{answers, other_not_of_device, output_not_of_device}
+use Rattle.dumps.proofs.DeviceLemmas.{output_of_opened, read_as, read_as_passed}
+use Rattle.dumps.proofs.DeviceLemmas.{refused_as_passed, text_not_of_device, text_of_opened}
+use Rattle.dumps.proofs.DeviceLemmas.{untouched}
 use Rattle.dumps.proofs.RowWalkLemmas.{all_for, begun_for, shown_still}
 use Rattle.dumps.proofs.StoreDumpLemmas.{all_readable, cut_in_numbers, cut_in_rows, dumped}
 use Rattle.dumps.proofs.StoreDumpLemmas.{of_output}
@@ -85,6 +89,27 @@ pub returns-clause-refused : goal.returns-clause-refused
 returns-clause-refused g c = λ list reads.
     of_output _ (g.W.Write.contents c.write_rows.new.out)
     (g.W.Write.contents c.write_count.new.out) c.write_count.result c.write_count.ensures
+
+-- the disk was only read
+pub returns-in_err-write_numbers-clause-device : goal.returns-in_err-write_numbers-clause-device
+returns-in_err-write_numbers-clause-device g c =
+    untouched g.D.Disk _
+    (other_not_of_device c.from_residual.result c.in_err-write_numbers.field-0.0
+    c.from_residual.ensures.1
+    (output_not_of_device c.in_err-write_numbers.field-0.0 c.in_err-write_numbers.ensures.1.0))
+
+pub returns-in_err-count-clause-device : goal.returns-in_err-count-clause-device
+returns-in_err-count-clause-device g c =
+    read_as_passed g.D.Disk c.from_residual-in_err-count.result c.in_err-count.field-0.0
+    c.from_residual-in_err-count.ensures.1
+    (rw c.set_committed.ensures.disk at c.in_err-count.ensures.device)
+
+pub returns-clause-device : goal.returns-clause-device
+returns-clause-device g c =
+    let not_device = text_not_of_device _ (g.W.Write.contents c.write_rows.new.out)
+    (g.W.Write.contents c.write_count.new.out) c.write_count.result c.write_count.ensures in
+    read_as g.D.Disk (neither answers not_device)
+    (rw c.set_committed.ensures.disk at c.in_ok-count.ensures.device)
 
 -- no refusal says that nothing was created
 pub returns-in_err-write_numbers-clause-created : goal.returns-in_err-write_numbers-clause-created
