@@ -1,12 +1,19 @@
--- What is written of the store of a folder: the folder is only read.
+-- What is written of the store of a folder, which is only read, and how the words `dump ..` end.
 use Rattle.std.specs.Prelude.{◌≡◌, ◌≢◌, ◌⊎◌, ℕ, List, [], Err, Ok, Option, false}
 use Rattle.disk.specs.declared.Disk.{Ghosts}
 use Rattle.dir_disk.specs.declared.folder.DirDisk.{DirDisk}
 use Rattle.dir_disk.specs.declared.unchanged.Unchanged.{Unchanged}
 use Rattle.dir_disk.specs.Disks.{IsFolderAt, disk_below, may_change}
+use Rattle.lab.specs.Stop.TheVariants as stop
+use Rattle.client.specs.PrintedRuns.{AppendsPart}
 use Rattle.dumps.specs.declared.dump_error.DumpError.{DumpError}
-use Rattle.dumps.specs.Dumped.{BeginsStoreOf, LeavesDevice, WritesStoreOf}
-use Rattle.program.specs.FolderRuns.{DumpEnds}
+use Rattle.dumps.specs.Dumped.{BeginsStoreOf, IsSomeBegun, IsSomeDump, LeavesDevice, WritesStoreOf}
+use Rattle.program.specs.declared.folder_failure.DumpFailure.{DumpFailure}
+use Rattle.program.specs.declared.folder_failure.DumpFailure.TheVariants.{Memory, Store}
+use Rattle.program.specs.FolderFailures.{dump_failure_line, dump_failure_of}
+use Rattle.program.specs.Runs.{UsageIsReported}
+
+-- ---- the folder
 
 -- a disk of the folder at this path, whose files may only be read
 pub record IsFolderToRead {R : Type 0} (path : List ℕ) (disk : DirDisk R) : Type 0 where
@@ -23,20 +30,63 @@ pub record IsDumpOfFolder {R : Type 0} (g : Ghosts (Unchanged (DirDisk R))) (pat
   pub kept : LeavesDevice g disk (Ok left)
   pub written : WritesStoreOf g disk old_out new_out
 
--- it was read from such a disk, and refused, and a beginning of its text was written
+-- it was read from such a disk, and a beginning of its text was written; it was refused for what is
+-- reported as this failure
 pub record IsBegunOfFolder {R : Type 0} (g : Ghosts (Unchanged (DirDisk R))) (path : List ℕ)
-    (old_out new_out : Option (List ℕ)) : Type 0 where
+    (old_out new_out : Option (List ℕ)) (failure : DumpFailure) : Type 0 where
   pub disk : Unchanged (DirDisk R)
   pub below : IsFolderToRead path (disk_below disk)
   pub refused : DumpError × Unchanged (DirDisk R)
+  pub cause : failure ≡ dump_failure_of refused.0
   pub kept : LeavesDevice g disk (Err refused)
   pub begun : BeginsStoreOf g disk old_out new_out
 
--- how that ends for the folder at this path: with status 0 its store was written whole, and the
--- path is not empty; with status 1 nothing was written, or a beginning of it
-pub record DumpEndsFor {R : Type 0} (g : Ghosts (Unchanged (DirDisk R))) (path : List ℕ)
+-- why there is no disk of the folder at this path: the path is empty, or memory was wanting
+abbrev pub IsUnreadFor : List ℕ → DumpFailure → Type 0
+IsUnreadFor path failure =
+    ((failure ≡ Store stop.NotCreated) × (path ≡ []))
+    ⊎ ((failure ≡ Store stop.Memory) × (path ≢ []))
+
+-- why the store of the folder at this path was not written out whole: there is no disk of it, and
+-- nothing was written; or it was refused
+abbrev pub DumpHasFailed : {R : Type 0} → Ghosts (Unchanged (DirDisk R)) → List ℕ →
+    (old_out new_out : Option (List ℕ)) → DumpFailure → Type 0
+DumpHasFailed g path old_out new_out failure =
+    (IsUnreadFor path failure × (new_out ≡ old_out))
+    ⊎ IsBegunOfFolder g path old_out new_out failure
+
+-- ---- the status
+
+-- the store of the folder at this path was written out whole, and the path is not empty
+pub record DumpIsWritten {R : Type 0} (g : Ghosts (Unchanged (DirDisk R))) (path : List ℕ)
     (old_out new_out old_err new_err : Option (List ℕ)) (answer : ℕ) : Type 0 where
-  pub ends : DumpEnds old_out new_out old_err new_err answer
-  pub from : answer ≡ 0 → IsDumpOfFolder g path old_out new_out
-  pub path_is : answer ≡ 0 → path ≢ []
-  pub begun : answer ≡ 1 → (new_out ≡ old_out) ⊎ IsBegunOfFolder g path old_out new_out
+  pub status : answer ≡ 0
+  pub path_is : path ≢ []
+  pub wrote : IsSomeDump old_out new_out
+  pub from : IsDumpOfFolder g path old_out new_out
+  pub quiet : new_err ≡ old_err
+
+-- It was not, and the line that says why was told, or a beginning of it. Where memory was wanting
+-- for the words, nothing was written.
+pub record DumpIsReported {R : Type 0} (g : Ghosts (Unchanged (DirDisk R))) (path : List ℕ)
+    (old_out new_out old_err new_err : Option (List ℕ)) (answer : ℕ) : Type 0 where
+  pub status : answer ≡ 1
+  pub failure : DumpFailure
+  pub failed : ((failure ≡ Memory) × (new_out ≡ old_out))
+      ⊎ DumpHasFailed g path old_out new_out failure
+  pub part : IsSomeBegun old_out new_out
+  pub told : AppendsPart old_err new_err (dump_failure_line failure)
+
+-- how a dump of the folder at this path ends
+abbrev pub DumpEndsFor : {R : Type 0} → Ghosts (Unchanged (DirDisk R)) → List ℕ →
+    (old_out new_out old_err new_err : Option (List ℕ)) → ℕ → Type 0
+DumpEndsFor g path old_out new_out old_err new_err answer =
+    DumpIsWritten g path old_out new_out old_err new_err answer
+    ⊎ DumpIsReported g path old_out new_out old_err new_err answer
+
+-- how the words `dump ..` end: as a dump of some folder, or with the usage
+abbrev pub DumpOrUsage : {R : Type 0} → Ghosts (Unchanged (DirDisk R)) →
+    (old_out new_out old_err new_err : Option (List ℕ)) → ℕ → Type 0
+DumpOrUsage g old_out new_out old_err new_err answer =
+    ((path : List ℕ) × DumpEndsFor g path old_out new_out old_err new_err answer)
+    ⊎ UsageIsReported old_out new_out old_err new_err answer

@@ -1,10 +1,11 @@
--- Runs in folders and what is written of one: how they end.
+-- Runs in folders: how they end, and how the program does.
 use Rattle.std.specs.Prelude.{◌≡◌, ◌≢◌, ◌⊎◌, ℕ, Bool, true, false, List, Option, codes}
 use Rattle.std.specs.Prelude.{Some, None, IfSome, All, Contains, if◌then◌else◌}
 use Rattle.std.specs.List.{list_any}
 use Rattle.std.specs.Io.KnownBytes.{Appends}
 use Rattle.disk.specs.declared.disk.Disk.{Ghosts}
 use Rattle.dir_disk.specs.declared.folder.DirDisk.{DirDisk}
+use Rattle.dir_disk.specs.declared.unchanged.Unchanged.{Unchanged}
 use Rattle.carriers.specs.declared.Carrier.{Ghosts as Carriers}
 use Rattle.lab.specs.{HasItsNodes, HasRunNothing, WorldHasLimits, configs_of, nodes_of}
 use Rattle.lab.specs.Worlds.{WorldHasEnded}
@@ -20,7 +21,6 @@ use Rattle.client.specs.PrintedRuns.{AppendsPart, HasEndedEarly, HasRunStatement
 use Rattle.client.specs.ReportedRuns.{ReportIsCut, ReportIsPrinted}
 use Rattle.client.specs.ScriptRuns.{Stretch}
 use Rattle.client.specs.Text.{run_text}
-use Rattle.dumps.specs.Dumped.{IsSomeBegun, IsSomeDump}
 use Rattle.folder_nodes.specs.Finding.{sim_ids}
 use Rattle.folder_nodes.specs.FoundNodes.{IsFoundIn}
 use Rattle.tcp_carrier.specs.declared.carrier.TcpCarrier.{TcpCarrier}
@@ -31,11 +31,11 @@ use Rattle.scripts.specs.declared.setup.Setup.{Setup}
 use Rattle.scripts.specs.declared.statement.Statement.{Statement}
 use Rattle.program.specs.declared.failure.Failure.{Failure}
 use Rattle.program.specs.declared.failure.Failure.TheVariants.{Memory, Output, Script, Unreadable}
-use Rattle.program.specs.declared.folder_failure.DumpFailure.{DumpFailure}
 use Rattle.program.specs.declared.folder_failure.LoopFailure.{LoopFailure}
 use Rattle.program.specs.declared.folder_failure.LoopFailure.TheVariants.{Folder, Network, Run}
 use Rattle.program.specs.Failures.{IsOfReading}
-use Rattle.program.specs.FolderFailures.{IsLoopFailureOf, dump_failure_line, loop_failure_line}
+use Rattle.program.specs.FolderDumps.{DumpOrUsage}
+use Rattle.program.specs.FolderFailures.{IsLoopFailureOf, loop_failure_line}
 use Rattle.program.specs.Invocations.{is_named}
 use Rattle.program.specs.Runs.{LabOrUsage, UsageIsReported}
 
@@ -240,35 +240,6 @@ LoopOrUsage g old_out new_out old_err new_err answer =
     ((folder : List ℕ) × LoopEnds g folder None old_out new_out old_err new_err answer)
     ⊎ UsageIsReported old_out new_out old_err new_err answer
 
--- ---- what is written of a folder
-
--- exactly the text of some store was written
-pub record DumpIsWritten (old_out new_out old_err new_err : Option (List ℕ)) (answer : ℕ)
-    : Type 0 where
-  pub status : answer ≡ 0
-  pub wrote : IsSomeDump old_out new_out
-  pub quiet : new_err ≡ old_err
-
--- a beginning of such a text was written, and the line that says why was told, or a beginning of it
-pub record DumpIsReported (old_out new_out old_err new_err : Option (List ℕ)) (answer : ℕ)
-    : Type 0 where
-  pub status : answer ≡ 1
-  pub failure : DumpFailure
-  pub part : IsSomeBegun old_out new_out
-  pub told : AppendsPart old_err new_err (dump_failure_line failure)
-
--- how that ends
-abbrev pub DumpEnds : (old_out new_out old_err new_err : Option (List ℕ)) → ℕ → Type 0
-DumpEnds old_out new_out old_err new_err answer =
-    DumpIsWritten old_out new_out old_err new_err answer
-    ⊎ DumpIsReported old_out new_out old_err new_err answer
-
--- how the words `dump ..` end
-abbrev pub DumpOrUsage : (old_out new_out old_err new_err : Option (List ℕ)) → ℕ → Type 0
-DumpOrUsage old_out new_out old_err new_err answer =
-    DumpEnds old_out new_out old_err new_err answer
-    ⊎ UsageIsReported old_out new_out old_err new_err answer
-
 -- ---- the program
 
 -- how the words `loop SCRIPT --dir D` end: of the script `-` standard input is read, and else it is
@@ -282,12 +253,13 @@ pub record LoopEndsFor {R I : Type 0} (g : Ghosts (DirDisk R)) (script folder : 
 
 -- how the program ends, whatever it read: as the command does that its words name, or else as words
 -- that ask for nothing
-pub record ProgramEnds {R : Type 0} (g : Ghosts (DirDisk R)) (words : List (List ℕ))
-    (old_out new_out old_err new_err : Option (List ℕ)) (answer : ℕ) : Type 0 where
+pub record ProgramEnds {R : Type 0} (g : Ghosts (DirDisk R)) (h : Ghosts (Unchanged (DirDisk R)))
+    (words : List (List ℕ)) (old_out new_out old_err new_err : Option (List ℕ)) (answer : ℕ)
+    : Type 0 where
   pub loop : is_named (codes "loop") words ≡ true →
       LoopOrUsage g old_out new_out old_err new_err answer
   pub dump : is_named (codes "dump") words ≡ true →
-      DumpOrUsage old_out new_out old_err new_err answer
+      DumpOrUsage h old_out new_out old_err new_err answer
   pub other : is_named (codes "loop") words ≡ false → is_named (codes "dump") words ≡ false →
       LabOrUsage old_out new_out old_err new_err answer
 

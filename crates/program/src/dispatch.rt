@@ -53,9 +53,9 @@ where
         (O.contents out.new) (E.contents err.old) (E.contents err.new) result }
 
     // All words, by the command that they name.
-    ensures ends { ProgramEnds ⟦<DirDisk<F> as Disk>⟧ (map (λ w. w.now) words.now)
-        (O.contents out.old) (O.contents out.new) (E.contents err.old) (E.contents err.new)
-        result }
+    ensures ends { ProgramEnds ⟦<DirDisk<F> as Disk>⟧ ⟦<Unchanged<DirDisk<F>> as Disk>⟧
+        (map (λ w. w.now) words.now) (O.contents out.old) (O.contents out.new)
+        (E.contents err.old) (E.contents err.new) result }
     ensures left { LeavesInput (map (λ w. w.now) words.now) input.old input.new result }
 {
     if is_named("loop", words) {

@@ -1,7 +1,7 @@
 //! What the store of one folder has is written out.
-ghost use Rattle.std.specs.Prelude.{◌≡◌, ◌≢◌, ◌⊎◌, [], IfOk, MatchResult, OnOk};
+ghost use Rattle.std.specs.Prelude.{◌≢◌, [], IfOk, MatchResult, OnOk};
 ghost use Rattle.dumps.specs.Dumped.{IsSomeBegun, IsSomeDump};
-ghost use Rattle.program.specs.FolderDumps.{IsBegunOfFolder, IsDumpOfFolder, IsFolderToRead};
+ghost use Rattle.program.specs.FolderDumps.{DumpHasFailed, IsDumpOfFolder, IsFolderToRead};
 
 use crate::folder_failure::DumpFailure;
 use dir_disk::{DirDisk, Unchanged};
@@ -36,8 +36,7 @@ pub fn dump_folder<F: Files<File = File> + Alloc<A = Global> + Clone + Drop, W: 
     ensures from { MatchResult result
         (λ _. IsDumpOfFolder ⟦<Unchanged<DirDisk<F>> as Disk>⟧ folder.now (W.contents out.old)
         (W.contents out.new))
-        (λ _. (W.contents out.new ≡ W.contents out.old)
-        ⊎ IsBegunOfFolder ⟦<Unchanged<DirDisk<F>> as Disk>⟧ folder.now (W.contents out.old)
+        (DumpHasFailed ⟦<Unchanged<DirDisk<F>> as Disk>⟧ folder.now (W.contents out.old)
         (W.contents out.new)) }
     ensures path { OnOk result (folder.now ≢ []) }
 {

@@ -3,9 +3,8 @@ ghost use Rattle.std.specs.Prelude.{◌≡◌, ◌≢◌, ℕ, List, false, map,
 ghost use Rattle.std.specs.Prelude.{Some, None};
 ghost use Rattle.client.specs.PrintedRuns.{AppendsPart};
 ghost use Rattle.program.specs.FolderFailures.{dump_failure_line, loop_failure_line};
-ghost use Rattle.program.specs.FolderDumps.{DumpEndsFor};
-ghost use Rattle.program.specs.FolderRuns.{DumpOrUsage, LoopEnds};
-ghost use Rattle.program.specs.FolderRuns.{LoopEndsFor, LoopOrUsage, stopped_status};
+ghost use Rattle.program.specs.FolderDumps.{DumpEndsFor, DumpOrUsage};
+ghost use Rattle.program.specs.FolderRuns.{LoopEnds, LoopEndsFor, LoopOrUsage, stopped_status};
 ghost use Rattle.program.specs.Invocations.{dump_folder, has_option, loop_paths};
 ghost use Rattle.program.specs.Runs.{UsageIsReported};
 
@@ -164,8 +163,8 @@ where
         has_option (codes "dump") (map (λ w. w.now) words.now) ≡ false →
         UsageIsReported (O.contents out.old) (O.contents out.new) (E.contents err.old)
         (E.contents err.new) result }
-    ensures ends { DumpOrUsage (O.contents out.old) (O.contents out.new)
-        (E.contents err.old) (E.contents err.new) result }
+    ensures ends { DumpOrUsage ⟦<Unchanged<DirDisk<F>> as Disk>⟧ (O.contents out.old)
+        (O.contents out.new) (E.contents err.old) (E.contents err.new) result }
 {
     match path_request(rt.alloc(), "dump", "DIR", words) {
         Ok(folder) => write_folder(rt, folder, out, err),

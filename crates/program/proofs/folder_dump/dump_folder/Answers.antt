@@ -23,6 +23,7 @@ returns-in-Err-clause-from g c = inr (record {
   below = subst (λ disk. IsFolderToRead c.args.folder.now disk) (sym c.new.ensures.inner)
       c.in-Ok.ensures;
   refused = (c.in-Err.e, c.in-Err.disk);
+  cause = c.from.ensures;
   kept = c.in-Err.ensures.device;
   begun = c.in-Err.ensures.meant;
 })
