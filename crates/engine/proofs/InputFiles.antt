@@ -35,8 +35,6 @@ use Rattle.engine.specs.DamagedInputs.{AreReadAsMeant, WasRepresented, names_of_
 use Rattle.engine.specs.LentFiles.{files_ghosts, table_ghosts}
 use Rattle.engine.proofs.TestedLists.{finds, found_one, is_kept, kept_was, zip_among, zip_beside}
 
--- ---- single facts
-
 -- the inputs of a plan are among the tables
 pub inputs_among : (plan : Plan) (range : KeyRange) (tables : List LevelTable) (t : LevelTable) →
     Contains (model_plan plan range tables).inputs t → Contains tables t
@@ -48,7 +46,7 @@ both_hold : (p q : Bool) → not p && q ≡ true → (p ≡ false) × (q ≡ tru
 both_hold true q both = absurd cc
 both_hold false q both = (cc, both)
 
--- of one list that has some, the first
+-- of a list that has some, the first
 first_of : (entries : List Entry) → 1 ≤ length entries → (e : Entry) × Contains entries e
 first_of [] some = absurd (omega (arith, some))
 first_of (e ∷ entries) some = (e, contains_head e entries)
@@ -252,8 +250,8 @@ module _ {D : Type 0} (g : Ghosts D) (plan : Plan) (range : KeyRange) (a : Cache
 
   module _ (read : AreReadAsMeant disk meant inputs) where
     -- an open table is served from its file, whether that is as it is or as it was meant
-    served_from : (it : OpenTable) (t : LevelTable) → Contains tables t → WasServed disk meant it t →
-        WasServed disk mixed it t
+    served_from : (it : OpenTable) (t : LevelTable) → Contains tables t →
+        WasServed disk meant it t → WasServed disk mixed it t
     served_from it t has was = elim (cases_Bool (is_in t)) [
       | inl in_it ↦
           let file = table_file it.table in

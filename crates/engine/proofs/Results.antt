@@ -110,6 +110,7 @@ pub refused_for : {damage other : Type 0} (e : EngineError) → (damage → othe
 refused_for e so (inl outside) = inl outside
 refused_for e so (inr told) = inr (told.0, so told.1)
 
+-- and so is that of an answer or a refusal
 pub match_for : {T damage other : Type 0} (result : Result T EngineError) (P : T → Type 0) →
     (damage → other) → MatchResult result P (IsPartRefusal damage) →
     MatchResult result P (IsPartRefusal other)
@@ -117,12 +118,14 @@ match_for (Ok x) P so both = both
 match_for (Err e) P so both = refused_for e so both
 
 -- one that is refused by the environment alone is not refused for damage
-pub refused_outside : {T : Type 0} (damage : Type 0) (result : Result T EngineError) (P : T → Type 0) →
+pub refused_outside : {T : Type 0} (damage : Type 0) (result : Result T EngineError)
+    (P : T → Type 0) →
     MatchResult result P (IsEnvironmental engine.Disk engine.Memory) →
     MatchResult result P (IsPartRefusal damage)
 refused_outside damage (Ok x) P both = both
 refused_outside damage (Err e) P outside = inl outside
 
+-- so nothing has to be shown of its damage
 pub damage_apart : {T next : Type 0} (result : Result T EngineError) →
     IfErr result (IsEnvironmental engine.Disk engine.Memory) →
     IsErrOf result engine.Damaged → next
@@ -131,9 +134,11 @@ damage_apart (Err e) (inl disk) damaged = absurd cc
 damage_apart (Err e) (inr memory) damaged = absurd cc
 
 -- where damage is told only at this time, it is told then
-pub refused_then : {T : Type 0} (damage next : Type 0) (result : Result T EngineError) (P : T → Type 0) →
+pub refused_then : {T : Type 0} (damage next : Type 0) (result : Result T EngineError)
+    (P : T → Type 0) →
     MatchResult result P (IsPartRefusal damage) → (IsErrOf result engine.Damaged → next) →
     IfErr result (IsPartRefusal (next × damage))
 refused_then damage next (Ok x) P both then = tt
 refused_then damage next (Err e) P (inl outside) then = inl outside
-refused_then damage next (Err e) P (inr told) then = inr (told.0, (then (ap (λ s. Err s) told.0), told.1))
+refused_then damage next (Err e) P (inr told) then =
+    inr (told.0, (then (ap (λ s. Err s) told.0), told.1))
