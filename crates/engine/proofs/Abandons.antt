@@ -1,7 +1,7 @@
 -- A merge that is given up leaves the list.
 use Rattle.std.proofs.Common.{◌≡◌, ◌≤◌, ◌<◌, ◌↔◌, ℕ, List, None, Result, Ok, Err, ap, arith}
 use Rattle.std.proofs.Common.{inl, inr, refl, subst, sym, max, min}
-use Rattle.std.specs.Prelude.{IfErr, IfOk, IsErrOf, IsNone, MatchResult, OnOk}
+use Rattle.std.specs.Prelude.{IfErr, IsErrOf, IsNone, MatchResult, OnOk}
 use Rattle.std.proofs.lemmas.Bool.{cases_lt}
 use Rattle.kv_types.specs.{BatchContent}
 use Rattle.disk.specs.{IsEnvironmental, KeepsDisk, Slot, seen}
@@ -26,7 +26,7 @@ use Rattle.table_files.specs.{inner_disk}
 use Rattle.table_files.specs.declared.cached_disk.CachedDisk.{CachedDisk}
 use Rattle.engine.specs.LentFiles.{files_ghosts}
 use Rattle.engine.specs.MergeParts.{BeganLate, KeepsAbandoned, answer_of_merge, error_of_merge}
-use Rattle.engine.specs.MergeParts.{free_behind}
+use Rattle.engine.specs.MergeParts.{IsPartRefusal, free_behind}
 use Rattle.engine.specs.UnderWay.{HoldsWithMerge, WasMeantWithMerge}
 use Rattle.engine.proofs.Beside.{beside_from, beside_named, meant_beside, represent_beside}
 use Rattle.engine.proofs.Beside.{usable_with}
@@ -179,14 +179,15 @@ module _ {D : Type 0} (g : Ghosts D) (free : OtherFilesAreFree) (apart : OpenFil
       meant : (answer : Result (Unit {0}) MergeError) →
           RemovesLeftovers (files_ghosts g) first old.free_file version a b answer →
           (list : List BatchContent) → g.is_honest (inner_disk a) →
-          BeganLate merge (WasMeantWithMerge g a old None) list → IfOk (answer_of_merge answer)
-          (λ _. WasMeantWithMerge g b (with_free old behind) None list)
+          BeganLate merge (WasMeantWithMerge g a old None) list →
+          MatchResult (answer_of_merge answer)
+          (λ _. WasMeantWithMerge g b (with_free old behind) None list) (IsPartRefusal ⊥)
       meant (Ok x) did list honest w = record {
         was = (free.meant (g.state (inner_disk a)) (g.state (inner_disk b)) old behind list w.1.was
             (same w.0 honest did (apart.unused (g.state (inner_disk a)) old list w.1.was))).0;
         merges = tt;
       }
-      meant (Err e) did list honest w = tt
+      meant (Err e) did list honest w = inl (environment e (did.removed honest))
 
   -- so it is where the call was told so
   pub abandoned : (next : ℕ) → next ≡ old.free_file → (named : StoreVersion) → named ≡ version →

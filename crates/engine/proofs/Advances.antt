@@ -1,7 +1,7 @@
 -- A merge that goes on leaves the list, and is under way then or has no room.
 use Rattle.std.proofs.Common.{◌≡◌, ◌⊎◌, ◌↔◌, ℕ, Bool, true, false, List, Some}
-use Rattle.std.proofs.Common.{Result, Ok, Err, arith, inl, inr, length, refl, subst, sym}
-use Rattle.std.specs.Prelude.{IfErr, IfOk, IsErrOf, MatchResult, OnOk}
+use Rattle.std.proofs.Common.{Result, Ok, Err, ap, arith, inl, inr, length, refl, subst, sym}
+use Rattle.std.specs.Prelude.{Contains, IfErr, IfOk, IsErrOf, MatchResult, OnOk}
 use Rattle.kv_types.specs.{BatchContent}
 use Rattle.disk.specs.{IsEnvironmental}
 use Rattle.disk.specs.declared.Disk.{Ghosts}
@@ -9,7 +9,7 @@ use Rattle.version_edits.specs.{StoreVersion}
 use Rattle.compaction.specs.declared.Merge.{Merge}
 use Rattle.compaction.specs.declared.error.MergeError.{MergeError}
 use Rattle.compaction.specs.declared.error.MergeError.TheVariants as merging
-use Rattle.compaction.specs.Merges.{HasEntriesLeft, IsMerging, StepsMerge}
+use Rattle.compaction.specs.Merges.{HasEntriesLeft, IsIntactMerge, IsMerging, StepsMerge}
 use Rattle.compaction.specs.Outputs.{IsOwnFile}
 use Rattle.compaction.specs.Walks.{FindsNoRoom, StepRefusal}
 use Rattle.store_model.specs.{LevelTable, MergePlan}
@@ -25,13 +25,15 @@ use Rattle.table_files.specs.declared.cached_disk.CachedDisk.{CachedDisk}
 use Rattle.engine.specs.declared.merging.Progress.{Progress}
 use Rattle.engine.specs.declared.merging.Progress.TheVariants as progress
 use Rattle.engine.specs.LentFiles.{files_ghosts, union_ghosts}
-use Rattle.engine.specs.MergeParts.{AdvancesPlanned, IsMergeFile, KeepsMerge}
+use Rattle.engine.specs.MergeParts.{AdvancesPlanned, HasDamagedInput, IsMergeFile}
+use Rattle.engine.specs.MergeParts.{IsPartRefusal, KeepsMerge}
 use Rattle.engine.specs.MergeParts.{IsMergeFile as file_of, error_of_merge, merge_after}
 use Rattle.engine.specs.MergeParts.{progress_after, step_length}
 use Rattle.engine.specs.UnderWay.{HoldsWithMerge, IsMergeOf, WasMeantWithMerge}
 use Rattle.engine.proofs.Abandons.{environment}
 use Rattle.engine.proofs.Beside.{beside_named, free_named, meant_beside, represent_beside}
 use Rattle.engine.proofs.Beside.{usable_with}
+use Rattle.engine.proofs.InputFiles.{read_before, same_files_of, were_on}
 
 -- the device failed where the merge says so
 alike : (answer : Result Bool MergeError) →
@@ -70,6 +72,16 @@ only_environment : (e : MergeError) (intact no_room : Type 0) → (e ≡ merging
 only_environment e intact no_room room is (inl outside) = outside
 only_environment e intact no_room room is (inr (inl damaged)) = absurd (damaged.1 is)
 only_environment e intact no_room room is (inr (inr full)) = absurd (room full.0)
+
+-- one that has room is refused by the environment, or for damage of its inputs
+damage_of : (e : MergeError) (intact no_room damage : Type 0) → (e ≡ merging.Full → ⊥) →
+    ((intact → ⊥) → damage) →
+    IsEnvironmental merging.Disk merging.Memory e ⊎ (((e ≡ merging.Damaged) × (intact → ⊥))
+    ⊎ ((e ≡ merging.Full) × no_room)) → IsPartRefusal damage (error_of_merge e)
+damage_of e intact no_room damage room so (inl outside) = inl (environment e outside)
+damage_of e intact no_room damage room so (inr (inl damaged)) =
+    inr (ap error_of_merge damaged.0, so damaged.1)
+damage_of e intact no_room damage room so (inr (inr full)) = absurd (room full.0)
 
 module _ {D : Type 0} (g : Ghosts D) (old : StoreFiles) (u : AreUsableFiles old)
     (a : CachedDisk D g) (was : Merge D) where
@@ -118,17 +130,35 @@ module _ {D : Type 0} (g : Ghosts D) (old : StoreFiles) (u : AreUsableFiles old)
           few = did.numbers.few u.free_few;
         }
 
+    -- the files of the inputs are as they were
+    same_inputs : (answer : Result Bool MergeError) → Did answer → (tables : List LevelTable)
+        (plan : MergePlan) (m : IsMergeOf g a old tables was plan) → (t : LevelTable) →
+        Contains plan.inputs t → g.state (inner_disk b) t.file ≡ g.state (inner_disk a) t.file
+    same_inputs answer did tables plan m =
+        same_files_of (g.state (inner_disk a)) (g.state (inner_disk b)) plan.inputs
+        (λ file has. did.writes.kept.files m.merging.walk.honest file
+        (λ is. m.merging.walk.apart file has is))
+
     -- the merge is under way
     after_of : (answer : Result Bool MergeError) → Did answer → (tables : List LevelTable)
         (plan : MergePlan) (m : IsMergeOf g a old tables was plan) →
         IsMerging (union_ghosts g) (files_ghosts g) m.meant b next now plan
-        (known_facts old).floor → IsMergeOf g b later tables now plan
-    after_of answer did tables plan m after = record {
-      meant = m.meant;
-      merging = after;
-      can_end = m.can_end;
-      beside = did.beside version u.version u.free m.beside;
-    }
+        (known_facts old).floor →
+        (IsIntactMerge (union_ghosts g) (files_ghosts g) a was plan →
+        IsIntactMerge (union_ghosts g) (files_ghosts g) b now plan) →
+        IsMergeOf g b later tables now plan
+    after_of answer did tables plan m after intact =
+        let same = same_inputs answer did tables plan m in
+        record {
+          meant = m.meant;
+          merging = after;
+          can_end = m.can_end;
+          beside = did.beside version u.version u.free m.beside;
+          were = were_on (g.state (inner_disk a)) (g.state (inner_disk b)) m.meant plan.inputs same
+              m.were;
+          undamaged = λ reads. intact (m.undamaged (read_before (g.state (inner_disk a))
+              (g.state (inner_disk b)) m.meant plan.inputs same reads));
+        }
 
     -- after an answer the files hold the list, with the merge
     holds : (more : Bool) → Did (Ok more) → (list : List BatchContent) →
@@ -145,7 +175,7 @@ module _ {D : Type 0} (g : Ghosts D) (old : StoreFiles) (u : AreUsableFiles old)
           merges = record {
             plan = plan;
             under_way = subst (λ (t : List LevelTable). IsMergeOf g b later t now plan)
-                (sym both.1) (after_of (Ok more) did tables plan m step.0);
+                (sym both.1) (after_of (Ok more) did tables plan m step.0 step.2);
             intact = step.2 h.merges.intact;
           };
         }
@@ -164,7 +194,7 @@ module _ {D : Type 0} (g : Ghosts D) (old : StoreFiles) (u : AreUsableFiles old)
           merges = record {
             plan = plan;
             under_way = subst (λ (t : List LevelTable). IsMergeOf g b later t now plan)
-                (sym both.1) (after_of (Ok more) did tables plan m step.0);
+                (sym both.1) (after_of (Ok more) did tables plan m step.0 step.2);
           };
         }
 
@@ -196,16 +226,31 @@ module _ {D : Type 0} (g : Ghosts D) (old : StoreFiles) (u : AreUsableFiles old)
           merges = tt;
         }
 
+    -- where files were meant to hold the list, it may be that of an input too
+    inside : (e : MergeError) → (e ≡ merging.Full → ⊥) → Did (Err e) →
+        (list : List BatchContent) → WasMeantWithMerge g a old (Some was) list →
+        IsPartRefusal (HasDamagedInput g a was) (error_of_merge e)
+    inside e room did list w =
+        let m = w.merges.under_way in
+        damage_of e _ _ _ room (λ no. record {
+          meant = m.meant;
+          inputs = w.merges.plan.inputs;
+          named = m.merging.gone;
+          were = m.were;
+          damaged = λ reads. no (m.undamaged reads);
+        }) (did.steps m.meant w.merges.plan (known_facts old).floor m.merging)
+
     meant : (answer : Result Bool MergeError) → Did answer →
         (list : List BatchContent) → WasMeantWithMerge g a old (Some was) list →
-        IfOk (progress_after answer)
+        MatchResult (progress_after answer)
         (λ told. WasMeantWithMerge g b later (merge_after now told) list)
+        (IsPartRefusal (HasDamagedInput g a was))
     meant (Ok true) did list w = was_meant true did list w
     meant (Ok false) did list w = was_meant false did list w
-    meant (Err merging.Disk) did list w = tt
-    meant (Err merging.Damaged) did list w = tt
-    meant (Err merging.Memory) did list w = tt
-    meant (Err merging.Failed) did list w = tt
+    meant (Err merging.Disk) did list w = inl (inl refl)
+    meant (Err merging.Damaged) did list w = inside merging.Damaged (λ is. cc) did list w
+    meant (Err merging.Memory) did list w = inl (inr refl)
+    meant (Err merging.Failed) did list w = inside merging.Failed (λ is. cc) did list w
     meant (Err merging.Full) did list w =
         let m = w.merges.under_way in
         record {
@@ -227,7 +272,8 @@ module _ {D : Type 0} (g : Ghosts D) (old : StoreFiles) (u : AreUsableFiles old)
 
     -- what going on keeps
     pub advances : (answer : Result Bool MergeError) → Did answer →
-        KeepsMerge g (merge_after now) (Some was) a b old later (progress_after answer)
+        KeepsMerge g (HasDamagedInput g a was) (merge_after now) (Some was) a b old later
+        (progress_after answer)
     advances answer did = record {
       kept = kept_but (files_ghosts g)
           (λ no. inr (λ list honest h. let m = h.merges.under_way in
@@ -284,7 +330,7 @@ module _ {D : Type 0} (g : Ghosts D) (old : StoreFiles) (u : AreUsableFiles old)
         let step = did.steps m.meant plan (known_facts old).floor m.merging in
         let left = did.status.2.0 refl in
         record {
-          after = after_of (Ok true) did tables plan m step.0;
+          after = after_of (Ok true) did tables plan m step.0 step.2;
           met = so_many step.1.all left;
           left = left;
         }
@@ -292,7 +338,7 @@ module _ {D : Type 0} (g : Ghosts D) (old : StoreFiles) (u : AreUsableFiles old)
         let step = did.steps m.meant plan (known_facts old).floor m.merging in
         let none : HasEntriesLeft (union_ghosts g) (files_ghosts g) now → ⊥ =
         λ left. let is = did.status.2.1 left in cc in (
-          after_of (Ok false) did tables plan m step.0,
+          after_of (Ok false) did tables plan m step.0 step.2,
           none,
           record {
             entries = step.0.walk.met;
@@ -321,13 +367,15 @@ module _ {D : Type 0} (g : Ghosts D) (old : StoreFiles) (u : AreUsableFiles old)
         StepsMerge (union_ghosts g) (files_ghosts g) count step_length a n was b next now answer)
         start_is did
 
-    pub keeps_told : KeepsMerge g (merge_after now) (Some was) a b old after result
+    abbrev Keeps : StoreFiles → Result Progress EngineError → Type 0
+    Keeps s r = KeepsMerge g (HasDamagedInput g a was) (merge_after now) (Some was) a b old s r
+
+    pub keeps_told : KeepsMerge g (HasDamagedInput g a was) (merge_after now) (Some was) a b old
+        after result
     keeps_told =
-        let told = subst (λ (r : Result Progress EngineError).
-        KeepsMerge g (merge_after now) (Some was) a b old (with_free old next) r) (sym result_is)
-        (advances free count b now next answer did_so) in
-        subst (λ (s : StoreFiles). KeepsMerge g (merge_after now) (Some was) a b old s result)
-        (sym after_is) told
+        let told = subst (λ (r : Result Progress EngineError). Keeps (with_free old next) r)
+        (sym result_is) (advances free count b now next answer did_so) in
+        subst (λ (s : StoreFiles). Keeps s result) (sym after_is) told
 
     pub planned_told : count ≡ length version.tables →
         AdvancesPlanned g a b old after was now result

@@ -25,10 +25,9 @@ use Rattle.store_model.specs.{IsPlanned, KeyRange, LevelTable}
 use Rattle.store_model.specs.Claims.{PlansFit}
 use Rattle.sorted_table.specs.{table_file}
 use Rattle.sorted_table.specs.declared.TableCursor.{TableCursor}
-use Rattle.store_tables.specs.declared.error.EngineError.TheVariants as engine
 use Rattle.store_tables.specs.declared.levels.OpenTable.{OpenTable}
 use Rattle.store_tables.specs.LevelTablesLemmas.{open_as_itself}
-use Rattle.store_tables.specs.LevelTables.{AreServed, AreTablesOf, HasMeantBlocks, IsServed}
+use Rattle.store_tables.specs.LevelTables.{AreTablesOf, HasMeantBlocks, IsServed}
 use Rattle.store_tables.specs.LevelTables.{WasServed, WereServed}
 use Rattle.store_tables.specs.MergeTables.{HaveInputs}
 use Rattle.store_tables.specs.RangeReads.{VersionsNameOwnFiles}
@@ -37,10 +36,13 @@ use Rattle.store_files.specs.OpenFiles.{FilesAreRead, known_store, known_version
 use Rattle.store_files.specs.Raising.{IsRaisedBy}
 use Rattle.table_files.specs.{inner_disk}
 use Rattle.table_files.specs.declared.cached_disk.CachedDisk.{CachedDisk}
-use Rattle.engine.specs.BeginParts.{BeginsMerge, BeginsOver}
+use Rattle.engine.specs.BeginParts.{BeginsMerge, BeginsOver, MeetsDamage}
+use Rattle.engine.specs.DamagedInputs.{AreReadAsMeant, WasRepresented}
 use Rattle.engine.specs.MergeParts.{answer_of_merge, error_of_merge}
 use Rattle.engine.specs.LentFiles.{files_ghosts, table_ghosts, union_ghosts}
-use Rattle.engine.specs.MergeParts.{IsPicked}
+use Rattle.engine.specs.MergeParts.{IsPartRefusal, IsPicked}
+use Rattle.engine.proofs.InputFiles.{cursors_intact, mixed, mixed_served, read_before, were_inputs}
+use Rattle.engine.proofs.InputFiles.{were_on}
 
 -- ---- the plan behind a rise of the floor
 
@@ -78,6 +80,13 @@ same_pick most base turn v w next tables =
     through None = refl
     through (Some level) = same_plan turn v w next tables level
 
+-- a rise of the floor leaves the tables of the version
+pub lines_raised : (floor : ℕ) (old new : StoreFiles) → IsRaisedBy floor old new →
+    (known_version new).version.tables ≡ (known_version old).version.tables
+lines_raised floor old new raised =
+    ap (λ (n : NodeVersion). n.version.tables) raised.version
+    ∙ all_tables_left (known_version old).version.tables
+
 -- a plan that is picked in the version of open files is so behind a rise of their floor
 pub picked_behind : (floor : ℕ) (old new : StoreFiles) (plan : Plan) → IsRaisedBy floor old new →
     IsPicked old plan → IsPicked new plan
@@ -89,8 +98,7 @@ picked_behind floor old new plan raised p =
       turn = p.turn;
       is = same_pick p.most p.base p.turn was (known_version new).version
           (ap (λ (n : NodeVersion). n.version.next_file) raised.version)
-          (ap (λ (n : NodeVersion). n.version.tables) raised.version ∙ all_tables_left was.tables)
-          ∙ p.is;
+          (lines_raised floor old new raised) ∙ p.is;
     }
 
 -- ---- the tables
@@ -144,15 +152,6 @@ module _ {D : Type 0} (g : Ghosts D) (store : StoreFiles) (plan : Plan) where
       AreCursorsOf (table_ghosts g) (files_ghosts g) meant files cursors
       (model_plan plan range tables).inputs
 
-  -- and where they find no damage
-  abbrev AreIntact : List TableLine → List (TableCursor D) → Type 0
-  AreIntact lines cursors =
-      (files : CachedDisk D g) (range : KeyRange) (tables : List LevelTable) →
-      g.is_honest (inner_disk files) → HaveInputs plan range lines store.tables tables →
-      AreServed (g.state (inner_disk files)) store.tables tables →
-      AreIntactCursors (table_ghosts g) (files_ghosts g) files cursors
-      (model_plan plan range tables).inputs
-
   -- what a merge is that begins with them at this version, with file numbers from this one on
   abbrev IsBegunAt : (a b : CachedDisk D g) → List (TableCursor D) → NodeVersion → ℕ →
       Result (Merge D) MergeError → Type 0
@@ -202,60 +201,80 @@ module _ {D : Type 0} (g : Ghosts D) (store : StoreFiles) (plan : Plan) where
     module _ (a b : CachedDisk D g) (cursors : List (TableCursor D)) (range : KeyRange)
         (joint : range_of plan version.tables ≡ Some range)
         (is : IsPlanned (model_plan plan range read.tables))
-        (intact : AreServed (g.state (inner_disk a)) store.tables read.tables →
+        (intact : AreReadAsMeant (g.state (inner_disk a)) meant
+        (model_plan plan range read.tables).inputs →
         AreIntactCursors (table_ghosts g) (files_ghosts g) a cursors
-        (model_plan plan range read.tables).inputs) (fit : PlansFit) where
-      -- what began is under way, and a refusal is external or says that a block is damaged
+        (model_plan plan range read.tables).inputs) (fit : PlansFit)
+        (were : All (WasRepresented (g.state (inner_disk a)) meant)
+        (model_plan plan range read.tables).inputs)
+        (same : (file : ℕ) → g.state (inner_disk b) file ≡ g.state (inner_disk a) file) where
+      abbrev inputs : List LevelTable
+      inputs = (model_plan plan range read.tables).inputs
+
+      -- what began is under way, and a refusal is external or says that an input is damaged
       begins_over : (r : Result (Merge D) MergeError) → HasNoOutput store.free_file r →
           MatchResult r
           (λ it. IsJustBegun (union_ghosts g) (files_ghosts g) meant b store.free_file it
           (model_plan plan range read.tables) version.floor
-          × (AreIntactCursors (table_ghosts g) (files_ghosts g) a cursors
-          (model_plan plan range read.tables).inputs →
+          × (AreIntactCursors (table_ghosts g) (files_ghosts g) a cursors inputs →
           IsIntactMerge (union_ghosts g) (files_ghosts g) b it
           (model_plan plan range read.tables)))
           (λ e. IsEnvironmental merge.Disk merge.Memory e ⊎ ((e ≡ merge.Damaged)
-          × (AreIntactCursors (table_ghosts g) (files_ghosts g) a cursors
-          (model_plan plan range read.tables).inputs → ⊥))) →
-          MatchResult (answer_of_merge r) (BeginsOver g plan a b store read.tables)
-          (λ e. IsEnvironmental engine.Disk engine.Memory e ⊎ ((e ≡ engine.Damaged)
-          × (AreServed (g.state (inner_disk a)) store.tables read.tables → ⊥)))
-      begins_over (Ok it) none both = record {
-        range = range;
-        joint = joint;
-        under_way = record {
-          meant = meant;
-          merging = both.0.merging;
-          can_end = fit list (known_store store read.tables) (model_plan plan range read.tables)
-              read.store is refl;
-          beside = λ file has. absurd (none.1 file has);
-        };
-        none = both.0.none;
-        intact = λ served. both.1 (intact served);
-      }
+          × (AreIntactCursors (table_ghosts g) (files_ghosts g) a cursors inputs → ⊥))) →
+          MatchResult (answer_of_merge r) (BeginsOver g plan a b meant store read.tables)
+          (IsPartRefusal (MeetsDamage g plan a meant store read.tables))
+      begins_over (Ok it) none both =
+          let before = g.state (inner_disk a) in
+          let after = g.state (inner_disk b) in
+          record {
+            range = range;
+            joint = joint;
+            under_way = record {
+              meant = meant;
+              merging = both.0.merging;
+              can_end = fit list (known_store store read.tables) (model_plan plan range read.tables)
+                  read.store is refl;
+              beside = λ file has. absurd (none.1 file has);
+              were = were_on before after meant inputs (λ t has. same t.file) were;
+              undamaged = λ reads. both.1 (intact
+                  (read_before before after meant inputs (λ t has. same t.file) reads));
+            };
+            none = both.0.none;
+            intact = λ reads. both.1 (intact reads);
+          }
       begins_over (Err e) none (inl (inl disk)) = inl (inl (ap error_of_merge disk))
       begins_over (Err e) none (inl (inr memory)) = inl (inr (ap error_of_merge memory))
-      begins_over (Err e) none (inr damaged) =
-          inr (ap error_of_merge damaged.0, λ served. damaged.1 (intact served))
+      begins_over (Err e) none (inr damaged) = inr (
+        ap error_of_merge damaged.0,
+        record { range = range; joint = joint; damaged = λ reads. damaged.1 (intact reads) },
+      )
 
   -- so a merge begins with cursors over the inputs of a plan that is picked
   pub begins_merge : PicksArePlanned → PlansFit → VersionsNameOwnFiles → IsPicked store plan →
       (a b : CachedDisk D g) (cursors : List (TableCursor D)) (named : NodeVersion) (next : ℕ)
       (lines : List TableLine) → named ≡ known_version store → next ≡ store.free_file →
-      lines ≡ version.tables → AreOver lines cursors → AreIntact lines cursors →
+      lines ≡ version.tables → AreOver lines cursors →
+      (g.is_honest (inner_disk a) →
+      (file : ℕ) → g.state (inner_disk b) file ≡ g.state (inner_disk a) file) →
       (r : Result (Merge D) MergeError) → IsBegunAt a b cursors named next r →
       HasNoOutput next r → BeginsMerge g plan a b store (answer_of_merge r)
-  begins_merge picks fit own p a b cursors named next lines is_named is_next is_lines over intact r
-      begun none list meant read honest served unused =
+  begins_merge picks fit own p a b cursors named next lines is_named is_next is_lines over same r
+      begun none list meant read honest served as_meant unused =
+      let disk = g.state (inner_disk a) in
       let plans = planned list meant read picks p in
       let range = plans.0 in
       let have = have_inputs list meant read own range plans.1 in
       let over' = subst (λ (l : List TableLine). AreOver l cursors) is_lines over in
-      let intact' = subst (λ (l : List TableLine). AreIntact l cursors) is_lines intact in
       let begun' = subst (λ (n : ℕ). IsBegunAt a b cursors (known_version store) n r) is_next
       (subst (λ (n : NodeVersion). IsBegunAt a b cursors n next r) is_named begun) in
+      let items = store.tables.tables.items in
+      let leveled = have.leveled in
       begins_over list meant read a b cursors range plans.1 plans.2
-      (λ are. intact' a range read.tables honest have are) fit r
-      (subst (λ (n : ℕ). HasNoOutput n r) is_next none)
+      (λ reads. cursors_intact g plan range a meant items read.tables have.flushed leveled served
+      cursors (over' (mixed g plan range a meant items read.tables have.flushed leveled served) a
+      range read.tables honest have (mixed_served g plan range a meant items read.tables
+      have.flushed leveled served reads)))
+      fit (were_inputs disk meant plan range version.tables read.tables read.read as_meant)
+      (same honest) r (subst (λ (n : ℕ). HasNoOutput n r) is_next none)
       (begun' meant read.tables range honest have.named plans.1
       (over' meant a range read.tables honest have served) read.usable.free unused)

@@ -1,12 +1,13 @@
 -- What a merge that begins keeps of open files: the floor rises, and then no file changes.
-use Rattle.std.proofs.Common.{◌≡◌, ◌⊎◌, ◌∙◌, List, Some, Result, Ok, Err, inl, inr, refl}
-use Rattle.std.proofs.Common.{subst, sym}
+use Rattle.std.proofs.Common.{◌≡◌, ◌∙◌, List, Some, Result, Ok, Err, inl, inr, refl}
+use Rattle.std.proofs.Common.{ap, subst, sym}
 use Rattle.std.proofs.Math.Path.{fun_ext}
-use Rattle.std.specs.Prelude.{IfErr, IfOk, IsErrAnd, IsErrOf, MatchResult, ℕ}
+use Rattle.std.specs.Prelude.{Contains, IfErr, IfOk, IsErrAnd, IsErrOf, MatchResult, ℕ}
 use Rattle.kv_types.specs.{BatchContent}
 use Rattle.disk.specs.{AlwaysLeaves, Contents, IsEnvironmental, State}
 use Rattle.disk.specs.MomentsLemmas.{join, weaker}
 use Rattle.disk.specs.declared.Disk.{Ghosts}
+use Rattle.version_edits.specs.declared.TableLine.{TableLine}
 use Rattle.compaction.specs.declared.Merge.{Merge}
 use Rattle.compaction.specs.declared.Plan.{Plan}
 use Rattle.compaction.specs.{model_plan}
@@ -17,7 +18,6 @@ use Rattle.store_tables.specs.declared.error.EngineError.{EngineError}
 use Rattle.store_tables.specs.declared.error.EngineError.TheVariants as engine
 use Rattle.store_tables.specs.Errors.{IsEnd}
 use Rattle.disk.specs.KeepingLemmas.{kept_as, kept_behind, kept_but}
-use Rattle.store_tables.specs.LevelTables.{AreServed}
 use Rattle.store_tables.specs.RefusalLemmas.{answers_nothing, done, if_refuses, on_ok, passed_on}
 use Rattle.store_tables.specs.RefusalLemmas.{refuses}
 use Rattle.store_files.specs.declared.store_files.StoreFiles.{StoreFiles}
@@ -28,20 +28,23 @@ use Rattle.store_files.specs.Raising.{RaisesFloor, obsolete_files}
 use Rattle.store_files.specs.Removing.{AreAbsent}
 use Rattle.table_files.specs.{inner_disk}
 use Rattle.table_files.specs.declared.cached_disk.CachedDisk.{CachedDisk}
-use Rattle.engine.specs.BeginParts.{BeginsMerge, BeginsOver}
+use Rattle.engine.specs.BeginParts.{BeginsMerge, BeginsOver, MeetsDamage}
+use Rattle.engine.specs.DamagedInputs.{AnInputIsDamaged, names_of_inputs}
 use Rattle.engine.specs.LentFiles.{files_ghosts}
-use Rattle.engine.specs.MergeParts.{IsBegunBy, IsNewMerge, KeepsBegun}
+use Rattle.engine.specs.MergeParts.{IsBegunBy, IsNewMerge, IsPartRefusal, KeepsBegun}
 use Rattle.engine.specs.UnderWay.{HoldsWithMerge, IsIntactMergeOf, IsSomeMergeOf}
 use Rattle.engine.specs.UnderWay.{WasMeantWithMerge}
-use Rattle.engine.proofs.Begins.{are_served, lines_of_tables, were_served}
+use Rattle.engine.proofs.Begins.{are_served, lines_of_tables, lines_raised, were_served}
+use Rattle.engine.proofs.InputFiles.{inputs_among, names_are, read_before, were_inputs, were_on}
+use Rattle.engine.proofs.RaisedFiles.{raised_no_table}
 
 module _ {D : Type 0} (g : Ghosts D) where
   -- a rise that is refused is all that was done
-  pub not_raised : (floor : ℕ) (a m : CachedDisk D g) (old new : StoreFiles) (e : EngineError)
-      (result : Result (Merge D) EngineError) →
+  pub not_raised : (plan : Plan) (floor : ℕ) (a m : CachedDisk D g) (old new : StoreFiles)
+      (e : EngineError) (result : Result (Merge D) EngineError) →
       RaisesFloor (files_ghosts g) floor a m old new (Err e) → IsErrAnd result (λ s. s ≡ e) →
-      KeepsBegun g floor a m old new result
-  not_raised floor a m old new e result raises told = record {
+      KeepsBegun g plan floor a m old new result
+  not_raised plan floor a m old new e result raises told = record {
     kept = kept_as (files_ghosts g) (passed_on (Err e) e result refl told) (λ s t same. same)
         raises.kept;
     touches = raises.touches;
@@ -51,8 +54,10 @@ module _ {D : Type 0} (g : Ghosts D) where
     held = λ list honest h. refuses result (λ it. HoldsWithMerge g m new (Some it) list)
         (IsEnvironmental engine.Disk engine.Memory) told (raises.tended list honest h).list;
     any_moment = λ list honest h. (raises.tended list honest h).any_moment;
-    meant = λ list honest w. answers_nothing result _
-        (λ it. WasMeantWithMerge g m new (Some it) list) told;
+    meant = λ list honest w. refuses result (λ it. WasMeantWithMerge g m new (Some it) list)
+        (IsPartRefusal (AnInputIsDamaged (g.state (inner_disk a))
+        (names_of_inputs plan (known_version old).version.tables))) told
+        (inl (raises.meant list honest w).list);
     meant_moment = λ list honest w. (raises.meant list honest w).any_moment;
   }
 
@@ -65,15 +70,14 @@ module _ {D : Type 0} (g : Ghosts D) where
     abbrev now : State
     now = g.state (inner_disk b)
 
-    -- how a merge began over these tables
-    abbrev HasBegun : List LevelTable → Result (Merge D) EngineError → Type 0
-    HasBegun tables result = MatchResult result (BeginsOver g plan m b store tables)
-        (λ e. IsEnvironmental engine.Disk engine.Memory e ⊎ ((e ≡ engine.Damaged)
-        × (AreServed mid store.tables tables → ⊥)))
+    -- how a merge began over these tables, whose files were meant to be as in this disk
+    abbrev HasBegun : State → List LevelTable → Result (Merge D) EngineError → Type 0
+    HasBegun meant tables result = MatchResult result (BeginsOver g plan m b meant store tables)
+        (IsPartRefusal (MeetsDamage g plan m meant store tables))
 
     -- files that hold a list hold it with the merge, and no block of theirs is damaged
     held_begun : (h : FilesHold mid store list) (result : Result (Merge D) EngineError) →
-        HasBegun h.known.tables result → mid ≡ now →
+        HasBegun mid h.known.tables result → mid ≡ now →
         MatchResult result (λ it. HoldsWithMerge g b store (Some it) list)
         (IsEnvironmental engine.Disk engine.Memory)
     held_begun h (Ok it) over same =
@@ -83,18 +87,22 @@ module _ {D : Type 0} (g : Ghosts D) where
           record {
             plan = model_plan plan over.range h.known.tables;
             under_way = over.under_way;
-            intact = over.intact h.known.served;
+            intact = over.intact (λ k d lt. refl);
           },
         ) in
         record { held = both.0; merges = both.1 }
     held_begun h (Err e) (inl external) same = external
-    held_begun h (Err e) (inr damaged) same = absurd (damaged.1 h.known.served)
+    held_begun h (Err e) (inr told) same = absurd (told.1.damaged (λ k d lt. refl))
 
-    -- so were they meant to hold it
-    meant_begun : (w : WereMeantToHold mid store list) (result : Result (Merge D) EngineError) →
-        HasBegun w.hold.known.tables result → mid ≡ now →
-        IfOk result (λ it. WasMeantWithMerge g b store (Some it) list)
-    meant_begun w (Ok it) over same =
+    -- so were they meant to hold it, or an input is damaged, by a disk with the same tables' files
+    meant_begun : (before : State) (lines : List TableLine)
+        (w : WereMeantToHold mid store list) (result : Result (Merge D) EngineError) →
+        HasBegun w.meant w.hold.known.tables result → mid ≡ now →
+        lines ≡ (known_version store).version.tables →
+        ((t : LevelTable) → Contains w.hold.known.tables t → mid t.file ≡ before t.file) →
+        MatchResult result (λ it. WasMeantWithMerge g b store (Some it) list)
+        (IsPartRefusal (AnInputIsDamaged before (names_of_inputs plan lines)))
+    meant_begun before lines w (Ok it) over same named kept =
         let both = subst (λ (s : State). (was : WereMeantToHold s store list)
         × IsSomeMergeOf g b store was.hold.known.tables it) same (
           w,
@@ -104,11 +112,31 @@ module _ {D : Type 0} (g : Ghosts D) where
           },
         ) in
         record { was = both.0; merges = both.1 }
-    meant_begun w (Err e) over same = tt
+    meant_begun before lines w (Err e) (inl external) same named kept = inl external
+    meant_begun before lines w (Err e) (inr told) same named kept =
+        let known = w.hold.known in
+        let it = told.1 in
+        let inputs = (model_plan plan it.range known.tables).inputs in
+        let as_before = λ (t : LevelTable) (has : Contains inputs t).
+        kept t (inputs_among plan it.range known.tables t has) in inr (
+          told.0,
+          record {
+            meant = w.meant;
+            inputs = inputs;
+            named = ap (names_of_inputs plan) named
+                ∙ names_are plan it.range (known_version store).version.tables known.tables it.joint
+                (lines_of_tables _ (known_version store).version.tables known.tables known.read);
+            were = were_on mid before w.meant inputs (λ t has. sym (as_before t has))
+                (were_inputs mid w.meant plan it.range (known_version store).version.tables
+                known.tables known.read w.disk_is.tables);
+            damaged = λ reads. it.damaged
+                (read_before mid before w.meant inputs (λ t has. sym (as_before t has)) reads);
+          },
+        )
 
     -- and none of the inputs' entries is merged yet
     is_begun : (meant : State) (read : FilesAreRead meant store list)
-        (result : Result (Merge D) EngineError) → HasBegun read.tables result →
+        (result : Result (Merge D) EngineError) → HasBegun meant read.tables result →
         IfOk result (IsNewMerge g plan b store)
     is_begun meant read (Ok it) over = record {
       tables = read.tables;
@@ -130,20 +158,20 @@ module _ {D : Type 0} (g : Ghosts D) where
     -- files that hold a list behind the rise
     begins_held : (list : List BatchContent) → g.is_honest (inner_disk a) →
         (h : FilesHold (g.state (inner_disk m)) new list) →
-        HasBegun plan m b new list h.known.tables result
+        HasBegun plan m b new list (g.state (inner_disk m)) h.known.tables result
     begins_held list honest h =
         begins list (g.state (inner_disk m)) h.known (raises.kept.honest.1 honest)
         (are_served (g.state (inner_disk m)) new.tables.tables.items h.known.tables h.known.served)
-        h.unused
+        (λ k d lt. inl refl) h.unused
 
     -- and files that were meant to
     begins_meant : (list : List BatchContent) → g.is_honest (inner_disk a) →
         (w : WereMeantToHold (g.state (inner_disk m)) new list) →
-        HasBegun plan m b new list w.hold.known.tables result
+        HasBegun plan m b new list w.meant w.hold.known.tables result
     begins_meant list honest w =
         begins list w.meant w.hold.known (raises.kept.honest.1 honest)
         (were_served (g.state (inner_disk m)) w.meant new.tables.tables.items w.hold.known.tables
-        w.hold.known.served w.disk_is.blocks)
+        w.hold.known.served w.disk_is.blocks) w.disk_is.tables
         (apart.unused (g.state (inner_disk m)) new list w)
 
     -- no file changed
@@ -164,7 +192,19 @@ module _ {D : Type 0} (g : Ghosts D) where
         (λ left at. before.now left (λ file. at file (λ no. no)))
         (writes.any_moment (raises.kept.honest.1 honest)))
 
-    pub keeps_begun : IfErr result IsEnd → KeepsBegun g floor a b old new result
+    -- the rise leaves the files of tables
+    tables_stay : (list : List BatchContent) → g.is_honest (inner_disk a) →
+        WereMeantToHold (g.state (inner_disk a)) old list →
+        (was : WereMeantToHold (g.state (inner_disk m)) new list) → (t : LevelTable) →
+        Contains was.hold.known.tables t →
+        g.state (inner_disk m) t.file ≡ g.state (inner_disk a) t.file
+    tables_stay list honest w was t has = raises.touches honest t.file (raised_no_table floor old
+        new raises.did w.hold.known.usable.version (lines_raised floor old new raises.did)
+        (λ file there. apart.tended w.meant old list w.hold.known file there) was.meant
+        was.hold.known.tables was.hold.known.read t has
+        (apart.tables was.meant new list was.hold.known t has))
+
+    pub keeps_begun : IfErr result IsEnd → KeepsBegun g plan floor a b old new result
     keeps_begun ends = record {
       kept = kept_behind (files_ghosts g) (λ s t u before after. tt) raises.kept done
           (kept_but (files_ghosts g) (λ no. absurd no) writes.kept);
@@ -181,8 +221,9 @@ module _ {D : Type 0} (g : Ghosts D) where
       any_moment = λ list honest h. moments _ honest (raises.tended list honest h).any_moment;
       meant = λ list honest w.
           let was = (raises.meant list honest w).list in
-          meant_begun plan m b new list was result (begins_meant list honest was)
-          (same_state honest);
+          meant_begun plan m b new list (g.state (inner_disk a)) _ was result
+          (begins_meant list honest was) (same_state honest)
+          (sym (lines_raised floor old new raises.did)) (tables_stay list honest w was);
       meant_moment = λ list honest w. moments _ honest (raises.meant list honest w).any_moment;
     }
 

@@ -36,7 +36,7 @@ use Rattle.table_files.specs.{inner_disk}
 use Rattle.table_files.specs.declared.cached_disk.CachedDisk.{CachedDisk}
 use Rattle.engine.specs.LentFiles.{files_ghosts, union_ghosts}
 use Rattle.engine.specs.MergeParts.{HoldEdit, IsEditOf, KeepsCompleted}
-use Rattle.engine.specs.MergeParts.{IsCheckedEdit, WereMeantEdit, error_of_merge}
+use Rattle.engine.specs.MergeParts.{IsCheckedEdit, IsPartRefusal, WereMeantEdit, error_of_merge}
 use Rattle.engine.specs.UnderWay.{HoldsWithMerge, IsMergeOf, WasMeantWithMerge}
 use Rattle.engine.proofs.Abandons.{ends, environment, fails_alike}
 use Rattle.engine.proofs.Advances.{own_file, own_named}
@@ -155,7 +155,7 @@ module _ {D : Type 0} (g : Ghosts D) (old : StoreFiles) (u : AreUsableFiles old)
         MatchResult result (λ made. HoldEdit g b old made list)
         (IsEnvironmental engine.Disk engine.Memory)) →
         ((list : List BatchContent) → WasMeantWithMerge g a old (Some was) list →
-        IfOk result (λ made. WereMeantEdit g b old made list)) →
+        MatchResult result (λ made. WereMeantEdit g b old made list) (IsPartRefusal ⊥)) →
         KeepsCompleted g a b old was result
     completes answer did result alike refused held meant = record {
       kept = kept_but (files_ghosts g)
@@ -204,12 +204,13 @@ module _ {D : Type 0} (g : Ghosts D) (old : StoreFiles) (u : AreUsableFiles old)
     keeps_refusal e room did told is = subst (λ (s : EngineError). Keeps (Err s)) (sym is)
         (completes (Err e) did (Err (error_of_merge e)) (fails_alike e) (ends e)
         (λ list h. outside e room did h.held.known.tables h.merges.plan h.merges.under_way)
-        (λ list w. tt))
+        (λ list w. inl (outside e room did w.was.hold.known.tables w.merges.plan
+        w.merges.under_way)))
 
     -- memory was wanting
     keeps_memory : (edit : Change) → Did (Ok edit) → Keeps (Err engine.Memory)
     keeps_memory edit did = completes (Ok edit) did (Err engine.Memory) (λ f. cc, λ f. cc) tt
-        (λ list h. inr refl) (λ list w. tt)
+        (λ list h. inr refl) (λ list w. inl (inr refl))
 
     -- the store may record the edit, which gives up what the merge began with
     may_merge : (edit : Change) → Did (Ok edit) → IsFit version edit →
@@ -265,7 +266,11 @@ module _ {D : Type 0} (g : Ghosts D) (old : StoreFiles) (u : AreUsableFiles old)
         let fit = fit_of edit did h.held.known.tables h.merges.plan m in
         absurd (unfit (fit.fit
         (accepts (g.state (inner_disk a)) list h.held.known h.merges.plan m)).0))
-        (λ list w. tt)
+        (λ list w.
+        let m = w.merges.under_way in
+        let fit = fit_of edit did w.was.hold.known.tables w.merges.plan m in
+        absurd (unfit (fit.fit
+        (accepts w.was.meant list w.was.hold.known w.merges.plan m)).0))
 
     -- ---- as the edit was checked
 

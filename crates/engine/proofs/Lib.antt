@@ -6,6 +6,9 @@ pub mod Openings
 pub mod Unchanged
 pub mod MemoryReads
 pub mod Removals
+pub mod TestedLists
+pub mod InputFiles
+pub mod RaisedFiles
 pub mod Begins
 pub mod BegunParts
 pub mod Beside

@@ -39,6 +39,7 @@ use Rattle.engine.specs.LentFiles.{files_ghosts, union_ghosts}
 use Rattle.engine.specs.UnderWay.{HoldsWithMerge, IsMergeOf}
 use Rattle.engine.specs.UnderWay.{MergesOfEngineLast, MergesOfEngineStayBeside}
 use Rattle.engine.specs.UnderWay.{WasMeantWithMerge}
+use Rattle.engine.proofs.InputFiles.{read_before, same_files_of, were_on}
 
 -- a list that a map makes has of each value one that it came from
 contains_mapped : {A B : Type 0} (f : A → B) (xs : List A) (y : B) → Contains (map f xs) y →
@@ -100,14 +101,21 @@ module _ {D : Type 0} (g : Ghosts D) (lasts : MergesOfEngineLast g) where
       (known_facts now).floor ≡ (known_facts was).floor → IsUnderWay (known_store now after) plan →
       OutputsAreBeside merge.writer (known_version now).version →
       IsMergeOf g b now after merge plan
-  under_way_on a b was now tables after merge plan m leaves floor can_end beside = record {
-    meant = m.meant;
-    merging = subst (λ (f : ℕ). IsMerging (union_ghosts g) (files_ghosts g) m.meant b now.free_file
-        merge plan f) (sym floor) (lasts m.meant a b was.free_file now.free_file merge plan
-        (known_facts was).floor m.merging leaves).0;
-    can_end = can_end;
-    beside = beside;
-  }
+  under_way_on a b was now tables after merge plan m leaves floor can_end beside =
+      let s = g.state (inner_disk a) in
+      let t = g.state (inner_disk b) in
+      let same = same_files_of s t plan.inputs leaves.sources.1 in
+      let last = lasts m.meant a b was.free_file now.free_file merge plan (known_facts was).floor
+      m.merging leaves in
+      record {
+        meant = m.meant;
+        merging = subst (λ (f : ℕ). IsMerging (union_ghosts g) (files_ghosts g) m.meant b
+            now.free_file merge plan f) (sym floor) last.0;
+        can_end = can_end;
+        beside = beside;
+        were = were_on s t m.meant plan.inputs same m.were;
+        undamaged = λ reads. last.1 (m.undamaged (read_before s t m.meant plan.inputs same reads));
+      }
 
   -- and its inputs as intact
   pub intact_on : (a b : CachedDisk D g) (was now : StoreFiles) (tables : List LevelTable)

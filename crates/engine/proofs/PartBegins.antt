@@ -1,8 +1,8 @@
 -- What a tend of merges did: one began, or went on, or none was due.
-use Rattle.std.proofs.Common.{◌≡◌, ◌==◌, ◌∙◌, ℕ, List, Option, None, Some, Result, Ok, Err, ap}
+use Rattle.std.proofs.Common.{◌≡◌, ◌==◌, ◌∙◌, ℕ, List, [], Option, None, Some, Result, Ok, Err, ap}
 use Rattle.std.proofs.Common.{refl, subst, sym}
 use Rattle.std.specs.Prelude.{IfOk, if◌then◌else◌}
-use Rattle.std.specs.Option.{option_or}
+use Rattle.std.specs.Option.{option_map_or, option_or}
 use Rattle.disk.specs.declared.Disk.{Ghosts}
 use Rattle.kv_types.specs.{StoredKey}
 use Rattle.kv_types.specs.declared.Limits.{Limits}
@@ -18,10 +18,11 @@ use Rattle.store_files.specs.declared.tended.Tended.{Tended}
 use Rattle.store_files.specs.declared.tended.Tended.TheVariants as tended
 use Rattle.store_files.specs.OpenFiles.{known_version}
 use Rattle.table_files.specs.declared.cached_disk.CachedDisk.{CachedDisk}
+use Rattle.engine.specs.DamagedInputs.{names_of_inputs}
 use Rattle.engine.specs.MergeParts.{IsBegunBy}
 use Rattle.engine.specs.Tends.{ContinuesAsPlanned, ContinuesMerge, HasMerged as merged}
 use Rattle.engine.specs.Tends.{ContinuesMerge as going, MergesByPlan, due_plan}
-use Rattle.engine.specs.Tends.{key_of_plan, tended_store, turn_after}
+use Rattle.engine.specs.Tends.{key_of_plan, next_inputs, tended_store, turn_after}
 use Rattle.engine.specs.UnderWay.{WasMeantWithMerge}
 
 -- the turn of the table is over, where the plan takes one alone
@@ -37,6 +38,28 @@ turn_over plan named lines same turn later found is over level =
     (subst (λ (k : Option StoredKey). turn_key later level
     ≡ (if level == plan.level then option_or k (turn_key turn level) else turn_key turn level)) is
     (over level))
+
+-- ---- the inputs of the merge that is next
+
+module _ {D : Type 0} (limits : Limits) (store : StoreFiles) (was : Option (Merge D))
+    (turn : Turn) where
+  -- they are those of the merge that is under way
+  pub inputs_under_way : (it : Merge D) → was ≡ Some it →
+      next_inputs limits (tended_store store was turn) ≡ it.gone.items
+  inputs_under_way it some =
+      ap (λ (m : Option (Merge D)). next_inputs limits (tended_store store m turn)) some
+
+  -- or of the plan that is due
+  pub inputs_due : (plan : Plan) → was ≡ None →
+      due_plan limits (tended_store store was turn) ≡ Some plan →
+      next_inputs limits (tended_store store was turn)
+      ≡ names_of_inputs plan (known_version store).version.tables
+  inputs_due plan none due =
+      ap (λ (m : Option (Merge D)). next_inputs limits (tended_store store m turn)) none
+      ∙ ap (λ (p : Option Plan). option_map_or (λ q. names_of_inputs q
+      (known_version store).version.tables) p []) due
+
+-- ---- what was done
 
 module _ {D : Type 0} (g : Ghosts D) (limits : Limits) (floor : ℕ) (a b : CachedDisk D g)
     (old new : StoreFiles) (was left : Option (Merge D)) (turn later : Turn) where

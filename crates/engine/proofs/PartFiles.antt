@@ -103,15 +103,15 @@ module _ {D : Type 0} where
 
 module _ {D : Type 0} (g : Ghosts D) where
   -- where the next part may fail, the first might have
-  pub may_fail_behind : {T : Type 0} (a b : CachedDisk D g) (old mid : StoreFiles)
+  pub may_fail_behind : {T damage : Type 0} (a b : CachedDisk D g) (old mid : StoreFiles)
       (was next : Option (Merge D)) (now : T → Option (Merge D)) (called : Result T EngineError)
-      (x : T) → called ≡ Ok x → KeepsMerge g now was a b old mid called → now x ≡ next →
+      (x : T) → called ≡ Ok x → KeepsMerge g damage now was a b old mid called → now x ≡ next →
       mid.manifest ≡ old.manifest → PartMayFail g b mid next → PartMayFail g a old was
   may_fail_behind a b old mid was next now called x is part to same (inl full) =
       inl (subst (λ (m : Manifest). HasFullSlot m) same full)
-  may_fail_behind a b old mid was next now called x is part to same (inr none) =
+  may_fail_behind {damage = damage} a b old mid was next now called x is part to same (inr none) =
       inr (λ list honest h.
-      let here = subst (λ r. KeepsMerge g now was a b old mid r) is part in
+      let here = subst (λ r. KeepsMerge g damage now was a b old mid r) is part in
       none list (here.kept.honest.1 honest) (subst (λ (m : Option (Merge D)).
       HoldsWithMerge g b mid m list) to (here.held list honest h)))
 

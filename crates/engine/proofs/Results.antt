@@ -1,11 +1,13 @@
 -- What an answer or a refusal says.
-use Rattle.std.proofs.Common.{◌≡◌, ◌∙◌, Result, Ok, Err, inl, inr, refl, sym, subst}
+use Rattle.std.proofs.Common.{◌≡◌, ◌∙◌, Result, Ok, Err, ap, inl, inr, refl, sym, subst}
 use Rattle.std.proofs.Common.{Bool, false, true}
 use Rattle.std.specs.Prelude.{◌⊎◌, ◌↔◌, IfErr, IfOk, IsErrAnd, IsErrOf, IsTrue, MatchResult, OnOk}
 use Rattle.std.specs.Prelude.{is_err}
+use Rattle.disk.specs.{IsEnvironmental}
 use Rattle.store_tables.specs.declared.error.EngineError.{EngineError}
 use Rattle.store_tables.specs.declared.error.EngineError.TheVariants as engine
 use Rattle.store_tables.specs.Errors.{EndsEngine, IsEnd}
+use Rattle.engine.specs.MergeParts.{IsPartRefusal}
 
 -- a refusal is none
 pub not_true : false ≡ true → ⊥
@@ -88,26 +90,55 @@ pub answers_with : {T : Type 0} (P Q : Type 0) (E : EngineError → Type 0)
 answers_with P Q E (Ok x) p q = p
 answers_with P Q E (Err e) p why = why
 
--- what holds of each answer holds of this one
-pub answers_so : {T : Type 0} (P : Type 0) (result : Result T EngineError) → OnOk result P →
-    IfOk result (λ _. P)
-answers_so P (Ok x) p = p
-answers_so P (Err e) p = tt
-
 -- what is so of each answer
 pub if_ok : {T : Type 0} {P Q : T → Type 0} (result : Result T EngineError) →
     ((x : T) → P x → Q x) → IfOk result P → IfOk result Q
 if_ok (Ok x) so p = so x p
 if_ok (Err e) so p = tt
 
--- what each answer has, one that answers has
-pub answers_as : {T : Type 0} (P : Type 0) (result : Result T EngineError) → IfOk result (λ _. P) →
-    OnOk result P
-answers_as P (Ok x) p = p
-answers_as P (Err e) p = tt
-
 -- what an answer has, a call has that is not refused
 pub unless_refused : {T : Type 0} (P : Type 0) (result : Result T EngineError) (ended : Bool) →
     ended ≡ is_err result → OnOk result P → ended ≡ false → P
 unless_refused P (Ok x) ended is p works = p
 unless_refused P (Err e) ended is p works = let both = sym is ∙ works in cc
+
+-- ---- damage
+
+-- damage that is told is another
+pub refused_for : {damage other : Type 0} (e : EngineError) → (damage → other) →
+    IsPartRefusal damage e → IsPartRefusal other e
+refused_for e so (inl outside) = inl outside
+refused_for e so (inr told) = inr (told.0, so told.1)
+
+-- and so is that of an answer or a refusal
+pub match_for : {T damage other : Type 0} (result : Result T EngineError) (P : T → Type 0) →
+    (damage → other) → MatchResult result P (IsPartRefusal damage) →
+    MatchResult result P (IsPartRefusal other)
+match_for (Ok x) P so both = both
+match_for (Err e) P so both = refused_for e so both
+
+-- one that is refused by the environment alone is not refused for damage
+pub refused_outside : {T : Type 0} (damage : Type 0) (result : Result T EngineError)
+    (P : T → Type 0) →
+    MatchResult result P (IsEnvironmental engine.Disk engine.Memory) →
+    MatchResult result P (IsPartRefusal damage)
+refused_outside damage (Ok x) P both = both
+refused_outside damage (Err e) P outside = inl outside
+
+-- so nothing has to be shown of its damage
+pub damage_apart : {T next : Type 0} (result : Result T EngineError) →
+    IfErr result (IsEnvironmental engine.Disk engine.Memory) →
+    IsErrOf result engine.Damaged → next
+damage_apart (Ok x) outside damaged = absurd cc
+damage_apart (Err e) (inl disk) damaged = absurd cc
+damage_apart (Err e) (inr memory) damaged = absurd cc
+
+-- where damage is told only at this time, it is told then
+pub refused_then : {T : Type 0} (damage next : Type 0) (result : Result T EngineError)
+    (P : T → Type 0) →
+    MatchResult result P (IsPartRefusal damage) → (IsErrOf result engine.Damaged → next) →
+    IfErr result (IsPartRefusal (next × damage))
+refused_then damage next (Ok x) P both then = tt
+refused_then damage next (Err e) P (inl outside) then = inl outside
+refused_then damage next (Err e) P (inr told) then =
+    inr (told.0, (then (ap (λ s. Err s) told.0), told.1))

@@ -1,7 +1,7 @@
 -- A tend of an engine's store, which leaves a merge under way.
 use Rattle.std.proofs.Common.{◌≡◌, ◌≢◌, ◌+◌, ◌≤◌, ℕ, List, [], ◌∷◌, Option, Result, Ok, Err, arith}
 use Rattle.std.proofs.Common.{inl, inr, refl, subst, sym}
-use Rattle.std.specs.Prelude.{Contains, IfErr, IfOk, MatchResult}
+use Rattle.std.specs.Prelude.{Contains, IfOk, MatchResult}
 use Rattle.kv_types.specs.{BatchContent}
 use Rattle.kv_types.specs.declared.Limits.{Limits}
 use Rattle.disk.specs.declared.Disk.{Ghosts}
@@ -11,7 +11,6 @@ use Rattle.compaction.specs.declared.Merge.{Merge}
 use Rattle.compaction.specs.declared.Turn.{Turn}
 use Rattle.store_model.specs.PlacesLemmas.{contains_cases}
 use Rattle.store_tables.specs.declared.error.EngineError.{EngineError}
-use Rattle.store_tables.specs.declared.error.EngineError.TheVariants as error
 use Rattle.store_tables.specs.Errors.{IsEnd}
 use Rattle.disk.specs.KeepingLemmas.{kept_but}
 use Rattle.store_files.specs.declared.store_files.StoreFiles.{StoreFiles}
@@ -24,18 +23,18 @@ use Rattle.store_files.specs.Plans.{KeepsPlans}
 use Rattle.store_files.specs.Raising.{facts_with_floor}
 use Rattle.store_files.specs.StoreFiles.{FilesRepresent, WereMeant}
 use Rattle.store_files.specs.TendKeeps.{FilesAreTended, OfEitherFacts}
-use Rattle.store_files.specs.Tending.{FlushIsDue, IsFlushAnswer, IsRewriteAnswer, IsTend}
-use Rattle.store_files.specs.Tending.{IsWorkAnswer, IsWorkAnswer as work, RewriteIsDue, TendMayFail}
+use Rattle.store_files.specs.Tending.{IsFlushAnswer, IsRewriteAnswer, IsTend}
+use Rattle.store_files.specs.Tending.{IsWorkAnswer, IsWorkAnswer as work, TendMayFail}
 use Rattle.store_files.specs.Tending.{tended_files}
 use Rattle.table_files.specs.{inner_disk}
 use Rattle.table_files.specs.declared.cached_disk.CachedDisk.{CachedDisk}
 use Rattle.engine.specs.LentFiles.{files_ghosts}
 use Rattle.engine.specs.MergeParts.{IsMergeFile as own, IsTendedFile as tended, IsTendedFile}
-use Rattle.engine.specs.Tends.{IsTendRefusal, KeepsTended, MergesByPlan, TendedStore}
+use Rattle.engine.specs.Tends.{KeepsTended, MergesAreNext, MergesByPlan, TendedStore}
 use Rattle.engine.specs.Tends.{TendsByPlan}
 use Rattle.engine.specs.Tends.{TendsStore as tends, tended_store}
 use Rattle.engine.specs.UnderWay.{MergesOfEngineLast, MergesOfEngineStayBeside}
-use Rattle.engine.proofs.Results.{answers_so, answers_with, of_refusal, on_answer}
+use Rattle.engine.proofs.Results.{answers_with, of_refusal, on_answer, refused_outside}
 use Rattle.engine.proofs.Merges.{goes_with_merge, meant_with_merge, tend_leaves_ok, unused_held}
 use Rattle.engine.proofs.Merges.{unused_meant}
 
@@ -67,12 +66,13 @@ tended_within store merge floor file has =
 module _ {D : Type 0} (g : Ghosts D) (lasts : MergesOfEngineLast g)
     (edits : MergesOfEngineStayBeside g) (apart : OpenFilesAreApart) where
   -- what a tend of the store keeps, as a part
-  pub part_of_tend : (floor : ℕ) (merge : Option (Merge D)) (turn : Turn) (a b : CachedDisk D g)
-      (old new : StoreFiles) (result : Result Tended EngineError) →
+  pub part_of_tend : (limits : Limits) (floor : ℕ) (merge : Option (Merge D)) (turn : Turn)
+      (a b : CachedDisk D g) (old new : StoreFiles) (result : Result Tended EngineError) →
       FilesAreTended (files_ghosts g) (TendMayFail (files_ghosts g) a old) (IsTend old new) a b old
       new result → KeepsPlans (files_ghosts g) (λ list. list) a b old new result →
-      KeepsTended g floor a b (tended_store old merge turn) (tended_store new merge turn) result
-  part_of_tend floor merge turn a b old new result tends plans =
+      KeepsTended g limits floor a b (tended_store old merge turn) (tended_store new merge turn)
+      result
+  part_of_tend limits floor merge turn a b old new result tends plans =
       let before = g.state (inner_disk a) in
       let after = g.state (inner_disk b) in
       record {
@@ -102,14 +102,16 @@ module _ {D : Type 0} (g : Ghosts D) (lasts : MergesOfEngineLast g)
             (g.past (inner_disk b)) (λ left it. inl it)
             (tends.tended list honest h.held).any_moment;
         meant = λ list honest w.
-            let held = on_answer result _ _ (tends.meant list honest w.was).list in
+            let told = (tends.meant list honest w.was).list in
+            let held = on_answer result _ _ told in
             let known = w.was.hold.known in
-            answers_so _ result (meant_with_merge g lasts a b old new merge list (λ l. l) result
+            refused_outside _ result _ (answers_with _ _ _ result
+            (meant_with_merge g lasts a b old new merge list (λ l. l) result
             honest plans held w (λ m plan is it. tend_leaves_ok g lasts apart a b old new
             known.tables m plan it edits result tends.did
             (apart.tended w.was.meant old list known) (apart.tables w.was.meant old list known)
             (tends.kept.honest.1 honest) (tends.touches honest) tends.numbers.1 plans.free
-            (unused_meant apart after new list result held)));
+            (unused_meant apart after new list result held))) told);
         meant_moment = λ list honest w.
             weaker (WereMeant (known_facts old) list)
             (λ left. OfEitherFacts (known_facts old) (facts_with_floor old floor)
@@ -150,7 +152,7 @@ module _ {D : Type 0} (g : Ghosts D) (limits : Limits) (floor : ℕ) (a b : Cach
 
   -- where it rested, merges are next
   next_at_rest : (told : Tended) → told ≡ answer.Idle → IsWorkAnswer limits.log old new told →
-      (RewriteIsDue old → ⊥) × (FlushIsDue limits.log old → ⊥)
+      MergesAreNext limits.log old
   next_at_rest told idle (work.Rewrites due did) =
       absurd (subst (λ (t : Tended). IsRewriteAnswer old new t) idle did)
   next_at_rest told idle (work.Flushes short due did) =
@@ -173,18 +175,8 @@ module _ {D : Type 0} (g : Ghosts D) (limits : Limits) (floor : ℕ) (a b : Cach
   }
   merge_did later end called is work (Err e) by = tt
 
-  -- a refusal that ends an engine is of a merge, where that rested
-  refused_at_rest : (e : EngineError) → IsEnd e →
-      (RewriteIsDue old → ⊥) × (FlushIsDue limits.log old → ⊥) → IsTendRefusal limits.log old e
-  refused_at_rest error.Disk end rests = inl (inl refl)
-  refused_at_rest error.Memory end rests = inl (inr refl)
-  refused_at_rest error.Damaged end rests = inr (refl, rests.0, rests.1)
-  refused_at_rest _ end rests = absurd end
-
+  -- a refusal for damage is of a merge, where that rested
   pub merge_refused : (called : Result Tended EngineError) → called ≡ Ok answer.Idle →
-      IfOk called (IsWorkAnswer limits.log old new) → (result : Result Tended EngineError) →
-      IfErr result IsEnd → IfErr result (IsTendRefusal limits.log old)
-  merge_refused called is work (Ok told) end = tt
-  merge_refused called is work (Err e) end =
-      refused_at_rest e end (next_at_rest answer.Idle refl
-      (subst (λ r. IfOk r (IsWorkAnswer limits.log old new)) is work))
+      IfOk called (IsWorkAnswer limits.log old new) → MergesAreNext limits.log old
+  merge_refused called is work = next_at_rest answer.Idle refl
+      (subst (λ r. IfOk r (IsWorkAnswer limits.log old new)) is work)

@@ -203,14 +203,15 @@ IsTendAnswer old new =
     TendsInOrder (look_ups old).limits (least_read old) (tended_of old) (tended_of new)
 
 -- A tend does what is due: of files that hold a list, or else it is refused for the environment;
--- and of files that were meant to, or else it may be refused for damage too, where no rewrite and
--- no flush is due. Of both a merge goes as it was planned.
+-- and of files that were meant to, or else it may be refused for damage of an input of the merge
+-- too, where no rewrite and no flush is due. Of both a merge goes as it was planned.
 pub record TendsAsDue {D : Type 0} (g : Ghosts D) (old new : Engine D g)
     (result : Result Tended EngineError) : Type 0 where
   pub reads : (list : List BatchContent) → EngineReads g old list →
       MatchResult result (IsTendAnswer old new) (IsEnvironmental engine.Disk engine.Memory)
   pub meant : (list : List BatchContent) → EngineWasMeant g old list →
-      MatchResult result (IsTendAnswer old new) (IsTendRefusal (look_ups old).limits.log old.store)
+      MatchResult result (IsTendAnswer old new)
+      (IsTendRefusal (look_ups old).limits (g.state (engine_disk old)) (tended_of old))
   pub planned : OfEachList g old (λ list. IfOk result (TendsAsPlanned g (look_ups old).limits
       (least_read old) old.files new.files (tended_of old) (tended_of new)))
 

@@ -1,4 +1,5 @@
 pub mod LentFiles
+pub mod DamagedInputs
 pub mod UnderWay
 pub mod MergeParts
 pub mod BeginParts

@@ -40,6 +40,7 @@ use Rattle.table_files.specs.{inner_disk}
 use Rattle.table_files.specs.declared.cached_disk.CachedDisk.{CachedDisk}
 use Rattle.engine.specs.declared.merging.Progress.{Progress}
 use Rattle.engine.specs.declared.merging.Progress.TheVariants as progress
+use Rattle.engine.specs.DamagedInputs.{AnInputIsDamaged, names_of_inputs}
 use Rattle.engine.specs.LentFiles.{files_ghosts, union_ghosts}
 use Rattle.engine.specs.UnderWay.{HoldsWithMerge, IsMergeOf, WasMeantWithMerge}
 
@@ -75,11 +76,17 @@ pub data IsTendedFile {D : Type 0} (store : StoreFiles) (merge : Option (Merge D
 
 -- ---- what is kept
 
+-- why a part of a merge is refused, of files that were meant to hold a list: for the environment,
+-- or for this damage
+abbrev pub IsPartRefusal : Type 0 → EngineError → Type 0
+IsPartRefusal damage e =
+    IsEnvironmental engine.Disk engine.Memory e ⊎ ((e ≡ engine.Damaged) × damage)
+
 -- What a part of a merge keeps: it changes these files alone and this of the facts. `Held` and
 -- `Meant` say of a list what the open files have of it before, and `Holds` and `IsMeant` behind an
 -- answer: the first of each where no block is damaged.
 pub record KeepsPart {D T : Type 0} (g : Ghosts D) (touched : ℕ → Type 0)
-    (OfFacts : (Facts → Type 0) → Type 0) (cause : Type 0)
+    (OfFacts : (Facts → Type 0) → Type 0) (cause damage : Type 0)
     (Held Meant : List BatchContent → Type 0) (Holds IsMeant : T → List BatchContent → Type 0)
     (a b : CachedDisk D g) (old new : StoreFiles) (result : Result T EngineError) : Type 0 where
   -- a device that works fails only for this cause
@@ -101,9 +108,9 @@ pub record KeepsPart {D T : Type 0} (g : Ghosts D) (touched : ℕ → Type 0)
   pub any_moment : (list : List BatchContent) → g.is_honest (inner_disk a) → Held list →
       AlwaysLeaves g (inner_disk a) (inner_disk b)
       (λ left. OfFacts (λ facts. FilesRepresent facts list left))
-  -- so it is with files that were meant to hold one
+  -- so it is with files that were meant to hold one, but that this damage may refuse it too
   pub meant : (list : List BatchContent) → g.is_honest (inner_disk a) → Meant list →
-      IfOk result (λ answer. IsMeant answer list)
+      MatchResult result (λ answer. IsMeant answer list) (IsPartRefusal damage)
   pub meant_moment : (list : List BatchContent) → g.is_honest (inner_disk a) → Meant list →
       AlwaysLeaves g (inner_disk a) (inner_disk b)
       (λ left. OfFacts (λ facts. WereMeant facts list left))
@@ -116,22 +123,28 @@ module _ {D : Type 0} (g : Ghosts D) where
       ⊎ ((list : List BatchContent) → g.is_honest (inner_disk files) →
       HoldsWithMerge g files store merge list → ⊥)
 
+  -- a file of an input of the merge does not read as it was meant to
+  abbrev pub HasDamagedInput : CachedDisk D g → Merge D → Type 0
+  HasDamagedInput files merge = AnInputIsDamaged (g.state (inner_disk files)) merge.gone.items
+
   -- What a part keeps that leaves the facts as they are, and of the merge what `now` says of its
   -- answer.
-  abbrev pub KeepsMerge : {T : Type 0} → (T → Option (Merge D)) → Option (Merge D) →
+  abbrev pub KeepsMerge : {T : Type 0} → Type 0 → (T → Option (Merge D)) → Option (Merge D) →
       (a b : CachedDisk D g) → (old new : StoreFiles) → Result T EngineError → Type 0
-  KeepsMerge now was a b old new result =
+  KeepsMerge damage now was a b old new result =
       KeepsPart g (IsMergeFile old was) (λ IsSaid. IsSaid (known_facts old))
-      (PartMayFail a old was) (HoldsWithMerge g a old was) (WasMeantWithMerge g a old was)
+      (PartMayFail a old was) damage (HoldsWithMerge g a old was) (WasMeantWithMerge g a old was)
       (λ answer. HoldsWithMerge g b new (now answer))
       (λ answer. WasMeantWithMerge g b new (now answer)) a b old new result
 
-  -- what the begin of a merge keeps behind a rise of the floor to this number
-  abbrev pub KeepsBegun : ℕ → (a b : CachedDisk D g) → (old new : StoreFiles) →
+  -- what the begin of a merge of this plan keeps behind a rise of the floor to this number
+  abbrev pub KeepsBegun : Plan → ℕ → (a b : CachedDisk D g) → (old new : StoreFiles) →
       Result (Merge D) EngineError → Type 0
-  KeepsBegun floor a b old new result =
+  KeepsBegun plan floor a b old new result =
       KeepsPart g (Contains (raised_files old floor))
       (OfEitherFacts (known_facts old) (facts_with_floor old floor)) (HasFullSlot old.manifest)
+      (AnInputIsDamaged (g.state (inner_disk a))
+      (names_of_inputs plan (known_version old).version.tables))
       (FilesHold (g.state (inner_disk a)) old) (WereMeantToHold (g.state (inner_disk a)) old)
       (λ merge. HoldsWithMerge g b new (Some merge))
       (λ merge. WasMeantWithMerge g b new (Some merge)) a b old new result
@@ -287,7 +300,7 @@ abbrev pub KeepsCompleted : {D : Type 0} (g : Ghosts D) → (a b : CachedDisk D 
     Merge D → Result (Option Change) EngineError → Type 0
 KeepsCompleted g a b store was result =
     KeepsPart g (IsMergeFile store (Some was)) (λ IsSaid. IsSaid (known_facts store))
-    (PartMayFail g a store (Some was)) (HoldsWithMerge g a store (Some was))
+    (PartMayFail g a store (Some was)) ⊥ (HoldsWithMerge g a store (Some was))
     (WasMeantWithMerge g a store (Some was)) (HoldEdit g b store) (WereMeantEdit g b store)
     a b store store result
 
@@ -326,7 +339,7 @@ abbrev pub KeepsAbandoned : {D : Type 0} (g : Ghosts D) → Merge D → (a b : C
     (old new : StoreFiles) → Result (Unit {0}) EngineError → Type 0
 KeepsAbandoned g merge a b old new result =
     KeepsPart g (IsLeftover (begun_number merge) old.free_file (known_version old).version)
-    (λ IsSaid. IsSaid (known_facts old)) ⊥ (BeganLate merge (HoldsWithMerge g a old None))
+    (λ IsSaid. IsSaid (known_facts old)) ⊥ ⊥ (BeganLate merge (HoldsWithMerge g a old None))
     (BeganLate merge (WasMeantWithMerge g a old None)) (λ _. HoldsWithMerge g b new None)
     (λ _. WasMeantWithMerge g b new None) a b old new result
 

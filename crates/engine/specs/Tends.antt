@@ -1,13 +1,14 @@
 -- A tend of an engine's files: what is due, and what it did.
-use Rattle.std.specs.Prelude.{◌≡◌, ◌≢◌, ◌⊎◌, ◌==◌, ◌&&◌, ℕ, List, if◌then◌else◌}
-use Rattle.std.specs.Prelude.{IfErr, Option, Result, Some, None, option_map}
+use Rattle.std.specs.Prelude.{◌≡◌, ◌≢◌, ◌⊎◌, ◌==◌, ◌&&◌, ℕ, List, [], if◌then◌else◌}
+use Rattle.std.specs.Prelude.{IsErrOf, Option, Result, Some, None, option_map}
 use Rattle.std.specs.List.{find}
-use Rattle.std.specs.Option.{option_and_then, option_or}
+use Rattle.std.specs.Option.{option_and_then, option_map_or, option_or}
 use Rattle.disk.specs.declared.Disk.{Ghosts}
-use Rattle.disk.specs.{IsEnvironmental}
+use Rattle.disk.specs.{State}
 use Rattle.kv_types.specs.{BatchContent, StoredKey}
 use Rattle.kv_types.specs.declared.Limits.{Limits}
 use Rattle.version_edits.specs.declared.TableLine.{TableLine}
+use Rattle.version_edits.specs.declared.TableName.{TableName}
 use Rattle.version_edits.specs.{StoreVersion}
 use Rattle.manifest.specs.{Change}
 use Rattle.store_model.specs.{LevelTable, MergePlan}
@@ -30,8 +31,10 @@ use Rattle.store_files.specs.TendKeeps.{OfEitherFacts}
 use Rattle.store_files.specs.Tending.{FlushIsDue, IsTend, IsWorkAnswer, RewriteIsDue}
 use Rattle.table_files.specs.{inner_disk}
 use Rattle.table_files.specs.declared.cached_disk.CachedDisk.{CachedDisk}
+use Rattle.engine.specs.DamagedInputs.{AnInputIsDamaged, names_of_inputs}
 use Rattle.engine.specs.MergeParts.{CanEndNow, HasNoLeftovers, IsAdvanced, IsEditOf, IsNewMerge}
-use Rattle.engine.specs.MergeParts.{IsTendedFile, KeepsPart, LacksMergeRoom, PartMayFail, StepsOn}
+use Rattle.engine.specs.MergeParts.{IsPartRefusal, IsTendedFile, KeepsPart, LacksMergeRoom}
+use Rattle.engine.specs.MergeParts.{PartMayFail, StepsOn}
 use Rattle.engine.specs.MergeParts.{UsesUpTo, free_behind}
 use Rattle.engine.specs.UnderWay.{HoldsWithMerge, IsMergeOf, WasMeantWithMerge}
 
@@ -56,6 +59,10 @@ pub record TendedStore (D : Type 0) : Type 0 where
   pub merge : Option (Merge D)
   pub turn : Turn
 
+-- part of a merge is next: neither a rewrite nor a flush is due
+abbrev pub MergesAreNext : ℕ → StoreFiles → Type 0
+MergesAreNext limit store = (RewriteIsDue store → ⊥) × (FlushIsDue limit store → ⊥)
+
 module _ {D : Type 0} where
   -- this store, with this merge and this turn
   abbrev pub tended_store : StoreFiles → Option (Merge D) → Turn → TendedStore D
@@ -68,6 +75,13 @@ module _ {D : Type 0} where
   -- the plan of the merge that is due
   abbrev pub due_plan : Limits → TendedStore D → Option Plan
   due_plan limits it = picked limits.l0 limits.level (turn_key it.turn) (tended_version it)
+
+  -- the names of the inputs of the merge that is next: of the one under way, or else of the one
+  -- that is due
+  abbrev pub next_inputs : Limits → TendedStore D → List TableName
+  next_inputs limits it = option_map_or (λ merge. merge.gone.items) it.merge
+      (option_map_or (λ plan. names_of_inputs plan (tended_version it).tables)
+      (due_plan limits it) [])
 
   -- ---- the parts of a merge
 
@@ -131,32 +145,32 @@ module _ {D : Type 0} where
       → TendsStore limits floor old new answer → Type 0
   WasDue {limits = limits} {old = old} {new = new} {answer = answer} (OfStore did) =
       IsWorkAnswer limits.log old.store new.store answer
-  WasDue {limits = limits} {old = old} (OfMerge did) =
-      (RewriteIsDue old.store → ⊥) × (FlushIsDue limits.log old.store → ⊥)
+  WasDue {limits = limits} {old = old} (OfMerge did) = MergesAreNext limits.log old.store
 
   -- a tend does the first that is due: a rewrite, a flush, or part of a merge
   abbrev pub TendsInOrder : Limits → ℕ → (old new : TendedStore D) → Tended → Type 0
   TendsInOrder limits floor old new answer =
       (it : TendsStore limits floor old new answer) × WasDue it
 
--- why a tend of files with damaged blocks is refused: for the environment; or for damage of any
--- block, where neither a rewrite nor a flush is due
-abbrev pub IsTendRefusal : ℕ → StoreFiles → EngineError → Type 0
-IsTendRefusal limit old e =
-    IsEnvironmental engine.Disk engine.Memory e
-    ⊎ ((e ≡ engine.Damaged) × (RewriteIsDue old → ⊥) × (FlushIsDue limit old → ⊥))
+-- Why a tend of files with damaged blocks is refused: for the environment; or, where neither a
+-- rewrite nor a flush is due, for damage of a file of an input of the merge that is next.
+abbrev pub IsTendRefusal : {D : Type 0} → Limits → State → TendedStore D → EngineError → Type 0
+IsTendRefusal limits disk it =
+    IsPartRefusal (MergesAreNext limits.log it.store
+    × AnInputIsDamaged disk (next_inputs limits it))
 
 module _ {D : Type 0} (g : Ghosts D) where
   -- ---- what it keeps
 
   -- What a tend keeps of the files, the store and the merge, for which the floor may rise to this
   -- number.
-  abbrev pub KeepsTended : ℕ → (a b : CachedDisk D g) → (old new : TendedStore D) →
+  abbrev pub KeepsTended : Limits → ℕ → (a b : CachedDisk D g) → (old new : TendedStore D) →
       Result Tended EngineError → Type 0
-  KeepsTended floor a b old new result =
+  KeepsTended limits floor a b old new result =
       KeepsPart g (IsTendedFile old.store old.merge floor)
       (OfEitherFacts (known_facts old.store) (facts_with_floor old.store floor))
       (PartMayFail g a old.store old.merge)
+      (AnInputIsDamaged (g.state (inner_disk a)) (next_inputs limits old))
       (HoldsWithMerge g a old.store old.merge) (WasMeantWithMerge g a old.store old.merge)
       (λ _. HoldsWithMerge g b new.store new.merge)
       (λ _. WasMeantWithMerge g b new.store new.merge) a b old.store new.store result
@@ -216,12 +230,12 @@ module _ {D : Type 0} (g : Ghosts D) where
   TendsAsPlanned limits floor a b old new answer =
       (it : TendsStore limits floor old new answer) × IsAsPlanned a b it
 
-  -- files that were meant to hold a list refuse a tend so
+  -- files that were meant to hold a list refuse a tend for damage only where merges are next
   abbrev pub RefusesTend : Limits → CachedDisk D g → StoreFiles → Result Tended EngineError →
       Type 0
   RefusesTend limits a old result = (list : List BatchContent) → g.is_honest (inner_disk a) →
       WereMeantToHold (g.state (inner_disk a)) old list →
-      IfErr result (IsTendRefusal limits.log old)
+      IsErrOf result engine.Damaged → MergesAreNext limits.log old
 
   -- ---- both
 

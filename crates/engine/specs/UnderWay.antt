@@ -1,5 +1,5 @@
 -- A merge under way in an engine.
-use Rattle.std.specs.Prelude.{List, Option, IfSome}
+use Rattle.std.specs.Prelude.{All, List, Option, IfSome}
 use Rattle.disk.specs.{State}
 use Rattle.disk.specs.declared.Disk.{Ghosts}
 use Rattle.kv_types.specs.{BatchContent}
@@ -12,11 +12,13 @@ use Rattle.store_files.specs.OpenFiles.{FilesHold, WereMeantToHold, known_facts,
 use Rattle.store_files.specs.OpenFiles.{known_version}
 use Rattle.table_files.specs.{inner_disk}
 use Rattle.table_files.specs.declared.cached_disk.CachedDisk.{CachedDisk}
+use Rattle.engine.specs.DamagedInputs.{AreReadAsMeant, WasRepresented}
 use Rattle.engine.specs.LentFiles.{files_ghosts, union_ghosts}
 
 module _ {D : Type 0} (g : Ghosts D) where
   -- The merge of the plan is under way over the files of a store with these tables: it can end in
-  -- the store, at the floor of its version, which names none of its outputs.
+  -- the store, at the floor of its version, which names none of its outputs. The file of each input
+  -- was meant to represent it, and where each reads so, the merge meets no damage.
   pub record IsMergeOf (files : CachedDisk D g) (store : StoreFiles) (tables : List LevelTable)
       (merge : Merge D) (plan : MergePlan) : Type 0 where
     pub meant : State
@@ -24,6 +26,9 @@ module _ {D : Type 0} (g : Ghosts D) where
         (known_facts store).floor
     pub can_end : IsUnderWay (known_store store tables) plan
     pub beside : MergeIsBeside merge (known_version store).version
+    pub were : All (WasRepresented (g.state (inner_disk files)) meant) plan.inputs
+    pub undamaged : AreReadAsMeant (g.state (inner_disk files)) meant plan.inputs →
+        IsIntactMerge (union_ghosts g) (files_ghosts g) files merge plan
 
   -- A merge is under way over these files of a store. Its inputs have no damaged block.
   pub record IsIntactMergeOf (files : CachedDisk D g) (store : StoreFiles)

@@ -211,7 +211,8 @@ impl<D: Disk + Drop> Engine<D> {
     /// its first edit and 65,536 bytes; a flush, where the newest log is longer than the limit and
     /// entries are in memory; or the next part of a merge, at most 256 entries. One that begins
     /// raises the floor to the least number that may still be asked for. `Full` where the first
-    /// that is due has no place; a merge is given up then.
+    /// that is due has no place; a merge is given up then. `Damaged` only where a file of an input
+    /// of the merge under way, or else of the one that is due, does not read as it was meant to.
     pub fn tend(&mut self, alloc: Global) -> Result<Tended, EngineError>
         ensures changes { ChangesList D.Disk self.old self.new result
             (IsNearlyFull self.old ⊎ IsAdrift D.Disk self.old)

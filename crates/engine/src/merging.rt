@@ -13,7 +13,8 @@ ghost use Rattle.store_tables.specs.Errors.{IsEnd};
 ghost use Rattle.engine.specs.BeginParts.{BeginsMerge};
 ghost use Rattle.engine.specs.LentFiles.{files_ghosts, union_ghosts};
 ghost use Rattle.engine.specs.declared.merging.Progress.TheVariants.{Done};
-ghost use Rattle.engine.specs.MergeParts.{AdvancesPlanned, HasNoLeftovers, IsAdvanced, IsBegunBy};
+ghost use Rattle.engine.specs.MergeParts.{AdvancesPlanned, HasDamagedInput, HasNoLeftovers};
+ghost use Rattle.engine.specs.MergeParts.{IsAdvanced, IsBegunBy};
 ghost use Rattle.engine.specs.MergeParts.{IsCheckedEdit, IsEditOf, IsPicked, KeepsAbandoned};
 ghost use Rattle.engine.specs.MergeParts.{KeepsBegun, KeepsCompleted, KeepsMerge, MergeHasEnded};
 ghost use Rattle.engine.specs.MergeParts.{answer_of_merge, error_of_merge, free_behind};
@@ -146,7 +147,7 @@ pub(crate) fn begin<D: Disk + Drop>(
     requires rises { MayRise store.old floor }
     requires picked { IsPicked store.old plan }
     requires within { (plan.level ≤ 5) × (0 < target) }
-    ensures kept { KeepsBegun D.Disk floor files.old files.new store.old store.new result }
+    ensures kept { KeepsBegun D.Disk plan floor files.old files.new store.old store.new result }
     ensures did { IfOk result (IsBegunBy D.Disk plan floor files.old files.new store.old
         store.new) }
     ensures aims { IfOk result (λ merge. target_of merge ≡ target) }
@@ -164,8 +165,8 @@ fn advance<D: Disk + Drop>(
     merge: &mut Merge<D>,
 ) -> Result<Progress, EngineError>
     requires { AreUsableFiles store.old }
-    ensures kept { KeepsMerge D.Disk (merge_after merge.new) (Some merge.old) files.old files.new
-        store.old store.new result }
+    ensures kept { KeepsMerge D.Disk (HasDamagedInput D.Disk files.old merge.old)
+        (merge_after merge.new) (Some merge.old) files.old files.new store.old store.new result }
     ensures goes_on { IsAdvanced store.old store.new merge.old merge.new }
     ensures advances { AdvancesPlanned D.Disk files.old files.new store.old store.new merge.old
         merge.new result }
@@ -241,7 +242,7 @@ fn end<D: Disk + Drop>(
 ) -> Result<Tended, EngineError>
     requires usable { AreUsableFiles store.old }
     requires done { HasEntriesLeft (union_ghosts D.Disk) (files_ghosts D.Disk) merge → ⊥ }
-    ensures kept { KeepsMerge D.Disk (λ _. None) (Some merge) files.old files.new store.old
+    ensures kept { KeepsMerge D.Disk ⊥ (λ _. None) (Some merge) files.old files.new store.old
         store.new result }
     ensures did { IfOk result (MergeHasEnded D.Disk files.old files.new store.old store.new merge) }
 {
@@ -270,8 +271,8 @@ pub(crate) fn continue_merge<D: Disk + Drop>(
 ) -> Result<Tended, EngineError>
     requires usable { AreUsableFiles store.old }
     requires none { place.old ≡ None }
-    ensures kept { KeepsMerge D.Disk (λ _. place.new) (Some merge) files.old files.new store.old
-        store.new result }
+    ensures kept { KeepsMerge D.Disk (HasDamagedInput D.Disk files.old merge) (λ _. place.new)
+        (Some merge) files.old files.new store.old store.new result }
     ensures did { IfOk result (ContinuesAsPlanned D.Disk files.old files.new store.old store.new
         merge place.new) }
 {

@@ -59,7 +59,7 @@ fn tend_merge<D: Disk + Drop>(
     floor: Number,
 ) -> Result<Tended, EngineError>
     requires { MayRise store.old floor }
-    ensures kept { KeepsTended D.Disk floor files.old files.new
+    ensures kept { KeepsTended D.Disk limits.now floor files.old files.new
         (tended_store store.old merge.old turn.old) (tended_store store.new merge.new turn.new)
         result }
     ensures did { IfOk result (MergesByPlan D.Disk limits.now floor files.old files.new
@@ -92,7 +92,7 @@ pub(crate) fn tend_store<D: Disk + Drop>(
     floor: Number,
 ) -> Result<Tended, EngineError>
     requires { MayRise store.old floor }
-    ensures kept { KeepsTended D.Disk floor files.old files.new
+    ensures kept { KeepsTended D.Disk limits.now floor files.old files.new
         (tended_store store.old merge.old turn.old) (tended_store store.new merge.new turn.new)
         result }
     ensures did { IfOk result (TendsByPlan D.Disk limits.now floor files.old files.new

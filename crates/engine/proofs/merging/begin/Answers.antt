@@ -5,8 +5,8 @@ use Rattle.engine.proofs.merging.begin.Goals as goal
 -- the floor did not rise
 pub returns-in_err-raise_floor-clause-kept : goal.returns-in_err-raise_floor-clause-kept
 returns-in_err-raise_floor-clause-kept g c =
-    not_raised g.D.Disk c.args.floor c.args.files.now c.raise_floor.new.disk c.args.store.now
-    c.raise_floor.new.self c.in_err-raise_floor.field-0.0 c.from_residual.result
+    not_raised g.D.Disk c.args.plan c.args.floor c.args.files.now c.raise_floor.new.disk
+    c.args.store.now c.raise_floor.new.self c.in_err-raise_floor.field-0.0 c.from_residual.result
     c.in_err-raise_floor.ensures.raises c.from_residual.ensures.1
 
 -- the plan is the same behind the rise

@@ -39,5 +39,6 @@ returns-clause-begins g c =
     c.plans_fit.ensures c.versions_name_own_files.ensures c.requires.picked c.args.files.now
     c.begin-begun.new.files c.in_ok-cursors.cursors.items c.state-version.result.now
     c.free_file-next.result c.deref.result.now c.state-version.ensures c.free_file-next.ensures
-    lines c.in_ok-cursors.ensures.over c.in_ok-cursors.ensures.intact c.begin-begun.result
-    c.begin-begun.ensures.begun c.begin-begun.ensures.first)
+    lines c.in_ok-cursors.ensures.over
+    (λ honest file. c.begin-begun.ensures.reads.kept.files honest file (λ no. no))
+    c.begin-begun.result c.begin-begun.ensures.begun c.begin-begun.ensures.first)

@@ -4,7 +4,7 @@ use Rattle.compaction.specs.Merges.{HasEntriesLeft}
 use Rattle.store_files.specs.declared.tended.Tended.TheVariants as tended
 use Rattle.engine.specs.LentFiles.{files_ghosts, union_ghosts}
 use Rattle.engine.specs.declared.merging.Progress.TheVariants as progress
-use Rattle.engine.specs.MergeParts.{KeepsMerge}
+use Rattle.engine.specs.MergeParts.{HasDamagedInput, KeepsMerge}
 use Rattle.engine.specs.Tends.{ContinuesAsPlanned}
 use Rattle.engine.specs.UnderWay.{HoldsWithMerge, WasMeantWithMerge}
 use Rattle.engine.proofs.PartDid.{ended, had_no_room, stepped}
@@ -47,7 +47,8 @@ pub returns-in-Ok-Done-clause-kept : goal.returns-in-Ok-Done-clause-kept
 returns-in-Ok-Done-clause-kept g c =
     let is : c.advance.result ≡ Ok progress.Done = search rules in
     let on = c.advance.ensures.goes_on in
-    subst (λ m. KeepsMerge g.D.Disk (λ _. m) (Some c.args.merge) c.args.files.now c.end.new.files
+    subst (λ m. KeepsMerge g.D.Disk (HasDamagedInput g.D.Disk c.args.files.now c.args.merge)
+    (λ _. m) (Some c.args.merge) c.args.files.now c.end.new.files
     c.args.store.now c.end.new.store c.end.result) (sym c.requires.none)
     (part_then g.D.Disk c.args.files.now c.advance.new.files c.end.new.files c.args.store.now
     c.advance.new.store c.end.new.store c.advance.result progress.Done c.end.result is
@@ -57,7 +58,7 @@ returns-in-Ok-Done-clause-kept g c =
     c.advance.new.store (Some c.args.merge) (Some c.advance.new.merge) _ c.advance.result
     progress.Done is c.advance.ensures.kept refl
     (same_manifest c.args.store.now c.advance.new.store c.args.merge c.advance.new.merge on))
-    (λ list was h. h) (λ list was m. m))
+    (λ none. absurd none) (λ list was h. h) (λ list was m. m))
 
 pub returns-in-Ok-Done-clause-did : goal.returns-in-Ok-Done-clause-did
 returns-in-Ok-Done-clause-did g c =
@@ -73,9 +74,10 @@ pub returns-in-Ok-Full-clause-kept : goal.returns-in-Ok-Full-clause-kept
 returns-in-Ok-Full-clause-kept g c =
     let is : c.advance.result ≡ Ok progress.Full = search rules in
     let on = c.advance.ensures.goes_on in
-    subst (λ m. KeepsMerge g.D.Disk (λ _. m) (Some c.args.merge) c.args.files.now
+    let damage = HasDamagedInput g.D.Disk c.args.files.now c.args.merge in
+    subst (λ m. KeepsMerge g.D.Disk damage (λ _. m) (Some c.args.merge) c.args.files.now
     c.abandon.new.files c.args.store.now c.abandon.new.store c.and.result) (sym c.requires.none)
-    (subst (λ r. KeepsMerge g.D.Disk (λ _. None) (Some c.args.merge) c.args.files.now
+    (subst (λ r. KeepsMerge g.D.Disk damage (λ _. None) (Some c.args.merge) c.args.files.now
     c.abandon.new.files c.args.store.now c.abandon.new.store r) (sym c.and.ensures)
     (part_then g.D.Disk c.args.files.now c.advance.new.files c.abandon.new.files c.args.store.now
     c.advance.new.store c.abandon.new.store c.advance.result progress.Full _ is
@@ -84,7 +86,7 @@ returns-in-Ok-Full-clause-kept g c =
     c.abandon.new.store c.abandon.result tended.Full c.abandon.ensures.kept (λ _ list h. h)
     (λ _ list m. m))
     (went_leftover c.args.store.now c.advance.new.store c.args.merge c.advance.new.merge on)
-    (λ none. absurd none) (λ list was h. (
+    (λ none. absurd none) (λ none. absurd none) (λ list was h. (
       began_late g.D.Disk c.args.files.now c.args.store.now c.args.merge c.advance.new.merge list
           on.first was,
       h,

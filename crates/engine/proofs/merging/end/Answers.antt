@@ -15,7 +15,7 @@ returns-in-Ok-Some-clause-kept g c =
     let is : c.complete.result ≡ Ok (Some c.in-Ok-Some.edit) = search rules in
     let fit = subst (λ r. IfOk r (λ made. IfSome made (λ edit. MayMerge c.args.store.now edit
     × (edit.tables_gone ≡ c.args.merge.gone.items)))) is c.complete.ensures.fit in
-    subst (λ r. KeepsMerge g.D.Disk (λ _. None) (Some c.args.merge) c.args.files.now
+    subst (λ r. KeepsMerge g.D.Disk ⊥ (λ _. None) (Some c.args.merge) c.args.files.now
     c.install_merge-installed.new.disk c.args.store.now c.install_merge-installed.new.self r)
     (sym c.and.ensures)
     (part_then g.D.Disk c.args.files.now c.complete.new.files c.install_merge-installed.new.disk
@@ -25,6 +25,7 @@ returns-in-Ok-Some-clause-kept g c =
     c.args.store.now c.install_merge-installed.new.self c.in-Ok-Some.edit
     c.install_merge-installed.result tended.Worked c.install_merge-installed.ensures.merges)
     (merged_within c.args.store.now c.args.merge c.in-Ok-Some.edit fit.1) (λ full. inl full)
+    (λ none. none)
     (λ list was h. h) (λ list was m. m))
 
 pub returns-in-Ok-Some-clause-did : goal.returns-in-Ok-Some-clause-did
@@ -44,7 +45,7 @@ returns-in-Ok-Some-clause-did g c =
 pub returns-in-Ok-None-clause-kept : goal.returns-in-Ok-None-clause-kept
 returns-in-Ok-None-clause-kept g c =
     let is : c.complete.result ≡ Ok None = search rules in
-    subst (λ r. KeepsMerge g.D.Disk (λ _. None) (Some c.args.merge) c.args.files.now
+    subst (λ r. KeepsMerge g.D.Disk ⊥ (λ _. None) (Some c.args.merge) c.args.files.now
     c.abandon.new.files c.args.store.now c.abandon.new.store r) (sym c.and-in-Ok-None.ensures)
     (part_then g.D.Disk c.args.files.now c.complete.new.files c.abandon.new.files
     c.args.store.now c.args.store.now c.abandon.new.store c.complete.result None _ is
@@ -53,7 +54,7 @@ returns-in-Ok-None-clause-kept g c =
     c.abandon.new.store c.abandon.result tended.Full c.abandon.ensures.kept (λ _ list h. h)
     (λ _ list m. m))
     (leftover_within c.args.store.now c.args.merge c.complete.new.merge c.complete.ensures.first)
-    (λ none. absurd none) (λ list was h. (
+    (λ none. absurd none) (λ none. none) (λ list was h. (
       began_late g.D.Disk c.args.files.now c.args.store.now c.args.merge c.complete.new.merge list
           c.complete.ensures.first was,
       record { held = h; merges = tt },

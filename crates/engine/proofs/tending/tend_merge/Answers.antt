@@ -3,14 +3,17 @@ use Rattle.compaction.specs.{picked, turn_key}
 use Rattle.disk.specs.{IsEnvironmental}
 use Rattle.store_tables.specs.declared.error.EngineError.TheVariants as engine
 use Rattle.store_tables.specs.Errors.{IsEnd}
-use Rattle.store_tables.specs.RefusalLemmas.{answers_nothing, done, if_refuses, lacks_memory, on_ok}
+use Rattle.store_tables.specs.RefusalLemmas.{done, if_refuses, lacks_memory, on_ok}
 use Rattle.store_tables.specs.RefusalLemmas.{refuses}
 use Rattle.store_files.specs.declared.tended.Tended.TheVariants as tended
 use Rattle.store_files.specs.OpenFiles.{known_version}
 use Rattle.table_files.specs.{inner_disk}
-use Rattle.engine.specs.MergeParts.{IsTendedFile as file, KeepsMerge}
+use Rattle.engine.specs.DamagedInputs.{AnInputIsDamaged}
+use Rattle.engine.specs.MergeParts.{HasDamagedInput, IsPartRefusal, IsTendedFile as file}
+use Rattle.engine.specs.MergeParts.{KeepsMerge}
 use Rattle.engine.specs.UnderWay.{HoldsWithMerge, WasMeantWithMerge}
-use Rattle.engine.proofs.PartBegins.{begins, goes_on, never_idle, rests, turn_over}
+use Rattle.engine.proofs.PartBegins.{begins, goes_on, inputs_due, inputs_under_way, never_idle}
+use Rattle.engine.proofs.PartBegins.{rests, turn_over}
 use Rattle.engine.proofs.PartFiles.{raised_within}
 use Rattle.engine.proofs.Parts.{part_answers, part_none, part_refused, part_wider}
 use Rattle.engine.proofs.tending.tend_merge.Goals as goal
@@ -22,10 +25,14 @@ returns-in-Some-clause-kept g c =
     let some = sym c.take.ensures.value ∙ c.in-Some.is in
     part_wider g.D.Disk c.args.files.now c.continue_merge.new.files c.args.store.now
     c.continue_merge.new.store c.continue_merge.result
-    (subst (λ m. KeepsMerge g.D.Disk (λ _. c.continue_merge.new.place) m c.args.files.now
-    c.continue_merge.new.files c.args.store.now c.continue_merge.new.store
+    (subst (λ m. KeepsMerge g.D.Disk
+    (HasDamagedInput g.D.Disk c.args.files.now c.in-Some.it) (λ _. c.continue_merge.new.place) m
+    c.args.files.now c.continue_merge.new.files c.args.store.now c.continue_merge.new.store
     c.continue_merge.result) (sym some) c.continue_merge.ensures.kept)
-    (λ it one. file.IsOfMerge one) (λ P p. inl p) (λ cause. cause) (λ list h. h) (λ list m. m)
+    (λ it one. file.IsOfMerge one) (λ P p. inl p) (λ cause. cause)
+    (λ damage. subst (AnInputIsDamaged (g.D.Disk.state (inner_disk c.args.files.now)))
+    (sym (inputs_under_way c.args.limits.now c.args.store.now c.args.merge.now c.args.turn.now
+    c.in-Some.it some)) damage) (λ list h. h) (λ list m. m)
 
 pub returns-in-Some-clause-did : goal.returns-in-Some-clause-did
 returns-in-Some-clause-did g c =
@@ -76,7 +83,7 @@ returns-in_err-key-clause-kept g c =
     (on_ok result c.requires.usable) (if_refuses result IsEnd told tt)
     (λ list h. refuses result _ (IsEnvironmental engine.Disk engine.Memory) told (inr refl))
     (λ list h. laws.held.crash disk store list h.held)
-    (λ list m. answers_nothing result _ _ told)
+    (λ list m. refuses result _ (IsPartRefusal _) told (inl (inr refl)))
     (λ list m. laws.meant.crash disk store list m.was)
 
 -- ---- a merge begins
@@ -93,6 +100,10 @@ begin-requires-clause-picked g c = record {
 
 pub returns-in_err-begun-clause-kept : goal.returns-in_err-begun-clause-kept
 returns-in_err-begun-clause-kept g c =
+    let none : c.args.merge.now ≡ None = search rules in
+    let due = subst (λ v. picked c.args.limits.now.l0 c.args.limits.now.level
+    (turn_key c.args.turn.now) v.version ≡ Some c.in-Some-pick.plan) c.state.ensures
+    (sym c.pick.ensures.due ∙ c.in-Some-pick.is) in
     part_wider g.D.Disk c.args.files.now c.begin.new.files c.args.store.now
     c.begin.new.store c.from_residual-in_err-begun.result
     (part_refused g.D.Disk c.args.files.now c.begin.new.files c.args.store.now
@@ -100,10 +111,17 @@ returns-in_err-begun-clause-kept g c =
     c.from_residual-in_err-begun.result c.in_err-begun.was
     c.from_residual-in_err-begun.ensures.1 c.begin.ensures.kept)
     (raised_within c.args.store.now c.args.merge.now c.args.floor) (λ P p. p) (λ full. inl full)
+    (λ damage. subst (AnInputIsDamaged (g.D.Disk.state (inner_disk c.args.files.now)))
+    (sym (inputs_due c.args.limits.now c.args.store.now c.args.merge.now c.args.turn.now
+    c.in-Some-pick.plan none due)) damage)
     (λ list h. h.held) (λ list m. m.was)
 
 pub returns-clause-kept : goal.returns-clause-kept
 returns-clause-kept g c =
+    let none : c.args.merge.now ≡ None = search rules in
+    let due = subst (λ v. picked c.args.limits.now.l0 c.args.limits.now.level
+    (turn_key c.args.turn.now) v.version ≡ Some c.in-Some-pick.plan) c.state.ensures
+    (sym c.pick.ensures.due ∙ c.in-Some-pick.is) in
     let after = sym c.replace.ensures.after in
     part_wider g.D.Disk c.args.files.now c.begin.new.files c.args.store.now
     c.begin.new.store (Ok tended.Worked)
@@ -115,6 +133,9 @@ returns-clause-kept g c =
     (λ list m. subst (λ m. WasMeantWithMerge g.D.Disk c.begin.new.files
     c.begin.new.store m list) after m))
     (raised_within c.args.store.now c.args.merge.now c.args.floor) (λ P p. p) (λ full. inl full)
+    (λ damage. subst (AnInputIsDamaged (g.D.Disk.state (inner_disk c.args.files.now)))
+    (sym (inputs_due c.args.limits.now c.args.store.now c.args.merge.now c.args.turn.now
+    c.in-Some-pick.plan none due)) damage)
     (λ list h. h.held) (λ list m. m.was)
 
 pub returns-clause-did : goal.returns-clause-did

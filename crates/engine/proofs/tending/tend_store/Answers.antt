@@ -1,12 +1,15 @@
-use Rattle.std.proofs.Common.{◌≡◌, ◌≢◌, ◌∙◌, Ok, ap, inl, rules, subst}
+use Rattle.std.proofs.Common.{◌≡◌, ◌≢◌, ◌∙◌, Ok, ap, rules, subst}
 use Rattle.std.specs.Prelude.{IfOk}
+use Rattle.disk.specs.{IsEnvironmental}
 use Rattle.disk.specs.declared.Disk.{Ghosts}
+use Rattle.store_tables.specs.declared.error.EngineError.TheVariants as error
 use Rattle.store_files.specs.declared.store_files.StoreFiles.{StoreFiles}
 use Rattle.store_files.specs.declared.tended.Tended.TheVariants as tended
 use Rattle.table_files.specs.declared.cached_disk.CachedDisk.{CachedDisk}
 use Rattle.engine.specs.Tends.{KeepsTended, MergesByPlan, tended_store}
 use Rattle.engine.proofs.Parts.{part_answers, part_refused}
 use Rattle.store_tables.specs.RefusalLemmas.{if_refuses}
+use Rattle.engine.proofs.Results.{damage_apart}
 use Rattle.engine.proofs.StoreTends.{behind_rest, merge_did, merge_refused, part_of_tend}
 use Rattle.engine.proofs.StoreTends.{store_did}
 use Rattle.engine.proofs.tending.tend_store.Goals as goal
@@ -19,9 +22,9 @@ returns-in_err-done-clause-kept g c =
     c.tend.result c.in_err-done.field-0.0 c.from_residual.result c.in_err-done.was
     c.from_residual.ensures.1
     (part_of_tend g.D.Disk c.merges_outlive_calls.ensures c.merges_stay_beside.ensures
-    c.open_files_are_apart.ensures c.args.floor c.args.merge.now c.args.turn.now c.args.files.now
-    c.tend.new.disk c.args.store.now c.tend.new.self c.tend.result c.tend.ensures.tends
-    c.tend.ensures.plans)
+    c.open_files_are_apart.ensures c.args.limits.now c.args.floor c.args.merge.now
+    c.args.turn.now c.args.files.now c.tend.new.disk c.args.store.now c.tend.new.self
+    c.tend.result c.tend.ensures.tends c.tend.ensures.plans)
 
 -- ---- a rewrite or a flush was due
 
@@ -30,9 +33,9 @@ returns-then-ne-clause-kept g c =
     part_answers g.D.Disk c.args.files.now c.tend.new.disk c.args.store.now c.tend.new.self
     c.tend.result c.in_ok-done.done c.in_ok-done.done c.in_ok-done.was
     (part_of_tend g.D.Disk c.merges_outlive_calls.ensures c.merges_stay_beside.ensures
-    c.open_files_are_apart.ensures c.args.floor c.args.merge.now c.args.turn.now c.args.files.now
-    c.tend.new.disk c.args.store.now c.tend.new.self c.tend.result c.tend.ensures.tends
-    c.tend.ensures.plans) (λ list h. h) (λ list m. m)
+    c.open_files_are_apart.ensures c.args.limits.now c.args.floor c.args.merge.now
+    c.args.turn.now c.args.files.now c.tend.new.disk c.args.store.now c.tend.new.self
+    c.tend.result c.tend.ensures.tends c.tend.ensures.plans) (λ list h. h) (λ list m. m)
 
 pub returns-then-ne-clause-did : goal.returns-then-ne-clause-did
 returns-then-ne-clause-did g c =
@@ -56,7 +59,7 @@ returns-clause-kept g c =
     c.tend.ensures.rests idle in
     let later = tended_store c.tend_merge.new.store c.tend_merge.new.merge c.tend_merge.new.turn in
     behind_rest c.args.files.now c.tend.new.disk c.args.store.now c.tend.new.self
-    (λ f s. KeepsTended g.D.Disk c.args.floor f c.tend_merge.new.files
+    (λ f s. KeepsTended g.D.Disk c.args.limits.now c.args.floor f c.tend_merge.new.files
     (tended_store s c.args.merge.now c.args.turn.now) later c.tend_merge.result) rests
     c.tend_merge.ensures.kept
 
@@ -79,16 +82,16 @@ returns-clause-did g c =
 
 pub returns-in_err-done-clause-refused : goal.returns-in_err-done-clause-refused
 returns-in_err-done-clause-refused g c = λ list honest w.
-    if_refuses c.from_residual.result _ c.from_residual.ensures.1
-    (inl (c.in_err-done.ensures.tends.meant list honest w).list)
+    damage_apart c.from_residual.result (if_refuses c.from_residual.result
+    (IsEnvironmental error.Disk error.Memory) c.from_residual.ensures.1
+    (c.in_err-done.ensures.tends.meant list honest w).list)
 
 pub returns-clause-refused : goal.returns-clause-refused
 returns-clause-refused g c =
     let idle : c.in_ok-done.done ≡ tended.Idle = search rules in
-    λ list honest w. merge_refused g.D.Disk c.args.limits.now c.args.floor c.args.files.now
+    λ list honest w damaged. merge_refused g.D.Disk c.args.limits.now c.args.floor c.args.files.now
     c.tend.new.disk c.args.store.now c.tend.new.self c.args.merge.now c.args.turn.now c.tend.result
     (c.in_ok-done.was ∙ ap (λ d. Ok d) idle) (c.tend.ensures.work list honest w)
-    c.tend_merge.result c.tend_merge.ensures.kept.refused
 
 -- ---- what was at rest
 

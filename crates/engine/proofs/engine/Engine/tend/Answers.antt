@@ -8,8 +8,8 @@ use Rattle.engine.specs.Tends.{KeepsTended, TendsByPlan, tended_store}
 use Rattle.engine.proofs.Engines.{goes_to, may_fail, meant_as_held, meant_merge_as_held}
 use Rattle.engine.proofs.Engines.{meant_with_merge, merged_of, told_alike, were_meant}
 use Rattle.engine.proofs.Floors.{counted_after, floor_after, least_below, may_rise, readable_after}
-use Rattle.engine.proofs.Results.{answers_as, closed_by, ends_by, if_ok, match_of, no_refusal}
-use Rattle.engine.proofs.Results.{of_refusal, on_answer, unless_refused, works_on_ok}
+use Rattle.engine.proofs.Results.{closed_by, ends_by, if_ok, match_of, no_refusal, of_refusal}
+use Rattle.engine.proofs.Results.{on_answer, refused_then, unless_refused, works_on_ok}
 use Rattle.engine.proofs.Unchanged.{changes_none, none_keeps}
 use Rattle.engine.proofs.engine.Engine.tend.Goals as goal
 
@@ -27,8 +27,9 @@ invariant_of-self g c =
     let new = c.tend_store-answer.new.store in
     let answer = c.tend_store-answer.result in
     let later = tended_store new c.tend_store-answer.new.merge c.tend_store-answer.new.turn in
-    let part = subst (λ (n : ℕ). KeepsTended g.D.Disk n old.files c.tend_store-answer.new.files
-    (tended_of old) later answer) c.least-floor.ensures c.tend_store-answer.ensures.kept in
+    let part = subst (λ (n : ℕ). KeepsTended g.D.Disk old.limits n old.files
+    c.tend_store-answer.new.files (tended_of old) later answer) c.least-floor.ensures
+    c.tend_store-answer.ensures.kept in
     let may = may_rise old.store old.committed (least_read old) old.snapshots
     (old.usable c.if-self.false) old.counted old.readable refl in
     record {
@@ -58,7 +59,7 @@ returns-clause-changes g c =
     let answer = c.tend_store-answer.result in
     let later = tended_store c.tend_store-answer.new.store c.tend_store-answer.new.merge
     c.tend_store-answer.new.turn in
-    let part = subst (λ (n : ℕ). KeepsTended d n old.files c.tend_store-answer.new.files
+    let part = subst (λ (n : ℕ). KeepsTended d old.limits n old.files c.tend_store-answer.new.files
     (tended_of old) later answer) c.least-floor.ensures c.tend_store-answer.ensures.kept in
     let kept = part.kept in
     record {
@@ -82,7 +83,7 @@ returns-clause-changes g c =
           goes_to d c.held_files_are_left.ensures old _ list list answer kept.honest.1
           (works_on_ok answer c.is_err-self.result c.is_err-self.ensures.value)
           (λ honest h. on_answer answer _ _ (part.held list honest h))
-          (λ honest w. answers_as _ answer (part.meant list honest w));
+          (λ honest w. on_answer answer _ _ (part.meant list honest w));
       any_moment = λ list h. part.any_moment list h.reads.honest (merged_of d old list h.reads);
       meant = λ list m. part.meant_moment list m.honest (meant_with_merge d old list m);
     }
@@ -91,7 +92,7 @@ pub returns-clause-told : goal.returns-clause-told
 returns-clause-told g c =
     let later = tended_store c.tend_store-answer.new.store c.tend_store-answer.new.merge
     c.tend_store-answer.new.turn in
-    let part = subst (λ (n : ℕ). KeepsTended g.D.Disk n c.args.self.now.files
+    let part = subst (λ (n : ℕ). KeepsTended g.D.Disk c.args.self.now.limits n c.args.self.now.files
     c.tend_store-answer.new.files (tended_of c.args.self.now) later c.tend_store-answer.result)
     c.least-floor.ensures c.tend_store-answer.ensures.kept in
     elim part.numbers.1 [
@@ -131,7 +132,9 @@ returns-clause-work g c =
       meant = λ list m.
           match_of answer _ _ (if_ok answer
           (λ told by. (by.did, by.in_order list m.honest (were_meant d old list m))) did)
-          (c.tend_store-answer.ensures.refused list m.honest (were_meant d old list m));
+          (refused_then _ _ answer _
+          (c.tend_store-answer.ensures.kept.meant list m.honest (meant_with_merge d old list m))
+          (c.tend_store-answer.ensures.refused list m.honest (were_meant d old list m)));
       planned = record {
         reads = λ list r. if_ok answer (λ told by.
             (by.did, by.planned list r.honest (meant_merge_as_held d laws old list r))) did;
