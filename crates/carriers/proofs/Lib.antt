@@ -1,1 +1,3 @@
 mod Reading
+mod Carrying
+mod Determined

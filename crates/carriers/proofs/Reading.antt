@@ -1,15 +1,14 @@
 -- What was spelled is read again.
 use Rattle.std.proofs.Common.{◌≡◌, ◌⊎◌, ℕ, List, [], Option, Some, None, Result, Ok, Err, inl, inr}
-use Rattle.std.proofs.Common.{refl, sym, ap, subst, append-nil, ◌++◌, ◌∙◌}
+use Rattle.std.proofs.Common.{refl, sym, subst, append-nil, ◌∙◌}
 use Rattle.std.specs.Prelude.{IfOk, MatchResult, ◌≢◌}
 use Rattle.link_messages.specs.declared.FrameError.{FrameError}
 use Rattle.link_messages.specs.declared.FrameError.TheVariants as fault
 use Rattle.link_messages.specs.declared.Frame.{Frame}
 use Rattle.link_messages.specs.{IsFrame, frame_bytes, NextOutcome, OneAnswer}
-use Rattle.link_messages.specs.Stream.{OneSpelling}
 use Rattle.carriers.specs.declared.sending.Received.{Received}
 use Rattle.carriers.specs.declared.sending.Received.TheVariants as received
-use Rattle.carriers.specs.Carriers.{IsReadFrom, IsReceived, IsSpelling}
+use Rattle.carriers.specs.Carriers.{IsReadFrom, IsSpelling}
 
 -- of a frame's spelling the answer is that frame, or there was no memory
 pub read_again : OneAnswer → (answer : Result (Option Frame) FrameError) (it : Frame)
@@ -50,15 +49,6 @@ none_read one answer bytes left says other fits it is =
       | inl same ↦ other it same
       | inr memory ↦ fits memory
     ]
-
--- what was read from a frame's spelling is that frame
-pub read_as : {E : Type 0} → OneSpelling → (bytes : List ℕ) (it : Frame) → IsSpelling bytes it →
-    (r : Result Received E) → IfOk r (IsReadFrom bytes) → IfOk r (IsReceived it)
-read_as one bytes it is (Ok (received.Frame got)) read =
-    (one got it [] [] read.0 is.0 (ap (λ (l : List ℕ). l ++ []) (sym read.1 ∙ is.1))).0
-read_as one bytes it is (Ok received.Unreadable) read = absurd (read it is)
-read_as one bytes it is (Ok received.Lost) read = absurd read
-read_as one bytes it is (Err e) read = tt
 
 -- bytes with an error spell none, or there was no memory to read them
 pub read_no : {E : Type 0} → OneAnswer → (e : FrameError) (bytes left : List ℕ) →

@@ -1,5 +1,5 @@
--- What a carrier makes of bytes, and what arrives of a frame.
-use Rattle.std.specs.Prelude.{◌≡◌, ℕ, List}
+-- What a carrier makes of bytes, and what is received of a frame.
+use Rattle.std.specs.Prelude.{◌≡◌, ◌≢◌, ℕ, List, Option, Some, None}
 use Rattle.link_messages.specs.declared.Frame.{Frame}
 use Rattle.link_messages.specs.{IsFrame, frame_bytes}
 use Rattle.carriers.specs.declared.carrier.Carried.{Carried}
@@ -19,18 +19,6 @@ HasLost Same = ⊥
 HasLost (Bytes got) = ⊥
 HasLost Lost = Unit {0}
 
--- this frame was sent: what arrived, if anything did, is this frame
-abbrev pub IsReceived : Frame → Received → Type 0
-IsReceived frame (received.Frame got) = got ≡ frame
-IsReceived frame received.Unreadable = ⊥
-IsReceived frame received.Lost = Unit {0}
-
--- nothing arrived of a frame
-abbrev pub WasLost : Received → Type 0
-WasLost (received.Frame got) = ⊥
-WasLost received.Unreadable = ⊥
-WasLost received.Lost = Unit {0}
-
 -- the bytes spell this frame, and nothing else
 abbrev pub IsSpelling : List ℕ → Frame → Type 0
 IsSpelling bytes frame = IsFrame frame × (bytes ≡ frame_bytes frame)
@@ -40,3 +28,21 @@ abbrev pub IsReadFrom : List ℕ → Received → Type 0
 IsReadFrom bytes (received.Frame got) = IsSpelling bytes got
 IsReadFrom bytes received.Unreadable = (frame : Frame) → IsSpelling bytes frame → ⊥
 IsReadFrom bytes received.Lost = ⊥
+
+-- what is received where this arrived: what was read from it, or that nothing arrived
+abbrev pub IsReceived : Option (List ℕ) → Received → Type 0
+IsReceived None it = it ≡ received.Lost
+IsReceived (Some bytes) it = IsReadFrom bytes it
+
+-- what is received of a frame that was sent: this frame where its own bytes arrived, which are not
+-- read again, and else as of any bytes
+abbrev pub IsReceivedOf : Frame → Option (List ℕ) → Received → Type 0
+IsReceivedOf frame got it = (got ≡ Some (frame_bytes frame) → it ≡ received.Frame frame)
+    × (got ≢ Some (frame_bytes frame) → IsReceived got it)
+
+-- what arrived determines what is received, of any bytes and of a frame that was sent
+pub record OneReceived : Type 0 where
+  pub any : (got : Option (List ℕ)) (one other : Received) → IsReceived got one →
+      IsReceived got other → one ≡ other
+  pub sent : (frame : Frame) (got : Option (List ℕ)) (one other : Received) →
+      IsReceivedOf frame got one → IsReceivedOf frame got other → one ≡ other

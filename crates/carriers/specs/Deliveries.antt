@@ -1,5 +1,5 @@
 -- What arrives of a frame at a node: the inputs of nodes.
-use Rattle.std.specs.Prelude.{◌≡◌, ◌⊎◌, ℕ}
+use Rattle.std.specs.Prelude.{◌≡◌, ℕ}
 use Rattle.link_messages.specs.declared.Frame.{Frame}
 use Rattle.link_messages.specs.declared.Frame.TheVariants as frame
 use Rattle.chain_model.specs.declared.DropReason.TheVariants as reason
@@ -8,6 +8,8 @@ use Rattle.carriers.specs.declared.deliveries.Delivery.{Delivery}
 use Rattle.carriers.specs.declared.deliveries.Delivery.TheVariants as delivery
 use Rattle.carriers.specs.declared.deliveries.NodeInput.{NodeInput}
 use Rattle.carriers.specs.declared.deliveries.NodeInput.TheVariants as to_node
+use Rattle.carriers.specs.declared.sending.Received.{Received}
+use Rattle.carriers.specs.declared.sending.Received.TheVariants as received
 
 -- the input that a frame is to its addressee
 abbrev pub input_of : Frame → NodeInput
@@ -26,26 +28,14 @@ request_input (frame.Open i at) = to_node.Step (input.Open i at)
 request_input (frame.Close i number) = to_node.Step (input.Close i number)
 request_input _ = to_node.BadFrame reason.NotForNodes
 
--- this input was sent to this node, and arrives there or is lost
-abbrev pub IsSentTo : ℕ → NodeInput → Delivery → Type 0
-IsSentTo node sent delivery.Nothing = ⊥
-IsSentTo node sent delivery.Lost = Unit {0}
-IsSentTo node sent (delivery.To x got) = (x ≡ node) × (got ≡ sent)
+-- what is delivered to a node of what was received, where frames are these inputs
+abbrev pub delivery_from : (Frame → NodeInput) → ℕ → Received → Delivery
+delivery_from means node (received.Frame frame) = delivery.To node (means frame)
+delivery_from means node received.Unreadable =
+    delivery.To node (to_node.BadFrame reason.Unreadable)
+delivery_from means node received.Lost = delivery.Lost
 
--- bytes that arrived are the input that some frame of this sender is, or are no frame
-abbrev pub IsReadAs : (Frame → NodeInput) → NodeInput → Type 0
-IsReadAs means got = ((frame : Frame) × (got ≡ means frame))
-    ⊎ (got ≡ to_node.BadFrame reason.Unreadable)
-
--- whatever a carrier made of what was sent to this node, it arrives nowhere else, and as what a
--- frame of its sender may be
-abbrev pub IsAddressedTo : (Frame → NodeInput) → ℕ → Delivery → Type 0
-IsAddressedTo means node delivery.Nothing = ⊥
-IsAddressedTo means node delivery.Lost = Unit {0}
-IsAddressedTo means node (delivery.To x got) = (x ≡ node) × IsReadAs means got
-
--- it was lost on its way
-abbrev pub DeliveryWasLost : Delivery → Type 0
-DeliveryWasLost delivery.Nothing = ⊥
-DeliveryWasLost delivery.Lost = Unit {0}
-DeliveryWasLost (delivery.To x got) = ⊥
+-- this is delivered to a node, and what was received is such
+abbrev pub ArrivesAt : (Frame → NodeInput) → ℕ → (Received → Type 0) → Delivery → Type 0
+ArrivesAt means node is_received it =
+    (got : Received) × is_received got × (it ≡ delivery_from means node got)

@@ -1,9 +1,12 @@
 -- Replies as frames, and what arrives of them at the client.
-use Rattle.std.specs.Prelude.{◌≡◌, Option, Some, None}
+use Rattle.std.specs.Prelude.{◌≡◌, ℕ, List, Option, Some, None}
 use Rattle.link_messages.specs.declared.Frame.{Frame}
 use Rattle.link_messages.specs.declared.Frame.TheVariants as frame
 use Rattle.node.specs.declared.Reply.{Reply}
 use Rattle.node.specs.declared.Reply.TheVariants as reply
+use Rattle.carriers.specs.declared.sending.Received.{Received}
+use Rattle.carriers.specs.declared.sending.Received.TheVariants as received
+use Rattle.carriers.specs.Carriers.{IsReceivedOf}
 
 -- the frame that spells a reply
 abbrev pub reply_frame : Reply → Frame
@@ -24,7 +27,13 @@ reply_of (frame.Closed i n) = Some (reply.Closed i n)
 reply_of (frame.Refused i why) = Some (reply.Refused i why)
 reply_of _ = None
 
--- a reply was sent: this very one arrives, or it is lost, which may be
-abbrev pub ReplyArrives : Type 0 → Reply → Option Reply → Type 0
-ReplyArrives loses sent None = loses
-ReplyArrives loses sent (Some got) = got ≡ sent
+-- the reply that the client hears, by what was received
+abbrev pub reply_in : Received → Option Reply
+reply_in (received.Frame frame) = reply_of frame
+reply_in received.Unreadable = None
+reply_in received.Lost = None
+
+-- what the client hears of a reply that was sent, where this arrived of its bytes
+abbrev pub IsHeard : Reply → Option (List ℕ) → Option Reply → Type 0
+IsHeard sent got heard =
+    (it : Received) × IsReceivedOf (reply_frame sent) got it × (heard ≡ reply_in it)

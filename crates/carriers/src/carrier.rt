@@ -1,7 +1,7 @@
 // What carries bytes between the nodes of a chain and their client.
 ghost use Rattle.std.specs.Prelude.{◌↔◌, IfOk, IsTrue, List};
 ghost use Rattle.carriers.specs.Carriers.{HasLost, IsCarried};
-ghost use Rattle.carriers.specs.Transmissions.{HasCarriedMore, Transmission, carried_lost};
+ghost use Rattle.carriers.specs.Transmissions.{HasCarriedMore, Transmission, carried_bytes};
 ghost use Rattle.carriers.specs.Transmissions.{one_transmission};
 
 use crate::LabError;
@@ -35,9 +35,9 @@ pub trait Carrier {
     /// Whether anything may be lost.
     ghost loses: { Type 0 };
 
-    /// The carrier was asked for exactly these, in this order, and lost exactly so many of them.
-    /// Only `carry` makes this list longer, so of a carrier of which nothing else is known it tells
-    /// what was asked of it. A carrier may leave the list open.
+    /// The carrier was asked for exactly these, in this order, and this arrived of each. Only
+    /// `carry` makes this list longer, so of a carrier of which nothing else is known it tells what
+    /// was asked of it, and what it answered. A carrier may leave the list open.
     ghost has_carried: { Self → List Transmission → Type 0 };
 
     /// Whether all that is sent arrives as it is, and nothing of it is kept. Then `carry` need not
@@ -62,5 +62,5 @@ pub trait Carrier {
         ensures carried { is_faithful self.old → IfOk result (IsCarried bytes.now) }
         ensures lost { IfOk result (λ it. HasLost it → loses) }
         ensures asked { IfOk result (λ it. HasCarriedMore has_carried self.old self.new
-            (one_transmission from to bytes.now (carried_lost it))) };
+            (one_transmission from to bytes.now (carried_bytes bytes.now it))) };
 }

@@ -1,10 +1,9 @@
 // What arrives of a frame at a node: the inputs of nodes.
 ghost use Rattle.std.specs.Prelude.{◌≡◌, ◌↔◌, IfOk};
-ghost use Rattle.link_messages.specs.declared.Frame.{Frame};
-ghost use Rattle.link_messages.specs.{IsFrame, frame_bytes};
-ghost use Rattle.carriers.specs.Deliveries.{DeliveryWasLost, IsAddressedTo, IsSentTo, input_of};
-ghost use Rattle.carriers.specs.Deliveries.{request_input};
-ghost use Rattle.carriers.specs.Transmissions.{HasCarriedMore, delivery_lost, one_transmission};
+ghost use Rattle.link_messages.specs.{frame_bytes};
+ghost use Rattle.carriers.specs.Carriers.{IsReceived, IsReceivedOf};
+ghost use Rattle.carriers.specs.Carrying.{HasCarriedOne};
+ghost use Rattle.carriers.specs.Deliveries.{ArrivesAt, input_of, request_input};
 
 use crate::{Carrier, LabError, Peer, Received, send, send_bytes};
 use configurations::NodeId;
@@ -95,12 +94,9 @@ pub fn send_request<C: Carrier>(
     frame: Frame,
 ) -> Result<Delivery, LabError>
     ensures faithful { C.is_faithful carrier.new ↔ C.is_faithful carrier.old }
-    ensures arrives { C.is_faithful carrier.old →
-        IfOk result (IsSentTo node (request_input frame)) }
-    ensures addressed { IfOk result (IsAddressedTo request_input node) }
-    ensures lost { IfOk result (λ it. DeliveryWasLost it → C.loses) }
-    ensures asked { IfOk result (λ it. HasCarriedMore C.has_carried carrier.old carrier.new
-        (one_transmission Peer.Client (Peer.Node node) (frame_bytes frame) (delivery_lost it))) }
+    ensures arrives { IfOk result (λ it. HasCarriedOne C.Carrier carrier.old carrier.new
+        Peer.Client (Peer.Node node) (frame_bytes frame)
+        (λ got. ArrivesAt request_input node (IsReceivedOf frame got) it)) }
 {
     match send(alloc, carrier, Peer::Client, Peer::Node(node), frame)? {
         Received::Frame(frame) => Ok(Delivery::To(node, request_input(frame))),
@@ -118,12 +114,9 @@ pub fn send_posted<C: Carrier>(
     bytes: &[u8],
 ) -> Result<Delivery, LabError>
     ensures faithful { C.is_faithful carrier.new ↔ C.is_faithful carrier.old }
-    ensures arrives { (frame : Frame) → IsFrame frame → bytes.now ≡ frame_bytes frame →
-        C.is_faithful carrier.old → IfOk result (IsSentTo to (input_of frame)) }
-    ensures addressed { IfOk result (IsAddressedTo input_of to) }
-    ensures lost { IfOk result (λ it. DeliveryWasLost it → C.loses) }
-    ensures asked { IfOk result (λ it. HasCarriedMore C.has_carried carrier.old carrier.new
-        (one_transmission (Peer.Node from) (Peer.Node to) bytes.now (delivery_lost it))) }
+    ensures arrives { IfOk result (λ it. HasCarriedOne C.Carrier carrier.old carrier.new
+        (Peer.Node from) (Peer.Node to) bytes.now
+        (λ got. ArrivesAt input_of to (IsReceived got) it)) }
 {
     match send_bytes(alloc, carrier, Peer::Node(from), Peer::Node(to), bytes)? {
         Received::Frame(frame) => Ok(Delivery::To(to, input_of(frame))),

@@ -6,6 +6,7 @@ mod deliveries;
 mod direct;
 mod error;
 mod kept_reply;
+pub mod laws;
 mod replies;
 mod sending;
 

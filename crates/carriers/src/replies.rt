@@ -1,9 +1,8 @@
 // Replies as frames, and what arrives of them at the client.
 ghost use Rattle.std.specs.Prelude.{◌≡◌, ◌↔◌, IfOk};
 ghost use Rattle.link_messages.specs.{frame_bytes};
-ghost use Rattle.carriers.specs.Replies.{ReplyArrives, reply_frame, reply_of};
-ghost use Rattle.carriers.specs.Transmissions.{HasCarriedMore, HasCarriedOne, one_transmission};
-ghost use Rattle.carriers.specs.Transmissions.{reply_lost};
+ghost use Rattle.carriers.specs.Carrying.{HasCarriedOne};
+ghost use Rattle.carriers.specs.Replies.{IsHeard, reply_frame, reply_of};
 
 use crate::{Carrier, LabError, Peer, Received, send};
 use configurations::NodeId;
@@ -81,13 +80,9 @@ pub fn send_reply<C: Carrier>(
     reply: Reply,
 ) -> Result<Option<Reply>, LabError>
     ensures faithful { C.is_faithful carrier.new ↔ C.is_faithful carrier.old }
-    ensures arrives { C.is_faithful carrier.old → IfOk result (ReplyArrives C.loses reply) }
-    ensures asked { C.is_faithful carrier.old →
-        IfOk result (λ it. HasCarriedMore C.has_carried carrier.old carrier.new
-        (one_transmission (Peer.Node from) Peer.Client (frame_bytes (reply_frame reply))
-        (reply_lost it))) }
-    ensures once { IfOk result (λ it. HasCarriedOne C.has_carried carrier.old carrier.new
-        (Peer.Node from) Peer.Client (frame_bytes (reply_frame reply))) }
+    ensures heard { IfOk result (λ it. HasCarriedOne C.Carrier carrier.old carrier.new
+        (Peer.Node from) Peer.Client (frame_bytes (reply_frame reply))
+        (λ got. IsHeard reply got it)) }
 {
     match send(
         alloc,

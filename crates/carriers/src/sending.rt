@@ -1,11 +1,11 @@
 // Frames that are sent by a carrier, and what arrives of them.
 ghost use Rattle.std.specs.Prelude.{◌≡◌, ◌≢◌, ◌↔◌, IfOk, MatchResult};
-ghost use Rattle.link_messages.specs.{IsFrame, frame_bytes};
-ghost use Rattle.carriers.specs.Carriers.{IsReadFrom, IsReceived, WasLost};
-ghost use Rattle.carriers.specs.Transmissions.{HasCarriedMore, one_transmission, received_lost};
+ghost use Rattle.link_messages.specs.{frame_bytes};
+ghost use Rattle.carriers.specs.Carriers.{IsReadFrom, IsReceived, IsReceivedOf};
+ghost use Rattle.carriers.specs.Carrying.{HasCarriedOne};
 
 use crate::{Carried, Carrier, LabError, Peer};
-use link_messages::laws::{one_answer, one_spelling};
+use link_messages::laws::one_answer;
 use link_messages::{Frame, FrameError, read, write};
 use std::alloc::Global;
 
@@ -46,7 +46,7 @@ fn read_frame(alloc: Global, bytes: &[u8]) -> Result<Received, LabError>
     Ok(Received::Frame(frame))
 }
 
-/// Sends the bytes of a frame: what arrives of it. They are read where they arrive.
+/// Sends the bytes of a frame: what arrives of it. What arrives is read.
 pub fn send_bytes<C: Carrier>(
     alloc: Global,
     carrier: &mut C,
@@ -55,13 +55,9 @@ pub fn send_bytes<C: Carrier>(
     bytes: &[u8],
 ) -> Result<Received, LabError>
     ensures faithful { C.is_faithful carrier.new ↔ C.is_faithful carrier.old }
-    ensures received { (frame : Frame) → IsFrame frame → bytes.now ≡ frame_bytes frame →
-        C.is_faithful carrier.old → IfOk result (IsReceived frame) }
-    ensures lost { IfOk result (λ it. WasLost it → C.loses) }
-    ensures asked { IfOk result (λ it. HasCarriedMore C.has_carried carrier.old carrier.new
-        (one_transmission from to bytes.now (received_lost it))) }
+    ensures received { IfOk result (λ it. HasCarriedOne C.Carrier carrier.old carrier.new from to
+        bytes.now (λ got. IsReceived got it)) }
 {
-    one_spelling(); // law: no two frames have one spelling
     match carrier.carry(alloc, from, to, bytes)? {
         Carried::Lost => Ok(Received::Lost),
         Carried::Same => read_frame(alloc, bytes),
@@ -79,10 +75,8 @@ pub fn send<C: Carrier>(
     frame: Frame,
 ) -> Result<Received, LabError>
     ensures faithful { C.is_faithful carrier.new ↔ C.is_faithful carrier.old }
-    ensures received { C.is_faithful carrier.old → IfOk result (IsReceived frame) }
-    ensures lost { IfOk result (λ it. WasLost it → C.loses) }
-    ensures asked { IfOk result (λ it. HasCarriedMore C.has_carried carrier.old carrier.new
-        (one_transmission from to (frame_bytes frame) (received_lost it))) }
+    ensures received { IfOk result (λ it. HasCarriedOne C.Carrier carrier.old carrier.new from to
+        (frame_bytes frame) (λ got. IsReceivedOf frame got it)) }
 {
     if carrier.is_direct() {
         return Ok(Received::Frame(frame));

@@ -1,17 +1,15 @@
 -- What a step does in any world, by what its event was found to bring.
 use Rattle.std.proofs.Common.{◌≡◌, ◌≤◌, ◌+◌, ◌∙◌, ℕ, suc, Bool, Err, List, Ok, Result, ap, arith}
-use Rattle.std.proofs.Common.{◌∷◌, [], ◌++◌, false, get_or, inl, inr, length, length-append}
+use Rattle.std.proofs.Common.{◌∷◌, [], ◌++◌, get_or, inl, inr, length, length-append}
 use Rattle.std.proofs.Common.{map, refl, subst, sym, ◌⊎◌}
 use Rattle.std.specs.List.{remove}
 use Rattle.std.specs.Prelude.{◌↔◌, OnErr, OnOk}
 use Rattle.std.proofs.Math.Seq.{take-length}
 use Rattle.std.proofs.lemmas.List.{same_from_push}
 use Rattle.std.proofs.lemmas.Result.{on_err_weaker, on_ok_weaker}
-use Rattle.kv_types.specs.declared.Limits.{Limits}
-use Rattle.disk.specs.declared.Fault.{Fault}
 use Rattle.disk.specs.declared.disk.Disk.{Ghosts}
 use Rattle.chain_core.specs.declared.Sent.{Sent}
-use Rattle.carriers.specs.{HasCarriedMore, delivery_lost}
+use Rattle.carriers.specs.{HasCarried}
 use Rattle.carriers.specs.declared.Carrier.{Ghosts as Carriers}
 use Rattle.carriers.specs.declared.Delivery.{Delivery}
 use Rattle.carriers.specs.declared.Delivery.TheVariants as delivery
@@ -23,16 +21,15 @@ use Rattle.lab.specs.declared.report.Line.{Line}
 use Rattle.lab.specs.declared.report.Line.TheVariants as line
 use Rattle.lab.specs.declared.sim_node.SimNode.{SimNode}
 use Rattle.lab.specs.declared.world.World.{World}
-use Rattle.lab.specs.Arrivals.{RepliesArrive, RepliesFollow}
-use Rattle.lab.specs.Deliveries.{IsBrought}
+use Rattle.lab.specs.Arrivals.{RepliesFollow, replies_carried, replies_heard}
+use Rattle.lab.specs.Deliveries.{Brings}
 use Rattle.lab.specs.Events.{epoch_in}
-use Rattle.lab.specs.LinesSoFar.{AsksFor, Brings, EventAddsLines, HasPartlyKept, IsPassedOver}
+use Rattle.lab.specs.LinesSoFar.{BringsNext, EventAddsLines, HasPartlyKept, IsPassedOver}
 use Rattle.lab.specs.LinesSoFar.{KeepsLines, LeavesNodes, LosesCarried, MovesAtMostOne}
 use Rattle.lab.specs.LinesSoFar.{StepIsRefused, StepsOnce, configs_of, events_so_far, frames_of}
 use Rattle.lab.specs.LinesSoFar.{lines_so_far, lost_so_far, next_place, nodes_of, sent_so_far}
 use Rattle.lab.specs.OutcomeLines.{own_lines, replies_by, sent_by}
 use Rattle.lab.specs.Posting.{HasPosted, HasPostedPart}
-use Rattle.lab.specs.Transmissions.{frame_sent}
 use Rattle.lab.specs.Worlds.{HasBegunEvent, HasKept, HasMoved, HaveLimits, IsIndexOf}
 use Rattle.lab.specs.Worlds.{WorldKeepsLimits}
 use Rattle.lab.proofs.LinesSoFarLemmas.{keeps_begun, keeps_partly}
@@ -151,10 +148,8 @@ module _ {D C : Type 0} {g : Ghosts D} (h : Carriers C) (event : EventContent) w
   module _ (old begun : World D C g) (begins : HasBegunEvent old begun event) (n i : ℕ)
       (long : n ≡ begun.steps.len) (at : i ≡ n + 1) (found : Delivery) (lent : List Posted)
       (same : lent ≡ begun.frames.items)
-      (brought : IsBrought begun.configs (h.is_faithful begun.carrier) lent i event.kind found)
-      (after : C) (asked : HasCarriedMore h.has_carried begun.carrier after
-      (frame_sent lent i event.kind (delivery_lost found)))
-      (faithful : h.is_faithful after ↔ h.is_faithful begun.carrier) where
+      (after : C)
+      (brought : Brings h begun.carrier after begun.configs lent i event.kind found) where
     place_now : i ≡ next_place old
     place_now = omega (
       arith,
@@ -164,29 +159,18 @@ module _ {D C : Type 0} {g : Ghosts D} (h : Carriers C) (event : EventContent) w
       ap (λ (w : World D C g). length w.steps.items) begins.others,
     )
 
-    brings : Brings h event old found
-    brings = subst (λ (w : World D C g). Brings h event w found) begins.others
-        (subst (λ (k : ℕ). IsBrought begun.configs (h.is_faithful begun.carrier)
-        (frames_of begun) k event.kind found) (place_now ∙ next_same)
-        (subst (λ (l : List Posted). IsBrought begun.configs (h.is_faithful begun.carrier) l i
-        event.kind found) same brought))
-      where
-        next_same : next_place old ≡ next_place begun
-        next_same = ap (λ (w : World D C g). next_place w) (sym begins.others)
-
-    asks : AsksFor h event old (delivery_lost found) after
-    asks = subst (λ (w : World D C g). AsksFor h event w (delivery_lost found) after) begins.others
-        (subst (λ (k : ℕ). HasCarriedMore h.has_carried begun.carrier after
-        (frame_sent (frames_of begun) k event.kind (delivery_lost found))) (place_now ∙ next_same)
-        (subst (λ (l : List Posted). HasCarriedMore h.has_carried begun.carrier after
-        (frame_sent l i event.kind (delivery_lost found))) same asked))
+    brings : BringsNext h event old after found
+    brings = subst (λ (w : World D C g). BringsNext h event w after found) begins.others
+        (subst (λ (k : ℕ). Brings h begun.carrier after begun.configs (frames_of begun) k event.kind
+        found) (place_now ∙ next_same)
+        (subst (λ (l : List Posted). Brings h begun.carrier after begun.configs l i event.kind
+        found) same brought))
       where
         next_same : next_place old ≡ next_place begun
         next_same = ap (λ (w : World D C g). next_place w) (sym begins.others)
 
     stays_faithful : h.is_faithful after ↔ h.is_faithful old.carrier
-    stays_faithful = subst (λ (w : World D C g). h.is_faithful after ↔ h.is_faithful w.carrier)
-        begins.others faithful
+    stays_faithful = brings.carried.faithful
 
     -- ---- no node took it
 
@@ -198,7 +182,8 @@ module _ {D C : Type 0} {g : Ghosts D} (h : Carriers C) (event : EventContent) w
         IsPassedOver (nodes_of begun) found lines → OnOk r (MovesAtMostOne h event old new)
     moves_not r new lost lines keeps says = on_ok_weaker r (λ kept shown is. inl (record {
       it = found;
-      brought = brings;
+      brought = subst (λ (c : C). BringsNext h event old c found)
+          (sym (ap (λ (w : World D C g). w.carrier) kept.others)) brings;
       says = subst (IsPassedOver (nodes_of old) found)
           (added old begun idle new lines shown begins kept.kept refl is)
           (subst (λ (w : World D C g). IsPassedOver (nodes_of w) found lines) begins.others says);
@@ -206,8 +191,6 @@ module _ {D C : Type 0} {g : Ghosts D} (h : Carriers C) (event : EventContent) w
           ∙ ap (λ (w : World D C g). nodes_of w) begins.others;
       frames = ap (λ (w : World D C g). frames_of w) kept.others
           ∙ ap (λ (w : World D C g). frames_of w) begins.others;
-      asked = subst (λ (c : C). AsksFor h event old (delivery_lost found) c)
-          (sym (ap (λ (w : World D C g). w.carrier) kept.others)) asks;
     })) keeps
 
     idle_limits : {T E : Type 0} (r : Result T E) (new : World D C g) (lost : Bool)
@@ -236,11 +219,8 @@ module _ {D C : Type 0} {g : Ghosts D} (h : Carriers C) (event : EventContent) w
     -- ---- node x was to take it
 
     module _ (x : ℕ) (node_input : NodeInput) (is : found ≡ delivery.To x node_input) where
-      brings_to : Brings h event old (delivery.To x node_input)
-      brings_to = subst (Brings h event old) is brings
-
-      asks_to : AsksFor h event old false after
-      asks_to = subst (λ (d : Delivery). AsksFor h event old (delivery_lost d) after) is asks
+      brings_to : BringsNext h event old after (delivery.To x node_input)
+      brings_to = subst (BringsNext h event old after) is brings
 
       -- it was lost, or nothing was done
       pub lost_left : (new : World D C g) (index : ℕ) → IsIndexOf (nodes_of begun) index x →
@@ -254,6 +234,7 @@ module _ {D C : Type 0} {g : Ghosts D} (h : Carriers C) (event : EventContent) w
             | inr less ↦ inr (inl (record {
               x = x;
               node_input = node_input;
+              mid = after;
               brought = brings_to;
               index = index;
               at = subst (λ (l : List (SimNode D g)). IsIndexOf l index x) were there;
@@ -281,6 +262,7 @@ module _ {D C : Type 0} {g : Ghosts D} (h : Carriers C) (event : EventContent) w
           x = x;
           node_input = node_input;
           did = did;
+          mid = after;
           brought = brings_to;
           took = took_so (nodes_of new) nodes;
           sends = subst (λ (w : World D C g). HasPostedPart (frames_of w) x (sent_by did)
@@ -289,8 +271,7 @@ module _ {D C : Type 0} {g : Ghosts D} (h : Carriers C) (event : EventContent) w
 
         module _ (lines : List Line)
             (posted : HasPosted (frames_of begun) x (sent_by did) (frames_of mid))
-            (follow : RepliesFollow (h.is_faithful after) h.loses
-            (HasCarriedMore h.has_carried after mid.carrier) x (replies_by did)
+            (follow : RepliesFollow (HasCarried h after mid.carrier) x (replies_by did)
             (own_lines x (epoch_in event.kind) (sent_so_far begun) did) lines) where
           pub took_refused : {T E : Type 0} (r : Result T E) (new : World D C g) →
               OnErr r (HasPartlyKept mid new lines) →
@@ -310,38 +291,31 @@ module _ {D C : Type 0} {g : Ghosts D} (h : Carriers C) (event : EventContent) w
           moves_one r new lost keeps same_lines = on_ok_weaker r (λ kept shown shows.
               let now = took_so (nodes_of new) (ap (λ (w : World D C g). nodes_of w) kept.others) in
               let before = ap (λ (w : World D C g). sent_so_far w) begins.others in
-              let follows : RepliesFollow (h.is_faithful old.carrier) h.loses
-              (HasCarriedMore h.has_carried after new.carrier) x (replies_by did)
+              let follows : RepliesFollow (HasCarried h after new.carrier) x (replies_by did)
               (own_lines x (epoch_in event.kind) (sent_so_far old) did) shown = record {
-                heard = follow.heard;
+                each = follow.each;
+                of = follow.of;
+                asked = subst (λ (c : C). HasCarried h after c (replies_carried x follow.each))
+                    (sym (ap (λ (w : World D C g). w.carrier) kept.others)) follow.asked;
                 lines = sym (added old begun mid new lines shown begins kept.kept same_lines shows)
                     ∙ follow.lines
                     ∙ ap (λ (k : ℕ). own_lines x (epoch_in event.kind) k did
-                    ++ map (λ reply. line.Replied reply) follow.heard) before;
-                few = follow.few;
-                arrive = λ carries. subst (λ (c : C). RepliesArrive h.loses
-                    (HasCarriedMore h.has_carried after c) x
-                    (map (λ reply. line.Replied reply) (replies_by did))
-                    (map (λ reply. line.Replied reply) follow.heard))
-                    (sym (ap (λ (w : World D C g). w.carrier) kept.others))
-                    (follow.arrive (stays_faithful.1 carries));
+                    ++ map (λ reply. line.Replied reply) (replies_heard follow.each)) before;
               } in
               inr (record {
                 x = x;
                 node_input = node_input;
                 did = did;
+                mid = after;
                 brought = brings_to;
                 took = now;
                 sends = subst (HasPosted (frames_of old) x (sent_by did))
                     (sym (ap (λ (w : World D C g). frames_of w) kept.others))
                     (subst (λ (w : World D C g). HasPosted (frames_of w) x (sent_by did)
                     (frames_of mid)) begins.others posted);
-                mid = after;
-                asked = asks_to;
                 follow = follows;
                 stands = stands_so x (epoch_in event.kind) (sent_so_far old) did
-                    (h.is_faithful old.carrier) h.loses
-                    (HasCarriedMore h.has_carried after new.carrier) shown follows
+                    (HasCarried h after new.carrier) shown follows
                     (get_or (nodes_of old) now.index now.sim).state now.sim.state
                     now.dispatched.stands;
               })) keeps

@@ -1,150 +1,44 @@
--- Lines of a node that arrive, one after another.
-use Rattle.std.proofs.Common.{◌≡◌, ℕ, ◌+◌, Bool, List, [], ◌∷◌, ◌++◌, length, Option, Some}
-use Rattle.std.proofs.Common.{None, true, false, refl, sym, ap, subst, ◌∙◌, arith}
-use Rattle.std.proofs.Common.{length-append, append-nil, append_assoc, map}
-use Rattle.std.proofs.lemmas.List.{map-append}
+-- Lines of a node that arrive by a faithful carrier, and replies that are carried one after
+-- another.
+use Rattle.std.proofs.Common.{◌≡◌, ◌⊎◌, ◌≤◌, ℕ, suc, ◌+◌, Bool, List, [], ◌∷◌, ◌++◌, length, Option}
+use Rattle.std.proofs.Common.{Some, None, true, false, inl, inr, refl, sym, ap, ap₂}
+use Rattle.std.proofs.Common.{subst, ◌∙◌, arith, append-nil, append_assoc, map}
+use Rattle.std.proofs.lemmas.List.{length-map, map-append}
+use Rattle.std.proofs.lemmas.List.Concat.{flat_map-append}
+use Rattle.std.proofs.lemmas.List.Elements.{All-cons, All-head, All-nil, All-tail}
 use Rattle.std.specs.Prelude.{All, not}
-use Rattle.std.proofs.lemmas.List.Elements.{All-from_recursion, All-push}
+use Rattle.std.specs.List.{cons_option}
 use Rattle.link_messages.specs.{frame_bytes}
+use Rattle.carriers.specs.declared.Carrier.{Ghosts as Carriers}
 use Rattle.carriers.specs.declared.Peer.TheVariants.{Client, Node}
-use Rattle.carriers.specs.{Transmission, one_transmission, reply_frame}
+use Rattle.carriers.specs.declared.Received.TheVariants as received
+use Rattle.carriers.specs.{HasCarried, HasCarriedOne, IsHeard, IsReceivedOf, IsUnaltered}
+use Rattle.carriers.specs.{Transmission}
+use Rattle.carriers.specs.{one_transmission, reply_frame, reply_in, unless_lost}
 use Rattle.node.specs.declared.Reply.{Reply}
+use Rattle.node.specs.declared.Reply.TheVariants as reply
 use Rattle.lab.specs.declared.report.Line.{Line}
 use Rattle.lab.specs.declared.report.Line.TheVariants as line
-use Rattle.lab.specs.Arrivals.{LineArrives, RepliesArrive, RepliesFollow, as_lines}
+use Rattle.lab.specs.Arrivals.{CarriedReply, RepliesFollow, replies_carried, replies_heard}
 use Rattle.lab.specs.Events.{arrived, reply_count}
-use Rattle.lab.specs.Transmissions.{line_sent, replies_sent}
+use Rattle.lab.specs.Transmissions.{replies_sent, reply_sent}
+use Rattle.lab.proofs.Transmissions.{carried_both}
 
--- of replies of which each is told whether it arrives, and of one more
-arrived_reply : (told : List Bool) (b : Bool) (lines more : List Line) →
-    length told ≡ reply_count lines →
-    arrived (told ++ b ∷ []) (lines ++ more) ≡ arrived told lines ++ arrived (b ∷ []) more
-arrived_reply [] b [] more same = refl
-arrived_reply (t ∷ told) b [] more same = absurd (omega (arith, same))
-arrived_reply [] b (line.Replied reply ∷ lines) more same = absurd (omega (arith, same))
-arrived_reply (t ∷ told) b (line.Replied reply ∷ lines) more same =
-    let later = arrived_reply told b lines more (omega (arith, same)) in
-    by_first t later
-  where
-    by_first : (t : Bool) → arrived (told ++ b ∷ []) (lines ++ more)
-        ≡ arrived told lines ++ arrived (b ∷ []) more →
-        arrived (t ∷ (told ++ b ∷ [])) (line.Replied reply ∷ (lines ++ more))
-        ≡ arrived (t ∷ told) (line.Replied reply ∷ lines) ++ arrived (b ∷ []) more
-    by_first true later = ap (λ (l : List Line). line.Replied reply ∷ l) later
-    by_first false later = later
-arrived_reply told b (other ∷ lines) more same =
-    ap (λ (l : List Line). other ∷ l) (arrived_reply told b lines more same)
-
--- and of a line that is none
-arrived_other : (told : List Bool) (lines more : List Line) → length told ≡ reply_count lines →
-    arrived told (lines ++ more) ≡ arrived told lines ++ arrived [] more
-arrived_other [] [] more same = refl
-arrived_other (t ∷ told) [] more same = absurd (omega (arith, same))
-arrived_other [] (line.Replied reply ∷ lines) more same = absurd (omega (arith, same))
-arrived_other (t ∷ told) (line.Replied reply ∷ lines) more same =
-    by_first t (arrived_other told lines more (omega (arith, same)))
-  where
-    by_first : (t : Bool) → arrived told (lines ++ more) ≡ arrived told lines ++ arrived [] more →
-        arrived (t ∷ told) (line.Replied reply ∷ (lines ++ more))
-        ≡ arrived (t ∷ told) (line.Replied reply ∷ lines) ++ arrived [] more
-    by_first true later = ap (λ (l : List Line). line.Replied reply ∷ l) later
-    by_first false later = later
-arrived_other told (other ∷ lines) more same =
-    ap (λ (l : List Line). other ∷ l) (arrived_other told lines more same)
+-- These lines arrive of those that a node gave: of each reply it is told whether it did, and where
+-- nothing may be lost each did. The carrier was asked for each, and lost those that did not.
+pub record RepliesArrive (loses : Type 0) (asks : List Transmission → Type 0) (node : ℕ)
+    (given got : List Line) : Type 0 where
+  pub told : List Bool
+  pub each : length told ≡ reply_count given
+  pub kept : got ≡ arrived told given
+  pub all : (loses → ⊥) → All (λ b. b ≡ true) told
+  pub asked : asks (replies_sent node told given)
 
 -- how many replies two lists have
 pub count_both : (a b : List Line) → reply_count (a ++ b) ≡ reply_count a + reply_count b
 count_both [] b = omega arith
 count_both (line.Replied reply ∷ a) b = omega (arith, count_both a b)
 count_both (other ∷ a) b = count_both a b
-
--- of no replies each was told
-none_told : All (λ (b : Bool). b ≡ true) []
-none_told = All-from_recursion (λ (b : Bool). b ≡ true) [] tt
-
--- what replies ask for that are told, and then others
-sent_both : (node : ℕ) (told others : List Bool) (lines more : List Line) →
-    length told ≡ reply_count lines →
-    replies_sent node (told ++ others) (lines ++ more)
-    ≡ replies_sent node told lines ++ replies_sent node others more
-sent_both node [] others [] more same = refl
-sent_both node (t ∷ told) others [] more same = absurd (omega (arith, same))
-sent_both node [] others (line.Replied reply ∷ lines) more same = absurd (omega (arith, same))
-sent_both node (t ∷ told) others (line.Replied reply ∷ lines) more same =
-    ap (λ (l : List Transmission).
-    one_transmission (Node node) Client (frame_bytes (reply_frame reply)) (not t) ++ l)
-    (sent_both node told others lines more (omega (arith, same)))
-sent_both node told others (other ∷ lines) more same = sent_both node told others lines more same
-
--- no lines arrive of none
-pub none_arrive : (loses : Type 0) (asks : List Transmission → Type 0) (node : ℕ) → asks [] →
-    RepliesArrive loses asks node [] []
-none_arrive loses asks node none = record {
-  told = [];
-  each = refl;
-  kept = refl;
-  all = λ loses_not. none_told;
-  asked = none;
-}
-
--- One line more of a node, of whose lines so many arrive.
-module _ (loses : Type 0) (asks more_asks : List Transmission → Type 0) (node : ℕ)
-    (given got : List Line) (have : RepliesArrive loses asks node given got) where
-  -- one reply more, which was told or not
-  reply_more : (reply : Line) (b : Bool) → (reply_count (reply ∷ []) ≡ 1) →
-      ((loses → ⊥) → b ≡ true) →
-      ((m : List Transmission) → asks m → more_asks (m ++ replies_sent node (b ∷ []) (reply ∷ [])))
-      → RepliesArrive loses more_asks node (given ++ reply ∷ []) (got ++ arrived (b ∷ [])
-      (reply ∷ []))
-  reply_more reply b is was asked = record {
-    told = have.told ++ b ∷ [];
-    each = omega (
-      arith,
-      length-append have.told (b ∷ []),
-      have.each,
-      count_both given (reply ∷ []),
-      is,
-    );
-    kept = ap (λ (l : List Line). l ++ arrived (b ∷ []) (reply ∷ [])) have.kept
-        ∙ sym (arrived_reply have.told b given (reply ∷ []) have.each);
-    all = λ loses_not. All-push (λ (t : Bool). t ≡ true) have.told b (have.all loses_not)
-        (was loses_not);
-    asked = subst more_asks (sym (sent_both node have.told (b ∷ []) given (reply ∷ []) have.each))
-        (asked (replies_sent node have.told given) have.asked);
-  }
-
-  -- one line more that is no reply
-  other_more : (other : Line) → (reply_count (other ∷ []) ≡ 0) →
-      (arrived [] (other ∷ []) ≡ other ∷ []) → (replies_sent node [] (other ∷ []) ≡ []) →
-      ((m : List Transmission) → asks m → more_asks (m ++ [])) →
-      RepliesArrive loses more_asks node (given ++ other ∷ []) (got ++ other ∷ [])
-  other_more other is stays none asked = record {
-    told = have.told;
-    each = omega (arith, have.each, count_both given (other ∷ []), is);
-    kept = ap (λ (l : List Line). l ++ other ∷ []) have.kept
-        ∙ ap (λ (l : List Line). arrived have.told given ++ l) (sym stays)
-        ∙ sym (arrived_other have.told given (other ∷ []) have.each);
-    all = have.all;
-    asked = subst more_asks
-        (ap (λ (l : List Transmission). replies_sent node have.told given ++ l) (sym none)
-        ∙ sym (sent_both node have.told [] given (other ∷ []) have.each)
-        ∙ ap (λ (l : List Bool). replies_sent node l (given ++ other ∷ [])) (append-nil have.told))
-        (asked (replies_sent node have.told given) have.asked);
-  }
-
-  -- one line more, of which this arrives
-  pub line_more : (more : Line) (it : Option Line) → LineArrives loses more it →
-      ((m : List Transmission) → asks m → more_asks (m ++ line_sent node more it)) →
-      RepliesArrive loses more_asks node (given ++ more ∷ []) (got ++ as_lines it)
-  line_more (line.Replied reply) None is asked =
-      reply_more (line.Replied reply) false refl (λ loses_not. absurd (loses_not is)) asked
-  line_more (line.Replied reply) (Some it) is asked =
-      subst (λ (l : Line). RepliesArrive loses more_asks node (given ++ line.Replied reply ∷ [])
-      (got ++ l ∷ [])) (sym is) (reply_more (line.Replied reply) true refl (λ _. refl) asked)
-  line_more other None is asked = absurd is
-  line_more other (Some it) is asked =
-      subst (λ (l : Line). RepliesArrive loses more_asks node (given ++ other ∷ []) (got ++ l ∷ []))
-      (sym is) (other_more other refl refl refl asked)
 
 -- ---- behind lines that are no replies
 
@@ -176,68 +70,209 @@ arrive_behind loses asks node before given got none have = record {
   asked = subst asks (sym (skip_others node have.told before given none)) have.asked;
 }
 
--- ---- replies that are carried behind other lines
+-- ---- replies that a faithful carrier carried
 
 -- the lines of replies
 abbrev pub replied : List Reply → List Line
 replied replies = map (λ reply. line.Replied reply) replies
 
-pub none_follow : (faithful loses : Type 0) (asks : List Transmission → Type 0) (node : ℕ)
-    (before : List Line) → asks [] → RepliesFollow faithful loses asks node [] before before
-none_follow faithful loses asks node before none = record {
-  heard = [];
-  lines = sym (append-nil before);
-  few = omega arith;
-  arrive = λ _. none_arrive loses asks node none;
+-- whether it arrived
+abbrev arrived_so : Option (List ℕ) → Bool
+arrived_so None = false
+arrived_so (Some bytes) = true
+
+-- of each whether it did
+abbrev told_of : List CarriedReply → List Bool
+told_of each = map (λ it. arrived_so it.got) each
+
+-- the bytes of a reply
+abbrev own_bytes : Reply → List ℕ
+own_bytes reply = frame_bytes (reply_frame reply)
+
+-- they arrived, or were lost
+own_so : (bytes : List ℕ) (got : Option (List ℕ)) → (got ≡ None) ⊎ (got ≡ Some bytes) →
+    got ≡ unless_lost (not (arrived_so got)) bytes
+own_so bytes got (inl none) =
+    subst (λ (o : Option (List ℕ)). o ≡ unless_lost (not (arrived_so o)) bytes) (sym none) refl
+own_so bytes got (inr own) =
+    subst (λ (o : Option (List ℕ)). o ≡ unless_lost (not (arrived_so o)) bytes) (sym own) refl
+
+-- a reply is the one that its frame spells
+spelled_so : (it : Reply) → reply_in (received.Frame (reply_frame it)) ≡ Some it
+spelled_so (reply.Committed i n) = refl
+spelled_so (reply.Value i n value) = refl
+spelled_so (reply.Rows i n page) = refl
+spelled_so (reply.Opened i n) = refl
+spelled_so (reply.Closed i n) = refl
+spelled_so (reply.Refused i why) = refl
+
+heard_none : (it : Reply) (got : Option (List ℕ)) (heard : Option Reply) → IsHeard it got heard →
+    got ≡ None → heard ≡ None
+heard_none it got heard is none =
+    let lost : IsReceivedOf (reply_frame it) None is.0 =
+    subst (λ (o : Option (List ℕ)). IsReceivedOf (reply_frame it) o is.0) none is.1 in
+    is.2 ∙ ap reply_in (lost.1 (λ own. absurd cc))
+
+heard_own : (it : Reply) (got : Option (List ℕ)) (heard : Option Reply) → IsHeard it got heard →
+    got ≡ Some (own_bytes it) → heard ≡ Some it
+heard_own it got heard is own = is.2 ∙ ap reply_in (is.1.0 own) ∙ spelled_so it
+
+-- one reply more is heard, or is not
+heard_more : (it : Reply) (got : Option (List ℕ)) (heard : Option Reply) → IsHeard it got heard →
+    (got ≡ None) ⊎ (got ≡ Some (own_bytes it)) → (rest : List Reply) (told : List Bool) (given :
+    List Line) →
+    replied rest ≡ arrived told given → replied (cons_option heard rest)
+    ≡ arrived (arrived_so got ∷ told) (line.Replied it ∷ given)
+heard_more it got heard is (inl none) rest told given same =
+    subst (λ (o : Option Reply). replied (cons_option o rest)
+    ≡ arrived (arrived_so got ∷ told) (line.Replied it ∷ given))
+    (sym (heard_none it got heard is none)) (subst (λ (o : Option (List ℕ)).
+    replied rest ≡ arrived (arrived_so o ∷ told) (line.Replied it ∷ given)) (sym none) same)
+heard_more it got heard is (inr own) rest told given same =
+    subst (λ (o : Option Reply). replied (cons_option o rest)
+    ≡ arrived (arrived_so got ∷ told) (line.Replied it ∷ given))
+    (sym (heard_own it got heard is own)) (subst (λ (o : Option (List ℕ)).
+    replied (it ∷ rest) ≡ arrived (arrived_so o ∷ told) (line.Replied it ∷ given)) (sym own)
+    (ap (λ (l : List Line). line.Replied it ∷ l) same))
+
+module _ (node : ℕ) where
+  -- the transmission of one reply
+  abbrev carried_as : CarriedReply → Transmission
+  carried_as it = record {
+    from = Node node;
+    to = Client;
+    bytes = own_bytes it.reply;
+    got = it.got;
+  }
+
+  -- those that were heard are those that arrived
+  heard_all : (each : List CarriedReply) → All IsUnaltered (replies_carried node each) →
+      replied (replies_heard each)
+      ≡ arrived (told_of each) (replied (map (λ (it : CarriedReply). it.reply) each))
+  heard_all [] all = refl
+  heard_all (it ∷ each) all = heard_more it.reply it.got it.heard it.is
+      (All-head IsUnaltered (carried_as it) (replies_carried node each) all) (replies_heard each)
+      (told_of each) (replied (map (λ (c : CarriedReply). c.reply) each))
+      (heard_all each (All-tail IsUnaltered (carried_as it) (replies_carried node each) all))
+
+  -- and were carried as they were sent
+  carried_all : (each : List CarriedReply) → All IsUnaltered (replies_carried node each) →
+      replies_carried node each
+      ≡ replies_sent node (told_of each) (replied (map (λ (it : CarriedReply). it.reply) each))
+  carried_all [] all = refl
+  carried_all (it ∷ each) all = ap₂ (λ (o : Option (List ℕ)) (l : List Transmission).
+      one_transmission (Node node) Client (own_bytes it.reply) o ++ l)
+      (own_so (own_bytes it.reply) it.got
+      (All-head IsUnaltered (carried_as it) (replies_carried node each) all))
+      (carried_all each (All-tail IsUnaltered (carried_as it) (replies_carried node each) all))
+
+  count_all : (each : List CarriedReply) → length (told_of each)
+      ≡ reply_count (replied (map (λ (it : CarriedReply). it.reply) each))
+  count_all [] = refl
+  count_all (it ∷ each) = omega (arith, count_all each)
+
+  some_so : (got : Option (List ℕ)) → (got ≡ None → ⊥) → arrived_so got ≡ true
+  some_so None is = absurd (is refl)
+  some_so (Some bytes) is = refl
+
+  -- where nothing may be lost each arrived
+  none_lost : (loses : Type 0) → (loses → ⊥) → (each : List CarriedReply) →
+      All (λ (t : Transmission). t.got ≡ None → loses) (replies_carried node each) →
+      All (λ (b : Bool). b ≡ true) (told_of each)
+  none_lost loses loses_not [] all = All-nil (λ (b : Bool). b ≡ true)
+  none_lost loses loses_not (it ∷ each) all =
+      All-cons (λ (b : Bool). b ≡ true) (arrived_so it.got) (told_of each) (some_so it.got
+      (λ none. loses_not (All-head (λ (t : Transmission). t.got ≡ None → loses) (carried_as it)
+      (replies_carried node each) all none))) (none_lost loses loses_not each
+      (All-tail (λ (t : Transmission). t.got ≡ None → loses) (carried_as it)
+      (replies_carried node each) all))
+
+  pub follows_arrive : {C : Type 0} (h : Carriers C) (old new : C) (replies : List Reply)
+      (before now : List Line)
+      (follow : RepliesFollow (HasCarried h old new) node replies before now) →
+      h.is_faithful old → RepliesArrive h.loses (HasCarried h old new) node (replied replies)
+      (replied (replies_heard follow.each))
+  follows_arrive h old new replies before now follow faithful =
+      let each = follow.each in
+      let own = follow.asked.unaltered faithful in
+      subst (λ (l : List Reply). RepliesArrive h.loses (HasCarried h old new) node (replied l)
+      (replied (replies_heard each))) follow.of (record {
+        told = told_of each;
+        each = count_all each;
+        kept = heard_all each own;
+        all = λ loses_not. none_lost h.loses loses_not each follow.asked.lost;
+        asked = subst (HasCarried h old new) (carried_all each own) follow.asked;
+      })
+
+-- ---- replies that are carried one after another
+
+pub none_follow : (asks : List Transmission → Type 0) (node : ℕ) (before : List Line) → asks [] →
+    RepliesFollow asks node [] before before
+none_follow asks node before none =
+    record { each = []; of = refl; asked = none; lines = sym (append-nil before) }
+
+pub one_follows : {C : Type 0} (h : Carriers C) (old new : C) (node : ℕ) (it : Reply)
+    (heard : Option Reply) (before now : List Line) →
+    HasCarriedOne h old new (Node node) Client (own_bytes it) (λ got. IsHeard it got heard) →
+    now ≡ before ++ replied (cons_option heard []) →
+    RepliesFollow (HasCarried h old new) node (it ∷ []) before now
+one_follows h old new node it heard before now carried are = record {
+  each = record { reply = it; got = carried.0; heard = heard; is = carried.2 } ∷ [];
+  of = refl;
+  asked = carried.1;
+  lines = are;
 }
 
--- the bytes of a reply go to the client, and are lost or not
-abbrev pub reply_sent : ℕ → Reply → Bool → List Transmission
-reply_sent node reply lost =
-    one_transmission (Node node) Client (frame_bytes (reply_frame reply)) lost
+cons_both : (heard : Option Reply) (a b : List Reply) →
+    cons_option heard (a ++ b) ≡ cons_option heard a ++ b
+cons_both None a b = refl
+cons_both (Some it) a b = refl
 
--- one reply more
-module _ (faithful loses : Type 0) (asks more_asks : List Transmission → Type 0) (node : ℕ)
-    (replies : List Reply) (before now : List Line) (reply : Reply)
-    (have : RepliesFollow faithful loses asks node replies before now) where
-  -- .. which arrived
-  pub follow_heard : (got : Reply) (lines : List Line) → lines ≡ now ++ line.Replied got ∷ [] →
-      (faithful → got ≡ reply) →
-      (faithful → (m : List Transmission) → asks m → more_asks (m ++ reply_sent node reply false)) →
-      RepliesFollow faithful loses more_asks node (replies ++ reply ∷ []) before lines
-  follow_heard got lines are is asked = record {
-    heard = have.heard ++ got ∷ [];
-    lines = are ∙ ap (λ (l : List Line). l ++ line.Replied got ∷ []) have.lines
-        ∙ append_assoc before (replied have.heard) (line.Replied got ∷ [])
-        ∙ ap (λ (l : List Line). before ++ l)
-        (sym (map-append (λ (it : Reply). line.Replied it) have.heard (got ∷ [])));
-    few = omega (
-      arith,
-      have.few,
-      length-append have.heard (got ∷ []),
-      length-append replies (reply ∷ []),
-    );
-    arrive = λ faithful.
-        rw (
-          map-append (λ (it : Reply). line.Replied it) have.heard (got ∷ []),
-          map-append (λ (it : Reply). line.Replied it) replies (reply ∷ []),
-        ) (line_more loses asks more_asks node (replied replies) (replied have.heard)
-        (have.arrive faithful) (line.Replied reply) (Some (line.Replied got))
-        (ap (λ (it : Reply). line.Replied it) (is faithful)) (asked faithful));
-  }
+heard_both : (a b : List CarriedReply) →
+    replies_heard (a ++ b) ≡ replies_heard a ++ replies_heard b
+heard_both [] b = refl
+heard_both (it ∷ a) b = ap (λ (l : List Reply). cons_option it.heard l) (heard_both a b)
+    ∙ cons_both it.heard (replies_heard a) (replies_heard b)
 
-  -- .. or did not
-  pub follow_lost : (faithful → loses) →
-      (faithful → (m : List Transmission) → asks m → more_asks (m ++ reply_sent node reply true)) →
-      RepliesFollow faithful loses more_asks node (replies ++ reply ∷ []) before now
-  follow_lost may asked = record {
-    heard = have.heard;
-    lines = have.lines;
-    few = omega (arith, have.few, length-append replies (reply ∷ []));
-    arrive = λ faithful.
-        rw (map-append (λ (it : Reply). line.Replied it) replies (reply ∷ []))
-        (subst (RepliesArrive loses more_asks node (replied replies ++ line.Replied reply ∷ []))
-        (append-nil (replied have.heard))
-        (line_more loses asks more_asks node (replied replies) (replied have.heard)
-        (have.arrive faithful) (line.Replied reply) None (may faithful) (asked faithful)));
-  }
+pub both_follow : {C : Type 0} (h : Carriers C) (old mid new : C) (node : ℕ)
+    (first more : List Reply) (before then now : List Line) →
+    RepliesFollow (HasCarried h old mid) node first before then →
+    RepliesFollow (HasCarried h mid new) node more then now →
+    RepliesFollow (HasCarried h old new) node (first ++ more) before now
+both_follow h old mid new node first more before then now one two =
+    let a = replies_heard one.each in
+    let b = replies_heard two.each in
+    record {
+      each = one.each ++ two.each;
+      of = map-append (λ (it : CarriedReply). it.reply) one.each two.each
+          ∙ ap₂ (λ (l r : List Reply). l ++ r) one.of two.of;
+      asked = subst (HasCarried h old new) (sym (flat_map-append
+          (λ (it : CarriedReply). reply_sent node it.reply (λ bytes. it.got)) one.each two.each))
+          (carried_both h old mid new (replies_carried node one.each)
+          (replies_carried node two.each) one.asked two.asked);
+      lines = two.lines ∙ ap (λ (l : List Line). l ++ replied b) one.lines
+          ∙ append_assoc before (replied a) (replied b)
+          ∙ ap (λ (l : List Line). before ++ l)
+          (sym (map-append (λ (it : Reply). line.Replied it) a b)
+          ∙ ap replied (sym (heard_both one.each two.each)));
+    }
+
+-- no more were heard than there were
+few_more : (heard : Option Reply) (l : List Reply) (n : ℕ) → length l ≤ n →
+    length (cons_option heard l) ≤ suc n
+few_more None l n few = omega (arith, few)
+few_more (Some it) l n few = omega (arith, few)
+
+few_each : (each : List CarriedReply) → length (replies_heard each) ≤ length each
+few_each [] = omega arith
+few_each (it ∷ each) = few_more it.heard (replies_heard each) (length each) (few_each each)
+
+pub few_heard : (asks : List Transmission → Type 0) (node : ℕ) (replies : List Reply)
+    (before now : List Line) (follow : RepliesFollow asks node replies before now) →
+    length (replies_heard follow.each) ≤ length replies
+few_heard asks node replies before now follow = omega (
+  arith,
+  few_each follow.each,
+  length-map follow.each (λ (it : CarriedReply). it.reply),
+  ap length follow.of,
+)

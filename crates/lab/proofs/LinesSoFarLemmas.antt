@@ -3,7 +3,7 @@ use Rattle.std.proofs.Common.{◌≡◌, ◌≤◌, Bool, List, [], ◌∷◌, �
 use Rattle.std.proofs.Common.{Err, Ok, Result, arith, drop, false, inl, inr, length, length-append}
 use Rattle.std.proofs.Common.{true}
 use Rattle.std.specs.Prelude.{OnErr, OnOk}
-use Rattle.std.proofs.lemmas.Result.{on_err_weaker, on_ok_weaker}
+use Rattle.std.proofs.lemmas.Result.{on_ok_weaker}
 use Rattle.std.proofs.lemmas.List.Elements.{All-from_recursion}
 use Rattle.configurations.specs.{at_epoch}
 use Rattle.disk.specs.declared.disk.Disk.{Ghosts}

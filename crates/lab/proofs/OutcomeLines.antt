@@ -16,7 +16,8 @@ use Rattle.link_messages.specs.declared.Frame.{Frame}
 use Rattle.link_messages.specs.declared.Frame.TheVariants as frame
 use Rattle.node.specs.declared.Output.{Output}
 use Rattle.node.specs.declared.Reply.{Reply}
-use Rattle.carriers.specs.{Transmission}
+use Rattle.carriers.specs.{HasCarried, Transmission}
+use Rattle.carriers.specs.declared.Carrier.{Ghosts as Carriers}
 use Rattle.carriers.specs.declared.Delivery.TheVariants as delivery
 use Rattle.carriers.specs.declared.NodeInput.{NodeInput}
 use Rattle.carriers.specs.declared.NodeInput.TheVariants as to_node
@@ -28,7 +29,7 @@ use Rattle.lab.specs.declared.input.StepOutcome.TheVariants as done
 use Rattle.lab.specs.declared.report.Line.{Line}
 use Rattle.lab.specs.declared.report.Line.TheVariants as line
 use Rattle.lab.specs.declared.sim_node.SimNode.{SimNode}
-use Rattle.lab.specs.Arrivals.{RepliesArrive, RepliesFollow}
+use Rattle.lab.specs.Arrivals.{RepliesFollow, replies_heard}
 use Rattle.lab.specs.Deliveries.{HasNoDelivery, IsCarriedEvent, IsDeliverable}
 use Rattle.lab.specs.Events.{MayBeLost, NamesNode, dropped_lines, epoch_in, reply_count}
 use Rattle.lab.specs.LinesSoFar.{AreEventLines, BeginsWithLine, IsNoticeLine, IsOneLine}
@@ -37,7 +38,8 @@ use Rattle.lab.specs.Outcomes.{IsDrop, IsOutcomeOf}
 use Rattle.lab.specs.OutcomeLines.{adopted_lines, lines_before_replies, outcome_lines, own_lines}
 use Rattle.lab.specs.OutcomeLines.{replies_by, sent_as, sent_lines}
 use Rattle.lab.specs.Worlds.{HasNoNode}
-use Rattle.lab.proofs.Arrivals.{arrive_behind, count_both, none_follow, replied}
+use Rattle.lab.proofs.Arrivals.{RepliesArrive, arrive_behind, count_both, few_heard}
+use Rattle.lab.proofs.Arrivals.{follows_arrive, none_follow, replied}
 use Rattle.lab.proofs.SimNodes.{has_one}
 
 -- ---- replies stand last
@@ -95,30 +97,32 @@ no_replies x told before (done.Started epoch count committed) = refl
 no_replies x told before (done.Stopped cause) = refl
 no_replies x told before (done.Tended answer) = refl
 
--- so much arrives of an outcome's lines, where its replies were carried
-pub outcome_arrives : (faithful loses : Type 0) (asks : List Transmission → Type 0) (x : ℕ)
-    (told : Option ℕ) (before : ℕ) (did : StepOutcome) (lines : List Line) →
-    RepliesFollow faithful loses asks x (replies_by did) (own_lines x told before did) lines →
-    faithful → RepliesArrive loses asks x (outcome_lines x told before did) lines
-outcome_arrives faithful loses asks x told before did lines follow is =
+-- so much arrives of an outcome's lines, where a faithful carrier carried its replies
+pub outcome_arrives : {C : Type 0} (h : Carriers C) (old new : C) (x : ℕ) (told : Option ℕ)
+    (before : ℕ) (did : StepOutcome) (lines : List Line) →
+    RepliesFollow (HasCarried h old new) x (replies_by did) (own_lines x told before did) lines →
+    h.is_faithful old →
+    RepliesArrive h.loses (HasCarried h old new) x (outcome_lines x told before did) lines
+outcome_arrives h old new x told before did lines follow faithful =
     let own = own_lines x told before did in
-    subst (λ (l : List Line). RepliesArrive loses asks x l lines) (outcome_are x told before did)
-    (subst (RepliesArrive loses asks x (own ++ replied (replies_by did))) (sym follow.lines)
-    (arrive_behind loses asks x own (replied (replies_by did)) (replied follow.heard)
-    (no_replies x told before did) (follow.arrive is)))
+    let asks = HasCarried h old new in
+    subst (λ (l : List Line). RepliesArrive h.loses asks x l lines)
+    (outcome_are x told before did)
+    (subst (RepliesArrive h.loses asks x (own ++ replied (replies_by did))) (sym follow.lines)
+    (arrive_behind h.loses asks x own (replied (replies_by did))
+    (replied (replies_heard follow.each)) (no_replies x told before did)
+    (follows_arrive x h old new (replies_by did) own lines follow faithful)))
 
 -- an outcome of one line, which has no replies
-pub alone_follows : (faithful loses : Type 0) (asks : List Transmission → Type 0) (x : ℕ)
-    (told : Option ℕ) (before : ℕ) (did : StepOutcome) (own found : Line) (lines : List Line) →
-    asks [] → own_lines x told before did ≡ own ∷ [] → replies_by did ≡ [] → found ≡ own →
-    lines ≡ found ∷ [] →
-    RepliesFollow faithful loses asks x (replies_by did) (own_lines x told before did) lines
-alone_follows faithful loses asks x told before did own found lines none is no_more same are =
-    subst (λ (l : List Reply).
-    RepliesFollow faithful loses asks x l (own_lines x told before did) lines) (sym no_more)
-    (subst (RepliesFollow faithful loses asks x [] (own_lines x told before did))
+pub alone_follows : (asks : List Transmission → Type 0) (x : ℕ) (told : Option ℕ) (before : ℕ)
+    (did : StepOutcome) (own found : Line) (lines : List Line) → asks [] →
+    own_lines x told before did ≡ own ∷ [] → replies_by did ≡ [] → found ≡ own →
+    lines ≡ found ∷ [] → RepliesFollow asks x (replies_by did) (own_lines x told before did) lines
+alone_follows asks x told before did own found lines none is no_more same are =
+    subst (λ (l : List Reply). RepliesFollow asks x l (own_lines x told before did) lines)
+    (sym no_more) (subst (RepliesFollow asks x [] (own_lines x told before did))
     (is ∙ sym (are ∙ ap (λ (l : Line). l ∷ []) same))
-    (none_follow faithful loses asks x (own_lines x told before did) none))
+    (none_follow asks x (own_lines x told before did) none))
 
 -- ---- the lines of an event, whatever its node is
 
@@ -249,33 +253,34 @@ module _ (cs : Configurations) (frames : List (model_frame.Message BatchContent)
 
   module _ (x : ℕ) (node_input : NodeInput) where
     -- a node took it
-    pub dispatched_lines : (faithful loses : Type 0) (asks : List Transmission → Type 0)
+    pub dispatched_lines : (asks : List Transmission → Type 0)
         (kind : EventKind) (before : ℕ) (did : StepOutcome) (lines : List Line) →
         IsDeliverable cs frames i kind (delivery.To x node_input) → IsOutcomeOf node_input did →
-        RepliesFollow faithful loses asks x (replies_by did)
+        RepliesFollow asks x (replies_by did)
         (own_lines x (epoch_in kind) before did) lines → AreEventLines kind lines
-    dispatched_lines faithful loses asks (Notice node epoch) before did lines is outcome follow =
+    dispatched_lines asks (Notice node epoch) before did lines is outcome follow =
         subst (λ (n : ℕ). BeginsWithLine (IsNoticeLine n epoch) lines) is.same
         (subst (BeginsWithLine (IsNoticeLine x epoch)) (sym follow.lines)
         (notice_lines x epoch before (input.Notice epoch (at_epoch cs epoch)) did
-        (replied follow.heard)
+        (replied (replies_heard follow.each))
         (subst (λ (k : NodeInput). IsOutcomeOf k did) is.is outcome)))
-    dispatched_lines faithful loses asks (Tend node) before did lines is outcome follow =
+    dispatched_lines asks (Tend node) before did lines is outcome follow =
         subst (λ (n : ℕ). IsOneLine (IsTendLine n) lines) is.0
-        (one_line (IsTendLine x) x None before did follow.heard lines
+        (one_line (IsTendLine x) x None before did (replies_heard follow.each) lines
         (tend_line x None before did (subst (λ (k : NodeInput). IsOutcomeOf k did) is.1 outcome))
-        follow.lines follow.few)
-    dispatched_lines faithful loses asks (Start node) before did lines is outcome follow =
+        follow.lines (few_heard asks x (replies_by did) _ lines follow))
+    dispatched_lines asks (Start node) before did lines is outcome follow =
         subst (λ (n : ℕ). IsOneLine (IsStartLine n) lines) is.0
-        (one_line (IsStartLine x) x None before did follow.heard lines
+        (one_line (IsStartLine x) x None before did (replies_heard follow.each) lines
         (start_line x None before did (subst (λ (k : NodeInput). IsOutcomeOf k did) is.1 outcome))
-        follow.lines follow.few)
-    dispatched_lines faithful loses asks (Stop node junk) before did lines is outcome follow =
+        follow.lines (few_heard asks x (replies_by did) _ lines follow))
+    dispatched_lines asks (Stop node junk) before did lines is outcome follow =
         subst (λ (n : ℕ). IsOneLine (IsStopLine n) lines) is.0
-        (one_line (IsStopLine x) x None before did follow.heard lines
+        (one_line (IsStopLine x) x None before did (replies_heard follow.each) lines
         (stop_line junk x None before did
-        (subst (λ (k : NodeInput). IsOutcomeOf k did) is.1 outcome)) follow.lines follow.few)
-    dispatched_lines faithful loses asks other before did lines is outcome follow = tt
+        (subst (λ (k : NodeInput). IsOutcomeOf k did) is.1 outcome)) follow.lines (few_heard asks x
+        (replies_by did) _ lines follow))
+    dispatched_lines asks other before did lines is outcome follow = tt
 
     has_it : {D : Type 0} {g : Ghosts D} (sims : List (SimNode D g)) (ids : Configurations)
         (node : ℕ) → sim_node_ids sims ≡ at_epoch ids 0 → has (at_epoch ids 0) node ≡ true →

@@ -17,7 +17,7 @@ use Rattle.lab.specs.declared.input.StepOutcome.{StepOutcome}
 use Rattle.lab.specs.declared.input.StepOutcome.TheVariants as done
 use Rattle.lab.specs.declared.report.Line.{Line}
 use Rattle.lab.specs.declared.report.Line.TheVariants as line
-use Rattle.lab.specs.Arrivals.{RepliesFollow}
+use Rattle.lab.specs.Arrivals.{RepliesFollow, replies_heard}
 use Rattle.lab.specs.Deliveries.{IsCarriedEvent}
 use Rattle.lab.specs.Events.{MayBeLost, dropped_lines}
 use Rattle.lab.specs.LinesSoFar.{drops_in, drops_of_step, is_lost}
@@ -145,20 +145,21 @@ own_first x told n (done.Stopped cause) heard = refl
 own_first x told n (done.Tended answer) heard = refl
 
 -- a node took it
-pub outcome_shown : (faithful loses : Type 0) (asks : List Transmission → Type 0) (x : ℕ)
+pub outcome_shown : (asks : List Transmission → Type 0) (x : ℕ)
     (told : Option ℕ) (did : StepOutcome) (lines : List Line) (old new : List Posted) →
     HasPosted old x (sent_by did) new →
-    RepliesFollow faithful loses asks x (replies_by did) (own_lines x told (length old) did) lines →
+    RepliesFollow asks x (replies_by did) (own_lines x told (length old) did) lines →
     ShowsSent (length old) (length new) false lines
-outcome_shown faithful loses asks x told did lines old new posted follow =
+outcome_shown asks x told did lines old new posted follow =
     let n = length old in
     let own = own_lines x told n did in
-    let s = own_shown x told n did (replied follow.heard) (counts_replies follow.heard) in
+    let s = own_shown x told n did (replied (replies_heard follow.each)) (counts_replies
+    (replies_heard follow.each)) in
     let long = posted-length x old new (sent_by did) posted in
     subst (ShowsSent n (length new) false) (sym follow.lines) (record {
       shown = omega (arith, long, s.0);
       few = omega (arith, long, s.1);
-      loss = sym (own_first x told n did follow.heard);
+      loss = sym (own_first x told n did (replies_heard follow.each));
     })
 
 -- what was lost is carried

@@ -14,13 +14,13 @@ use Rattle.lab.specs.declared.input.StepOutcome.TheVariants as done
 use Rattle.lab.specs.declared.node_state.NodeState.{NodeState}
 use Rattle.lab.specs.declared.report.Line.{Line}
 use Rattle.lab.specs.declared.report.Line.TheVariants as line
-use Rattle.lab.specs.Arrivals.{RepliesFollow}
+use Rattle.lab.specs.Arrivals.{RepliesFollow, replies_heard}
 use Rattle.lab.specs.Events.{dropped_lines}
 use Rattle.lab.specs.LinesSoFar.{StandsAfter}
 use Rattle.lab.specs.Outcomes.{StandsByOutcome}
 use Rattle.lab.specs.OutcomeLines.{adopted_lines, own_lines, replies_by, sent_as, sent_lines}
 use Rattle.lab.specs.SimNodes.{IsDown}
-use Rattle.lab.proofs.Arrivals.{replied}
+use Rattle.lab.proofs.Arrivals.{few_heard, replied}
 
 module _ {D : Type 0} {g : Ghosts D} (x : ℕ) (old new : NodeState D g)
     (same : IsDown new ↔ IsDown old) where
@@ -77,9 +77,10 @@ by_outcome x told n (done.Tended answer) heard old new few stands =
 
 -- so does the node that took an event of which these lines arrived
 pub stands_so : {D : Type 0} {g : Ghosts D} (x : ℕ) (told : Option ℕ) (n : ℕ) (did : StepOutcome)
-    (faithful loses : Type 0) (asks : List Transmission → Type 0) (lines : List Line) →
-    RepliesFollow faithful loses asks x (replies_by did) (own_lines x told n did) lines →
+    (asks : List Transmission → Type 0) (lines : List Line) →
+    RepliesFollow asks x (replies_by did) (own_lines x told n did) lines →
     (old new : NodeState D g) → StandsByOutcome old did new → StandsAfter x lines old new
-stands_so x told n did faithful loses asks lines follow old new stands =
+stands_so x told n did asks lines follow old new stands =
     subst (λ (l : List Line). StandsAfter x l old new) (sym follow.lines)
-    (by_outcome x told n did follow.heard old new follow.few stands)
+    (by_outcome x told n did (replies_heard follow.each) old new (few_heard asks x (replies_by did)
+    (own_lines x told n did) lines follow) stands)

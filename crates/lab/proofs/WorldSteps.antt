@@ -13,10 +13,11 @@ use Rattle.kv_types.specs.declared.Limits.{Limits}
 use Rattle.kv_types.specs.{BatchContent}
 use Rattle.configurations.specs.{Configurations}
 use Rattle.chain_model.specs.{SystemState, first_state, node_of}
+use Rattle.link_messages.specs.Stream.{OneSpelling}
 use Rattle.carriers.specs.declared.Carrier.{Ghosts as Carriers}
 use Rattle.carriers.specs.declared.Delivery.{Delivery}
 use Rattle.carriers.specs.declared.Delivery.TheVariants as delivery
-use Rattle.carriers.specs.{DeliveryWasLost, HasCarriedMore, delivery_lost}
+use Rattle.carriers.specs.{HasCarried, unless_lost}
 use Rattle.lab.specs.declared.delivery.Posted.{Posted}
 use Rattle.events.specs.declared.EventContent.{EventContent}
 use Rattle.events.specs.declared.EventKind.{EventKind}
@@ -26,8 +27,7 @@ use Rattle.lab.specs.declared.report.Line.TheVariants as line
 use Rattle.lab.specs.declared.sim_node.SimNode.{SimNode}
 use Rattle.lab.specs.declared.world.World.{World}
 use Rattle.lab.specs.Events.{NamesNode}
-use Rattle.lab.specs.Arrivals.{RepliesArrive}
-use Rattle.lab.specs.Deliveries.{IsBrought}
+use Rattle.lab.specs.Deliveries.{Brings}
 use Rattle.lab.specs.SimNodes.{Choice, HasArrived, StateRefines}
 use Rattle.lab.specs.Posting.{FramesFollow}
 use Rattle.lab.specs.Traces.{modelled_from}
@@ -36,7 +36,8 @@ use Rattle.lab.specs.Worlds.{FollowRun, HasApplied, HasBegunEvent, HasFollowed, 
 use Rattle.lab.specs.Worlds.{HasRun, HaveLimits, NodesRefine, PostedRefines, RunRefines}
 use Rattle.lab.specs.Worlds.{SimNodeRefines, WorldHasEnded, WorldKeepsLimits, WorldRun}
 use Rattle.lab.specs.Worlds.{asked_after, extended, outcome_after}
-use Rattle.lab.proofs.Found.{found_of}
+use Rattle.lab.proofs.Arrivals.{RepliesArrive}
+use Rattle.lab.proofs.Found.{delivery_lost, found_of, lost_loses, sent_unaltered}
 use Rattle.lab.proofs.Growing.{follow_limited, length-steps, nodes-push, run-push}
 use Rattle.lab.proofs.Moves.{HasStepped, limited}
 use Rattle.lab.proofs.Transmissions.{carried_both}
@@ -115,7 +116,7 @@ module _ {D C : Type 0} {g : Ghosts D} (h : Carriers C) (old begun mid new : Wor
       RunRefines mid.nodes.items mid.frames.items (extended past event choice lines) →
       FollowRun past event choice old.nodes.items mid.nodes.items →
       FramesFollow (outcome_after past event choice).acted_on old.frames.items mid.frames.items →
-      HasCarriedMore h.has_carried old.carrier mid.carrier
+      HasCarried h old.carrier mid.carrier
       (asked_after past old.frames.items event choice) → HasFollowed h old new past event
   followed_so past run choice lost_so arrives faithful ran follow posts carries =
       let limits = old.limits in
@@ -182,15 +183,12 @@ IsFoundFor h world i kind found = h.is_faithful world.carrier →
 
 -- The next event of a world, which names a node of it or none, by what was found on its way.
 module _ {D C : Type 0} {g : Ghosts D} (h : Carriers C) (in_order : AlwaysInOrder)
-    (old begun : World D C g) (event : EventContent) (begins : HasBegunEvent old begun event)
+    (one : OneSpelling) (old begun : World D C g) (event : EventContent) (begins : HasBegunEvent old
+    begun event)
     (n i : ℕ)
     (long : n ≡ begun.steps.len) (few : n + 1 ≤ MAX_NUMBER) (at : i ≡ n + 1) (found : Delivery)
     (lent : List Posted) (same : lent ≡ begun.frames.items)
-    (brought : IsBrought begun.configs (h.is_faithful begun.carrier) lent i event.kind found)
-    (may : DeliveryWasLost found → h.loses)
-    (after : C) (asked : HasCarriedMore h.has_carried begun.carrier after
-    (frame_sent lent i event.kind (delivery_lost found)))
-    (faithful : h.is_faithful begun.carrier → h.is_faithful after)
+    (after : C) (brought : Brings h begun.carrier after begun.configs lent i event.kind found)
     (is_named : NamesNode old.configs event.kind) (past : WorldRun) (run : HasRun h old past) where
   pub next : IsNext past.events i
   next = place_of h old past run n i
@@ -203,9 +201,12 @@ module _ {D C : Type 0} {g : Ghosts D} (h : Carriers C) (in_order : AlwaysInOrde
   posted = old.frames.items
 
   here : IsFoundFor h begun i event.kind found
-  here = λ carries frames each. found_of begun.configs (h.is_faithful begun.carrier) lent i
-      event.kind found brought frames
-      (λ _. (subst (λ (l : List Posted). AllZip PostedRefines l frames) (sym same) each, carries))
+  here = λ carries frames each. found_of begun.configs lent i event.kind brought.got found
+      brought.brought frames (λ _. (
+        one,
+        subst (λ (l : List Posted). AllZip PostedRefines l frames) (sym same) each,
+        brought.carried.unaltered carries,
+      ))
 
   -- it fits the configurations of the run, and so does the node that the event names
   fits : FitsDelivery past.configs posted i event.kind found
@@ -220,15 +221,21 @@ module _ {D C : Type 0} {g : Ghosts D} (h : Carriers C) (in_order : AlwaysInOrde
   names : NamesNode past.configs event.kind
   names = subst (λ (cs : Configurations). NamesNode cs event.kind) run.configs is_named
 
+  -- and stays so
+  stays : h.is_faithful after
+  stays = brought.carried.faithful.1 carried
+
   -- it was asked for what the event sends
   asked_so : (lost : Bool) → delivery_lost found ≡ lost →
-      HasCarriedMore h.has_carried old.carrier after (frame_sent posted i event.kind lost)
-  asked_so lost is = subst (λ (b : Bool). HasCarriedMore h.has_carried old.carrier after
-      (frame_sent posted i event.kind b)) is
-      (subst (λ (w : World D C g). HasCarriedMore h.has_carried w.carrier after
-      (frame_sent w.frames.items i event.kind (delivery_lost found))) begins.others
-      (subst (λ (l : List Posted). HasCarriedMore h.has_carried begun.carrier after
-      (frame_sent l i event.kind (delivery_lost found))) same asked))
+      HasCarried h old.carrier after (frame_sent posted i event.kind (unless_lost lost))
+  asked_so lost is = subst (λ (b : Bool).
+      HasCarried h old.carrier after (frame_sent posted i event.kind (unless_lost b))) is
+      (subst (λ (w : World D C g). HasCarried h w.carrier after
+      (frame_sent w.frames.items i event.kind (unless_lost (delivery_lost found)))) begins.others
+      (subst (λ (l : List Posted). HasCarried h begun.carrier after
+      (frame_sent l i event.kind (unless_lost (delivery_lost found)))) same
+      (subst (HasCarried h begun.carrier after) (sent_unaltered begun.configs lent i event.kind
+      brought.got found brought.brought (brought.carried.unaltered carried)) brought.carried)))
 
   -- what it is then, where no node did anything
   abbrev pub idle : World D C g
@@ -237,7 +244,7 @@ module _ {D C : Type 0} {g : Ghosts D} (h : Carriers C) (in_order : AlwaysInOrde
   -- an event for which no node does anything is applied where its line is kept
   passed_after : (lost : Bool) (line : Line) → delivery_lost found ≡ lost →
       Grows in_order past sims posted run.made i next event h.loses lost sims posted
-      (frame_sent posted i event.kind lost) (line ∷ []) → (new : World D C g) →
+      (frame_sent posted i event.kind (unless_lost lost)) (line ∷ []) → (new : World D C g) →
       HasKept idle new lost (line ∷ []) → HasApplied h old new past event
   passed_after lost line is grows new keeps =
       let nodes : idle.nodes.items ≡ sims =
@@ -247,7 +254,7 @@ module _ {D C : Type 0} {g : Ghosts D} (h : Carriers C) (in_order : AlwaysInOrde
       record {
         follows = λ _. followed_so h old begun idle new event begins lost (line ∷ []) refl keeps
             (λ has. subst (λ (l : List (SimNode D g)). HaveLimits l old.limits) (sym nodes) has)
-            past run grows.choice grows.lost_so grows.arrives (faithful carried)
+            past run grows.choice grows.lost_so grows.arrives stays
             (subst (λ (l : List (SimNode D g)). RunRefines l idle.frames.items
             (extended past event grows.choice (line ∷ []))) (sym nodes)
             (subst (λ (l : List Posted). RunRefines sims l
@@ -256,7 +263,7 @@ module _ {D C : Type 0} {g : Ghosts D} (h : Carriers C) (in_order : AlwaysInOrde
             (sym nodes) grows.nodes)
             (subst (λ (l : List Posted). FramesFollow (outcome_after past event
             grows.choice).acted_on posted l) (sym frames) grows.frames)
-            (subst (HasCarriedMore h.has_carried old.carrier after) (sym grows.sent)
+            (subst (HasCarried h old.carrier after) (sym grows.sent)
             (asked_so lost is));
         nothing = λ other. absurd (other names);
       }
@@ -271,7 +278,9 @@ module _ {D C : Type 0} {g : Ghosts D} (h : Carriers C) (in_order : AlwaysInOrde
   pub lost_applied : found ≡ delivery.Lost → (new : World D C g) →
       HasKept idle new true (line.Lost ∷ []) → HasApplied h old new past event
   lost_applied is = passed_after true line.Lost (ap delivery_lost is)
-      (lost_after in_order past sims posted run.made i next event h.loses found fits is may)
+      (lost_after in_order past sims posted run.made i next event h.loses found fits is
+      (lost_loses h.loses begun.configs lent i event.kind brought.got found is brought.carried.lost
+      brought.brought))
 
   module _ (x : ℕ) (node_input : NodeInput) (is : found ≡ delivery.To x node_input) where
     -- one that is for a node is applied by the node's step, of whose lines so much arrives
@@ -280,23 +289,23 @@ module _ {D C : Type 0} {g : Ghosts D} (h : Carriers C) (in_order : AlwaysInOrde
         (h.is_faithful after → h.is_faithful mid.carrier) →
         HasStepped begun.nodes.items begun.frames.items x node_input event begun.limits given
         mid.nodes.items mid.frames.items → (h.is_faithful after →
-        RepliesArrive h.loses (HasCarriedMore h.has_carried after mid.carrier) x given lines) →
+        RepliesArrive h.loses (HasCarried h after mid.carrier) x given lines) →
         HasKept mid new false lines → HasApplied h old new past event
-    delivered_after mid new given lines moves stays takes arrive keeps =
+    delivered_after mid new given lines moves remains takes arrive keeps =
         let stepped = subst (λ (w : World D C g). HasStepped w.nodes.items w.frames.items x
         node_input event w.limits given mid.nodes.items mid.frames.items) begins.others takes in
-        let heard = arrive (faithful carried) in
+        let heard = arrive stays in
         let grows = refined_after in_order past sims posted run.made i next event h.loses found fits
-        x node_input is (HasCarriedMore h.has_carried after mid.carrier) old.limits given lines
+        x node_input is (HasCarried h after mid.carrier) old.limits given lines
         mid.nodes.items mid.frames.items stepped heard in
         record {
           follows = λ _. followed_so h old begun mid new event begins false lines moves keeps
               (limited sims x node_input event.fault old.limits stepped.did mid.nodes.items
               stepped.took) past run grows.choice grows.lost_so grows.arrives
-              (stays (faithful carried)) grows.ran grows.nodes grows.frames
-              (subst (HasCarriedMore h.has_carried old.carrier mid.carrier) (sym grows.sent)
-              (carried_both h.has_carried old.carrier after mid.carrier
-              (frame_sent posted i event.kind false) (replies_sent x heard.told given)
+              (remains stays) grows.ran grows.nodes grows.frames
+              (subst (HasCarried h old.carrier mid.carrier) (sym grows.sent)
+              (carried_both h old.carrier after mid.carrier
+              (frame_sent posted i event.kind (unless_lost false)) (replies_sent x heard.told given)
               (asked_so false (ap delivery_lost is)) heard.asked));
           nothing = λ other. absurd (other names);
         }

@@ -30,8 +30,7 @@ use Rattle.lab.specs.Events.{reported_lines}
 use Rattle.lab.specs.SimNodes.{StateRefines, Choice, HasArrived, IsUnarmed, disk_in}
 use Rattle.carriers.specs.declared.Delivery.{Delivery}
 use Rattle.carriers.specs.declared.Delivery.TheVariants as delivery
-use Rattle.carriers.specs.{DeliveryWasLost, Transmission}
-use Rattle.lab.specs.Arrivals.{RepliesArrive}
+use Rattle.carriers.specs.{Transmission, unless_lost}
 use Rattle.lab.specs.Deliveries.{IsDeliverable, IsDeliveryOf}
 use Rattle.lab.specs.Outcomes.{DiskFits, IsExplained, MarksFit, OutcomeRefines, StateFollows}
 use Rattle.lab.specs.Outcomes.{has_struck_in}
@@ -54,6 +53,7 @@ use Rattle.lab.proofs.Growing.{grown, run-push}
 use Rattle.lab.proofs.Addressees.{IsNumbered, addressed, all_numbered, back, kept_all}
 use Rattle.lab.proofs.Moves.{HasStepped, crash_of, honest_of, struck_by, tended_so}
 use Rattle.lab.proofs.Rises.{at_rest, no_rise, not_lost}
+use Rattle.lab.proofs.Arrivals.{RepliesArrive}
 use Rattle.lab.proofs.Transmissions.{sent_alone, sent_by_both}
 
 -- the delivery that was found is that of the event, by the configurations and the frames that are
@@ -152,7 +152,7 @@ module _ {D : Type 0} {g : Ghosts D} (in_order : AlwaysInOrder) (past : WorldRun
       IsDeliveryOf cs w.frames i event.kind x node_input →
       HasStepped sims posted x node_input event limits given now more →
       (heard : RepliesArrive loses asks x given lines) → Grows loses false now more
-      (frame_sent posted i event.kind false ++ replies_sent x heard.told given) lines
+      (frame_sent posted i event.kind (unless_lost false) ++ replies_sent x heard.told given) lines
   refined_next loses asks x node_input limits given lines now more brings t heard =
       let sim = t.took.sim in
       let all = recursion_from_All (SimNodeRefines w.nodes made.disks) sims made.each in
@@ -298,9 +298,9 @@ module _ {D : Type 0} {g : Ghosts D} (in_order : AlwaysInOrder) (past : WorldRun
             (sym out.came) (frames_of x out.node posted more (sent_by t.did) t.sent));
         sent = behind (λ (k : ℕ) (v : Outcome BatchContent).
             transmissions_of posted k event out.choice v
-            ≡ frame_sent posted i event.kind false ++ replies_sent x heard.told given) out.choice
-            (sent_by_both posted i event out.choice o x out.node false heard.told given out.arrives
-            out.came out.heard_so gives_posted);
+            ≡ frame_sent posted i event.kind (unless_lost false) ++ replies_sent x heard.told given)
+            out.choice (sent_by_both posted i event out.choice o x out.node false heard.told given
+            out.arrives out.came out.heard_so gives_posted);
       }
 
   -- an event that the model has as nothing, with this line
@@ -310,7 +310,7 @@ module _ {D : Type 0} {g : Ghosts D} (in_order : AlwaysInOrder) (past : WorldRun
       (line ∷ [] ≡ reported_lines (length w.frames) event (at_rest lost) nothing) →
       frames_in line ≡ 0 → (lost ≡ true → loses) →
       (lost ≡ true → MayBeLost w.frames event.kind) →
-      Grows loses lost sims posted (frame_sent posted i event.kind lost) (line ∷ [])
+      Grows loses lost sims posted (frame_sent posted i event.kind (unless_lost lost)) (line ∷ [])
   nothing_next loses lost line none traced silent may fits =
       let choice = at_rest lost in
       let same : after w nothing ≡ state_after cs w (modelled i event.kind choice) =
@@ -359,7 +359,8 @@ module _ {D : Type 0} {g : Ghosts D} (in_order : AlwaysInOrder) (past : WorldRun
             FramesFollow o.acted_on posted posted) choice
             (subst (λ (a : Option (ℕ × Machine)). FramesFollow a posted posted) (sym idle) refl);
         sent = behind (λ (k : ℕ) (o : Outcome BatchContent).
-            transmissions_of posted k event choice o ≡ frame_sent posted i event.kind lost) choice
+            transmissions_of posted k event choice o ≡ frame_sent posted i event.kind (unless_lost
+            lost)) choice
             (sent_alone posted i event choice (outcome w cs (modelled i event.kind choice)) idle);
       }
 
@@ -367,9 +368,8 @@ module _ {D : Type 0} {g : Ghosts D} (in_order : AlwaysInOrder) (past : WorldRun
   module _ (loses : Type 0) (found : Delivery) (fits : FitsDelivery cs posted i event.kind found)
     where
       -- no frame has the place, or no configuration the epoch
-      pub nothing_after : found ≡ delivery.Nothing →
-          Grows loses false sims posted (frame_sent posted i event.kind false)
-          (line.Nothing ∷ [])
+      pub nothing_after : found ≡ delivery.Nothing → Grows loses false sims posted
+          (frame_sent posted i event.kind (unless_lost false)) (line.Nothing ∷ [])
       nothing_after is =
           nothing_next loses false line.Nothing
           (nothing_done cs w i event.kind (at_rest false)
@@ -377,11 +377,10 @@ module _ {D : Type 0} {g : Ghosts D} (in_order : AlwaysInOrder) (past : WorldRun
           refl refl (λ lost. absurd (false≢true lost)) (λ lost. absurd (false≢true lost))
 
       -- it was lost
-      pub lost_after : found ≡ delivery.Lost → (DeliveryWasLost found → loses) →
-          Grows loses true sims posted (frame_sent posted i event.kind true) (line.Lost ∷ [])
+      pub lost_after : found ≡ delivery.Lost → loses → Grows loses true sims posted
+          (frame_sent posted i event.kind (unless_lost true)) (line.Lost ∷ [])
       lost_after is may =
-          nothing_next loses true line.Lost refl refl refl
-          (λ _. may (subst DeliveryWasLost (sym is) tt))
+          nothing_next loses true line.Lost refl refl refl (λ _. may)
           (λ _. subst (IsDeliverable cs w.frames i event.kind) is (fits w.frames made.frames))
 
       module _ (x : ℕ) (node_input : NodeInput) (is : found ≡ delivery.To x node_input) where
@@ -395,6 +394,7 @@ module _ {D : Type 0} {g : Ghosts D} (in_order : AlwaysInOrder) (past : WorldRun
             (given lines : List Line) (now : List (SimNode D g)) (more : List Posted) →
             HasStepped sims posted x node_input event limits given now more →
             (heard : RepliesArrive loses asks x given lines) → Grows loses false now more
-            (frame_sent posted i event.kind false ++ replies_sent x heard.told given) lines
+            (frame_sent posted i event.kind (unless_lost false) ++ replies_sent x heard.told given)
+            lines
         refined_after asks limits given lines now more t heard =
             refined_next loses asks x node_input limits given lines now more brings t heard

@@ -11,15 +11,16 @@ use Rattle.carriers.specs.declared.Delivery.{Delivery}
 use Rattle.carriers.specs.declared.Delivery.TheVariants as delivery
 use Rattle.carriers.specs.declared.NodeInput.{NodeInput}
 use Rattle.carriers.specs.declared.NodeInput.TheVariants as to_node
-use Rattle.carriers.specs.{IsSentTo, input_of, request_input}
-use Rattle.carriers.specs.Carriers.{IsSpelling}
-use Rattle.carriers.specs.Deliveries.{IsAddressedTo}
+use Rattle.carriers.specs.declared.Carrier.{Ghosts as Carriers}
+use Rattle.carriers.specs.{ArrivesAt, HasCarried, IsReceived, IsReceivedOf, input_of}
+use Rattle.carriers.specs.{request_input}
 use Rattle.events.specs.declared.EventKind.{EventKind}
 use Rattle.events.specs.declared.EventKind.TheVariants.{Submit, Get, Rows, Open, Close}
 use Rattle.events.specs.declared.EventKind.TheVariants.{Deliver, Notice, Tick, Tend, Start}
 use Rattle.events.specs.declared.EventKind.TheVariants.{Stop}
 use Rattle.lab.specs.declared.delivery.Posted.{Posted}
 use Rattle.lab.specs.Events.{MayBeLost}
+use Rattle.lab.specs.Transmissions.{frame_sent}
 
 -- no list of frames has anything in this place, the first being 1
 abbrev pub HasNoFrame : {A : Type 0} → List A → ℕ → Type 0
@@ -90,31 +91,31 @@ module _ (cs : Configurations) (frames : List (model_frame.Message BatchContent)
 
 -- ---- what is brought in any world, by any carrier
 
--- A request was sent to this node. It arrives there or is lost: by a faithful carrier as it was
--- sent, and by any as some frame.
-abbrev pub IsRequestTo : Type 0 → ℕ → Frame → Delivery → Type 0
-IsRequestTo faithful node sent it =
-    IsAddressedTo request_input node it × (faithful → IsSentTo node (request_input sent) it)
+-- what is delivered to a node of a request that was sent to it, where this arrived of its bytes
+abbrev pub IsRequestTo : ℕ → Frame → Option (List ℕ) → Delivery → Type 0
+IsRequestTo node sent got it = ArrivesAt request_input node (IsReceivedOf sent got) it
 
--- So does a posted frame, if there is one: by a faithful carrier as the frame that its bytes spell.
-abbrev pub IsPostedTo : Type 0 → Option Posted → Delivery → Type 0
-IsPostedTo faithful None it = it ≡ delivery.Nothing
-IsPostedTo faithful (Some posted) it =
-    IsAddressedTo input_of posted.to it × (faithful → (sent : Frame) →
-    IsSpelling posted.bytes.items sent → IsSentTo posted.to (input_of sent) it)
+-- .. of a posted frame, if there is one
+abbrev pub IsPostedTo : Option Posted → Option (List ℕ) → Delivery → Type 0
+IsPostedTo None got it = it ≡ delivery.Nothing
+IsPostedTo (Some posted) got it = ArrivesAt input_of posted.to (IsReceived got) it
 
 -- what the event in place i brings after these posted frames, where this is the list of
--- configurations and the carrier is perhaps faithful
-abbrev pub IsBrought : Configurations → Type 0 → List Posted → ℕ → EventKind → Delivery → Type 0
-IsBrought cs faithful posted i (Submit node batch) it =
-    IsRequestTo faithful node (frame.Submit i batch) it
-IsBrought cs faithful posted i (Get node key at) it =
-    IsRequestTo faithful node (frame.Get i at key) it
-IsBrought cs faithful posted i (Rows node range at) it =
-    IsRequestTo faithful node (frame.Rows i at range) it
-IsBrought cs faithful posted i (Open node at) it =
-    IsRequestTo faithful node (frame.Open i at) it
-IsBrought cs faithful posted i (Close node number) it =
-    IsRequestTo faithful node (frame.Close i number) it
-IsBrought cs faithful posted i (Deliver p) it = IsPostedTo faithful (place posted p) it
-IsBrought cs faithful posted i kind it = IsDeliverable cs [] i kind it
+-- configurations, and this arrived of what the event sends
+abbrev pub IsBrought : Configurations → List Posted → ℕ → EventKind → Option (List ℕ) → Delivery
+    → Type 0
+IsBrought cs posted i (Submit node batch) got it = IsRequestTo node (frame.Submit i batch) got it
+IsBrought cs posted i (Get node key at) got it = IsRequestTo node (frame.Get i at key) got it
+IsBrought cs posted i (Rows node range at) got it = IsRequestTo node (frame.Rows i at range) got it
+IsBrought cs posted i (Open node at) got it = IsRequestTo node (frame.Open i at) got it
+IsBrought cs posted i (Close node number) got it = IsRequestTo node (frame.Close i number) got it
+IsBrought cs posted i (Deliver p) got it = IsPostedTo (place posted p) got it
+IsBrought cs posted i kind got it = IsDeliverable cs [] i kind it
+
+-- .. and the carrier was asked for what the event sends, and for nothing else
+pub record Brings {C : Type 0} (h : Carriers C) (old new : C) (cs : Configurations)
+    (posted : List Posted) (i : ℕ) (kind : EventKind) (it : Delivery) : Type 0
+  where
+    pub got : Option (List ℕ)
+    pub carried : HasCarried h old new (frame_sent posted i kind (λ bytes. got))
+    pub brought : IsBrought cs posted i kind got it

@@ -3,11 +3,10 @@ use Rattle.std.specs.Prelude.{◌≡◌, ◌≤◌, ◌+◌, ℕ, Bool, List, []
 use Rattle.std.specs.Prelude.{◌↔◌, ◌⊎◌, IsErr, MatchResult, Result, false}
 use Rattle.std.specs.Prelude.{get_or, suc, true}
 use Rattle.std.specs.List.{remove}
-use Rattle.kv_types.specs.declared.Limits.{Limits}
 use Rattle.configurations.specs.{Configurations, at_epoch}
 use Rattle.disk.specs.declared.disk.Disk.{Ghosts}
 use Rattle.chain_model.specs.declared.DropReason.TheVariants as reason
-use Rattle.carriers.specs.{HasCarriedMore, delivery_lost}
+use Rattle.carriers.specs.{HasCarried}
 use Rattle.carriers.specs.declared.Carrier.{Ghosts as Carriers}
 use Rattle.carriers.specs.declared.Delivery.{Delivery}
 use Rattle.carriers.specs.declared.Delivery.TheVariants as delivery
@@ -23,13 +22,12 @@ use Rattle.lab.specs.declared.report.Line.TheVariants as line
 use Rattle.lab.specs.declared.sim_node.SimNode.{SimNode}
 use Rattle.lab.specs.declared.world.World.{World}
 use Rattle.lab.specs.Arrivals.{RepliesFollow}
-use Rattle.lab.specs.Deliveries.{IsBrought, IsCarriedEvent}
+use Rattle.lab.specs.Deliveries.{Brings, IsCarriedEvent}
 use Rattle.lab.specs.Events.{NamesNode, epoch_in}
 use Rattle.lab.specs.OutcomeLines.{own_lines, replies_by, sent_by}
 use Rattle.lab.specs.Outcomes.{RunsWith}
 use Rattle.lab.specs.Posting.{HasPosted, HasPostedPart}
 use Rattle.lab.specs.SimNodes.{IsDown}
-use Rattle.lab.specs.Transmissions.{frame_sent}
 use Rattle.lab.specs.Worlds.{HasMoved, HasNoNode, IsIndexOf, WorldHasEnded, WorldKeepsLimits}
 use Rattle.lab.specs.Worlds.{frames_in_steps}
 
@@ -204,41 +202,33 @@ module _ {D C : Type 0} {g : Ghosts D} where
   LosesCarried loses event old new =
       lost_so_far new ≡ lost_so_far old ++ true ∷ [] → loses × IsCarriedEvent event.kind
 
-  -- this came of the next event of a world, by its carrier
-  abbrev pub Brings : Carriers C → EventContent → World D C g → Delivery → Type 0
-  Brings h event old it = IsBrought (configs_of old) (h.is_faithful old.carrier) (frames_of old)
+  -- the next event of a world brings this, by its carrier, which then is this one
+  abbrev pub BringsNext : Carriers C → EventContent → World D C g → C → Delivery → Type 0
+  BringsNext h event old now it = Brings h old.carrier now (configs_of old) (frames_of old)
       (next_place old) event.kind it
-
-  -- between two moments the carrier was asked for what this event sends
-  abbrev pub AsksFor : Carriers C → EventContent → World D C g → Bool → C → Type 0
-  AsksFor h event old lost now = HasCarriedMore h.has_carried old.carrier now
-      (frame_sent (frames_of old) (next_place old) event.kind lost)
 
   -- No node took an event, which has these lines: all is as it was, but what the carrier was asked.
   pub record MovesNone (h : Carriers C) (event : EventContent) (lines : List Line)
       (old new : World D C g) : Type 0 where
     pub it : Delivery
-    pub brought : Brings h event old it
+    pub brought : BringsNext h event old new.carrier it
     pub says : IsPassedOver (nodes_of old) it lines
     pub nodes : nodes_of new ≡ nodes_of old
     pub frames : frames_of new ≡ frames_of old
-    pub asked : AsksFor h event old (delivery_lost it) new.carrier
 
   -- Node x took an event, which has these lines: the input that came of it, with its fault. The
   -- frames that the node sent are posted. The lines are those of its outcome, and then of those
-  -- replies that the carrier brought, which was asked for each. The node stands as they tell.
+  -- replies that the client heard. The node stands as they tell.
   pub record MovesNode (h : Carriers C) (event : EventContent) (lines : List Line)
       (old new : World D C g) : Type 0 where
     pub x : ℕ
     pub node_input : NodeInput
     pub did : StepOutcome
-    pub brought : Brings h event old (delivery.To x node_input)
+    pub mid : C
+    pub brought : BringsNext h event old mid (delivery.To x node_input)
     pub took : HasMoved (nodes_of old) x node_input event.fault old.limits did (nodes_of new)
     pub sends : HasPosted (frames_of old) x (sent_by did) (frames_of new)
-    pub mid : C
-    pub asked : AsksFor h event old false mid
-    pub follow : RepliesFollow (h.is_faithful old.carrier) h.loses
-        (HasCarriedMore h.has_carried mid new.carrier) x (replies_by did)
+    pub follow : RepliesFollow (HasCarried h mid new.carrier) x (replies_by did)
         (own_lines x (epoch_in event.kind) (sent_so_far old) did) lines
     pub stands : StandsAfter x lines (get_or (nodes_of old) took.index took.sim).state
         took.sim.state
@@ -285,7 +275,8 @@ module _ {D C : Type 0} {g : Ghosts D} where
     where
       pub x : ℕ
       pub node_input : NodeInput
-      pub brought : Brings h event old (delivery.To x node_input)
+      pub mid : C
+      pub brought : BringsNext h event old mid (delivery.To x node_input)
       pub index : ℕ
       pub at : IsIndexOf (nodes_of old) index x
       pub nodes : nodes_of new ≡ remove (nodes_of old) index
@@ -297,7 +288,8 @@ module _ {D C : Type 0} {g : Ghosts D} where
       pub x : ℕ
       pub node_input : NodeInput
       pub did : StepOutcome
-      pub brought : Brings h event old (delivery.To x node_input)
+      pub mid : C
+      pub brought : BringsNext h event old mid (delivery.To x node_input)
       pub took : HasMoved (nodes_of old) x node_input event.fault old.limits did (nodes_of new)
       pub sends : HasPostedPart (frames_of old) x (sent_by did) (frames_of new)
 

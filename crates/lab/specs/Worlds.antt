@@ -20,7 +20,7 @@ use Rattle.link_messages.specs.{IsFrame, frame_bytes}
 use Rattle.chain_core.specs.{frame_as, Machine}
 use Rattle.carriers.specs.declared.Carrier.{Ghosts as Carriers}
 use Rattle.carriers.specs.declared.Direct.{Direct}
-use Rattle.carriers.specs.{HasCarriedMore, Transmission}
+use Rattle.carriers.specs.{HasCarried, Transmission}
 use Rattle.carriers.specs.declared.NodeInput.{NodeInput}
 use Rattle.lab.specs.declared.input.StepOutcome.{StepOutcome}
 use Rattle.events.specs.declared.EventContent.{EventContent}
@@ -311,7 +311,7 @@ module _ {D C : Type 0} {g : Ghosts D} where
     pub nodes : FollowRun past event choice old.nodes.items new.nodes.items
     pub posted : FramesFollow (outcome_after past event choice).acted_on old.frames.items
         new.frames.items
-    pub carried : HasCarriedMore h.has_carried old.carrier new.carrier
+    pub carried : HasCarried h old.carrier new.carrier
         (asked_after past old.frames.items event choice)
 
   -- the run is as it was, and so are each node and the carrier

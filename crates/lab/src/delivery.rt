@@ -1,9 +1,7 @@
 // Posted frames, and what an event delivers to which node.
 ghost use Rattle.std.specs.Prelude.{◌↔◌, [], ℕ, List, IfOk, MatchOption};
 ghost use Rattle.configurations.specs.{Configurations};
-ghost use Rattle.carriers.specs.{DeliveryWasLost, HasCarriedMore, delivery_lost};
-ghost use Rattle.lab.specs.Deliveries.{HasNoFrame, IsBrought, IsDeliverable, IsPostedAt};
-ghost use Rattle.lab.specs.Transmissions.{frame_sent};
+ghost use Rattle.lab.specs.Deliveries.{Brings, HasNoFrame, IsDeliverable, IsPostedAt};
 
 use crate::{Carrier, Event, EventKind, LabError};
 use carriers::{Delivery, NodeInput, send_posted, send_request};
@@ -42,10 +40,7 @@ fn delivered<C: Carrier>(
 ) -> Result<Delivery, LabError>
     ensures faithful { C.is_faithful carrier.new ↔ C.is_faithful carrier.old }
     ensures brought { (cs : Configurations) (i : ℕ) → IfOk result
-        (IsBrought cs (C.is_faithful carrier.old) posted.now i (EventKind.Deliver place)) }
-    ensures lost { IfOk result (λ it. DeliveryWasLost it → C.loses) }
-    ensures asked { (i : ℕ) → IfOk result (λ it. HasCarriedMore C.has_carried carrier.old
-        carrier.new (frame_sent posted.now i (EventKind.Deliver place) (delivery_lost it))) }
+        (Brings C.Carrier carrier.old carrier.new cs posted.now i (EventKind.Deliver place)) }
 {
     let Some(posted) = posted_at(posted, place) else {
         return Ok(Delivery::Nothing);
@@ -55,9 +50,8 @@ fn delivered<C: Carrier>(
 
 // The node that is told of an epoch, and its configuration as an input, where the list has it.
 fn noticed(configs: &Configs, node: NodeId, epoch: Epoch) -> Result<Delivery, LabError>
-    ensures found { (i : ℕ) →
+    ensures { (i : ℕ) →
         IfOk result (IsDeliverable configs.now [] i (EventKind.Notice node epoch)) }
-    ensures kept { IfOk result (λ it. DeliveryWasLost it → ⊥) }
 {
     let Some(config) = configs.at(epoch) else {
         return Ok(Delivery::Nothing);
@@ -77,12 +71,8 @@ fn submitted<C: Carrier>(
 ) -> Result<Delivery, LabError>
     ensures faithful { C.is_faithful carrier.new ↔ C.is_faithful carrier.old }
     ensures brought { (cs : Configurations) (posted : List Posted) → IfOk result
-        (IsBrought cs (C.is_faithful carrier.old) posted request
+        (Brings C.Carrier carrier.old carrier.new cs posted request
         (EventKind.Submit node batch.now)) }
-    ensures lost { IfOk result (λ it. DeliveryWasLost it → C.loses) }
-    ensures asked { (posted : List Posted) → IfOk result (λ it. HasCarriedMore C.has_carried
-        carrier.old carrier.new
-        (frame_sent posted request (EventKind.Submit node batch.now) (delivery_lost it))) }
 {
     let batch = batch.clone()?;
     send_request(alloc, carrier, node, Frame::Submit { request, batch })
@@ -99,12 +89,8 @@ fn looked_up<C: Carrier>(
 ) -> Result<Delivery, LabError>
     ensures faithful { C.is_faithful carrier.new ↔ C.is_faithful carrier.old }
     ensures brought { (cs : Configurations) (posted : List Posted) → IfOk result
-        (IsBrought cs (C.is_faithful carrier.old) posted request
+        (Brings C.Carrier carrier.old carrier.new cs posted request
         (EventKind.Get node key.now at)) }
-    ensures lost { IfOk result (λ it. DeliveryWasLost it → C.loses) }
-    ensures asked { (posted : List Posted) → IfOk result (λ it. HasCarriedMore C.has_carried
-        carrier.old carrier.new (frame_sent posted request
-        (EventKind.Get node key.now at) (delivery_lost it))) }
 {
     let key = key.clone()?;
     send_request(alloc, carrier, node, Frame::Get { request, at, key })
@@ -120,11 +106,8 @@ fn delivery_of_kind<C: Carrier>(
     kind: &EventKind,
 ) -> Result<Delivery, LabError>
     ensures faithful { C.is_faithful carrier.new ↔ C.is_faithful carrier.old }
-    ensures brought { IfOk result
-        (IsBrought configs.now (C.is_faithful carrier.old) posted.now request kind.now) }
-    ensures lost { IfOk result (λ it. DeliveryWasLost it → C.loses) }
-    ensures asked { IfOk result (λ it. HasCarriedMore C.has_carried carrier.old carrier.new
-        (frame_sent posted.now request kind.now (delivery_lost it))) }
+    ensures brought { IfOk result (Brings C.Carrier carrier.old carrier.new configs.now posted.now
+        request kind.now) }
 {
     match kind {
         EventKind::Submit { node, batch } => submitted(alloc, carrier, request, *node, batch),
@@ -161,11 +144,8 @@ pub fn delivery_of<C: Carrier>(
     event: &Event,
 ) -> Result<Delivery, LabError>
     ensures faithful { C.is_faithful carrier.new ↔ C.is_faithful carrier.old }
-    ensures brought { IfOk result
-        (IsBrought configs.now (C.is_faithful carrier.old) posted.now request event.now.kind) }
-    ensures lost { IfOk result (λ it. DeliveryWasLost it → C.loses) }
-    ensures asked { IfOk result (λ it. HasCarriedMore C.has_carried carrier.old carrier.new
-        (frame_sent posted.now request event.now.kind (delivery_lost it))) }
+    ensures brought { IfOk result (Brings C.Carrier carrier.old carrier.new configs.now posted.now
+        request event.now.kind) }
 {
     match event.kind() {
         LentKind::Deliver(place) => delivered(alloc, carrier, posted, place),

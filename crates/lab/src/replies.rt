@@ -1,7 +1,7 @@
 // The replies of a step, as they are carried to the client.
 ghost use Rattle.std.specs.Prelude.{◌≡◌, ◌↔◌, ◌∷◌, ◌++◌, [], OnOk};
-ghost use Rattle.carriers.specs.{HasCarriedMore};
-ghost use Rattle.lab.specs.Arrivals.{CarriesOneMore, RepliesFollow};
+ghost use Rattle.carriers.specs.{HasCarried};
+ghost use Rattle.lab.specs.Arrivals.{RepliesFollow};
 
 use crate::report::{Line, Lines};
 use crate::{Carrier, LabError};
@@ -28,8 +28,8 @@ fn carry_reply<C: Carrier>(
     reply: Reply,
 ) -> Result<(), LabError>
     ensures faithful { C.is_faithful carrier.new ↔ C.is_faithful carrier.old }
-    ensures carries { OnOk result (CarriesOneMore C.is_faithful C.loses C.has_carried from reply
-        carrier.old carrier.new lines.old lines.new) }
+    ensures lines { OnOk result (RepliesFollow (HasCarried C.Carrier carrier.old carrier.new) from
+        (reply ∷ []) lines.old lines.new) }
 {
     if let Some(reply) = send_reply(alloc, carrier, from, reply)? {
         push_reply(alloc, lines, reply)?;
@@ -46,9 +46,8 @@ fn carry_all<C: Carrier>(
     replies: Vec<Reply>,
 ) -> Result<(), LabError>
     ensures faithful { C.is_faithful carrier.new ↔ C.is_faithful carrier.old }
-    ensures lines { OnOk result (RepliesFollow (C.is_faithful carrier.old) C.loses
-        (HasCarriedMore C.has_carried carrier.old carrier.new) from replies.items lines.old
-        lines.new) }
+    ensures lines { OnOk result (RepliesFollow (HasCarried C.Carrier carrier.old carrier.new) from
+        replies.items lines.old lines.new) }
 {
     for reply in replies {
         carry_reply(alloc, carrier, from, lines, reply)?;
@@ -66,9 +65,8 @@ pub fn carry_replies<C: Carrier>(
     replies: ShortList<Reply>,
 ) -> Result<(), LabError>
     ensures faithful { C.is_faithful carrier.new ↔ C.is_faithful carrier.old }
-    ensures lines { OnOk result (RepliesFollow (C.is_faithful carrier.old) C.loses
-        (HasCarriedMore C.has_carried carrier.old carrier.new) from replies lines.old
-        lines.new) }
+    ensures lines { OnOk result (RepliesFollow (HasCarried C.Carrier carrier.old carrier.new) from
+        replies lines.old lines.new) }
 {
     match replies.into_held() {
         HeldItems::None => Ok(()),

@@ -1,6 +1,6 @@
 // The trace of a step: its lines, the frames that it posts, and the replies that it sends.
 ghost use Rattle.std.specs.Prelude.{◌≡◌, ◌↔◌, ◌+◌, [], ◌∷◌, ◌++◌, length, IfOk, OnErr, OnOk};
-ghost use Rattle.carriers.specs.{HasCarriedMore};
+ghost use Rattle.carriers.specs.{HasCarried};
 ghost use Rattle.lab.specs.Arrivals.{RepliesFollow};
 ghost use Rattle.lab.specs.OutcomeLines.{adopted_lines, lines_before_replies, own_lines};
 ghost use Rattle.lab.specs.OutcomeLines.{replies_by, sent_by, sent_line, sent_lines};
@@ -138,9 +138,8 @@ fn trace_output<C: Carrier>(
     ensures faithful { C.is_faithful carrier.new ↔ C.is_faithful carrier.old }
     ensures posted { OnOk result
         (HasPosted frames.old.items id output.frames frames.new.items) }
-    ensures lines { IfOk result (RepliesFollow (C.is_faithful carrier.old) C.loses
-        (HasCarriedMore C.has_carried carrier.old carrier.new) id output.replies
-        (lines_before_replies id told (length frames.old.items) output)) }
+    ensures lines { IfOk result (RepliesFollow (HasCarried C.Carrier carrier.old carrier.new) id
+        output.replies (lines_before_replies id told (length frames.old.items) output)) }
     ensures refused { OnErr result
         (HasPostedPart frames.old.items id output.frames frames.new.items) }
 {
@@ -166,9 +165,8 @@ pub fn trace_of<C: Carrier>(
     ensures faithful { C.is_faithful carrier.new ↔ C.is_faithful carrier.old }
     ensures posted { OnOk result
         (HasPosted frames.old.items id (sent_by outcome) frames.new.items) }
-    ensures lines { IfOk result (RepliesFollow (C.is_faithful carrier.old) C.loses
-        (HasCarriedMore C.has_carried carrier.old carrier.new) id (replies_by outcome)
-        (own_lines id told (length frames.old.items) outcome)) }
+    ensures lines { IfOk result (RepliesFollow (HasCarried C.Carrier carrier.old carrier.new) id
+        (replies_by outcome) (own_lines id told (length frames.old.items) outcome)) }
     ensures refused { OnErr result
         (HasPostedPart frames.old.items id (sent_by outcome) frames.new.items) }
 {

@@ -31,6 +31,7 @@ use chain_model::{in_order, keeps_enough, one_history, reads_fresh, run_is_outco
 use configurations::{Config, Configs, NodeId};
 use disk::{Crash, Disk, Fault, MemDisk};
 use kv_types::{Batch, Limits, Number};
+use link_messages::laws::one_spelling;
 use node::{Node, Numbers, Stop};
 use std::alloc::{AllocError, Global};
 
@@ -354,8 +355,9 @@ impl<D: Crash + Drop, C: Carrier + Drop> World<D, C> {
         let Some(request) = Number::new(self.steps.len() as u64 + 1) else {
             return Err(LabError::Memory);
         };
-        // law: in every run of the model frames are in order
+        // laws: in every run of the model frames are in order, and no two have one spelling
         in_order::<Batch>();
+        one_spelling();
         let (id, input) = match delivery_of(
             alloc,
             &mut self.carrier,

@@ -1,5 +1,5 @@
 use Rattle.std.specs.Prelude.{◌↔◌}
-use Rattle.carriers.specs.{HasCarriedMore}
+use Rattle.carriers.specs.{HasCarried}
 use Rattle.lab.specs.Arrivals.{RepliesFollow}
 use Rattle.lab.proofs.replies.carry_all.Given as goal
 
@@ -7,7 +7,6 @@ use Rattle.lab.proofs.replies.carry_all.Given as goal
 abbrev pub invariant-loop-reply : goal.invariant-loop-reply
 invariant-loop-reply g l = record {
   faithful : g.C.Carrier.is_faithful l.carrier ↔ g.C.Carrier.is_faithful l.fn.carrier;
-  lines : RepliesFollow (g.C.Carrier.is_faithful l.fn.carrier) g.C.Carrier.loses
-      (HasCarriedMore g.C.Carrier.has_carried l.fn.carrier l.carrier) l.from l.yielded l.fn.lines
+  lines : RepliesFollow (HasCarried g.C.Carrier l.fn.carrier l.carrier) l.from l.yielded l.fn.lines
       l.lines;
 }

@@ -5,7 +5,6 @@ use Rattle.std.specs.Prelude.{OnOk}
 use Rattle.std.proofs.lemmas.Bool.{false≢true}
 use Rattle.std.proofs.lemmas.Option.{MatchOption-at_none}
 use Rattle.std.proofs.lemmas.Result.{on_ok_weaker}
-use Rattle.carriers.specs.{HasCarriedMore}
 use Rattle.events.specs.declared.EventContent.{EventContent}
 use Rattle.lab.specs.declared.report.Line.{Line}
 use Rattle.lab.specs.declared.sim_node.SimNode.{SimNode}
@@ -30,12 +29,11 @@ pub returns-in-Nothing-clause-ran : goal.returns-in-Nothing-clause-ran
 returns-in-Nothing-clause-ran g c = λ past run.
     let begun = c.begin.new.self in
     let event = c.args.event.now in
-    on_ok_weaker c.keep.result (nothing_applied g.C.Carrier c.in_order.ensures c.args.self.now begun
+    on_ok_weaker c.keep.result (nothing_applied g.C.Carrier c.in_order.ensures
+    c.one_spelling.ensures.one c.args.self.now begun
     event c.in_ok-begin.ensures.begun c.len.result c.in-Some.request c.len.ensures
     c.in-Some.ensures.0 c.in-Some.ensures.1 c.in_ok-delivery_of.field-0 c.deref.result.now
-    c.deref.ensures.value c.in_ok-delivery_of.ensures.brought c.in_ok-delivery_of.ensures.lost
-    c.delivery_of.new.carrier c.in_ok-delivery_of.ensures.asked
-    c.in_ok-delivery_of.ensures.faithful.1
+    c.deref.ensures.value c.delivery_of.new.carrier c.in_ok-delivery_of.ensures.brought
     (c.names_node.ensures.0 c.if-not-names_node.false) past run c.in-Nothing.is c.keep.new.self)
     (subst (λ (l : List Line). OnOk c.keep.result
     (HasKept (record begun { carrier = c.delivery_of.new.carrier }) c.keep.new.self false l))
@@ -46,13 +44,12 @@ pub returns-in-Lost-clause-ran : goal.returns-in-Lost-clause-ran
 returns-in-Lost-clause-ran g c = λ past run.
     let begun = c.begin.new.self in
     let event = c.args.event.now in
-    on_ok_weaker c.keep-in-Lost.result (lost_applied g.C.Carrier c.in_order.ensures c.args.self.now
+    on_ok_weaker c.keep-in-Lost.result (lost_applied g.C.Carrier c.in_order.ensures
+    c.one_spelling.ensures.one c.args.self.now
     begun
     event c.in_ok-begin.ensures.begun c.len.result c.in-Some.request c.len.ensures
     c.in-Some.ensures.0 c.in-Some.ensures.1 c.in_ok-delivery_of.field-0 c.deref.result.now
-    c.deref.ensures.value c.in_ok-delivery_of.ensures.brought c.in_ok-delivery_of.ensures.lost
-    c.delivery_of.new.carrier c.in_ok-delivery_of.ensures.asked
-    c.in_ok-delivery_of.ensures.faithful.1
+    c.deref.ensures.value c.delivery_of.new.carrier c.in_ok-delivery_of.ensures.brought
     (c.names_node.ensures.0 c.if-not-names_node.false) past run c.in-Lost.is
     c.keep-in-Lost.new.self)
     (subst (λ (l : List Line). OnOk c.keep-in-Lost.result (HasKept
@@ -65,12 +62,10 @@ returns-in_default-index_of-clause-ran g c = λ past run.
     let begun = c.begin.new.self in
     let event = c.args.event.now in
     on_ok_weaker c.keep-in_default-index_of.result (λ keeps. ignored_after g.C.Carrier
-    c.in_order.ensures c.args.self.now begun event
+    c.in_order.ensures c.one_spelling.ensures.one c.args.self.now begun event
     c.in_ok-begin.ensures.begun c.len.result c.in-Some.request c.len.ensures
     c.in-Some.ensures.0 c.in-Some.ensures.1 c.in_ok-delivery_of.field-0 c.deref.result.now
-    c.deref.ensures.value c.in_ok-delivery_of.ensures.brought c.in_ok-delivery_of.ensures.lost
-    c.delivery_of.new.carrier c.in_ok-delivery_of.ensures.asked
-    c.in_ok-delivery_of.ensures.faithful.1
+    c.deref.ensures.value c.delivery_of.new.carrier c.in_ok-delivery_of.ensures.brought
     (c.names_node.ensures.0 c.if-not-names_node.false) past run c.in-To.id c.in-To.input c.in-To.is
     (subst (λ (l : List (SimNode g.row.D.Denot g.D.Disk)). HasNoNode l c.in-To.id)
     c.deref-2.ensures.value
@@ -82,12 +77,11 @@ pub returns-clause-ran : goal.returns-clause-ran
 returns-clause-ran g c = λ past run.
     let begun = c.begin.new.self in
     let event = c.args.event.now in
-    on_ok_weaker c.keep-2.result (delivered_after g.C.Carrier c.in_order.ensures c.args.self.now
+    on_ok_weaker c.keep-2.result (delivered_after g.C.Carrier c.in_order.ensures
+    c.one_spelling.ensures.one c.args.self.now
     begun event c.in_ok-begin.ensures.begun c.len.result c.in-Some.request c.len.ensures
     c.in-Some.ensures.0 c.in-Some.ensures.1 c.in_ok-delivery_of.field-0 c.deref.result.now
-    c.deref.ensures.value c.in_ok-delivery_of.ensures.brought c.in_ok-delivery_of.ensures.lost
-    c.delivery_of.new.carrier c.in_ok-delivery_of.ensures.asked
-    c.in_ok-delivery_of.ensures.faithful.1
+    c.deref.ensures.value c.delivery_of.new.carrier c.in_ok-delivery_of.ensures.brought
     (c.names_node.ensures.0 c.if-not-names_node.false) past run c.in-To.id c.in-To.input c.in-To.is
     (mid g c) c.keep-2.new.self (outcome_lines c.in-To.id (epoch_in event.kind)
     (length begun.frames.items) c.in_ok-outcome.outcome) c.in_ok-lines.lines refl
@@ -97,8 +91,7 @@ returns-clause-ran g c = λ past run.
       took = c.in_ok-outcome.ensures.moved;
       sent = c.in_ok-lines.ensures.posted;
       traced = refl;
-    }) (outcome_arrives (g.C.Carrier.is_faithful c.delivery_of.new.carrier) g.C.Carrier.loses
-    (HasCarriedMore g.C.Carrier.has_carried c.delivery_of.new.carrier c.trace_of.new.carrier)
+    }) (outcome_arrives g.C.Carrier c.delivery_of.new.carrier c.trace_of.new.carrier
     c.in-To.id (epoch_in event.kind) (length begun.frames.items) c.in_ok-outcome.outcome
     c.in_ok-lines.lines (follow g c))) c.keep-2.ensures.kept
 
@@ -187,8 +180,8 @@ returns-in_err-outcome-clause-refused g c =
     (refused_begun h c.args.event.now c.args.self.now begun new begins refl refl refl refl
     (lost_left h c.args.event.now c.args.self.now begun begins c.len.result c.in-Some.request
     c.len.ensures c.in-Some.ensures.1 c.in_ok-delivery_of.field-0 c.deref.result.now
-    c.deref.ensures.value c.in_ok-delivery_of.ensures.brought c.delivery_of.new.carrier
-    c.in_ok-delivery_of.ensures.asked c.in_ok-delivery_of.ensures.faithful c.in-To.id c.in-To.input
+    c.deref.ensures.value c.delivery_of.new.carrier c.in_ok-delivery_of.ensures.brought c.in-To.id
+    c.in-To.input
     c.in-To.is new _ (subst (λ (l : List (SimNode g.row.D.Denot g.D.Disk)).
     IsIndexOf l c.in-Some-index_of.at c.in-To.id) c.deref-2.ensures.value
     (subst (λ (o : Option ℕ). MatchOption o (HasNoNode c.deref-2.result.now c.in-To.id)
@@ -210,8 +203,8 @@ returns-in_err-lines-clause-refused g c =
     (refused_begun h c.args.event.now c.args.self.now begun new begins refl refl refl refl
     (part_left h c.args.event.now c.args.self.now begun begins c.len.result c.in-Some.request
     c.len.ensures c.in-Some.ensures.1 c.in_ok-delivery_of.field-0 c.deref.result.now
-    c.deref.ensures.value c.in_ok-delivery_of.ensures.brought c.delivery_of.new.carrier
-    c.in_ok-delivery_of.ensures.asked c.in_ok-delivery_of.ensures.faithful c.in-To.id c.in-To.input
+    c.deref.ensures.value c.delivery_of.new.carrier c.in_ok-delivery_of.ensures.brought c.in-To.id
+    c.in-To.input
     c.in-To.is new c.in_ok-outcome.outcome c.in_ok-outcome.ensures.moved new refl
     c.in_err-lines.ensures.refused))
 
@@ -223,8 +216,8 @@ returns-clause-refused g c =
     let begins = c.in_ok-begin.ensures.begun in
     took_refused h c.args.event.now c.args.self.now begun begins c.len.result c.in-Some.request
     c.len.ensures c.in-Some.ensures.1 c.in_ok-delivery_of.field-0 c.deref.result.now
-    c.deref.ensures.value c.in_ok-delivery_of.ensures.brought c.delivery_of.new.carrier
-    c.in_ok-delivery_of.ensures.asked c.in_ok-delivery_of.ensures.faithful c.in-To.id c.in-To.input
+    c.deref.ensures.value c.delivery_of.new.carrier c.in_ok-delivery_of.ensures.brought c.in-To.id
+    c.in-To.input
     c.in-To.is (mid g c) c.in_ok-outcome.outcome c.in_ok-outcome.ensures.moved
     c.in_ok-lines.lines c.in_ok-lines.ensures.posted (follow g c) c.keep-2.result c.keep-2.new.self
     c.keep-2.ensures.refused refl
