@@ -7,6 +7,7 @@ use Rattle.disk.specs.{IsEnvironmental}
 use Rattle.store_tables.specs.declared.error.EngineError.{EngineError}
 use Rattle.store_tables.specs.declared.error.EngineError.TheVariants as engine
 use Rattle.store_tables.specs.Errors.{EndsEngine, IsEnd}
+use Rattle.engine.specs.Calls.{IsEndOrAfter}
 use Rattle.engine.specs.MergeParts.{IsPartRefusal}
 
 -- a refusal is none
@@ -41,6 +42,12 @@ module _ {T : Type 0} where
       IsErrAnd result (λ e. IsEnd e → ⊥) → ⊥
   no_refusal (Ok x) causes told = told
   no_refusal (Err e) causes told = told causes
+
+  -- an end is one of a working engine
+  pub ends_or_after : (result : Result T EngineError) → IfErr result IsEnd →
+      IfErr result IsEndOrAfter
+  ends_or_after (Ok x) causes = tt
+  ends_or_after (Err e) causes = inl causes
 
   -- what holds of an answer and what holds of a refusal
   pub of_answer : (result : Result T EngineError) (P : T → Type 0) (Q : EngineError → Type 0) →

@@ -2,6 +2,7 @@
 use Rattle.std.specs.Prelude.{◌≡◌, ◌⊎◌, ◌↔◌, ℕ, ◌<◌, ◌≤◌, List, [], length, true, false}
 use Rattle.std.specs.Prelude.{None, Result, Ok, Err, IsErrOf, IfOk, IsErrAnd, MatchResult, OnOk}
 use Rattle.kv_types.specs.Snapshots.{is_open}
+use Rattle.kv_types.specs.declared.bounds.TheConstants.{MAX_NUMBER}
 use Rattle.kv_types.specs.declared.Limits.{Limits}
 use Rattle.kv_types.specs.{BatchContent, Entry, StoredKey, all_entries}
 use Rattle.disk.specs.declared.Disk.{Ghosts}
@@ -25,6 +26,16 @@ use Rattle.store_files.specs.Files.{Facts, IsOwned, first_facts}
 use Rattle.store_files.specs.Settling.{AreReadAlike}
 use Rattle.store_files.specs.StoreFiles.{FilesRepresent, HasFirstFiles, IsDamaged, IsOneOf, OpensAs}
 use Rattle.store_files.specs.StoreFiles.{WereMeant, WereOneOf}
+
+-- ---- refusals of any disk
+
+-- the call ended the engine, or an earlier one had
+abbrev pub IsEndOrAfter : EngineError → Type 0
+IsEndOrAfter e = IsEnd e ⊎ (e ≡ engine.Failed)
+
+-- why a batch is not appended to this many: the engine has ended, or no number is left
+abbrev pub IsAppendRefusal : ℕ → EngineError → Type 0
+IsAppendRefusal count e = IsEndOrAfter e ⊎ ((e ≡ engine.Exhausted) × (MAX_NUMBER ≤ count))
 
 -- ---- which reads are refused
 

@@ -11,6 +11,7 @@ pub mod Calls
 pub use Rattle.engine.specs.Calls.{IsNewEngine, IsEngineOf, IsJustOpened, IsOldOrNewSince, IsOpened}
 pub use Rattle.engine.specs.Calls.{IsMeantEngineOf, KeepsEngine, ListFollows, ExplainsRefusal}
 pub use Rattle.engine.specs.Calls.{HasOpened, IsTendOf, OpensEngineFor}
+pub use Rattle.engine.specs.Calls.{IsAppendRefusal, IsEndOrAfter}
 pub use Rattle.engine.specs.Calls.{IsAdrift, IsReadableAnswer, IsTendAnswer, TendsAlike, disk_after}
 pub use Rattle.engine.specs.Calls.{IsCloseAnswer, IsOpenAnswer, MayOpen, MemoryHas}
 pub use Rattle.engine.specs.Calls.{ChangesList, ChangesSnapshots, OfEachList, ReadsEngine}
@@ -38,7 +39,8 @@ pub use Rattle.store_files.specs.Files.{Facts, IsOwned, first_facts}
 pub use Rattle.store_files.specs.StoreFiles.{FilesRepresent, HasFirstFiles, IsDamaged, IsOneOf}
 pub use Rattle.store_files.specs.StoreFiles.{AreShut, OpensAs}
 pub use Rattle.store_files.specs.StoreFiles.{StillLeavesOneOf, WereMeant, WereOneOf}
-pub use Rattle.store_files.specs.OpenFiles.{SparesFound, SparesNamed, known_version}
+pub use Rattle.store_files.specs.OpenFiles.{IsOpeningError, SparesFound, SparesNamed}
+pub use Rattle.store_files.specs.OpenFiles.{known_version}
 pub use Rattle.store_files.specs.Openings.{kept_files}
 pub use Rattle.store_files.specs.Settling.{AreAlone, AreReadAlike}
 pub use Rattle.store_files.specs.Tending.{IsSameBeside}

@@ -13,7 +13,7 @@ use store_files::laws::{held_files_are_left, open_files_are_apart};
 impl<D: Disk + Drop> Engine<D> {
     ghost use Rattle.std.specs.Prelude.{◌≡◌, IfErr, MatchResult};
     ghost use Rattle.disk.specs.{IsEnvironmental, IsSameBut, MakesCalls};
-    ghost use Rattle.engine.specs.Calls.{ChangesList, MergeStays, OfEachList};
+    ghost use Rattle.engine.specs.Calls.{ChangesList, IsEndOrAfter, MergeStays, OfEachList};
     ghost use Rattle.engine.specs.Engines.{HasNearlyFullSlot, counting_slot_file, facts_of};
     ghost use Rattle.engine.specs.Engines.{engine_disk, look_ups, with_facts};
     ghost use Rattle.store_files.specs.Adopting.{IsLaterConfig, facts_with_config};
@@ -30,6 +30,7 @@ impl<D: Disk + Drop> Engine<D> {
             (facts_with_config (facts_of self.old) epoch config.now))
             (λ _. look_ups self.new ≡ look_ups self.old) }
         ensures merging { MergeStays self.old self.new }
+        ensures causes { IfErr result IsEndOrAfter }
         ensures met { OfEachList D.Disk self.old (λ list.
             IfErr result (IsEnvironmental Disk Memory)) }
         ensures calls { MakesCalls D.Disk 4 (engine_disk self.old) (engine_disk self.new) result }

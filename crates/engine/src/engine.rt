@@ -67,6 +67,7 @@ impl<D: Disk + Drop> Engine<D> {
     ghost use Rattle.disk.specs.{contents, IsEnvironmental, IsSameBut};
     ghost use Rattle.disk.specs.{MakesCalls};
     ghost use Rattle.engine.specs.Calls.{ChangesList, ExplainsRefusal, HasOpened, IsAdrift};
+    ghost use Rattle.engine.specs.Calls.{IsAppendRefusal, IsEndOrAfter};
     ghost use Rattle.engine.specs.Calls.{IsJustOpened, IsNewEngine, IsOpened, IsTendOf, TendsAsDue};
     ghost use Rattle.engine.specs.Calls.{KeepsOwnedDisk, OfEachList, OpensEngineFor, ReadsEngine};
     ghost use Rattle.engine.specs.Calls.{MergeStays, StaysAsItWas, disk_after};
@@ -77,7 +78,8 @@ impl<D: Disk + Drop> Engine<D> {
     ghost use Rattle.engine.specs.Engines.{look_ups, newest_log_file, raised_facts};
     ghost use Rattle.engine.specs.Engines.{table_count, with_one_more, with_committed};
     ghost use Rattle.store_files.specs.Files.{Facts};
-    ghost use Rattle.store_files.specs.OpenFiles.{SparesFound};
+    ghost use Rattle.store_files.specs.OpenFiles.{IsOpeningError, SparesFound};
+    ghost use Rattle.store_tables.specs.Errors.{IsEnd};
     ghost use Rattle.store_files.specs.StoreFiles.{StillLeavesOneOf};
     ghost use Rattle.store_files.specs.declared.tended.Tended.TheVariants.{Idle};
     ghost use Rattle.compaction.specs.Outputs.{IsSameBeyond};
@@ -95,7 +97,8 @@ impl<D: Disk + Drop> Engine<D> {
         ensures created { D.is_honest disk →
             MatchResult result (λ engine. EngineHolds D.Disk engine [])
             (λ refused. IsEnvironmental Disk Memory refused.0) }
-        ensures begun { IfOk result (IsNewEngine id config.now limits.now) }
+        ensures begun { MatchResult result (IsNewEngine id config.now limits.now)
+            (λ refused. IsEnd refused.0) }
     {
         held_files_are_left(); // law: what the disk of open files reads as, and leaves
         let (mut files, turn) = files_over(alloc, disk, limits)?;
@@ -124,7 +127,8 @@ impl<D: Disk + Drop> Engine<D> {
         ensures told { D.is_honest disk →
             MatchResult result (IsOpened (contents (D.state disk)))
             (λ refused. ExplainsRefusal refused.0 (contents (D.state disk))) }
-        ensures fresh { IfOk result (IsJustOpened limits.now) }
+        ensures fresh { MatchResult result (IsJustOpened limits.now)
+            (λ refused. IsOpeningError refused.0) }
 
         // Where a crash before it leaves only files of these two stores, so does one at any moment
         // since; also where they were meant to be.
@@ -169,6 +173,7 @@ impl<D: Disk + Drop> Engine<D> {
             × (n ≡ (look_ups self.new).count))
             (λ _. look_ups self.new ≡ look_ups self.old) }
         ensures merging { MergeStays self.old self.new }
+        ensures causes { IfErr result (IsAppendRefusal (look_ups self.old).count) }
         ensures met { OfEachList D.Disk self.old (λ list. IfErr result
             (λ e. IsEnvironmental Disk Memory e
             ⊎ ((e ≡ EngineError.Exhausted) × (MAX_NUMBER ≤ (look_ups self.old).count)))) }
@@ -196,6 +201,7 @@ impl<D: Disk + Drop> Engine<D> {
         ensures reads { ReadsEngine D.Disk self.old self.new result }
         ensures found { OfEachList D.Disk self.old (λ list. MatchResult result
             (λ batch. place list number ≡ Some batch) (IsEnvironmental Disk Memory)) }
+        ensures causes { IfErr result IsEndOrAfter }
     {
         held_files_are_left(); // law: what the disk of open files reads as, and leaves
         merges_outlive_calls::<D>(); // law: a merge outlives calls that leave its files
@@ -221,7 +227,7 @@ impl<D: Disk + Drop> Engine<D> {
         ensures raised { OfEachList D.Disk self.old (λ _.
             FactsRise (facts_of self.old) (raised_facts self.old)) }
         ensures work { TendsAsDue D.Disk self.old self.new result }
-        ensures did { IfOk result (IsTendOf self.old self.new) }
+        ensures did { MatchResult result (IsTendOf self.old self.new) IsEndOrAfter }
         ensures rests { IfOk result (λ done. done ≡ Idle →
             engine_disk self.new ≡ engine_disk self.old) }
     {

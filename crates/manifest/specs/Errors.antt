@@ -26,3 +26,11 @@ error_by_log log.Failed = manifest.Failed
 abbrev pub error_by_edit : EditError → ManifestError
 error_by_edit edit_error.Damaged = manifest.Damaged
 error_by_edit edit_error.Memory = manifest.Memory
+
+-- refused for the device, for damage or for want of memory
+abbrev pub IsOfFiles : ManifestError → Type 0
+IsOfFiles manifest.Disk = Unit {0}
+IsOfFiles manifest.Damaged = Unit {0}
+IsOfFiles manifest.NotCreated = ⊥
+IsOfFiles manifest.Memory = Unit {0}
+IsOfFiles manifest.Failed = ⊥

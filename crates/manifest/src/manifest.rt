@@ -5,6 +5,7 @@ ghost use Rattle.kv_types.specs.declared.bounds.TheConstants.{MAX_NUMBER};
 ghost use Rattle.disk.specs.{IsEnvironmental, KeepsDisk, State, contents};
 ghost use Rattle.manifest.specs.declared.error.ManifestError.TheVariants.{Disk, Memory};
 ghost use Rattle.manifest.specs.Changes.{ChangesManifest, IfNoSlots, IsBeforeOrAfter};
+ghost use Rattle.manifest.specs.Errors.{IsOfFiles};
 ghost use Rattle.manifest.specs.Reads.{SlotsAreRead};
 ghost use Rattle.version_edits.specs.{NodeVersion, IsFit, first_version, node_version_after};
 ghost use Rattle.version_edits.specs.{IsChange};
@@ -76,8 +77,9 @@ impl Manifest {
             SparesOthers }
         ensures created { IfNoSlots D.Disk disk.old (MatchResult result
             (IsNewManifest (D.state disk.new) id config.now) (IsEnvironmental Disk Memory)) }
-        ensures works { IfOk result (λ manifest. (version_of manifest ≡ first_version id config.now)
-            × (ManifestHasFailed manifest → ⊥)) }
+        ensures works { MatchResult result
+            (λ manifest. (version_of manifest ≡ first_version id config.now)
+            × (ManifestHasFailed manifest → ⊥)) IsOfFiles }
         ensures first { IfOk result (λ manifest. generation_of manifest ≡ 1) }
         ensures calls { MakesCalls D.Disk 6 disk.old disk.new result }
     {

@@ -9,7 +9,7 @@ ghost use Rattle.disk.specs.{IsEnvironmental, IsSameBut, KeepsDisk, State};
 ghost use Rattle.record_log.specs.declared.LogError.TheVariants.{Disk, Memory};
 ghost use Rattle.record_log.specs.declared.log.TheConstants.{MAX_RECORD};
 ghost use Rattle.disk.specs.{MakesCalls};
-ghost use Rattle.record_log.specs.{HasNoRoom};
+ghost use Rattle.record_log.specs.{HasNoRoom, IsArgumentError};
 ghost use Rattle.record_log.specs.{IsExpected, file_of, gate_of};
 ghost use Rattle.manifest.specs.Changes.{ChangesSlots, IfNoSlots, IfSlotsHold};
 ghost use Rattle.manifest.specs.Slots.{other_slot};
@@ -90,6 +90,7 @@ impl SlotPair {
         ensures created { IfNoSlots D.Disk disk.old (MatchResult result
             (AreNewSlots (D.state disk.new) id one.now) (IsEnvironmental (Disk Failed) Memory)) }
         ensures first { IfOk result (λ slots. slots.generation ≡ 1) }
+        ensures causes { IfErr result (λ e. IsArgumentError e → ⊥) }
         ensures calls { MakesCalls D.Disk 6 disk.old disk.new result }
     {
         let closed = bytes_of_slot(alloc, 1, id, one)?;

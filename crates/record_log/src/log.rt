@@ -1,7 +1,7 @@
 // A log of records behind gates, in one file of a disk.
 ghost use Rattle.std.specs.Prelude.{◌≡◌, ◌↔◌, ◌⊎◌, ℕ, ◌+◌, ◌<◌, ◌^◌, ◌-◌, min, List, []};
 ghost use Rattle.std.specs.Prelude.{◌∷◌, ◌++◌, length, slice_get, slice_index_or, Some, IfOk};
-ghost use Rattle.std.specs.Prelude.{IsErrOf, IsSomeAnd, OnOk, MatchResult};
+ghost use Rattle.std.specs.Prelude.{IfErr, IsErrOf, IsSomeAnd, OnOk, MatchResult};
 ghost use Rattle.disk.specs.declared.DiskError.TheVariants.{Failed};
 ghost use Rattle.disk.specs.{seen, AddsNoOutcome, AlwaysLeaves, IsLeftAt, IsSame, IsSameBut};
 ghost use Rattle.disk.specs.{IsEnvironmental, IsStill, KeepsDisk, State};
@@ -11,7 +11,7 @@ ghost use Rattle.record_log.specs.Logs.{LogHolds, HasRecords, IsAt, IsPart, IsRe
 ghost use Rattle.record_log.specs.Logs.{OpenOutcome, Appended, IsExpected};
 ghost use Rattle.disk.specs.Calls.{IsRefusalOf};
 ghost use Rattle.record_log.specs.Logs.{IsOldOrNewFrom, EndsInRange, begun, file_of, start_of};
-ghost use Rattle.record_log.specs.Logs.{IsDurableLog};
+ghost use Rattle.record_log.specs.Logs.{IsArgumentError, IsDurableLog};
 ghost use Rattle.record_log.specs.Logs.{gate_of, count_of, first_length, HasFailed, HasNoRoom};
 ghost use Rattle.record_log.specs.Logs.{HasRead};
 ghost use Rattle.disk.specs.{MakesCalls};
@@ -133,8 +133,8 @@ impl Log {
         ensures spelled { D.is_honest disk.old → OnOk result
             (IsDurableAs (D.state disk.new) file (begun (seen (D.state disk.old file)))) }
         ensures at { IfOk result (IsAt file 0) }
-        ensures empty { IfOk result (λ log. (gate_of log ≡ 0) × (count_of log ≡ 0)) }
-
+        ensures empty { MatchResult result (λ log. (gate_of log ≡ 0) × (count_of log ≡ 0))
+            (λ e. IsArgumentError e → ⊥) }
         ensures calls { MakesCalls D.Disk 2 disk.old disk.new result }
 
         // A crash at any moment since the call began leaves each other file as it was.
@@ -170,6 +170,7 @@ impl Log {
             HasRecords (D.state disk.old) file start records → MatchResult result
             (λ opened. LogHolds (D.state disk.new) opened.log records × HasRead opened records)
             (IsEnvironmental (Disk Failed) Memory) }
+        ensures causes { IfErr result (λ e. IsArgumentError e → ⊥) }
         ensures still { IsStill D.Disk disk.old disk.new }
         ensures calls { MakesCalls D.Disk 3 disk.old disk.new result }
     {

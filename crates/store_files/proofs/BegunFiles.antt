@@ -10,6 +10,11 @@ use Rattle.record_log.specs.{EndsInRange, IsDurableAs, begun, count_of}
 use Rattle.memtable.specs.{HasFailedAdd, TableHolds}
 use Rattle.store_model.specs.Claims.{EmptyRepresents}
 use Rattle.store_model.specs.{StoreRepresents}
+use Rattle.disk.specs.declared.DiskError.{DiskError}
+use Rattle.disk.specs.declared.DiskError.TheVariants as disk
+use Rattle.record_log.specs.declared.LogError.{LogError}
+use Rattle.record_log.specs.declared.LogError.TheVariants as log
+use Rattle.manifest.specs.Errors.{IsOfFiles}
 use Rattle.manifest.specs.declared.ManifestError.{ManifestError}
 use Rattle.manifest.specs.declared.ManifestError.TheVariants as manifest
 use Rattle.manifest.specs.declared.LogLine.{LogLine}
@@ -24,9 +29,9 @@ use Rattle.store_tables.specs.declared.error.EngineError.{EngineError}
 use Rattle.store_files.specs.declared.store_files.StoreFiles.{StoreFiles}
 use Rattle.batch_logs.specs.BatchLogs.{HoldsPart, IsWorking, LogsHold, end_of_log, first_number}
 use Rattle.batch_logs.specs.BatchLogs.{lines_of, next_number, oldest_first}
-use Rattle.store_tables.specs.Errors.{error_of_manifest}
+use Rattle.store_tables.specs.Errors.{IsEnd, error_of_disk, error_of_log, error_of_manifest}
 use Rattle.store_tables.specs.LevelTables.{AreServed, AreTablesOf, table_lines}
-use Rattle.store_files.specs.OpenFiles.{AreUsableFiles, FilesHold, batch_count}
+use Rattle.store_files.specs.OpenFiles.{AreUsableFiles, FilesHold, IsOpeningError, batch_count}
 use Rattle.store_files.specs.StoreFiles.{AreOrderedNumbers}
 use Rattle.store_files.specs.OpenFiles.{known_store, known_version, trimmed_count}
 use Rattle.store_files.specs.Settling.{AreAlone}
@@ -65,6 +70,36 @@ pub manifest_is_external : (e : ManifestError) → IsEnvironmental manifest.Disk
     IsEnvironmental engine.Disk engine.Memory (error_of_manifest e)
 manifest_is_external e (inl failed) = inl (ap error_of_manifest failed)
 manifest_is_external e (inr memory) = inr (ap error_of_manifest memory)
+
+-- a manifest that was not opened is why no store was
+pub manifest_refuses : (e : ManifestError) → (e ≡ manifest.Failed → ⊥) →
+    IsOpeningError (error_of_manifest e)
+manifest_refuses manifest.Disk works = inl tt
+manifest_refuses manifest.Damaged works = inl tt
+manifest_refuses manifest.NotCreated works = inr refl
+manifest_refuses manifest.Memory works = inl tt
+manifest_refuses manifest.Failed works = absurd (works refl)
+
+-- one that was not created ends the store
+pub manifest_ends : (e : ManifestError) → IsOfFiles e → IsEnd (error_of_manifest e)
+manifest_ends manifest.Disk is = tt
+manifest_ends manifest.Damaged is = tt
+manifest_ends manifest.NotCreated is = absurd is
+manifest_ends manifest.Memory is = tt
+manifest_ends manifest.Failed is = absurd is
+
+-- so does a log
+pub disk_ends : (e : DiskError) → IsEnd (error_of_disk e)
+disk_ends disk.Failed = tt
+disk_ends disk.NoFile = tt
+disk_ends disk.Short = tt
+disk_ends disk.Memory = tt
+
+pub log_ends : (e : LogError) → IsEnd (error_of_log e)
+log_ends (log.Disk e) = disk_ends e
+log_ends log.Memory = tt
+log_ends log.TooLong = tt
+log_ends log.Failed = tt
 
 -- ---- the first files
 

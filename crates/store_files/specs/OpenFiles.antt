@@ -1,7 +1,7 @@
 -- The open files of a store with tables: what they hold in memory, and what their disk represents.
 use Rattle.std.specs.Prelude.{◌≡◌, ◌≢◌, ◌⊎◌, ◌↔◌, ℕ, suc, ◌+◌, ◌-◌, ◌≤◌, List, [], ◌∷◌, ◌++◌}
 use Rattle.std.specs.Prelude.{IsErrOf, length, drop}
-use Rattle.std.specs.Prelude.{All, IfOk, IsNone, MatchResult, Result}
+use Rattle.std.specs.Prelude.{All, IfErr, IfOk, IsNone, MatchResult, Result}
 use Rattle.kv_types.specs.declared.bounds.TheConstants.{MAX_NUMBER}
 use Rattle.kv_types.specs.{BatchContent, Entry, IsBatch, IsUnseen, StoredKey}
 use Rattle.version_edits.specs.declared.line.TheConstants.{MAX_NEXT}
@@ -14,6 +14,7 @@ use Rattle.manifest.specs.{IsNotCreated, IsVersion, ManifestHasFailed, ManifestH
 use Rattle.manifest.specs.{ManifestRepresents, NodeVersion, StoreVersion, version_of}
 use Rattle.store_tables.specs.declared.error.EngineError.{EngineError}
 use Rattle.store_tables.specs.declared.error.EngineError.TheVariants as engine
+use Rattle.store_tables.specs.Errors.{IsEnd}
 use Rattle.store_files.specs.declared.store_files.StoreFiles.{StoreFiles}
 use Rattle.store_files.specs.Files.{Facts, IsOwned, first_facts}
 use Rattle.batch_logs.specs.BatchLogs.{AreUsable, LogsHold, first_number, lines_of}
@@ -200,6 +201,11 @@ OpeningRefusal engine.NoSuchSnapshot left = ⊥
 OpeningRefusal engine.TooManySnapshots left = ⊥
 OpeningRefusal engine.Exhausted left = ⊥
 
+-- why files were not opened, whatever the disk: for the device, for damage or for memory, or since
+-- no store was created
+abbrev pub IsOpeningError : EngineError → Type 0
+IsOpeningError e = IsEnd e ⊎ (e ≡ engine.NotCreated)
+
 -- ---- an opening
 
 -- Of files that represent these facts and the list, the open files have it, or the refusal is
@@ -220,6 +226,8 @@ pub record OpensStore {D : Type 0} (g : Ghosts D)
     (result : Result StoreFiles EngineError) : Type 0 where
   -- a device that works never fails; any file may change
   pub kept : KeepsDisk g old new (IsErrOf result engine.Disk) ⊥ IsOwned
+  -- of any disk, it is refused so
+  pub causes : IfErr result IsOpeningError
   -- files that represent facts and a list, or were meant to, are opened as both
   pub opened : (facts : Facts) (list : List BatchContent) → g.is_honest old →
       OpensFor facts list (contents (g.state old)) (λ files. Hold (g.state new) files list)

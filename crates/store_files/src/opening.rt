@@ -2,6 +2,7 @@
 ghost use Rattle.std.specs.Prelude.{◌≡◌, ◌↔◌, ◌-◌, [], IsErrAnd, IsErrOf, IsTrue, List, IfOk};
 ghost use Rattle.std.specs.Prelude.{OnOk};
 ghost use Rattle.store_tables.specs.declared.error.EngineError.TheVariants.{Disk, Memory};
+ghost use Rattle.store_tables.specs.Errors.{IsEnd};
 ghost use Rattle.std.specs.Prelude.{MatchResult};
 ghost use Rattle.kv_types.specs.{BatchContent};
 ghost use Rattle.disk.specs.{IsEnvironmental, IsStill, KeepsDisk, contents};
@@ -161,7 +162,7 @@ impl StoreFiles {
         ensures kept { KeepsDisk D.Disk disk.old disk.new (IsErrOf result Disk) ⊥ IsOwned }
         ensures created { D.is_honest disk.old → MatchResult result
             (λ files. FilesHold (D.state disk.new) files []) (IsEnvironmental Disk Memory) }
-        ensures begun { IfOk result (AreNewFiles id config.now) }
+        ensures begun { MatchResult result (AreNewFiles id config.now) IsEnd }
         ensures counter { IfOk result HasNoFileUnderWay }
         ensures first { D.is_honest disk.old →
             OnOk result (HasFirstFiles (D.state disk.new) id config.now) }

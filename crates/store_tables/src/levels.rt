@@ -1,6 +1,6 @@
 //! Open tables, level by level, and lookups in them.
 ghost use Rattle.std.specs.Prelude.{◌≡◌, ◌↔◌, ℕ, List, IfOk, IfErr, IsTrue, MatchResult};
-ghost use Rattle.std.specs.Prelude.{◌<◌, IsErrOf, OnOk, Some, not, slice_index};
+ghost use Rattle.std.specs.Prelude.{◌<◌, IsErrOf, OnErr, OnOk, Some, not, slice_index};
 ghost use Rattle.std.specs.List.{prefix_len};
 ghost use Rattle.std.specs.Prelude.{Contains, [], ◌∷◌, ◌++◌};
 ghost use Rattle.bloom.specs.{hashes_of};
@@ -245,6 +245,7 @@ impl LevelTables {
             (λ _. WereServed disk meant self.new tables) }
         ensures lines { OnOk result (table_lines self.new
             ≡ with_flushed_line (table_lines self.old) opened.line) }
+        ensures unchanged { OnErr result (self.new.tables.items ≡ self.old.tables.items) }
     {
         let place = self.flushed();
         self.tables.insert(place, opened)?;

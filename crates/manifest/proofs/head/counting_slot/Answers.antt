@@ -9,6 +9,7 @@ use Rattle.manifest.proofs.head.counting_slot.Goals as goal
 pub returns-in_err-second-clause-reads : goal.returns-in_err-second-clause-reads
 returns-in_err-second-clause-reads g c = record {
   kept = search rules;
+  causes = search rules;
   still = λ honest.
       still_more (c.head_of.ensures.reads.still honest)
       (c.head_of-2.ensures.reads.still (c.head_of.ensures.reads.kept.honest.1 honest));
@@ -17,6 +18,7 @@ returns-in_err-second-clause-reads g c = record {
 pub returns-clause-reads : goal.returns-clause-reads
 returns-clause-reads g c = record {
   kept = search rules;
+  causes = search rules;
   still = λ honest.
       still_more (c.head_of.ensures.reads.still honest)
       (c.head_of-2.ensures.reads.still (c.head_of.ensures.reads.kept.honest.1 honest));

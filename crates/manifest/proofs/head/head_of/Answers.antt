@@ -6,6 +6,7 @@ use Rattle.manifest.proofs.head.head_of.Goals as goal
 pub returns-in_err-fills-2-clause-reads : goal.returns-in_err-fills-2-clause-reads
 returns-in_err-fills-2-clause-reads g c = record {
   kept = search rules;
+  causes = search rules;
   still = λ honest.
       still_more (c.fills.ensures.reads.still honest)
       (c.fills-2.ensures.reads.still (c.fills.ensures.reads.kept.honest.1 honest));
@@ -14,6 +15,7 @@ returns-in_err-fills-2-clause-reads g c = record {
 pub returns-then-not-branch-clause-reads : goal.returns-then-not-branch-clause-reads
 returns-then-not-branch-clause-reads g c = record {
   kept = search rules;
+  causes = search rules;
   still = λ honest.
       still_more (c.fills.ensures.reads.still honest)
       (c.fills-2.ensures.reads.still (c.fills.ensures.reads.kept.honest.1 honest));
@@ -22,6 +24,7 @@ returns-then-not-branch-clause-reads g c = record {
 pub returns-then-gate-eq1-clause-reads : goal.returns-then-gate-eq1-clause-reads
 returns-then-gate-eq1-clause-reads g c = record {
   kept = search rules;
+  causes = search rules;
   still = λ honest.
       still_more (c.fills.ensures.reads.still honest)
       (c.fills-2.ensures.reads.still (c.fills.ensures.reads.kept.honest.1 honest));
@@ -30,6 +33,7 @@ returns-then-gate-eq1-clause-reads g c = record {
 pub returns-else-gate-eq1-clause-reads : goal.returns-else-gate-eq1-clause-reads
 returns-else-gate-eq1-clause-reads g c = record {
   kept = search rules;
+  causes = search rules;
   still = λ honest.
       still_more (c.fills.ensures.reads.still honest)
       (c.fills-2.ensures.reads.still (c.fills.ensures.reads.kept.honest.1 honest));

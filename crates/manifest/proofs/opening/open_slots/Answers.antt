@@ -9,6 +9,7 @@ use Rattle.manifest.proofs.opening.open_slots.Goals as goal
 pub returns-in_err-it-clause-reads : goal.returns-in_err-it-clause-reads
 returns-in_err-it-clause-reads g c = record {
   kept = search rules;
+  causes = search rules;
   still = λ honest.
       still_more (c.sync_slots.ensures.reads.still honest)
       (c.counting_slot.ensures.reads.still (c.sync_slots.ensures.reads.kept.honest.1 honest));
@@ -17,6 +18,7 @@ returns-in_err-it-clause-reads g c = record {
 pub returns-clause-reads : goal.returns-clause-reads
 returns-clause-reads g c = record {
   kept = search rules;
+  causes = search rules;
   still = λ honest.
       let honest' = c.sync_slots.ensures.reads.kept.honest.1 honest in
       still_more (still_more (c.sync_slots.ensures.reads.still honest)

@@ -11,6 +11,7 @@ use Rattle.manifest.proofs.opening.opened_by.Goals as goal
 pub returns-in_default-clause-reads : goal.returns-in_default-clause-reads
 returns-in_default-clause-reads g c = record {
   kept = search rules;
+  causes = search rules;
   still = λ honest.
       still (g.D.Disk.state c.args.disk.now) (g.D.Disk.past c.args.disk.now);
 }

@@ -6,6 +6,7 @@ use Rattle.manifest.proofs.opening.sync_slot.Goals as goal
 pub returns-in-Err-clause-reads : goal.returns-in-Err-clause-reads
 returns-in-Err-clause-reads g c = record {
   kept = search rules;
+  causes = search rules;
   still = λ honest.
       still_sync c.sync.result c.args.file
       (still (g.D.Disk.state c.args.disk.now) (g.D.Disk.past c.args.disk.now))
@@ -15,6 +16,7 @@ returns-in-Err-clause-reads g c = record {
 pub returns-in-Ok-clause-reads : goal.returns-in-Ok-clause-reads
 returns-in-Ok-clause-reads g c = record {
   kept = search rules;
+  causes = search rules;
   still = λ honest.
       still_sync c.sync.result c.args.file
       (still (g.D.Disk.state c.args.disk.now) (g.D.Disk.past c.args.disk.now))
@@ -24,6 +26,7 @@ returns-in-Ok-clause-reads g c = record {
 pub returns-in-Ok-2-clause-reads : goal.returns-in-Ok-2-clause-reads
 returns-in-Ok-2-clause-reads g c = record {
   kept = search rules;
+  causes = search rules;
   still = λ honest.
       still_sync c.sync.result c.args.file
       (still (g.D.Disk.state c.args.disk.now) (g.D.Disk.past c.args.disk.now))

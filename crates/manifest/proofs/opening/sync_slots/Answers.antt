@@ -6,6 +6,7 @@ use Rattle.manifest.proofs.opening.sync_slots.Goals as goal
 pub returns-clause-reads : goal.returns-clause-reads
 returns-clause-reads g c = record {
   kept = search rules;
+  causes = search rules;
   still = λ honest.
       still_more (c.sync_slot.ensures.reads.still honest)
       (c.sync_slot-2.ensures.reads.still (c.sync_slot.ensures.reads.kept.honest.1 honest));

@@ -1,14 +1,14 @@
-use Rattle.std.proofs.Common.{◌∙◌, ℕ, suc, drop, subst, sym, Ok, rules}
+use Rattle.std.proofs.Common.{◌∙◌, ℕ, suc, drop, inl, subst, sym, Ok, rules}
 use Rattle.disk.specs.{IsEnvironmental, contents}
 use Rattle.disk.specs.StillLemmas.{still_more}
 use Rattle.manifest.specs.{NodeVersion, version_of}
 use Rattle.store_files.specs.OpenFiles.{AreUsableFiles, FilesAreRead, FilesOpenAs, OpeningRefusal}
-use Rattle.store_files.specs.OpenFiles.{OpensFor, WereMeantToRead}
+use Rattle.store_files.specs.OpenFiles.{IsOpeningError, OpensFor, WereMeantToRead}
 use Rattle.store_files.specs.Openings.{AreParts, HasParts, PartsHold, PartsWereMeant, WereParts}
 use Rattle.store_files.specs.StoreFiles.{durably}
-use Rattle.store_files.proofs.BegunFiles.{manifest_is_external}
+use Rattle.store_files.proofs.BegunFiles.{manifest_is_external, manifest_refuses}
 use Rattle.store_tables.specs.declared.error.EngineError.TheVariants as engine
-use Rattle.store_tables.specs.RefusalLemmas.{answers_nothing, refuses}
+use Rattle.store_tables.specs.RefusalLemmas.{answers_nothing, if_refuses, refuses}
 use Rattle.store_files.proofs.MeantOpenings.{asked_as_meant, read_as_meant, slots_are_meant}
 use Rattle.store_files.proofs.ReadFiles.{files_with}
 use Rattle.store_files.proofs.ReadAnswers.{asked, end_explained, opens_as, parts_then}
@@ -21,6 +21,8 @@ use Rattle.store_files.proofs.opening.read_files.Goals as goal
 pub returns-in_err-manifest-clause-opens : goal.returns-in_err-manifest-clause-opens
 returns-in_err-manifest-clause-opens g c = record {
   kept = search rules;
+  causes = if_refuses c.from_residual.result IsOpeningError c.from_residual.ensures.1
+      (manifest_refuses c.in_err-manifest.field-0.0 c.in_err-manifest.ensures.reads.causes);
   opened = λ facts list honest. record {
     whole = λ h. refuses c.from_residual.result _
         (IsEnvironmental engine.Disk engine.Memory) c.from_residual.ensures.1
@@ -40,6 +42,8 @@ returns-in_err-manifest-clause-opens g c = record {
 pub returns-in_err-parts-clause-opens : goal.returns-in_err-parts-clause-opens
 returns-in_err-parts-clause-opens g c = record {
   kept = search rules;
+  causes = if_refuses c.from_residual-in_err-parts.result IsOpeningError
+      c.from_residual-in_err-parts.ensures.1 (inl c.in_err-parts.ensures.reads.causes);
   opened = λ facts list honest. record {
     whole = λ h.
         let s0 = g.D.Disk.state c.args.disk.now in
@@ -91,6 +95,7 @@ returns-clause-still g c = λ honest.
 pub returns-clause-opens : goal.returns-clause-opens
 returns-clause-opens g c = record {
   kept = search rules;
+  causes = tt;
   -- and hold the list that they represented, or were meant to represent
   opened = λ facts list honest.
       let s0 = g.D.Disk.state c.args.disk.now in

@@ -1,8 +1,9 @@
-use Rattle.std.proofs.Common.{Err, List, Ok, refl}
+use Rattle.std.proofs.Common.{Err, List, Ok, inl, refl}
 use Rattle.kv_types.specs.{BatchContent}
 use Rattle.store_tables.specs.declared.error.EngineError.TheVariants as error
-use Rattle.store_tables.specs.RefusalLemmas.{refuses}
+use Rattle.store_tables.specs.RefusalLemmas.{if_refuses, refuses}
 use Rattle.table_files.specs.{inner_disk}
+use Rattle.engine.specs.Calls.{IsEndOrAfter}
 use Rattle.engine.specs.Engines.{engine_disk}
 use Rattle.engine.proofs.Adoptions.{adoption_leaves, slot_changes}
 use Rattle.engine.proofs.Engines.{answered_keeps, goes_to, held_of, refused_keeps, told_alike}
@@ -37,6 +38,12 @@ returns-in_err-adopt-clause-met g c = record {
       (c.in_err-adopt.ensures.adopts.meant list m.honest
       (were_meant g.D.Disk c.args.self.now list m)).list;
 }
+
+-- and of any device it ends the engine
+pub returns-in_err-adopt-clause-causes : goal.returns-in_err-adopt-clause-causes
+returns-in_err-adopt-clause-causes g c =
+    if_refuses c.from_residual.result IsEndOrAfter c.from_residual.ensures.1
+    (inl c.in_err-adopt.ensures.adopts.did)
 
 -- what the files were left as, also where blocks of tables are damaged
 pub returns-in_err-adopt-clause-changes : goal.returns-in_err-adopt-clause-changes

@@ -1,10 +1,11 @@
 use Rattle.std.proofs.Common.{◌∷◌, [], ◌++◌, Err, List, Ok, inl, refl, rules}
 use Rattle.kv_types.specs.{BatchContent}
 use Rattle.store_tables.specs.declared.error.EngineError.TheVariants as error
-use Rattle.store_tables.specs.RefusalLemmas.{refuses}
+use Rattle.store_tables.specs.RefusalLemmas.{if_refuses, refuses}
 use Rattle.table_files.specs.{inner_disk}
 use Rattle.engine.proofs.Merges.{goes_with_merge, log_leaves, meant_with_merge}
-use Rattle.engine.specs.Engines.{engine_disk, facts_of}
+use Rattle.engine.specs.Calls.{IsAppendRefusal}
+use Rattle.engine.specs.Engines.{engine_disk, facts_of, look_ups}
 use Rattle.engine.proofs.Engines.{answered_keeps, goes_to, held_of}
 use Rattle.engine.proofs.Engines.{refused_keeps, were_meant}
 use Rattle.engine.proofs.Results.{not_true}
@@ -47,6 +48,12 @@ returns-in_err-append-clause-met g c = record {
       (inl (c.in_err-append.ensures.meant list m.honest
       (were_meant g.D.Disk c.args.self.now list m)).list);
 }
+
+-- and of any device it ends the engine
+pub returns-in_err-append-clause-causes : goal.returns-in_err-append-clause-causes
+returns-in_err-append-clause-causes g c =
+    if_refuses c.from_residual.result (IsAppendRefusal (look_ups c.args.self.now).count)
+    c.from_residual.ensures.1 (inl (inl c.in_err-append.ensures.counts.1))
 
 -- what the files were left as, also where blocks of tables are damaged
 pub returns-in_err-append-clause-changes : goal.returns-in_err-append-clause-changes

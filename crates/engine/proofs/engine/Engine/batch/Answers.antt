@@ -2,6 +2,7 @@ use Rattle.std.proofs.Common.{Err, refl}
 use Rattle.store_tables.specs.declared.error.EngineError.TheVariants as error
 use Rattle.disk.specs.KeepingLemmas.{same_files}
 use Rattle.engine.proofs.Engines.{meant_as_held, were_meant}
+use Rattle.engine.proofs.Results.{ends_or_after}
 use Rattle.engine.proofs.Unchanged.{none_keeps, reads_none, reads_so}
 use Rattle.engine.proofs.engine.Engine.batch.Goals as goal
 
@@ -21,6 +22,10 @@ returns-clause-found g c = record {
   meant = λ list m.
       c.batch-answer.ensures.found list m.honest (were_meant g.D.Disk c.args.self.now list m);
 }
+
+pub returns-clause-causes : goal.returns-clause-causes
+returns-clause-causes g c =
+    ends_or_after c.batch-answer.result c.batch-answer.ensures.reads.causes
 
 pub returns-clause-reads : goal.returns-clause-reads
 returns-clause-reads g c =

@@ -8,7 +8,8 @@ use Rattle.engine.specs.Tends.{KeepsTended, TendsByPlan, tended_store}
 use Rattle.engine.proofs.Engines.{goes_to, may_fail, meant_as_held, meant_merge_as_held}
 use Rattle.engine.proofs.Engines.{meant_with_merge, merged_of, told_alike, were_meant}
 use Rattle.engine.proofs.Floors.{counted_after, floor_after, least_below, may_rise, readable_after}
-use Rattle.engine.proofs.Results.{closed_by, ends_by, if_ok, match_of, no_refusal, of_refusal}
+use Rattle.engine.proofs.Results.{closed_by, ends_by, ends_or_after, if_ok, match_of, no_refusal}
+use Rattle.engine.proofs.Results.{of_refusal}
 use Rattle.engine.proofs.Results.{on_answer, refused_then, unless_refused, works_on_ok}
 use Rattle.engine.proofs.Unchanged.{changes_none, none_keeps}
 use Rattle.engine.proofs.engine.Engine.tend.Goals as goal
@@ -149,9 +150,11 @@ returns-clause-did g c =
     let answer = c.tend_store-answer.result in
     let later = tended_store c.tend_store-answer.new.store c.tend_store-answer.new.merge
     c.tend_store-answer.new.turn in
-    if_ok answer (λ told by. by.did) (subst (λ (n : ℕ). IfOk answer (TendsByPlan g.D.Disk old.limits
-    n old.files c.tend_store-answer.new.files (tended_of old) later)) c.least-floor.ensures
-    c.tend_store-answer.ensures.did)
+    match_of answer _ _
+    (if_ok answer (λ told by. by.did) (subst (λ (n : ℕ). IfOk answer (TendsByPlan g.D.Disk
+    old.limits n old.files c.tend_store-answer.new.files (tended_of old) later))
+    c.least-floor.ensures c.tend_store-answer.ensures.did))
+    (ends_or_after answer c.tend_store-answer.ensures.kept.refused)
 
 -- at rest no call of the disk is made
 pub returns-clause-rests : goal.returns-clause-rests

@@ -4,10 +4,12 @@ use Rattle.record_log.specs.{LogHolds}
 use Rattle.manifest.specs.declared.TableLine.{TableLine}
 use Rattle.manifest.specs.{IsVersion, NodeVersion}
 use Rattle.store_tables.specs.declared.error.EngineError.TheVariants as engine
+use Rattle.store_tables.specs.Errors.{IsEnd}
 use Rattle.store_tables.specs.LevelTables.{AreTablesOf}
 use Rattle.store_files.proofs.BegunFiles.{counts_none, first_hold, first_line, log_is_spared}
 use Rattle.store_files.proofs.BegunFiles.{no_file_ends, no_slot_yet}
-use Rattle.store_files.proofs.BegunFiles.{first_log, only_first, rest_is_unused}
+use Rattle.store_files.proofs.BegunFiles.{first_log, log_ends, manifest_ends, only_first}
+use Rattle.store_files.proofs.BegunFiles.{rest_is_unused}
 use Rattle.store_tables.specs.RefusalLemmas.{refuses}
 use Rattle.batch_logs.specs.PartsLemmas.{holds_in}
 use Rattle.store_files.proofs.store_files.StoreFiles.create.Goals as goal
@@ -25,6 +27,18 @@ returns-in_err-tables-clause-created g c = λ honest.
     AreTablesOf (contents (g.D.Disk.state c.create-2.new.disk)) lines []) (sym none) tt in
     refuses c.from_residual-in_err-tables.result _ (IsEnvironmental engine.Disk engine.Memory)
     c.from_residual-in_err-tables.ensures.1 (c.in_err-tables.ensures.opens.opened [] honest3 read)
+
+-- a refusal is for the device, for damage or for memory
+pub returns-in_err-log-clause-begun : goal.returns-in_err-log-clause-begun
+returns-in_err-log-clause-begun g c =
+    refuses c.from_residual-in_err-log.result _ IsEnd c.from_residual-in_err-log.ensures.1
+    (log_ends c.in_err-log.field-0.0)
+
+pub returns-in_err-manifest-clause-begun : goal.returns-in_err-manifest-clause-begun
+returns-in_err-manifest-clause-begun g c =
+    refuses c.from_residual-in_err-manifest.result _ IsEnd
+    c.from_residual-in_err-manifest.ensures.1
+    (manifest_ends c.in_err-manifest.field-0.0 c.in_err-manifest.ensures.works)
 
 -- the new log has no batch
 pub returns-clause-begun : goal.returns-clause-begun

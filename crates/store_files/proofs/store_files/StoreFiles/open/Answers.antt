@@ -3,13 +3,14 @@ use Rattle.manifest.specs.{NodeVersion}
 use Rattle.store_tables.specs.declared.error.EngineError.TheVariants as engine
 use Rattle.disk.specs.KeepingLemmas.{answered, kept_as, kept_behind, neither}
 use Rattle.store_tables.specs.declared.error.EngineError.{EngineError}
-use Rattle.store_files.specs.OpenFiles.{AreUsableFiles, FilesOpenAs, OpeningRefusal}
+use Rattle.store_files.specs.OpenFiles.{AreUsableFiles, FilesOpenAs, IsOpeningError}
+use Rattle.store_files.specs.OpenFiles.{OpeningRefusal}
 use Rattle.store_files.specs.Openings.{kept_files}
 use Rattle.disk.specs.{Contents, IsEnvironmental, contents, seen}
 use Rattle.store_files.specs.Settling.{AreSwept, IsReadAlike}
 use Rattle.store_files.specs.StoreFiles.{IsOneOf, WereOneOf}
 use Rattle.store_tables.specs.RefusalLemmas.{answers_nothing, done, lacks_memory}
-use Rattle.store_tables.specs.RefusalLemmas.{passed_on, refuses}
+use Rattle.store_tables.specs.RefusalLemmas.{if_refuses, passed_on, refuses}
 use Rattle.store_files.proofs.StillFiles.{settled_as, still_keeps}
 use Rattle.store_files.proofs.MeantOpenings.{settled_as_meant}
 use Rattle.store_files.proofs.OpenMoments.{settling_keeps_each}
@@ -20,6 +21,8 @@ use Rattle.store_files.proofs.store_files.StoreFiles.open.Goals as goal
 pub returns-in_err-files-clause-opens : goal.returns-in_err-files-clause-opens
 returns-in_err-files-clause-opens g c = record {
   kept = search rules;
+  causes = if_refuses c.from_residual.result IsOpeningError c.from_residual.ensures.1
+      c.in_err-files.ensures.opens.causes;
   opened = λ facts list honest. record {
     whole = λ represents. refuses c.from_residual.result _
         (IsEnvironmental engine.Disk engine.Memory)
@@ -46,6 +49,7 @@ returns-in_err-kept-clause-opens g c =
     record {
       kept = kept_as g.D.Disk (neither (answered c.read_files.result c.in_ok-files.was)
           (lacks_memory result refused)) (λ a b same. tt) c.read_files.ensures.opens.kept;
+      causes = if_refuses result IsOpeningError refused (inl tt);
       opened = λ facts list honest. record {
         whole = λ represents. refuses result _
             (IsEnvironmental engine.Disk engine.Memory) refused (inr refl);
@@ -68,6 +72,8 @@ returns-in_err-remove_others-clause-opens g c =
           (answered c.read_files.result c.in_ok-files.was) (kept_as g.D.Disk
           (passed_on c.remove_others.result e result c.in_err-remove_others.was refused)
           (λ a b spares. spares) c.remove_others.ensures.kept);
+      causes = if_refuses result IsOpeningError refused
+          (inl c.in_err-remove_others.ensures.causes);
       opened = λ facts list honest. record {
         whole = λ represents. refuses result _ (IsEnvironmental engine.Disk engine.Memory) refused
             (c.in_err-remove_others.ensures.alone (before.honest.1 honest));
@@ -84,6 +90,7 @@ returns-clause-opens g c = record {
       (answered c.read_files.result c.in_ok-files.was) (kept_as g.D.Disk
       (neither (answered c.remove_others.result c.in_ok-remove_others.was) done)
       (λ a b spares. spares) c.remove_others.ensures.kept);
+  causes = tt;
   opened = λ facts list honest.
       let s1 = g.D.Disk.state c.read_files.new.disk in
       let s2 = g.D.Disk.state c.remove_others.new.disk in
