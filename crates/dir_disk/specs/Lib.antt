@@ -1,3 +1,4 @@
 pub mod Names
+pub mod Answers
 pub mod Disks
 pub mod Open

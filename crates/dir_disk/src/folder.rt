@@ -3,15 +3,18 @@
 ghost use Rattle.std.specs.Prelude.{◌≡◌, ◌≤◌, ◌<◌, ◌^◌, ◌-◌, [], None, IfErr, IfOk, IsErrOf, OnOk};
 ghost use Rattle.std.specs.Prelude.{IsErr, IsOk, false, length, string_bytes, true, ℕ};
 ghost use Rattle.std.specs.List.Sorted.{IsNonDecreasing};
-ghost use Rattle.disk.specs.{Absent};
+ghost use Rattle.disk.specs.{Absent, IsEnvironmental};
+ghost use Rattle.disk.specs.declared.DiskError.TheVariants.{Failed, Memory};
+ghost use Rattle.dir_disk.specs.Answers.{IsReachRefusal};
 ghost use Rattle.disk.specs.Calls.{EndsOutOfRange};
 
+use crate::answers::EntryKind;
 use crate::failure_count::FailureCount;
 use crate::lock::{LockError, locked};
 use crate::names::{path_of, path_of_folder};
 use crate::open_file::OpenFile;
 use crate::open_files::OpenFiles;
-use crate::system::{EntryKind, kind_at, numbers_in, opened, removed};
+use crate::system::{kind_at, numbers_in, opened, removed};
 use disk::{Crash, Disk, DiskError, Fault, Junk, ends_out_of_range};
 use std::alloc::{AllocError, Global};
 use std::fs::File;
@@ -110,6 +113,7 @@ impl<R: Files<File = File> + Alloc<A = Global> + Clone + Drop> DirDisk<R> {
         ensures counts { IsUncounted result self.old.failures.count self.new.failures.count }
         ensures same { IsSetUpAs self.old self.new }
         ensures latest { OnOk result (IsLatest number self.new.files) }
+        ensures refused { IfErr result (IsReachRefusal creates) }
     {
         self.failures.works()?;
         if self.files.touch(number)? {
@@ -130,6 +134,7 @@ impl<R: Files<File = File> + Alloc<A = Global> + Clone + Drop> DirDisk<R> {
     fn list(&self) -> Result<Vec<u64>, DiskError>
         ensures last { 2 ^ 64 - 1 ≤ self.now.failures.count → IsErrOf result DiskError.Failed }
         ensures rising { IfOk result (λ numbers. IsNonDecreasing numbers.items) }
+        ensures refused { IfErr result (IsEnvironmental Failed Memory) }
     {
         self.failures.works()?;
         let mut numbers = numbers_in(&self.rt, self.folder.as_str())?;
@@ -142,6 +147,7 @@ impl<R: Files<File = File> + Alloc<A = Global> + Clone + Drop> DirDisk<R> {
         ensures same { IsSetUpAs self.old self.new }
         ensures reads { self.old.writes ≡ false → IsErrOf result DiskError.Failed }
         ensures range { EndsOutOfRange at (length bytes.now) → IsErrOf result DiskError.Failed }
+        ensures first { at ≡ 0 → IfErr result (IsEnvironmental Failed Memory) }
     {
         self.may_write()?;
         if ends_out_of_range(at, bytes.len()) {
@@ -166,6 +172,7 @@ impl<R: Files<File = File> + Alloc<A = Global> + Clone + Drop> DirDisk<R> {
         ensures same { IsSetUpAs self.old self.new }
         ensures reads { self.old.writes ≡ false → IsErrOf result DiskError.Failed }
         ensures closed { OnOk result (IsNotOpen file self.new.files) }
+        ensures not_short { IsErrOf result DiskError.Short → ⊥ }
     {
         self.may_write()?;
         let path = path_of(self.rt.alloc(), self.folder.as_str(), file)?;
@@ -195,6 +202,7 @@ impl<R: Files<File = File> + Alloc<A = Global> + Clone + Drop> Disk for DirDisk<
     fn files(&mut self) -> Result<Vec<u64>, DiskError>
         ensures kept { KeepsFolder self.old self.new result }
         ensures rising { IfOk result (λ numbers. IsNonDecreasing numbers.items) }
+        ensures refused { IfErr result (IsEnvironmental Failed Memory) }
     {
         let answer = self.list();
         self.failures.end(answer)
@@ -202,6 +210,7 @@ impl<R: Files<File = File> + Alloc<A = Global> + Clone + Drop> Disk for DirDisk<
 
     fn length(&mut self, file: u64) -> Result<u64, DiskError>
         ensures kept { KeepsFolder self.old self.new result }
+        ensures not_short { IsErrOf result DiskError.Short → ⊥ }
     {
         let answer = match self.reach(file, false) {
             Ok(()) => self.files.latest().length(),
@@ -212,6 +221,7 @@ impl<R: Files<File = File> + Alloc<A = Global> + Clone + Drop> Disk for DirDisk<
 
     fn read(&mut self, file: u64, at: u64, into: &mut [u8]) -> Result<(), DiskError>
         ensures kept { KeepsFolder self.old self.new result }
+        ensures range { EndsOutOfRange at (length into.old) → IsErr result }
     {
         let answer = match self.reach(file, false) {
             Ok(()) => self.files.latest().read(at, into),
@@ -224,6 +234,7 @@ impl<R: Files<File = File> + Alloc<A = Global> + Clone + Drop> Disk for DirDisk<
         ensures kept { KeepsFolder self.old self.new result }
         ensures reads { may_change self.old ≡ false → IsErrOf result DiskError.Failed }
         ensures range { EndsOutOfRange at (length bytes.now) → IsErrOf result DiskError.Failed }
+        ensures first { at ≡ 0 → IfErr result (IsEnvironmental Failed Memory) }
     {
         let answer = self.write_in(file, at, bytes);
         self.failures.end(answer)
@@ -239,6 +250,7 @@ impl<R: Files<File = File> + Alloc<A = Global> + Clone + Drop> Disk for DirDisk<
 
     fn sync(&mut self, file: u64) -> Result<(), DiskError>
         ensures kept { KeepsFolder self.old self.new result }
+        ensures not_short { IsErrOf result DiskError.Short → ⊥ }
     {
         let answer = match self.reach(file, false) {
             Ok(()) => self.files.latest().sync(),
@@ -251,6 +263,7 @@ impl<R: Files<File = File> + Alloc<A = Global> + Clone + Drop> Disk for DirDisk<
         ensures kept { KeepsFolder self.old self.new result }
         ensures reads { may_change self.old ≡ false → IsErrOf result DiskError.Failed }
         ensures closed { OnOk result (IsNotOpen file (open_files self.new)) }
+        ensures not_short { IsErrOf result DiskError.Short → ⊥ }
     {
         let answer = self.remove_in(file);
         self.failures.end(answer)

@@ -1,6 +1,7 @@
 //! A folder as a disk, and a disk that no call changes.
 #![tactic(auto)]
 
+mod answers;
 mod failure_count;
 mod folder;
 mod lock;

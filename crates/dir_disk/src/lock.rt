@@ -1,5 +1,6 @@
 // The lock on a folder.
 ghost use Rattle.std.specs.Prelude.{◌≡◌, IsErr, IsErrOf};
+ghost use Rattle.dir_disk.specs.Answers.{lock_error};
 ghost use Rattle.dir_disk.specs.declared.lock.LockError.TheVariants.{Memory};
 
 use std::alloc::AllocError;
@@ -29,6 +30,16 @@ impl From<AllocError> for LockError {
     }
 }
 
+// Why a folder was not locked: another user has it, or the system failed.
+fn refusal_of(e: TryLockError) -> LockError
+    ensures { result ≡ lock_error e }
+{
+    match e {
+        TryLockError::WouldBlock => LockError::InUse,
+        TryLockError::Error(_) => LockError::Failed,
+    }
+}
+
 /// Locks a folder that was opened. The lock is free again once the file is closed, so at the latest
 /// when the process has ended.
 pub fn locked(opened: io::Result<File>) -> Result<File, LockError>
@@ -39,7 +50,6 @@ pub fn locked(opened: io::Result<File>) -> Result<File, LockError>
     };
     match folder.try_lock() {
         Ok(()) => Ok(folder),
-        Err(TryLockError::WouldBlock) => Err(LockError::InUse),
-        Err(TryLockError::Error(_)) => Err(LockError::Failed),
+        Err(e) => Err(refusal_of(e)),
     }
 }

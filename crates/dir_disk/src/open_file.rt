@@ -1,12 +1,12 @@
 // One file that is open. No call here makes more than two system calls, as long as the system
 // reads and writes at once what it is asked for.
-ghost use Rattle.std.specs.Prelude.{◌≡◌, ◌+◌, ◌<◌, ◌≤◌, ◌^◌, IsErrOf, IsOk};
+ghost use Rattle.std.specs.Prelude.{◌≡◌, ◌+◌, ◌<◌, ◌≤◌, ◌^◌, IfErr, IfSome, IsErrOf, Ok, max};
 ghost use Rattle.std.specs.Prelude.{IsSomeAnd, MatchResult, None, OnOk, Some, length};
 ghost use Rattle.disk.specs.Calls.{EndsOutOfRange};
 
+use crate::answers::{done, reading_of};
 use disk::{DiskError, ends_out_of_range};
 use std::fs::File;
-use std::io::{self, ErrorKind};
 use std::os::unix::fs::FileExt;
 
 /// A file that is open, and its length where that is known: this disk alone writes to it.
@@ -17,19 +17,9 @@ pub struct OpenFile {
     len: Option<u64>,
 }
 
-// What the system answered, as an answer of the disk.
-fn done(answer: io::Result<()>) -> Result<(), DiskError>
-    ensures { MatchResult answer (λ _. IsOk result) (λ _. IsErrOf result DiskError.Failed) }
-{
-    match answer {
-        Ok(()) => Ok(()),
-        Err(_) => Err(DiskError::Failed),
-    }
-}
-
 impl OpenFile {
     pub fn new(number: u64, file: File, len: u64) -> OpenFile
-        ensures { result.number ≡ number }
+        ensures { (result.number ≡ number) × (result.len ≡ Some len) }
     {
         OpenFile {
             number,
@@ -64,6 +54,7 @@ impl OpenFile {
         ensures same { self.new.number ≡ self.old.number }
         ensures known { MatchResult result (λ len. self.new.len ≡ Some len)
             (λ e. (e ≡ DiskError.Failed) × (self.new.len ≡ None)) }
+        ensures kept { IfSome self.old.len (λ len. result ≡ Ok len) }
     {
         match self.len {
             Some(len) => Ok(len),
@@ -82,11 +73,7 @@ impl OpenFile {
         if into.is_empty() && at > self.length()? {
             return Err(DiskError::Short);
         }
-        match self.file.read_exact_at(into, at) {
-            Ok(()) => Ok(()),
-            Err(e) if e.kind() == ErrorKind::UnexpectedEof => Err(DiskError::Short),
-            Err(_) => Err(DiskError::Failed),
-        }
+        reading_of(self.file.read_exact_at(into, at))
     }
 
     /// Writes bytes from a place on, which is not behind the end.
@@ -95,6 +82,10 @@ impl OpenFile {
         ensures known { at + length bytes.now < 2 ^ 64 →
             OnOk result (IsSomeAnd self.new.len (λ len. at + length bytes.now ≤ len)) }
         ensures short { IsErrOf result DiskError.Short → IsSomeAnd self.new.len (λ len. len < at) }
+        ensures behind { IfSome self.old.len (λ len. len < at → IsErrOf result DiskError.Short) }
+        ensures first { at ≡ 0 → IfErr result (λ e. e ≡ DiskError.Failed) }
+        ensures exact { at + length bytes.now < 2 ^ 64 → OnOk result (IfSome self.old.len
+            (λ len. self.new.len ≡ Some (max len (at + length bytes.now)))) }
         ensures failed { IsErrOf result DiskError.Failed → self.new.len ≡ None }
     {
         let len = self.known_length()?;
@@ -114,6 +105,8 @@ impl OpenFile {
         ensures known { OnOk result (self.new.len ≡ Some length) }
         ensures short { IsErrOf result DiskError.Short →
             IsSomeAnd self.new.len (λ len. len < length) }
+        ensures behind { IfSome self.old.len
+            (λ len. len < length → IsErrOf result DiskError.Short) }
         ensures failed { IsErrOf result DiskError.Failed → self.new.len ≡ None }
     {
         if length > self.known_length()? {
@@ -126,7 +119,9 @@ impl OpenFile {
     }
 
     /// Asks the system to make the bytes durable, and the length with them.
-    pub fn sync(&self) -> Result<(), DiskError> {
+    pub fn sync(&self) -> Result<(), DiskError>
+        ensures { IfErr result (λ e. e ≡ DiskError.Failed) }
+    {
         done(self.file.sync_data())
     }
 }

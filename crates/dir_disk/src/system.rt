@@ -1,31 +1,22 @@
 // What is asked of the system about a folder.
+ghost use Rattle.std.specs.Prelude.{◌≡◌, ◌⊎◌, IfErr, false};
+ghost use Rattle.disk.specs.{IsEnvironmental};
+ghost use Rattle.disk.specs.declared.DiskError.TheVariants.{Failed, Memory};
+
+use crate::answers::{EntryKind, cause, kind_of, opening_of, removal_of};
 use crate::names::number_of;
 use disk::DiskError;
 use std::alloc::Global;
 use std::fs::{self, File, OpenOptions};
-use std::io::{self, ErrorKind};
+use std::io::ErrorKind;
 use std::path::AsPath;
 use std::rt::Files;
 
-/// What is at a path.
-#[derive(Drop)]
-pub enum EntryKind {
-    /// A file with so many bytes.
-    File(u64),
-    /// Something that is no file, as a folder or a pipe.
-    Other,
-    /// Nothing has this name.
-    Absent,
-}
-
 /// What is at this path.
-pub fn kind_at<R: Files, P: AsPath>(rt: &R, path: P) -> Result<EntryKind, DiskError> {
-    match fs::metadata(rt, path) {
-        Ok(metadata) if metadata.is_file() => Ok(EntryKind::File(metadata.len())),
-        Ok(_) => Ok(EntryKind::Other),
-        Err(e) if e.kind() == ErrorKind::NotFound => Ok(EntryKind::Absent),
-        Err(_) => Err(DiskError::Failed),
-    }
+pub fn kind_at<R: Files, P: AsPath>(rt: &R, path: P) -> Result<EntryKind, DiskError>
+    ensures { IfErr result (λ e. e ≡ Failed) }
+{
+    kind_of(fs::metadata(rt, path))
 }
 
 /// Opens the file at this path, and creates it where it is absent if that is asked for.
@@ -34,36 +25,25 @@ pub fn opened<R: Files<File = File>>(
     path: &str,
     writes: bool,
     creates: bool,
-) -> Result<File, DiskError> {
+) -> Result<File, DiskError>
+    ensures { IfErr result (λ e. (e ≡ Failed) ⊎ ((e ≡ DiskError.NoFile) × (creates ≡ false))) }
+{
     let mut how = OpenOptions::new();
     how.read(true).write(writes).create(creates);
-    match how.open(rt, path) {
-        Ok(file) => Ok(file),
-        // Where it was to be created, the folder is absent.
-        Err(e) if e.kind() == ErrorKind::NotFound && !creates => Err(DiskError::NoFile),
-        Err(_) => Err(DiskError::Failed),
-    }
+    opening_of(how.open(rt, path), creates)
 }
 
 /// Removes the file at this path.
-pub fn removed<R: Files>(rt: &R, path: &str) -> Result<(), DiskError> {
-    match fs::remove_file(rt, path) {
-        Ok(()) => Ok(()),
-        Err(e) if e.kind() == ErrorKind::NotFound => Err(DiskError::NoFile),
-        Err(_) => Err(DiskError::Failed),
-    }
-}
-
-// Why a folder was not listed.
-fn cause(e: io::Error) -> DiskError {
-    match e.kind() {
-        ErrorKind::OutOfMemory => DiskError::Memory,
-        _ => DiskError::Failed,
-    }
+pub fn removed<R: Files>(rt: &R, path: &str) -> Result<(), DiskError>
+    ensures { IfErr result (λ e. (e ≡ Failed) ⊎ (e ≡ DiskError.NoFile)) }
+{
+    removal_of(fs::remove_file(rt, path))
 }
 
 // The number of the file that an entry of a folder is, if it is one.
-fn file_of<R: Files>(rt: &R, entry: &fs::DirEntry<R>) -> Result<Option<u64>, DiskError> {
+fn file_of<R: Files>(rt: &R, entry: &fs::DirEntry<R>) -> Result<Option<u64>, DiskError>
+    ensures { IfErr result (λ e. e ≡ Failed) }
+{
     let Some(number) = number_of(entry.file_name()) else {
         return Ok(None);
     };
@@ -77,7 +57,9 @@ fn file_of<R: Files>(rt: &R, entry: &fs::DirEntry<R>) -> Result<Option<u64>, Dis
 pub fn numbers_in<R: Files + Alloc<A = Global> + Clone + Drop>(
     rt: &R,
     folder: &str,
-) -> Result<Vec<u64>, DiskError> {
+) -> Result<Vec<u64>, DiskError>
+    ensures { IfErr result (IsEnvironmental Failed Memory) }
+{
     let mut numbers = Vec::new(rt.alloc());
     for entry in fs::read_dir(rt, folder).map_err(cause)? {
         match entry {

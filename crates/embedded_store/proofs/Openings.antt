@@ -1,7 +1,7 @@
 -- The stores of engines that were opened or created.
 use Rattle.std.proofs.Common.{◌≡◌, ap, inl, inr, refl, subst, sym, ℕ, Bool, false, List, true, ◌∙◌}
 use Rattle.std.proofs.Common.{[], ◌∷◌, ◌<◌, ◌≢◌, arith}
-use Rattle.std.specs.Prelude.{◌⊎◌, ◌↔◌, Result, Ok, Err, IfErr, IfOk, IsFalse, IsTrue}
+use Rattle.std.specs.Prelude.{◌⊎◌, ◌↔◌, Result, Ok, Err, IfErr, IsFalse, IsTrue}
 use Rattle.std.specs.Prelude.{MatchResult}
 use Rattle.std.specs.Prelude.{All, Contains}
 use Rattle.std.proofs.lemmas.List.Elements.{All-weaker}
@@ -31,7 +31,7 @@ use Rattle.manifest.specs.Lawful.{IsAllocated}
 use Rattle.manifest.specs.Slots.{IsClosedOrAbsent}
 use Rattle.embedded_store.specs.Alone.{IsAloneAs}
 use Rattle.embedded_store.specs.Openings.{AreNoStore, CreatesStore, ExplainsOpening, IsFirstStore}
-use Rattle.embedded_store.specs.Openings.{IsOfChain, IsOfNoStore}
+use Rattle.embedded_store.specs.Openings.{IsOfChain, IsOfDisk, IsOfNoStore}
 use Rattle.embedded_store.specs.Openings.{IsOpenedAs, IsOpenedFrom, IsOwnStore}
 use Rattle.embedded_store.specs.Openings.{IsStoreOver, LeavesFound, KeepsOpenedDisk}
 use Rattle.embedded_store.specs.Openings.{OpensContents, StandsAlone}
@@ -196,13 +196,14 @@ module _ {D : Type 0} (g : Ghosts D) where
   -- the store of an engine that was just opened is fresh
   pub own_fresh : (given : Limits) (engine : Engine D g)
       (result : Result (EmbeddedStore D g) (OpenError × D)) → IsJustOpened given engine →
-      IsOwnStore engine result → IfOk result (IsFreshStore given)
+      IsOwnStore engine result →
+      MatchResult result (IsFreshStore given) (λ refused. IsOfDisk refused.0)
   own_fresh given engine (Ok store) just is = record {
     works = λ ended. just.works (is.1.stays.ended.0 ended);
     limits = ap (λ (l : LookUps). l.limits) is.1.told ∙ just.limits;
     snapshots = ap (λ (l : LookUps). l.snapshots) is.1.told ∙ just.snapshots;
   }
-  own_fresh given engine (Err refused) just is = tt
+  own_fresh given engine (Err refused) just is = inl is.0
 
   -- ---- a store that was not created
 

@@ -6,12 +6,13 @@ use Rattle.disk.specs.declared.error.DiskError.TheVariants as device
 use Rattle.disk.specs.{Contents, IsEnvironmental, State}
 use Rattle.engine.specs.EngineError.{EngineError}
 use Rattle.engine.specs.EngineError.TheVariants as engine
-use Rattle.engine.specs.{ExplainsRefusal}
+use Rattle.engine.specs.{ExplainsRefusal, IsOpeningError}
 use Rattle.embedded_store.specs.declared.error.OpenError.{OpenError}
 use Rattle.embedded_store.specs.declared.error.OpenError.TheVariants.{OfChain, Store}
 use Rattle.embedded_store.specs.Errors.{disk_refusal}
 use Rattle.manifest.specs.{HasOnlyCreationFiles, WasCutShort}
-use Rattle.embedded_store.specs.Openings.{ExplainsOpening, IsOfEnvironment, IsOfNoStore}
+use Rattle.embedded_store.specs.Openings.{ExplainsOpening, IsOfDisk, IsOfEnvironment}
+use Rattle.embedded_store.specs.Openings.{IsOfNoStore}
 
 -- a refusal of the engine is for the device exactly where its cause is
 pub store_told : (e : EngineError) (s : OpenError) → s ≡ Store e →
@@ -37,6 +38,22 @@ pub look_external : (e : DiskError) (s : OpenError) → s ≡ disk_refusal e →
     IsEnvironmental device.Failed device.Memory e → IsOfEnvironment s
 look_external e s is (inl failed) = inl (is ∙ ap disk_refusal failed)
 look_external e s is (inr memory) = inr (is ∙ ap disk_refusal memory)
+
+-- of any disk, why an engine was not opened is why there is no store
+pub opening_refuses : (e : EngineError) (s : OpenError) → s ≡ Store e → IsOpeningError e →
+    IsOfDisk s
+opening_refuses e s is (inr same) = inr (inr (inr (is ∙ ap Store same)))
+opening_refuses engine.Disk s is (inl ends) = inr (inl (inl is))
+opening_refuses engine.Memory s is (inl ends) = inr (inl (inr is))
+opening_refuses engine.Damaged s is (inl ends) = inr (inr (inl is))
+opening_refuses _ s is (inl ends) = absurd ends
+
+-- so is one of a look
+pub look_refuses : (e : DiskError) (s : OpenError) → s ≡ disk_refusal e → IsOfDisk s
+look_refuses device.Failed s is = inr (inl (inl is))
+look_refuses device.NoFile s is = inr (inr (inl is))
+look_refuses device.Short s is = inr (inr (inl is))
+look_refuses device.Memory s is = inr (inl (inr is))
 
 -- an external refusal says nothing of the files
 pub external_explains : (left : Contents) (now : State) (s : OpenError) → IsOfEnvironment s →

@@ -26,9 +26,21 @@ StandsAlone facts = IsAloneAs facts.id facts.ids
 abbrev pub IsOfEnvironment : OpenError → Type 0
 IsOfEnvironment = IsEnvironmental (Store engine.Disk) (Store engine.Memory)
 
+-- refused for the folder itself: another user has locked it, or it can't be made or locked
+abbrev pub IsOfFolder : OpenError → Type 0
+IsOfFolder e = (e ≡ InUse) ⊎ IsOfEnvironment e
+
 -- refused for files that are none of a store
 abbrev pub IsOfNoStore : OpenError → Type 0
 IsOfNoStore e = (e ≡ Store engine.Damaged) ⊎ (e ≡ Store engine.NotCreated)
+
+-- refused for a disk, whatever it claims
+abbrev pub IsOfDisk : OpenError → Type 0
+IsOfDisk e = (e ≡ OfChain) ⊎ (IsOfEnvironment e ⊎ IsOfNoStore e)
+
+-- refused for a folder, or for it as a disk
+abbrev pub IsOfOpening : OpenError → Type 0
+IsOfOpening e = (e ≡ InUse) ⊎ IsOfDisk e
 
 -- no opening makes a store of the files: they open as none, and are not what a creation may have
 -- left that was cut short

@@ -1,10 +1,10 @@
 // The store of a disk: opened, or created where nothing was created yet.
-ghost use Rattle.std.specs.Prelude.{◌≡◌, ◌↔◌, Err, IfOk, IsFalse, IsTrue};
+ghost use Rattle.std.specs.Prelude.{◌≡◌, ◌↔◌, Err, IsFalse, IsTrue, MatchResult};
 ghost use Rattle.engine.specs.EngineError.TheVariants.{NotCreated};
 ghost use Rattle.embedded_store.specs.declared.error.OpenError.TheVariants.{Store};
 ghost use Rattle.disk.specs.{contents};
 ghost use Rattle.manifest.specs.{HasOnlyCreationFiles};
-ghost use Rattle.embedded_store.specs.Openings.{CreatesStore, IsOwnStore, IsStoreOver};
+ghost use Rattle.embedded_store.specs.Openings.{CreatesStore, IsOfDisk, IsOwnStore, IsStoreOver};
 ghost use Rattle.embedded_store.specs.Openings.{LeavesFound, KeepsOpenedDisk, OpensContents};
 ghost use Rattle.embedded_store.specs.Stores.{IsFreshStore};
 
@@ -46,7 +46,8 @@ fn created<D: Disk + Drop>(
 ) -> Result<EmbeddedStore<D>, (OpenError, D)>
     ensures kept { KeepsOpenedDisk D.Disk disk result }
     ensures created { D.is_honest disk → CreatesStore result }
-    ensures fresh { IfOk result (IsFreshStore limits.now) }
+    ensures fresh { MatchResult result (IsFreshStore limits.now)
+        (λ refused. IsOfDisk refused.0) }
 {
     let Ok((id, config)) = alone(alloc) else {
         return Err((OpenError::from(AllocError), disk));
@@ -68,7 +69,8 @@ fn created_if_free<D: Disk + Drop>(
     ensures kept { KeepsOpenedDisk D.Disk disk result }
     ensures created { D.is_honest disk → IsTrue is_free → CreatesStore result }
     ensures refused { IsFalse is_free → result ≡ Err (Store NotCreated, disk) }
-    ensures fresh { IfOk result (IsFreshStore limits.now) }
+    ensures fresh { MatchResult result (IsFreshStore limits.now)
+        (λ refused. IsOfDisk refused.0) }
 {
     if is_free {
         created(alloc, disk, limits)
@@ -89,7 +91,8 @@ fn opened_or_created<D: Disk + Drop>(
     ensures kept { KeepsOpenedDisk D.Disk disk result }
     ensures opens { D.is_honest disk → OpensContents D.Disk disk (contents (D.state disk)) result }
     ensures still { LeavesFound D.Disk disk result }
-    ensures fresh { IfOk result (IsFreshStore limits.now) }
+    ensures fresh { MatchResult result (IsFreshStore limits.now)
+        (λ refused. IsOfDisk refused.0) }
 {
     reads_are_outcomes(); // law: a disk as it reads is one of the outcomes
     version_is_one(); // law: files that represent a version are of a store that was created
@@ -115,7 +118,8 @@ impl<D: Disk + Drop> EmbeddedStore<D> {
         ensures opens { D.is_honest disk →
             OpensContents D.Disk disk (contents (D.state disk)) result }
         ensures still { LeavesFound D.Disk disk result }
-        ensures fresh { IfOk result (IsFreshStore limits.now) }
+        ensures fresh { MatchResult result (IsFreshStore limits.now)
+            (λ refused. IsOfDisk refused.0) }
     {
         match has_only_creation_files(&mut disk) {
             Ok(is_free) => opened_or_created(alloc, disk, limits, is_free),

@@ -28,6 +28,7 @@ impl<D: Disk + Drop> EmbeddedStore<D> {
     ghost use Rattle.kv_types.specs.Pages.{page_of};
     ghost use Rattle.disk.specs.{IsEnvironmental};
     ghost use Rattle.engine.specs.{AreOrdered, ChangesList, ChangesSnapshots, IsAdrift};
+    ghost use Rattle.engine.specs.{IsAppendRefusal, IsEndOrAfter};
     ghost use Rattle.engine.specs.{IsCloseAnswer, IsNearlyFull, IsReadableAnswer, IsTendFile};
     ghost use Rattle.engine.specs.{IsTendOf, RaisesFactsAtMost, ReadsEngine, raised_facts};
     ghost use Rattle.disk.specs.{MakesCalls};
@@ -68,6 +69,7 @@ impl<D: Disk + Drop> EmbeddedStore<D> {
         ensures refused { (list : List BatchContent) → ShowsBatches D.Disk self.old list →
             IfErr result (λ e. IsEnvironmental Disk Memory e
             ⊎ ((e ≡ Exhausted) × (MAX_NUMBER ≤ length list))) }
+        ensures causes { IfErr result (IsAppendRefusal (look_ups (store_engine self.old)).count) }
         ensures calls { MakesCalls D.Disk 4 (store_disk self.old) (store_disk self.new) result }
     {
         let number = self.engine.append(batch)?;
@@ -170,7 +172,8 @@ impl<D: Disk + Drop> EmbeddedStore<D> {
             (raised_facts (store_engine self.old)) (λ list. list) }
         ensures told { RaisesFactsAtMost (store_engine self.old) (store_engine self.new) }
         ensures work { TendsAsDue D.Disk (store_engine self.old) (store_engine self.new) result }
-        ensures did { IfOk result (IsTendOf (store_engine self.old) (store_engine self.new)) }
+        ensures did { MatchResult result
+            (IsTendOf (store_engine self.old) (store_engine self.new)) IsEndOrAfter }
         ensures rests { IfOk result (λ done. done ≡ Idle →
             store_disk self.new ≡ store_disk self.old) }
     {

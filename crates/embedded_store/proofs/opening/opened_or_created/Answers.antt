@@ -5,7 +5,7 @@ use Rattle.disk.specs.KeepingLemmas.{kept_as, kept_behind}
 use Rattle.engine.specs.{ExplainsRefusal}
 use Rattle.embedded_store.proofs.Openings.{free_opens, free_still, own_fresh, own_kept, own_opens}
 use Rattle.embedded_store.proofs.Openings.{own_still, refused_opens, refused_still}
-use Rattle.embedded_store.proofs.Refusals.{not_external, store_told}
+use Rattle.embedded_store.proofs.Refusals.{not_external, opening_refuses, store_told}
 use Rattle.embedded_store.proofs.opening.opened_or_created.Goals as goal
 
 -- the store of the engine that was opened
@@ -80,5 +80,5 @@ returns-in_default g c = record {
       (λ facts list facts' list'. c.in-Err.ensures.any_moment facts list facts' list' honest);
   still = refused_still g.D.Disk c.args.disk c.in-Err.disk c.in-Err.e c.from.result c.from.ensures
       c.in-Err.ensures.still;
-  fresh = tt;
+  fresh = opening_refuses c.in-Err.e c.from.result c.from.ensures c.in-Err.ensures.fresh;
 }

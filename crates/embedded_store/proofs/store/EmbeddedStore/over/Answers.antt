@@ -3,7 +3,7 @@ use Rattle.disk.specs.declared.error.DiskError.TheVariants.{Failed}
 use Rattle.disk.specs.KeepingLemmas.{kept_as, kept_behind}
 use Rattle.embedded_store.proofs.Looks.{look_free, look_keeps, look_leaves_all, look_opens}
 use Rattle.embedded_store.proofs.Looks.{look_refused}
-use Rattle.embedded_store.proofs.Refusals.{look_external, look_told}
+use Rattle.embedded_store.proofs.Refusals.{look_external, look_refuses, look_told}
 use Rattle.embedded_store.proofs.store.EmbeddedStore.over.Goals as goal
 
 -- what the look found is so behind it
@@ -50,3 +50,6 @@ pub returns-in-Err-clause-still : goal.returns-in-Err-clause-still
 returns-in-Err-clause-still g c =
     look_leaves_all g.D.Disk c.args.disk c.has_only_creation_files.new.disk c.from.result
     c.in-Err.ensures.looks
+
+pub returns-in-Err-clause-fresh : goal.returns-in-Err-clause-fresh
+returns-in-Err-clause-fresh g c = look_refuses c.in-Err.e c.from.result c.from.ensures

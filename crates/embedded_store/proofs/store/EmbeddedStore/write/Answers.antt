@@ -1,4 +1,5 @@
-use Rattle.std.proofs.Common.{◌++◌, ◌∷◌, [], ap, arith, rules, subst, sym, ℕ, ◌∙◌}
+use Rattle.std.proofs.Common.{◌++◌, ◌∷◌, [], ap, arith, subst, sym, ℕ, ◌∙◌}
+use Rattle.std.proofs.lemmas.Result.{err_from_is_err_and}
 use Rattle.disk.specs.{AlwaysLeaves}
 use Rattle.engine.specs.{IsOldOrNewSince, LookUps, WereOneOf, facts_of, look_ups}
 use Rattle.engine.specs.{with_committed, with_one_more}
@@ -12,7 +13,8 @@ pub returns-in_err-number-clause-refused : goal.returns-in_err-number-clause-ref
 returns-in_err-number-clause-refused g c = λ list shown.
     let cause = write_refused c.args.self.now list c.in_err-number.field-0.0
     c.in_err-number.ensures.met shown in
-    search (rules, cause)
+    let p = err_from_is_err_and c.from_residual.result c.from_residual.ensures.1 in
+    rw (p.1, p.2) cause
 
 -- no fewer batches are committed, and no more than there are
 pub set_committed-requires : goal.set_committed-requires
