@@ -1,5 +1,6 @@
 -- The numbers of a node without its batches, and the machine of the chain's model with them.
 use Rattle.std.specs.Prelude.{◌≡◌, ◌≤◌, ◌<◌, ℕ, List, [], ◌∷◌, length, map, true, false, All}
+use Rattle.std.specs.Prelude.{if◌then◌else◌}
 use Rattle.kv_types.specs.{BatchContent}
 use Rattle.configurations.specs.{is_tail}
 use Rattle.chain_model.specs.{Response, Committed}
@@ -48,6 +49,25 @@ pub record PersistentRefines (rest : PersistentState) (n : Machine) : Type 0 whe
   pub count : length n.list ≡ rest.count
   pub floor : n.floor ≡ rest.floor
   pub kept : n.kept ≡ rest.kept
+
+-- The state of a node that has just begun: at a tail all its batches are committed, and else those
+-- up to its floor. Its successor is known to have these. No snapshot is open, and no request is
+-- pending.
+pub record IsAtStart (core : Core) : Type 0 where
+  pub committed : core.committed ≡ (if is_tail core.ids core.id then core.count else core.floor)
+  pub successor_has : core.successor_has ≡ core.committed
+  pub snapshots : core.snapshots ≡ []
+  pub pending : core.pending ≡ []
+
+-- the state of a node that has just begun with these persistent numbers
+pub record IsStartOf (rest : PersistentState) (core : Core) : Type 0 where
+  pub id : core.id ≡ rest.id
+  pub epoch : core.epoch ≡ rest.epoch
+  pub ids : core.ids ≡ rest.config
+  pub count : core.count ≡ rest.count
+  pub floor : core.floor ≡ rest.floor
+  pub kept : core.kept ≡ rest.kept
+  pub begins : IsAtStart core
 
 -- the numbers of the requests rise, each above the first bound and at most the second
 abbrev pub IsInOrder : (above most : ℕ) → List PendingSubmit → Type 0

@@ -1,5 +1,5 @@
 //! Lists that mostly have one item.
-ghost use Rattle.std.specs.Prelude.{◌≡◌, [], ◌∷◌, ◌++◌, OnOk};
+ghost use Rattle.std.specs.Prelude.{◌≡◌, [], ◌∷◌, ◌++◌, OnErr, OnOk};
 ghost use Rattle.chain_core.specs.ShortLists.{items_held};
 
 use std::alloc::{AllocError, Global};
@@ -55,24 +55,24 @@ impl<T: Drop> ShortList<T> {
         ShortList { held }
     }
 
-    /// Adds an item behind the others.
+    /// Adds an item behind the others. A refusal changes nothing.
     pub fn push(&mut self, alloc: Global, item: T) -> Result<(), AllocError>
-        ensures { OnOk result (self.new ≡ self.old ++ item ∷ []) }
+        ensures pushed { OnOk result (self.new ≡ self.old ++ item ∷ []) }
+        ensures refused { OnErr result (self.new ≡ self.old) }
     {
-        let held = mem::replace(&mut self.held, HeldItems::None);
-        self.held = match held {
-            HeldItems::None => HeldItems::One([item]),
-            HeldItems::One(one) => {
+        match &mut self.held {
+            HeldItems::None => self.held = HeldItems::One([item]),
+            HeldItems::One(_) => {
+                // room for both, so that neither push fails
                 let mut all = Vec::with_capacity(alloc, 2)?;
-                all.push(only_item(one))?;
+                if let HeldItems::One(one) = mem::replace(&mut self.held, HeldItems::None) {
+                    all.push(only_item(one))?;
+                }
                 all.push(item)?;
-                HeldItems::Many(all)
+                self.held = HeldItems::Many(all);
             }
-            HeldItems::Many(mut all) => {
-                all.push(item)?;
-                HeldItems::Many(all)
-            }
-        };
+            HeldItems::Many(all) => all.push(item)?,
+        }
         Ok(())
     }
 

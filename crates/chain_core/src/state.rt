@@ -10,7 +10,7 @@ ghost use Rattle.chain_model.specs.{started, append};
 ghost use Rattle.kv_types.specs.Snapshots.{is_open, least, without};
 ghost use Rattle.chain_model.specs.Rules.{tend};
 ghost use Rattle.chain_core.specs.States.{Machine, CoreRefines, PersistentRefines};
-ghost use Rattle.chain_core.specs.States.{HasOrderedNumbers};
+ghost use Rattle.chain_core.specs.States.{IsAtStart, HasOrderedNumbers, IsStartOf};
 ghost use Rattle.chain_core.specs.Decisions.{CoreApplies, DoneFits, HasRoomAt, IsReport};
 ghost use Rattle.chain_core.specs.Decisions.{IsRiseOf};
 
@@ -82,6 +82,7 @@ impl CoreState {
     /// A node at its creation, with configuration 0.
     pub fn created(alloc: Global, id: NodeId, config: Config) -> CoreState
         ensures id { result.id ≡ id }
+        ensures begins { IsAtStart result }
         ensures is { CoreRefines result (created config) }
     {
         CoreState {
@@ -101,6 +102,7 @@ impl CoreState {
     /// Starts a node from its persistent state.
     pub fn started(alloc: Global, rest: PersistentState) -> CoreState
         ensures id { result.id ≡ rest.id }
+        ensures exact { IsStartOf rest result }
         ensures is { (n : Machine) → PersistentRefines rest n → CoreRefines result
             (started rest.id n) }
     {

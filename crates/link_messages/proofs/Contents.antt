@@ -103,6 +103,18 @@ unfolding content_at
 no_kind [] some none = absurd (omega (arith, some))
 no_kind (k ∷ bytes) some none = no_kind_of k bytes none (reader_of k) refl
 
+has_kind_of : (k : ℕ) (bytes : List ℕ) (o : Option (Reader Frame)) → reader_of k ≡ o
+    → (read_by o bytes ≡ Err fault.BadKind → ⊥) → HasKind (k ∷ bytes)
+has_kind_of k bytes None e read = absurd (read refl)
+has_kind_of k bytes (Some reader) e read = known k reader e
+
+-- content that is not refused for its kind has a known one
+pub has_kind : (content : List ℕ) → 1 ≤ length content
+    → (content_at content ≡ Err fault.BadKind → ⊥) → HasKind content
+unfolding content_at
+has_kind [] some read = absurd (omega (arith, some))
+has_kind (k ∷ bytes) some read = has_kind_of k bytes (reader_of k) refl read
+
 -- a verdict is what reading answers, but for malformed content
 settled : TestDecidesConfig → (v : Result Frame FrameError) (content : List ℕ) → 1 ≤ length content
     → Verdict v content → (v ≡ Err fault.BadField) ⊎ (content_at content ≡ v)

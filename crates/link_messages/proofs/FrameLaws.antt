@@ -3,7 +3,6 @@ use Rattle.std.proofs.Common.{◌≡◌, ℕ, zero, suc, ◌+◌, ◌<◌, ◌�
 use Rattle.std.proofs.Common.{◌∷◌, ◌++◌, length}
 use Rattle.std.proofs.Common.{Option, Some, None, refl, ap, subst, arith}
 use Rattle.configurations.specs.{TestDecidesConfig}
-use Rattle.kv_types.specs.{Rows}
 use Rattle.byte_fields.specs.{◌>>=◌, Reader, mapped}
 use Rattle.byte_fields.specs.FieldsLemmas.{IsBytes, bind_some, some_is, BeginsWith}
 use Rattle.link_messages.specs.declared.frame.Frame.{Frame}

@@ -26,7 +26,7 @@ use Rattle.link_messages.specs.Stream.{OneSplit}
 use Rattle.link_messages.specs.Reading.{IsOr, content_at}
 use Rattle.byte_fields.specs.ReadersLemmas.{IsBytes-take, IsBytes-drop}
 use Rattle.link_messages.proofs.FrameLengths.{frames_fit}
-use Rattle.link_messages.proofs.Contents.{Verdict, verdict, one_verdict}
+use Rattle.link_messages.proofs.Contents.{Verdict, verdict, has_kind, one_verdict}
 
 -- ---- the answers of the code
 
@@ -97,7 +97,8 @@ told_fault decides e bytes content w fits read =
 fault_or : TestDecidesConfig →
     (e : FrameError) (bytes content : List ℕ) → IsComplete bytes content → IsBytes content
     → IsOr (Err e) (content_at content) → NextOutcome (Err e) bytes bytes
-fault_or decides fault.Memory bytes content w fits read = ((content, w), refl)
+fault_or decides fault.Memory bytes content w fits read =
+    ((content, w, has_kind content w.some read), refl)
 fault_or decides fault.TooLong bytes content w fits read =
     told_fault decides fault.TooLong bytes content w fits read
 fault_or decides fault.BadKind bytes content w fits read =

@@ -253,10 +253,10 @@ abbrev pub ReadsKind : Result Frame FrameError → List ℕ → Option (Reader F
 ReadsKind result rest (Some read) bytes = ReadsField result rest (read bytes)
 ReadsKind result rest None bytes = result ≡ Err fault.BadKind
 
--- the function returned this result, unless memory ran out
+-- the function returned this result, unless memory ran out for content of a known kind
 abbrev pub IsOr : Result Frame FrameError → Result Frame FrameError → Type 0
 IsOr (Ok f) told = told ≡ Ok f
-IsOr (Err fault.Memory) told = Unit {0}
+IsOr (Err fault.Memory) told = told ≡ Err fault.BadKind → ⊥
 IsOr (Err e) told = told ≡ Err e
 
 -- a result of a vector as a result of its list

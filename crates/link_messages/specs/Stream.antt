@@ -64,13 +64,13 @@ HasFault fault.Trailing bytes = (content : List ℕ) × IsComplete bytes content
 HasFault fault.Memory bytes = ⊥
 
 -- The answers of a read. There is a frame at the front, and the bytes behind it remain. Or the
--- frame is incomplete, or it is complete and memory ran out, or there is an error. Without a frame
--- all bytes remain.
+-- frame is incomplete, or it is complete and of a known kind and memory ran out, or there is an
+-- error. Without a frame all bytes remain.
 abbrev pub NextOutcome : Result (Option Frame) FrameError → List ℕ → List ℕ → Type 0
 NextOutcome (Ok (Some f)) old new = IsFrame f × (old ≡ frame_bytes f ++ new)
 NextOutcome (Ok None) old new = IsPartial old × (new ≡ old)
 NextOutcome (Err fault.Memory) old new =
-    ((content : List ℕ) × IsComplete old content) × (new ≡ old)
+    ((content : List ℕ) × IsComplete old content × HasKind content) × (new ≡ old)
 NextOutcome (Err e) old new = HasFault e old × (new ≡ old)
 
 -- the stream is these frames, and then an incomplete one

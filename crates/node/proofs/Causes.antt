@@ -3,9 +3,10 @@ use Rattle.std.proofs.Common.{◌≡◌, ◌↔◌, ℕ, ◌<◌, ◌≤◌, inl
 use Rattle.disk.specs.{IsEnvironmental}
 use Rattle.std.proofs.Common.{inr}
 use Rattle.std.proofs.Common.{arith, refl, sym, ap, subst, true, ◌∙◌}
-use Rattle.std.specs.Prelude.{◌⊎◌, IsErrOf, Result, Ok, Err, IsErrAnd, MatchResult, OnOk}
+use Rattle.std.specs.Prelude.{◌⊎◌, IfErr, IsErrOf, Result, Ok, Err, IsErrAnd, MatchResult, OnOk}
 use Rattle.std.specs.declared.alloc.AllocError.{AllocError}
-use Rattle.engine.specs.{IsCloseAnswer, IsOpenAnswer, IsReadableAnswer, LookUps, MayOpen}
+use Rattle.engine.specs.{IsAppendRefusal, IsCloseAnswer, IsEnd, IsEndOrAfter, IsOpenAnswer}
+use Rattle.engine.specs.{IsReadableAnswer, LookUps, MayOpen}
 use Rattle.kv_types.specs.Snapshots.{is_open}
 use Rattle.std.proofs.lemmas.Bool.{true≢false}
 use Rattle.engine.specs.EngineError.TheVariants as engine
@@ -13,7 +14,7 @@ use Rattle.kv_types.specs.declared.bounds.TheConstants.{MAX_NUMBER}
 use Rattle.engine.specs.EngineError.{EngineError}
 use Rattle.node.specs.declared.stop.Stop.{Stop}
 use Rattle.node.specs.declared.stop.Stop.TheVariants as stop
-use Rattle.node.specs.Stops.{engine_stop}
+use Rattle.node.specs.Stops.{EndsCreated, engine_stop}
 
 -- a property of every result holds of an answer
 pub on_ok : {T E P : Type 0} (result : Result T E) → P → OnOk result P
@@ -138,3 +139,61 @@ pub append_env : (e : EngineError) (count : ℕ) → IsEnvironmental engine.Disk
     × (MAX_NUMBER ≤ count)) → count < MAX_NUMBER → IsEnvironmental engine.Disk engine.Memory e
 append_env e count (inl external) room = external
 append_env e count (inr full) room = absurd (omega (arith, full.1, room))
+
+-- ---- causes of any disk
+
+-- want of memory ends a created node
+pub memory_ends : {U : Type 0} (result : Result U Stop) →
+    IsErrAnd result (λ s. s ≡ stop.Memory) → IfErr result EndsCreated
+memory_ends (Ok x) told = tt
+memory_ends (Err s) told = λ is. cc
+
+-- so does a call that stops for memory alone
+pub only_memory_ends : {U : Type 0} (made : Result U AllocError) (result : Result U Stop) →
+    StopsForMemory made result → IfErr result EndsCreated
+only_memory_ends made (Ok x) stops = tt
+only_memory_ends (Ok x) (Err s) stops = λ is. cc
+only_memory_ends (Err e) (Err s) stops = λ is. cc
+
+-- a cause that is passed on
+pub passed_ends : {U : Type 0} (result : Result U Stop) {e : Stop} →
+    IsErrAnd result (λ s. s ≡ e) → EndsCreated e → IfErr result EndsCreated
+passed_ends (Ok x) told ends = tt
+passed_ends (Err s) told ends = λ is. ends (sym told ∙ is)
+
+-- an engine's cause is told as `NotCreated` only where it is that
+pub engine_ends : (e : EngineError) → (e ≡ engine.NotCreated → ⊥) → EndsCreated (engine_stop e)
+engine_ends engine.Disk other = λ is. cc
+engine_ends engine.Damaged other = λ is. cc
+engine_ends engine.Memory other = λ is. cc
+engine_ends engine.NotCreated other = absurd (other refl)
+engine_ends engine.Failed other = λ is. cc
+engine_ends engine.TooOld other = λ is. cc
+engine_ends engine.NotCommitted other = λ is. cc
+engine_ends engine.NoSuchSnapshot other = λ is. cc
+engine_ends engine.TooManySnapshots other = λ is. cc
+engine_ends engine.Exhausted other = λ is. cc
+
+-- the end of an engine is not that
+pub end_ends : (e : EngineError) → IsEnd e → EndsCreated (engine_stop e)
+end_ends e ends = engine_ends e (λ is. subst IsEnd is ends)
+
+-- nor is a call behind one
+pub later_ends : (e : EngineError) → IsEndOrAfter e → EndsCreated (engine_stop e)
+later_ends e (inl ends) = end_ends e ends
+later_ends e (inr after) = engine_ends e (λ is. cc)
+
+-- nor is the refusal of an append
+pub append_ends : (count : ℕ) (e : EngineError) → IsAppendRefusal count e →
+    EndsCreated (engine_stop e)
+append_ends count e (inl later) = later_ends e later
+append_ends count e (inr full) =
+    let exhausted = full.0 in
+    engine_ends e (λ is. cc)
+
+-- nor is that of a read
+pub read_ends : (T : Type 0) (told : LookUps) (at : ℕ) (e : EngineError) →
+    IsReadableAnswer {T = T} told at (Err e) → EndsCreated (engine_stop e)
+read_ends T told at e answer =
+    engine_ends e (λ is. subst (λ (d : EngineError). IsReadableAnswer {T = T} told at (Err d)) is
+    answer)

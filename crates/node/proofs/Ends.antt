@@ -25,7 +25,7 @@ use Rattle.node.specs.Outputs.{OutputHas, OutputRefines, committed_reply, CallRe
 use Rattle.node.specs.Outputs.{AlwaysRefines, ExecutesDecision}
 use Rattle.node.specs.Steps.{IsReady}
 use Rattle.chain_core.specs.{CoreRefines}
-use Rattle.node.proofs.Causes.{StopsForMemory, on_ok, only_memory}
+use Rattle.node.proofs.Causes.{StopsForMemory, on_ok, only_memory, only_memory_ends}
 use Rattle.node.proofs.Running.{at_rest, keeps_same}
 
 module _ {D : Type 0} (g : Ghosts D) where
@@ -73,6 +73,7 @@ module _ {D : Type 0} (g : Ghosts D) where
           (only_memory made result stops);
       works = on_ok result ready;
       limits = refl;
+      causes = only_memory_ends made result stops;
     };
     ends = λ x n input read r.
         let same = sym (stays x n) in

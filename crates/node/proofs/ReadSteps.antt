@@ -22,7 +22,8 @@ use Rattle.node.specs.declared.stop.Stop.TheVariants as stop
 use Rattle.node.specs.Outputs.{FollowsRule, OutputRefines}
 use Rattle.node.specs.Steps.{IsReady}
 use Rattle.node.specs.Stops.{engine_stop}
-use Rattle.node.proofs.Causes.{StopsForMemory, env_of, on_ok, only_memory, read_env, stop_passed}
+use Rattle.node.proofs.Causes.{StopsForMemory, env_of, on_ok, only_memory, only_memory_ends}
+use Rattle.node.proofs.Causes.{passed_ends, read_ends, read_env, stop_passed}
 use Rattle.node.proofs.Ends.{ends, ends_stopped}
 use Rattle.node.proofs.Running.{kept_read, read_more, still_refines, still_runs, unread}
 
@@ -48,7 +49,8 @@ module _ {D T : Type 0} (g : Ghosts D) (old : Node D g) (read : Engine D g)
             (read_more g old.engine old.engine read called result
             (unread g old.engine at ready.works) keeps told still
             (stop_passed called e result was err) (rw p.1 tt)) refl (λ stops. stops, λ stops. stops)
-            (rw p.1 tt);
+            (rw p.1 tt)
+            (passed_ends result err (read_ends T (look_ups old.engine) at e answer));
         ends = λ x n input is r.
             let a = reply_read n request at in
             let within = bounds n input is in
@@ -78,7 +80,7 @@ module _ {D T : Type 0} (g : Ghosts D) (old : Node D g) (read : Engine D g)
         kept_read g old new result result ready
         (read_more g old.engine old.engine read called result
         (unread g old.engine at ready.works) keeps told still fails goes) refl
-        (λ stops. stops, λ stops. stops) goes;
+        (λ stops. stops, λ stops. stops) goes (only_memory_ends made result stops);
     ends = λ x n input is r.
         let a = reply_read n request at in
         let runs = still_runs g old new x n r (kept n.list r.store)

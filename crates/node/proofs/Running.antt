@@ -2,7 +2,7 @@
 use Rattle.std.proofs.Common.{◌≡◌, ℕ, List, [], ◌∷◌, ◌++◌, inl}
 use Rattle.std.proofs.Common.{inr}
 use Rattle.std.proofs.Common.{refl, sym, ap, subst, ◌∙◌}
-use Rattle.std.specs.Prelude.{◌⊎◌, ◌↔◌, IsErrOf, Result, Ok, Err, OnOk}
+use Rattle.std.specs.Prelude.{◌⊎◌, ◌↔◌, IfErr, IsErrOf, Result, Ok, Err, OnOk}
 use Rattle.kv_types.specs.{BatchContent}
 use Rattle.disk.specs.declared.Disk.{Ghosts}
 use Rattle.disk.specs.{AlwaysLeaves, Contents, IsCrashOutcome, IsSame, IsStill, KeepsDisk, State}
@@ -26,6 +26,7 @@ use Rattle.node.specs.declared.node.Node.{Node}
 use Rattle.node.specs.Steps.{DiskRefines, NodeRefines, DiskAlwaysRefines, disk_of}
 use Rattle.node.specs.Steps.{IsReady, facts_for}
 use Rattle.node.specs.declared.stop.Stop.{Stop}
+use Rattle.node.specs.Stops.{EndsCreated}
 use Rattle.node.specs.Outputs.{AlwaysRefines, HasAppended, IsOnlyRead, KeepsNode}
 use Rattle.node.proofs.Causes.{done_told}
 use Rattle.node.proofs.Counts.{appended_config, appended_list, list_is, same_facts}
@@ -152,6 +153,8 @@ module _ {D : Type 0} (g : Ghosts D) where
       OnOk result (HasEnded new.engine → ⊥) → OnOk result (IsReady new)
   ready_after old new (Ok x) ready told same works = record {
     works = works;
+    id = ap (λ (k : Core). k.id) same ∙ ready.id
+        ∙ sym (ap (λ (l : LookUps). l.facts.id) told);
     epoch = ap (λ (k : Core). k.epoch) same ∙ ready.epoch
         ∙ sym (ap (λ (l : LookUps). l.facts.epoch) told);
     ids = ap (λ (k : Core). k.ids) same ∙ ready.ids
@@ -173,11 +176,12 @@ module _ {D : Type 0} (g : Ghosts D) where
   pub kept_read : {T U : Type 0} (old new : Node D g) (called : Result T Stop)
       (result : Result U Stop) → IsReady old → IsOnlyRead g old.engine new.engine called →
       new.core ≡ old.core → (IsErrOf called stop.Disk ↔ IsErrOf result stop.Disk) →
-      OnOk result (HasEnded new.engine → ⊥) → KeepsNode g old new result
-  kept_read old new called result ready read same fails works = record {
+      OnOk result (HasEnded new.engine → ⊥) → IfErr result EndsCreated → KeepsNode g old new result
+  kept_read old new called result ready read same fails works causes = record {
     disk = kept_but g (λ none. absurd none) (kept_as g fails (λ a b same. tt) read.keeps);
     works = ready_after old new result ready read.told same works;
     limits = ap (λ (l : LookUps). l.limits) read.told;
+    causes = causes;
   }
 
   -- an engine that is read once more

@@ -17,7 +17,8 @@ use Rattle.node.specs.declared.stop.Stop.{Stop}
 use Rattle.node.specs.declared.stop.Stop.TheVariants as stop
 use Rattle.node.specs.Outputs.{AlwaysRefines, FollowsRule, OutputRefines}
 use Rattle.node.specs.Steps.{IsReady, disk_of, node_limits}
-use Rattle.node.proofs.Causes.{StopsForMemory, memory_told, on_ok, only_memory}
+use Rattle.node.proofs.Causes.{StopsForMemory, memory_ends, memory_told, on_ok, only_memory}
+use Rattle.node.proofs.Causes.{only_memory_ends}
 use Rattle.node.proofs.Counts.{FollowsDone, counts_same, keeps_floor, keeps_kept}
 use Rattle.node.proofs.Counts.{KeepsConfig, epoch_left, ids_left, keeps_committed, machine_with}
 use Rattle.node.proofs.Counts.{same_facts, snapshots_left}
@@ -44,6 +45,7 @@ module _ {D : Type 0} (g : Ghosts D) (old new : Node D g) (same : disk_of new �
           disk = keeps_same g (disk_of old) (disk_of new) result same (memory_told result err);
           works = rw p.1 tt;
           limits = limits;
+          causes = memory_ends result err;
         };
         ends = λ x n input is r.
             let a = rule x n in
@@ -70,6 +72,7 @@ module _ {D : Type 0} (g : Ghosts D) (old new : Node D g) (same : disk_of new �
       disk = keeps_same g (disk_of old) (disk_of new) result same (only_memory made result so);
       works = on_ok result (record {
         works = works;
+        id = id ∙ ready.id ∙ sym (ap (λ (l : LookUps). l.facts.id) told);
         epoch = epoch_left law old.core new.core d replies after
             ∙ goes.config.epoch (machine_with old.core) ∙ ready.epoch
             ∙ sym (ap (λ (l : LookUps). l.facts.epoch) told);
@@ -89,6 +92,7 @@ module _ {D : Type 0} (g : Ghosts D) (old new : Node D g) (same : disk_of new �
             ∙ sym (ap (λ (l : LookUps). l.snapshots) told);
       });
       limits = ap (λ (l : LookUps). l.limits) told;
+      causes = only_memory_ends made result so;
     };
     ends = λ x n input is r.
         let a = done_of x n [] d in

@@ -102,6 +102,12 @@ module _ {D : Type 0} {g : Ghosts D} (old new : Engine D g) (told : RaisesFactsA
       | inr risen ↦ ap (λ (l : LookUps). l.snapshots) risen
     ]
 
+    id_stays : (look_ups new).facts.id ≡ (look_ups old).facts.id
+    id_stays = elim told [
+      | inl same ↦ ap (λ (l : LookUps). l.facts.id) same
+      | inr risen ↦ ap (λ (l : LookUps). l.facts.id) risen
+    ]
+
     epoch_stays : (look_ups new).facts.epoch ≡ (look_ups old).facts.epoch
     epoch_stays = elim told [
       | inl same ↦ ap (λ (l : LookUps). l.facts.epoch) same
@@ -155,6 +161,7 @@ module _ {D : Type 0} {g : Ghosts D} (old new : Engine D g) (told : RaisesFactsA
       } → AreInStep later new
       in_step works later is = record {
         works = works;
+        id = ap (λ (k : Core). k.id) is ∙ ready.id ∙ sym id_stays;
         epoch = ap (λ (k : Core). k.epoch) is ∙ ready.epoch ∙ sym epoch_stays;
         ids = ap (λ (k : Core). k.ids) is ∙ ready.ids ∙ sym ids_stay;
         count = ap (λ (k : Core). k.count) is ∙ ready.count ∙ sym count_stays;

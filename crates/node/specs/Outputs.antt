@@ -1,6 +1,6 @@
 -- The end of a step and the state that it keeps, and the contracts of private functions on its
 -- answer.
-use Rattle.std.specs.Prelude.{IsErrOf}
+use Rattle.std.specs.Prelude.{IfErr, IsErrOf}
 use Rattle.std.specs.Prelude.{◌≡◌, ◌⊎◌, ℕ, Bool, false, List, Option, Result, MatchResult, OnOk}
 use Rattle.kv_types.specs.{BatchContent}
 use Rattle.disk.specs.declared.Disk.{Ghosts}
@@ -23,6 +23,7 @@ use Rattle.node.specs.declared.output.Reply.TheVariants as reply
 use Rattle.node.specs.declared.stop.Stop.{Stop}
 use Rattle.node.specs.Steps.{DiskRefines, StepRefines, IsReady, NodeRefines, disk_of, engine_of}
 use Rattle.node.specs.Steps.{node_limits, replies_of}
+use Rattle.node.specs.Stops.{EndsCreated}
 
 -- the acknowledgement of a request whose batch is committed
 abbrev pub committed_reply : PendingSubmit → Reply
@@ -70,14 +71,15 @@ abbrev pub StepEnds : {D : Type 0} → (g : Ghosts D) → (old new : Node D g) �
 StepEnds g old new result x n input a = NodeRefines g.is_honest g.state old x n →
     CallRefines g old new x n a (StepRefines g.is_honest g.state new x input a) result
 
--- the step keeps the node's disk and its limits and, if it ends with an answer, the node is ready
--- for another step
+-- The step keeps the node's disk and its limits. If it ends with an answer, the node is ready for
+-- another step, and if in a stop, no step says that none was created.
 pub record KeepsNode {D T : Type 0} (g : Ghosts D) (old new : Node D g) (result : Result T Stop) :
     Type 0 where
   pub disk : KeepsDisk g (disk_of old) (disk_of new) (IsErrOf result stop.Disk)
       (IsNearlyFull (engine_of old)) IsOwned
   pub works : OnOk result (IsReady new)
   pub limits : node_limits new ≡ node_limits old
+  pub causes : IfErr result EndsCreated
 
 -- A rule was followed: the node is kept, and it ends the step of each input that the rule is for as
 -- the machine does in the rule's answer.

@@ -1,9 +1,10 @@
 -- The answers of the calls that receive a disk: a node, or a refusal.
-use Rattle.std.specs.Prelude.{◌≡◌, ◌≤◌, ℕ, List, [], Result, Ok, Err, IsErrAnd, MatchResult}
+use Rattle.std.specs.Prelude.{◌≡◌, ◌≤◌, ℕ, List, Result, Ok, Err, IsErrAnd, MatchResult}
 use Rattle.disk.specs.{Contents, IsEnvironmental, KeepsDisk}
+use Rattle.kv_types.specs.declared.Limits.{Limits}
 use Rattle.disk.specs.declared.Disk.{Ghosts}
 use Rattle.chain_model.specs.{started}
-use Rattle.chain_core.specs.{Core, CoreRefines, Machine}
+use Rattle.chain_core.specs.{Core, CoreRefines, IsAtStart, Machine}
 use Rattle.engine.specs.declared.Engine.{Engine}
 use Rattle.engine.specs.{LookUps}
 use Rattle.engine.specs.{EngineHolds, IsDamaged, IsNotCreated, IsOpened, IsOwned, facts_of}
@@ -12,7 +13,7 @@ use Rattle.node.specs.declared.node.Node.{Node}
 use Rattle.node.specs.declared.stop.Stop.{Stop}
 use Rattle.node.specs.declared.stop.Stop.TheVariants as stop
 use Rattle.node.specs.Steps.{HasNumbersOf, IsReady, NodeRefines, disk_of, engine_of, facts_for}
-use Rattle.node.specs.Steps.{node_limits}
+use Rattle.node.specs.Steps.{node_core, node_limits}
 
 -- the disk's files open as what the started node's store tells
 abbrev pub IsStarted : {D : Type 0} {g : Ghosts D} → Contents → Node D g → Type 0
@@ -25,8 +26,9 @@ StartRefusal stop.Damaged left = IsDamaged left
 StartRefusal stop.Memory left = Unit {0}
 StartRefusal stop.NotCreated left = IsNotCreated left
 
--- The state that a node starts with has the numbers of its store, this configuration and no
--- snapshots. It refines, as started, each machine that has these numbers and this configuration.
+-- The state that a node starts with has just begun with the numbers of its store and this
+-- configuration. It refines, as started, each machine that has these numbers and this
+-- configuration.
 pub record CoreStartsFrom (told : LookUps) (config : List ℕ) (core : Core) : Type 0 where
   pub id : core.id ≡ told.facts.id
   pub is : (n : Machine) → HasNumbersOf told n → n.ids ≡ config →
@@ -36,11 +38,11 @@ pub record CoreStartsFrom (told : LookUps) (config : List ℕ) (core : Core) : T
   pub count : core.count ≡ told.count
   pub floor : core.floor ≡ told.facts.floor
   pub kept : core.kept ≡ told.facts.kept
-  pub snapshots : core.snapshots ≡ []
+  pub begins : IsAtStart core
   pub rises : told.facts.floor ≤ core.committed
 
--- A node that began with an opened engine has its facts, count and limits, and is ready. It refines
--- each machine that the engine represents, as started.
+-- A node that began with an opened engine has its facts, count and limits, is ready and has just
+-- begun. It refines each machine that the engine represents, as started.
 pub record RunsOpened {D : Type 0} (g : Ghosts D) (engine : Engine D g) (node : Node D g) :
     Type 0 where
   pub runs : (x : ℕ) (n : Machine) → EngineHolds g engine n.list →
@@ -49,8 +51,14 @@ pub record RunsOpened {D : Type 0} (g : Ghosts D) (engine : Engine D g) (node : 
   pub count : (look_ups (engine_of node)).count ≡ (look_ups engine).count
   pub limits : node_limits node ≡ (look_ups engine).limits
   pub works : IsReady node
+  pub begins : IsAtStart (node_core node)
 
 module _ {D : Type 0} {g : Ghosts D} where
+  -- a node that works by these limits, and whose state has just begun
+  pub record HasBegunWith (given : Limits) (node : Node D g) : Type 0 where
+    pub limits : node_limits node ≡ given
+    pub state : IsAtStart (node_core node)
+
   -- the disk that a call received: the node has it, or the refusal returns it
   abbrev pub disk_behind : Result (Node D g) (Stop × D) → D
   disk_behind (Ok node) = disk_of node

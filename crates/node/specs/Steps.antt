@@ -102,9 +102,11 @@ pub record AreOwnNumbers (core : Core) (numbers : Numbers) : Type 0 where
   pub floor : numbers.floor ≡ core.floor
   pub kept : numbers.kept ≡ core.kept
 
--- the engine works and has the configuration, the numbers and the open snapshots of the state
+-- the engine works and has the id, the configuration, the numbers and the open snapshots of the
+-- state
 pub record AreInStep {D : Type 0} {g : Ghosts D} (core : Core) (engine : Engine D g) : Type 0 where
   pub works : HasEnded engine → ⊥
+  pub id : core.id ≡ (look_ups engine).facts.id
   pub epoch : core.epoch ≡ (look_ups engine).facts.epoch
   pub ids : core.ids ≡ (look_ups engine).facts.ids
   pub count : core.count ≡ (look_ups engine).count

@@ -1,4 +1,5 @@
--- The node's report of the errors of its store.
+-- The node's report of the errors of its store, and the causes for which a created node ends.
+use Rattle.std.specs.Prelude.{◌≡◌}
 use Rattle.engine.specs.EngineError.{EngineError}
 use Rattle.engine.specs.EngineError.TheVariants as engine
 use Rattle.node.specs.declared.stop.Stop.{Stop}
@@ -16,3 +17,7 @@ engine_stop engine.NotCommitted = stop.Damaged
 engine_stop engine.NoSuchSnapshot = stop.Damaged
 engine_stop engine.TooManySnapshots = stop.Damaged
 engine_stop engine.Exhausted = stop.Damaged
+
+-- a cause for which a node ends that was created: any but `NotCreated`
+abbrev pub EndsCreated : Stop → Type 0
+EndsCreated cause = cause ≡ stop.NotCreated → ⊥

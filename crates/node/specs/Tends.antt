@@ -1,16 +1,18 @@
 -- A tend of a node: what has risen by the facts that its store tells, and the machine's answer.
-use Rattle.std.specs.Prelude.{ℕ, Bool, true, Result, nat_lt, ◌||◌}
+use Rattle.std.specs.Prelude.{ℕ, Bool, true, Result, MatchResult, nat_lt, ◌||◌}
 use Rattle.kv_types.specs.{BatchContent}
 use Rattle.disk.specs.declared.Disk.{Ghosts}
 use Rattle.chain_model.specs.{Answer}
 use Rattle.chain_model.specs.Rules.{tend}
 use Rattle.chain_core.specs.{Machine}
 use Rattle.engine.specs.Tended.{Tended}
-use Rattle.engine.specs.{Facts, IsTendAnswer, facts_of, raised_facts}
+use Rattle.engine.specs.{Facts, IsTendAnswer, IsTendOf, RaisesFactsAtMost, facts_of}
+use Rattle.engine.specs.{raised_facts}
 use Rattle.node.specs.declared.node.Node.{Node}
 use Rattle.node.specs.declared.stop.Stop.{Stop}
 use Rattle.node.specs.Outputs.{CallRefines}
 use Rattle.node.specs.Steps.{NodeRefines, engine_of, facts_for}
+use Rattle.node.specs.Stops.{EndsCreated}
 
 -- whether the floor or the kept number of the later facts is greater
 abbrev pub has_risen : Facts → Facts → Bool
@@ -31,3 +33,10 @@ TendRefines g old new x n result =
     (λ tended. NodeRefines g.is_honest g.state new x
     (answer_to_tend x n (facts_of (engine_of new))).node
     × IsTendAnswer (engine_of old) (engine_of new) tended) result
+
+-- Of any disk the store did what is answered, and beside the facts, which may be raised, it tells
+-- the same; no stop says that none was created.
+pub record TendsOwnStore {D : Type 0} {g : Ghosts D} (old new : Node D g)
+    (result : Result Tended Stop) : Type 0 where
+  pub done : MatchResult result (IsTendOf (engine_of old) (engine_of new)) EndsCreated
+  pub told : RaisesFactsAtMost (engine_of old) (engine_of new)

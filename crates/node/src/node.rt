@@ -11,7 +11,7 @@ ghost use Rattle.node.specs.Steps.{DiskAlwaysRefines, IfRefines, IsReady, NodeRe
 ghost use Rattle.node.specs.Steps.{AreOwnNumbers, NumbersRefine, disk_of, engine_of};
 ghost use Rattle.node.specs.Steps.{node_core, node_limits};
 ghost use Rattle.node.specs.Outputs.{KeepsNode, StepEnds};
-ghost use Rattle.node.specs.Tends.{TendRefines};
+ghost use Rattle.node.specs.Tends.{TendRefines, TendsOwnStore};
 
 use crate::{Numbers, Output, Stop};
 use chain_core::{CoreState, Input, decide};
@@ -50,6 +50,7 @@ impl<D: Disk + Drop> Node<D> {
             (IsNearlyFull (engine_of self.old) ⊎ IsAdrift D.Disk (engine_of self.old)) IsOwned }
         ensures works { OnOk result (IsReady self.new) }
         ensures limits { node_limits self.new ≡ node_limits self.old }
+        ensures did { TendsOwnStore self.old self.new result }
         ensures rests { IfOk result (λ done. done ≡ Idle → disk_of self.new ≡ disk_of self.old) }
         ensures ends { IfRefines self.old (λ x n.
             TendRefines D.Disk self.old self.new x n result) }

@@ -1,5 +1,5 @@
 // The execution of a decision: what a node does by each rule of a step.
-ghost use Rattle.std.specs.Prelude.{◌≡◌, ◌<◌, IsTrue, MatchResult};
+ghost use Rattle.std.specs.Prelude.{◌≡◌, ◌<◌, IfErr, IsTrue, MatchResult};
 ghost use Rattle.disk.specs.{IsEnvironmental};
 ghost use Rattle.kv_types.specs.declared.bounds.TheConstants.{MAX_NUMBER};
 ghost use Rattle.chain_model.specs.{forwards};
@@ -10,6 +10,7 @@ ghost use Rattle.engine.specs.{EngineHolds};
 ghost use Rattle.node.specs.declared.stop.Stop.TheVariants.{Disk, Memory};
 ghost use Rattle.node.specs.Outputs.{ExecutesDecision, FollowsRule, HasAppended, IsOnlyRead};
 ghost use Rattle.node.specs.Steps.{AreInStep, IsReady, disk_of};
+ghost use Rattle.node.specs.Stops.{EndsCreated};
 
 use crate::replying::{
     ack_duplicate, acks_after, output_of, output_of_append, output_of_drop, page_output, push_some,
@@ -38,6 +39,7 @@ fn resent<D: Disk + Drop>(
         MatchResult result (λ sent. EngineHolds D.Disk engine.new n.list
         × AreFrames sent (forwards core.now.id n n.successor_has 16))
         (IsEnvironmental Disk Memory) }
+    ensures causes { IfErr result EndsCreated }
 {
     one_by_one(); // law: frames are sent one by one
     let numbers = core.resends();

@@ -6,10 +6,10 @@ ghost use Rattle.chain_core.specs.{Machine};
 ghost use Rattle.engine.specs.{IsJustOpened, IsNewEngine, SparesFound, engine_disk, look_ups};
 ghost use Rattle.node.specs.declared.stop.Stop.TheVariants.{Disk, Memory};
 ghost use Rattle.node.specs.Outputs.{AlwaysRefines};
-ghost use Rattle.node.specs.Starts.{BeginsAs, CoreStartsFrom, ExplainsStart, KeepsReceived};
-ghost use Rattle.node.specs.Starts.{RunsOpened, disk_behind};
+ghost use Rattle.node.specs.Starts.{BeginsAs, HasBegunWith, CoreStartsFrom, ExplainsStart};
+ghost use Rattle.node.specs.Starts.{KeepsReceived, RunsOpened, disk_behind};
 ghost use Rattle.node.specs.Steps.{DiskRefines, DiskRefinesOneOf, IsReady, engine_of};
-ghost use Rattle.node.specs.Steps.{node_limits};
+ghost use Rattle.node.specs.Stops.{EndsCreated};
 
 use crate::{Node, Stop};
 use chain_core::{CoreState, PersistentState};
@@ -66,7 +66,8 @@ impl<D: Disk + Drop> Node<D> {
         ensures begun { IfOk result (λ node. IsNewEngine id config.now limits.now
             (engine_of node)) }
         ensures works { IfOk result IsReady }
-        ensures limits { IfOk result (λ node. node_limits node ≡ limits.now) }
+        ensures begins { IfOk result (HasBegunWith limits.now) }
+        ensures causes { IfErr result (λ refused. EndsCreated refused.0) }
     {
         let Ok(known) = config.clone() else {
             return Err((Stop::Memory, disk));
@@ -87,7 +88,7 @@ impl<D: Disk + Drop> Node<D> {
             DiskRefines (contents (D.state disk)) x n → BeginsAs x (started x n) result }
         ensures told { D.is_honest disk → ExplainsStart (contents (D.state disk)) result }
         ensures works { IfOk result IsReady }
-        ensures limits { IfOk result (λ node. node_limits node ≡ limits.now) }
+        ensures begins { IfOk result (HasBegunWith limits.now) }
 
         // Where a crash before it leaves only disks of these two machines, so does one at any
         // moment since.

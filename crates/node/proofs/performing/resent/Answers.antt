@@ -8,8 +8,8 @@ use Rattle.chain_core.specs.{AreFrames}
 use Rattle.disk.specs.KeepingLemmas.{answered, neither}
 use Rattle.engine.specs.{LookUps}
 use Rattle.node.specs.declared.stop.Stop.TheVariants as stop
-use Rattle.node.proofs.Causes.{done_told, env_of, memory_told, refuses, still_works}
-use Rattle.node.proofs.Causes.{stop_passed}
+use Rattle.node.proofs.Causes.{done_told, env_of, later_ends, memory_ends, memory_told}
+use Rattle.node.proofs.Causes.{passed_ends, refuses, still_works, stop_passed}
 use Rattle.node.proofs.Running.{read_more, unread}
 use Rattle.node.proofs.Outputs.{both_sent, made_of}
 use Rattle.node.proofs.performing.resent.Goals as goal
@@ -143,3 +143,13 @@ returns-clause-sent g c = λ n is holds.
     let whole = c.resends-numbers.ensures.all n is
     ∙ ap (λ k. forwards core.id n k (numbers.end - numbers.start)) is.successor_has in
     (was.0, subst (AreFrames at.sent) (sym whole) sent)
+
+-- no cause is that of a disk without a node
+pub returns-in_err-batch-clause-causes : goal.returns-in_err-batch-clause-causes
+returns-in_err-batch-clause-causes g c =
+    passed_ends c.from_residual.result c.from_residual.ensures.1
+    (later_ends c.in_err-batch.field-0.0 c.in_err-batch.ensures.causes)
+
+pub returns-in_err-push_some-clause-causes : goal.returns-in_err-push_some-clause-causes
+returns-in_err-push_some-clause-causes g c =
+    memory_ends c.from_residual-in_err-push_some.result c.from_residual-in_err-push_some.ensures.1

@@ -9,7 +9,7 @@ pub loop-it-preserved : goal.loop-it-preserved
 loop-it-preserved c =
     one_reply_more c.args.due.now c.loop-it.it-index c.it-item.result c.loop-it.replies
     c.push.new.self c.loop-it-test.true c.it-item.is c.loop-it.invariant
-    c.in_ok-push.ensures
+    c.in_ok-push.ensures.pushed
 
 pub loop-it-init : goal.loop-it-init
 loop-it-init c = c.new-replies.ensures

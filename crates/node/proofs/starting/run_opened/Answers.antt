@@ -26,6 +26,7 @@ returns-clause-opened g c =
       limits = ap (λ (l : LookUps). l.limits) told;
       works = record {
         works = λ ended. c.requires.works (c.set_committed.ensures.stays.ended.0 ended);
+        id = c.core_of-core.ensures.id ∙ sym (ap (λ (l : LookUps). l.facts.id) told);
         epoch = c.core_of-core.ensures.epoch ∙ sym (ap (λ (l : LookUps). l.facts.epoch) told);
         ids = c.core_of-core.ensures.ids ∙ c.in-Ok.ensures ∙ c.config.ensures
             ∙ sym (ap (λ (l : LookUps). l.facts.ids) told);
@@ -34,7 +35,8 @@ returns-clause-opened g c =
         kept = c.core_of-core.ensures.kept ∙ sym (ap (λ (l : LookUps). l.facts.kept) told);
         committed = sym c.committed.ensures.same
             ∙ sym (ap (λ (l : LookUps). l.committed) told);
-        snapshots = c.core_of-core.ensures.snapshots ∙ sym c.requires.snapshots
+        snapshots = c.core_of-core.ensures.begins.snapshots ∙ sym c.requires.snapshots
             ∙ sym (ap (λ (l : LookUps). l.snapshots) told);
       };
+      begins = c.core_of-core.ensures.begins;
     }

@@ -12,7 +12,8 @@ use Rattle.node.specs.declared.stop.Stop.TheVariants as stop
 use Rattle.node.specs.Outputs.{AlwaysRefines}
 use Rattle.node.specs.Steps.{disk_of}
 use Rattle.node.proofs.Adoptions.{adopted_facts, adopts, recordable}
-use Rattle.node.proofs.Causes.{env_of, memory_told, on_ok, only_memory, still_works, stop_passed}
+use Rattle.node.proofs.Causes.{env_of, later_ends, memory_ends, memory_told, on_ok, only_memory}
+use Rattle.node.proofs.Causes.{only_memory_ends, passed_ends, still_works, stop_passed}
 use Rattle.node.proofs.Counts.{counts_same, epoch_left, ids_left, keeps_floor, keeps_kept}
 use Rattle.node.proofs.Counts.{snapshots_left}
 use Rattle.node.proofs.Ends.{ends_rule, ends_stopped}
@@ -39,6 +40,8 @@ returns-in_err-adopt g c =
             (λ a b kept. tt) c.adopt.ensures.changes.keeps.disk);
         works = rw (err_from_is_err_and result err).1 tt;
         limits = ap (λ (l : LookUps). l.limits) c.in_err-adopt.ensures.told;
+        causes = passed_ends result err
+            (later_ends e c.in_err-adopt.ensures.causes);
       };
       ends = λ x n input any r.
           let a = done_of x n [] (done.Adopted c.args.epoch c.args.config) in
@@ -64,6 +67,7 @@ returns-in_err-due g c =
             (memory_told result err)) (λ a b kept. tt) c.adopt.ensures.changes.keeps.disk);
         works = rw (err_from_is_err_and result err).1 tt;
         limits = ap (λ (l : LookUps). l.limits) c.in_ok-adopt.ensures.told;
+        causes = memory_ends result err;
       };
       ends = λ x n input any r.
           let a = done_of x n [] (done.Adopted c.args.epoch c.args.config) in
@@ -116,6 +120,9 @@ returns g c =
         works = on_ok result (record {
           works = λ ended. still_works c.in_ok-adopt.ensures.changes.keeps.ends may.works
               (c.set_committed.ensures.stays.ended.0 ended);
+          id = c.in_ok-due.ensures.same ∙ may.id
+              ∙ sym (ap (λ (l : LookUps). l.facts.id) told)
+              ∙ sym (ap (λ (l : LookUps). l.facts.id) known);
           epoch = epoch_left law old.core new d replies after
               ∙ sym (ap (λ (l : LookUps). l.facts.epoch) told)
               ∙ sym (ap (λ (l : LookUps). l.facts.epoch) known);
@@ -138,6 +145,7 @@ returns g c =
               ∙ sym (ap (λ (l : LookUps). l.snapshots) known);
         });
         limits = ap (λ (l : LookUps). l.limits) known ∙ ap (λ (l : LookUps). l.limits) told;
+        causes = only_memory_ends made result stops;
       };
       ends = λ x n input any r.
           let a = done_of x n [] d in

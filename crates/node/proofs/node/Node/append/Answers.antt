@@ -12,8 +12,9 @@ use Rattle.engine.specs.{LookUps, engine_disk, look_ups}
 use Rattle.node.specs.declared.stop.Stop.TheVariants as stop
 use Rattle.node.specs.Outputs.{AlwaysRefines, acks_after}
 use Rattle.node.specs.Steps.{disk_of}
-use Rattle.node.proofs.Causes.{append_env, env_of, memory_told, on_ok}
-use Rattle.node.proofs.Causes.{only_memory, still_works, stop_passed}
+use Rattle.node.proofs.Causes.{append_ends, append_env, env_of, memory_ends, memory_told, on_ok}
+use Rattle.node.proofs.Causes.{only_memory, only_memory_ends, passed_ends, still_works}
+use Rattle.node.proofs.Causes.{stop_passed}
 use Rattle.node.proofs.Counts.{appended_config, appended_snapshots, counts_appended, epoch_left}
 use Rattle.node.proofs.Counts.{frames_of, ids_left, keeps_floor, keeps_kept, machine_with}
 use Rattle.node.proofs.Counts.{number_taken, responses_due, same_facts, snapshots_left}
@@ -36,6 +37,8 @@ returns-in_err-append g c =
             c.from_residual.ensures.1) (λ a b kept. tt) c.append.ensures.changes.keeps.disk);
         works = rw (err_from_is_err_and result c.from_residual.ensures.1).1 tt;
         limits = ap (λ (l : LookUps). l.limits) c.in_err-append.ensures.told;
+        causes = passed_ends result c.from_residual.ensures.1
+            (append_ends _ e c.in_err-append.ensures.causes);
       };
       ends = λ x n input any r.
           let a = done_of x n batch c.args.done in
@@ -65,6 +68,7 @@ returns-in_err-due g c =
             (memory_told result err)) (λ a b kept. tt) c.append.ensures.changes.keeps.disk);
         works = rw (err_from_is_err_and result err).1 tt;
         limits = ap (λ (l : LookUps). l.limits) c.in_ok-append.ensures.told.0;
+        causes = memory_ends result err;
       };
       ends = λ x n input any r.
           let a = done_of x n batch c.args.done in
@@ -119,6 +123,9 @@ returns g c =
         works = on_ok result (record {
           works = λ ended. still_works c.in_ok-append.ensures.changes.keeps.ends may.works
               (c.set_committed.ensures.stays.ended.0 ended);
+          id = c.in_ok-due.ensures.same ∙ may.id
+              ∙ sym (ap (λ (l : LookUps). l.facts.id) told)
+              ∙ sym (ap (λ (l : LookUps). l.facts.id) known);
           epoch = epoch_left law old.core new d replies after
               ∙ config.epoch (machine_with old.core) ∙ may.epoch
               ∙ sym (ap (λ (l : LookUps). l.facts.epoch) told)
@@ -144,6 +151,7 @@ returns g c =
               ∙ sym (ap (λ (l : LookUps). l.snapshots) known);
         });
         limits = ap (λ (l : LookUps). l.limits) known ∙ ap (λ (l : LookUps). l.limits) told;
+        causes = only_memory_ends made result stops;
       };
       ends = λ x n input any r.
           let a = done_of x n batch d in

@@ -10,7 +10,7 @@ use Rattle.engine.specs.{LookUps}
 use Rattle.node.specs.Outputs.{AlwaysRefines}
 use Rattle.node.specs.Steps.{disk_of}
 use Rattle.node.proofs.Outputs.{greater}
-use Rattle.node.proofs.Causes.{memory_told, on_ok, only_memory}
+use Rattle.node.proofs.Causes.{memory_ends, memory_told, on_ok, only_memory, only_memory_ends}
 use Rattle.node.proofs.Counts.{counts_same, epoch_left, ids_left, keeps_floor, keeps_kept}
 use Rattle.node.proofs.Counts.{same_facts, snapshots_left}
 use Rattle.node.proofs.Ends.{ends_rule, ends_stopped}
@@ -40,6 +40,7 @@ returns-in_err-due-clause-followed g c =
         disk = keeps_same g.D.Disk _ _ result refl (memory_told result err);
         works = rw (err_from_is_err_and result err).1 tt;
         limits = refl;
+        causes = memory_ends result err;
       };
       ends = λ x n input any r.
           let a = on_ack x n c.args.committed c.args.have in
@@ -70,6 +71,7 @@ returns-clause-followed g c = record {
         let told = c.set_committed.ensures.told in
         on_ok c.map_err.result (record {
           works = λ ended. may.works (c.set_committed.ensures.stays.ended.0 ended);
+          id = c.in_ok-due.ensures.same ∙ may.id ∙ sym (ap (λ (l : LookUps). l.facts.id) told);
           epoch = epoch_left law old new d replies after ∙ may.epoch
               ∙ sym (ap (λ (l : LookUps). l.facts.epoch) told);
           ids = ids_left law old new d replies after ∙ may.ids
@@ -81,6 +83,7 @@ returns-clause-followed g c = record {
           snapshots = snapshots ∙ may.snapshots ∙ sym (ap (λ (l : LookUps). l.snapshots) told);
         });
     limits = ap (λ (l : LookUps). l.limits) c.set_committed.ensures.told;
+    causes = only_memory_ends c.output_of.result c.map_err.result c.map_err.ensures.cases;
   };
   ends = λ x n input any r.
       let old = c.args.self.now in

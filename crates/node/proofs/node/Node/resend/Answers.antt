@@ -8,7 +8,7 @@ use Rattle.node.specs.declared.stop.Stop.TheVariants as stop
 use Rattle.node.specs.Outputs.{OutputRefines}
 use Rattle.node.proofs.Ends.{ends, ends_stopped}
 use Rattle.disk.specs.KeepingLemmas.{answered, neither}
-use Rattle.node.proofs.Causes.{on_ok, only_memory, same_stop}
+use Rattle.node.proofs.Causes.{on_ok, only_memory, only_memory_ends, passed_ends, same_stop}
 use Rattle.node.proofs.Running.{kept_read, still_refines, still_runs}
 use Rattle.node.proofs.node.Node.resend.Goals as goal
 
@@ -22,7 +22,8 @@ returns-in_err-sent g c =
     record {
       kept = kept_read g.D.Disk old _ c.resent.result result c.requires c.resent.ensures.read refl
           (same_stop c.resent.result c.in_err-sent.field-0.0 result c.in_err-sent.was
-          c.from_residual.ensures.1) (rw p.1 tt);
+          c.from_residual.ensures.1) (rw p.1 tt)
+          (passed_ends result c.from_residual.ensures.1 c.in_err-sent.ensures.causes);
       ends = λ x n input any r.
           let a = resend x n in
           ends_stopped g.D.Disk old _ x n a _ result p.0 p.1
@@ -44,7 +45,8 @@ returns g c =
     record {
       kept = kept_read g.D.Disk old _ c.resent.result result c.requires c.resent.ensures.read refl
           (neither (answered c.resent.result c.in_ok-sent.was)
-          (only_memory made result stops)) (on_ok result read.works);
+          (only_memory made result stops)) (on_ok result read.works)
+          (only_memory_ends made result stops);
       ends = λ x n input any r.
           let sent = c.in_ok-sent.ensures.sent n r.core r.store in
           let runs = still_runs g.D.Disk old _ x n r sent.0

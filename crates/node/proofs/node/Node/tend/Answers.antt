@@ -5,7 +5,8 @@ use Rattle.chain_model.specs.Rules.{tend}
 use Rattle.disk.specs.KeepingLemmas.{answered, kept_as, neither}
 use Rattle.engine.specs.{engine_disk, raised_facts}
 use Rattle.node.specs.declared.stop.Stop.TheVariants as stop
-use Rattle.node.proofs.Causes.{done_told, env_of, still_works, stop_passed}
+use Rattle.node.specs.Stops.{EndsCreated}
+use Rattle.node.proofs.Causes.{done_told, env_of, later_ends, refuses, still_works, stop_passed}
 use Rattle.node.proofs.Ends.{ends_stopped}
 use Rattle.node.proofs.Tends.{in_step, rise_of, runs_tended, tends, with_told}
 use Rattle.node.proofs.node.Node.tend.Goals as goal
@@ -67,3 +68,14 @@ returns-clause-works g c =
     in_step old.engine c.tend.new.self c.tend.ensures.told old.core
     c.requires (still_works c.in_ok-tended.ensures.changes.keeps.ends c.requires.works) _
     (with_told old.core _ c.raise.ensures.raised c.floor.ensures c.kept.ensures)
+
+-- what ended the engine, or had, is no want of a creation
+pub returns-in_err-tended-clause-did : goal.returns-in_err-tended-clause-did
+returns-in_err-tended-clause-did g c = record {
+  done = refuses c.from_residual.result _ EndsCreated c.from_residual.ensures.1
+      (later_ends c.in_err-tended.field-0.0 c.in_err-tended.ensures.did);
+  told = c.tend.ensures.told;
+}
+
+pub returns-clause-did : goal.returns-clause-did
+returns-clause-did g c = record { done = c.in_ok-tended.ensures.did; told = c.tend.ensures.told }
