@@ -72,24 +72,9 @@ module _ {D C : Type 0} {g : Ghosts D} (h : Carriers C) (event : EventContent) w
   -- ---- a step that was refused
 
   -- it began no event
-  pub refused_none : (old new : World D C g) → KeepsLines (λ it. it ≡ event) old new →
-      events_so_far new ≡ events_so_far old → nodes_of new ≡ nodes_of old →
-      frames_of new ≡ frames_of old → StepIsRefused h event old new
-  refused_none old new keeps events nodes frames = record {
-    keeps = keeps;
-    left = inl (nodes, frames);
-    once = omega (arith, ap length events);
-  }
-
-  -- so many events there are behind one more
-  one_more : (old begun new : World D C g) → HasBegunEvent old begun event →
-      events_so_far new ≡ events_so_far begun →
-      length (events_so_far new) ≤ suc (length (events_so_far old))
-  one_more old begun new begins same = omega (
-    arith,
-    ap length (same ∙ begins.taken),
-    length-append (events_so_far old) (event ∷ []),
-  )
+  pub refused_none : (old new : World D C g) → KeepsLines event old new →
+      nodes_of new ≡ nodes_of old → frames_of new ≡ frames_of old → StepIsRefused h event old new
+  refused_none old new keeps nodes frames = record { keeps = keeps; left = inl (nodes, frames) }
 
   -- it began the event, of which there are no lines
   pub refused_begun : (old begun new : World D C g) → HasBegunEvent old begun event →
@@ -99,7 +84,6 @@ module _ {D C : Type 0} {g : Ghosts D} (h : Carriers C) (event : EventContent) w
   refused_begun old begun new begins events lines lost configs left = record {
     keeps = keeps_begun old begun new event begins events lines lost configs;
     left = left;
-    once = one_more old begun new begins events;
   }
 
   -- or its lines could not be kept
@@ -114,8 +98,6 @@ module _ {D C : Type 0} {g : Ghosts D} (h : Carriers C) (event : EventContent) w
         keeps = keeps_partly old begun mid event begins events same lost configs new lines partly;
         left = left (ap (λ (w : World D C g). nodes_of w) partly.others)
             (ap (λ (w : World D C g). frames_of w) partly.others);
-        once = one_more old begun new begins
-            (ap (λ (w : World D C g). events_so_far w) partly.others ∙ events);
       }) refused
 
   -- .. of an event that no node took

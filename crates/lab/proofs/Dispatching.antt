@@ -6,16 +6,16 @@ use Rattle.std.specs.Prelude.{IfOk, IsSome}
 use Rattle.kv_types.specs.declared.Limits.{Limits}
 use Rattle.chain_core.specs.{Machine}
 use Rattle.chain_model.specs.declared.DropReason.{DropReason}
-use Rattle.chain_model.specs.declared.DropReason.TheVariants as reason
 use Rattle.disk.specs.declared.Fault.{Fault}
 use Rattle.disk.specs.declared.Junk.{Junk}
 use Rattle.disk.specs.declared.disk.Disk.{Ghosts}
-use Rattle.disk.specs.{HasStruck, IsArmed, IsEnvironmental, IsLastLeft, KeepsDisk, State}
+use Rattle.disk.specs.{HasStruck, IsArmed, IsEnvironmental, IsLastLeft, KeepsDisk, State, contents}
 use Rattle.engine.specs.{Facts, facts_of}
 use Rattle.node.specs.declared.Node.{Node}
 use Rattle.node.specs.declared.Output.{Output}
 use Rattle.node.specs.declared.Stop.{Stop as Cause}
 use Rattle.node.specs.declared.Stop.TheVariants.{Disk, Memory}
+use Rattle.node.specs.Starts.{StartRefusal}
 use Rattle.node.specs.{HasLongFile, IsReady, NodeRefines, answer_to_tend, engine_of}
 use Rattle.carriers.specs.declared.NodeInput.{NodeInput}
 use Rattle.carriers.specs.declared.NodeInput.TheVariants as to_node
@@ -25,12 +25,14 @@ use Rattle.lab.specs.declared.node_state.NodeState.{NodeState}
 use Rattle.lab.specs.declared.node_state.NodeState.TheVariants.{Up, Down}
 use Rattle.lab.specs.Disks.{HasGrown, junk_at_end}
 use Rattle.lab.specs.Events.{line_cause}
-use Rattle.lab.specs.Outcomes.{DiskFits, DropsResting, HasCrashed, HasDispatched, IsAnswerAtRest}
-use Rattle.lab.specs.Outcomes.{IsDrop, IsIgnored, IsOutcomeOf, MarksFit}
-use Rattle.lab.specs.Outcomes.{OutcomeRefines, Rests, RestsOn, StandsByOutcome, StateFollows}
+use Rattle.lab.specs.Dispatches.{CountsFailures, HasDispatched, IsOutcomeOf, StandsByOutcome}
+use Rattle.lab.specs.Outcomes.{DiskFits, DropsResting, HasCrashed, IsAnswerAtRest}
+use Rattle.lab.specs.Outcomes.{IsDrop, IsIgnored, MarksFit}
+use Rattle.lab.specs.Outcomes.{OutcomeRefines, Rests, RestsOn, StateFollows}
 use Rattle.lab.specs.Outcomes.{StopsByItself, TendsNot, has_struck_in, input_junk}
 use Rattle.lab.specs.SimNodes.{IsDown, StateIsReady, StateIsSound, StateRefines, disk_in}
 use Rattle.lab.specs.Stops.{IsDownAfter, StopsWithDisk}
+use Rattle.lab.proofs.Dispatches.{counts_so, tells_none, tells_own}
 use Rattle.lab.proofs.Faults.{IsSpent, disk_fits, explained, grown_end, idle_in, marked_end, spent}
 use Rattle.lab.proofs.Faults.{stopped_so, struck_at}
 
@@ -93,7 +95,7 @@ into_box g limits it node_input old new own did is took =
 pub answered_only : {D : Type 0} (g : Ghosts D) (limits : Limits) (it : Fault)
     (node_input : NodeInput)
     (old : NodeState D g) (output : Output) → StateIsReady old →
-    IsOutcomeOf node_input (done.Answered output) → IsDown old ⊎ IsSome output.dropped →
+    IsOutcomeOf old node_input (done.Answered output) → IsDown old ⊎ IsSome output.dropped →
     IsIgnored old node_input →
     ((x : ℕ) (n : Machine) → StateRefines g.is_honest g.state old x n →
     OutcomeRefines g.is_honest g.state it (has_struck_in g.past it (disk_in old) old) x n
@@ -104,18 +106,21 @@ answered_only g limits it node_input old output ready outcome may ignored refine
   ready = ready;
   outcome = outcome;
   stands = (λ down. down, λ down. down);
+  follows = follows;
+  tells = λ own stops. absurd cc;
+  counts = refl;
+  limits = λ has. has;
   refines = refines;
   disk = λ honest. record {
     spared = idle_in g it old;
     count = refl;
     same = λ down. refl;
   };
+  explains = λ honest starts cause stops. absurd cc;
   only = λ sound reliable stops. absurd cc;
-  follows = follows;
   grows = λ x n r. ([], refl);
   marked = λ honest. inl (may, refl, refl);
   forgets = λ honest unarmed. unarmed ignored;
-  limits = λ has. has;
 }
 
 -- what is dropped has a reason
@@ -129,11 +134,11 @@ pub answered_at_rest : {D : Type 0} (g : Ghosts D) (limits : Limits) (it : Fault
     HasDispatched g limits it node_input (Down disk) (Down disk) (done.Answered output)
 answered_at_rest g limits it (to_node.Step inp) disk output other is =
     answered_only g limits it (to_node.Step inp) (Down disk) output (ready_down g disk)
-    tt (inl tt) tt
+    is (inl tt) tt
     (λ x n r. Rests r.2 r (output, refl, is n)) refl
 answered_at_rest g limits it (to_node.BadFrame why) disk output other is =
     answered_only g limits it (to_node.BadFrame why) (Down disk) output (ready_down g disk)
-    (some_drop reason.NotRunning output is) (inl tt) tt
+    is (inl tt) tt
     (λ x n r. DropsResting r.2 r (output, refl, is)) refl
 answered_at_rest g limits it to_node.Tend disk output other is =
     answered_only g limits it to_node.Tend (Down disk) output (ready_down g disk)
@@ -221,20 +226,32 @@ module _ {D : Type 0} (g : Ghosts D) (it : Fault) (was new : NodeState D g) (did
 
     -- so it took an input that does not stop it
     pub halted : (given : Limits) (node_input : NodeInput) → input_junk node_input ≡ None →
-        ((told : Option Cause) → IsOutcomeOf node_input (done.Stopped told)) →
+        ((told : Option Cause) → IsOutcomeOf was node_input (done.Stopped told)) →
         ((x : ℕ) (n : Machine) → StateRefines g.is_honest g.state was x n →
         OutcomeRefines g.is_honest g.state it struck x n node_input was new did) →
         (StateIsSound g was → cause → HasLongFile (g.state (disk_in was))) →
         StateFollows g.is_honest g.state g.failures g.past was node_input new →
         ((x : ℕ) (n : Machine) → StateRefines g.is_honest g.state was x n →
         HasGrown g.past (disk_in was) left) →
+        (g.is_honest (disk_in was) → node_input ≡ to_node.Start →
+        StartRefusal stop (contents (g.state (disk_in was)))) →
         HasDispatched g given it node_input was new did
-    halted given node_input unstopped outcome refines long follows grows =
+    halted given node_input unstopped outcome refines long follows grows explains =
         record {
           ready = stops.down.ready;
-          outcome = subst (IsOutcomeOf node_input) (sym stops.told) (outcome _);
+          outcome = subst (IsOutcomeOf was node_input) (sym stops.told) (outcome _);
           stands = subst (λ (d : StepOutcome). StandsByOutcome was d new) (sym stops.told)
               stops.down.is;
+          follows = follows;
+          tells = λ own. tells_none it stops.struck stop did stops.told;
+          counts = subst (λ (j : Option Junk). CountsFailures j did (g.failures (disk_in was))
+              (g.failures (disk_in new))) (sym unstopped)
+              (counts_so it stops.struck stop did stops.told g (disk_in was) armed left
+              (disk_in new) has_failed cause IsKept arms keeps to from stops.down.count);
+          limits = λ _. stops.down.limits given;
+          explains = λ honest starts own told.
+              subst (λ (k : Cause). StartRefusal k (contents (g.state (disk_in was))))
+              (tells_own it stops.struck stop did stops.told own told) (explains honest starts);
           refines = refines;
           disk = λ honest. subst (λ (j : Option Junk).
               DiskFits g.state g.failures g.past j it struck did (disk_in was) new) (sym unstopped)
@@ -242,7 +259,6 @@ module _ {D : Type 0} (g : Ghosts D) (it : Fault) (was new : NodeState D g) (did
               to from told crashes);
           only = λ is reliable. explained g it (disk_in was) left stop new did has_failed cause
               (spent_so (honest_of g was is)) to from told crashes reliable (long is);
-          follows = follows;
           grows = λ x n r. grown_end g it (disk_in was) left stop new did has_failed cause
               (spent_so (honest_in g was x n r)) to from told crashes (grows x n r);
           marked = λ honest. subst (λ (j : Option Junk).
@@ -251,5 +267,4 @@ module _ {D : Type 0} (g : Ghosts D) (it : Fault) (was new : NodeState D g) (did
               to from told crashes armed has_failed cause IsKept arms keeps honest
               (λ b strikes. (down b strikes).marked));
           forgets = λ honest _. stops.down.forgets (honest_left honest);
-          limits = λ _. stops.down.limits given;
         }

@@ -1,5 +1,6 @@
 mod Rests
 mod Faults
+mod Dispatches
 mod Dispatching
 mod Disks
 mod Posting

@@ -113,36 +113,15 @@ module _ {D C : Type 0} {g : Ghosts D} where
 
   -- ---- a step that was refused
 
-  pub keeps_nothing : (is_own : EventContent → Type 0) (world : World D C g) →
-      KeepsLines is_own world world
-  keeps_nothing is_own world = record {
-    own = [];
-    took = sym (append-nil (events_so_far world));
-    of = All-from_recursion is_own [] tt;
-    ended = [];
-    begun = [];
-    added = sym (append-nil (lines_so_far world));
-    lost = sym (append-nil (lost_so_far world));
-    within = omega arith;
-    last = omega arith;
-    configs = refl;
-  }
+  pub keeps_nothing : (event : EventContent) (world : World D C g) → KeepsLines event world world
+  keeps_nothing event world = record { begun = inl (refl, refl); lost = refl; configs = refl }
 
   -- the event was not begun
   pub keeps_unbegun : (old new : World D C g) (event : EventContent) → HasNotBegun old new →
-      KeepsLines (λ it. it ≡ event) old new
+      KeepsLines event old new
   keeps_unbegun old new event n = record {
-    own = [];
-    took = n.taken ∙ sym (append-nil (events_so_far old));
-    of = All-from_recursion (λ (it : EventContent). it ≡ event) [] tt;
-    ended = [];
-    begun = [];
-    added = ap (λ (w : World D C g). w.steps.items) n.others
-        ∙ sym (append-nil (lines_so_far old));
-    lost = ap (λ (w : World D C g). w.lost.items) n.others
-        ∙ sym (append-nil (lost_so_far old));
-    within = omega arith;
-    last = omega arith;
+    begun = inl (n.taken, ap (λ (w : World D C g). w.steps.items) n.others);
+    lost = ap (λ (w : World D C g). w.lost.items) n.others;
     configs = ap (λ (w : World D C g). w.configs) n.others;
   }
 
@@ -162,42 +141,26 @@ module _ {D C : Type 0} {g : Ghosts D} where
     configs_then : configs_of mid ≡ configs_of old
     configs_then = same_configs ∙ ap (λ (w : World D C g). w.configs) begins.others
 
-    pub keeps_begun : KeepsLines (λ it. it ≡ event) old mid
+    pub keeps_begun : KeepsLines event old mid
     keeps_begun = record {
-      own = event ∷ [];
-      took = same_events ∙ begins.taken;
-      of = All-from_recursion (λ (it : EventContent). it ≡ event) (event ∷ []) (refl, tt);
-      ended = [];
-      begun = [];
-      added = lines_then ∙ sym (append-nil (lines_so_far old));
-      lost = lost_then ∙ sym (append-nil (lost_so_far old));
-      within = omega arith;
-      last = omega arith;
+      begun = inr (same_events ∙ begins.taken, inl lines_then);
+      lost = lost_then;
       configs = configs_then;
     }
 
     pub keeps_partly : (new : World D C g) (lines : List Line) → HasPartlyKept mid new lines →
-        KeepsLines (λ it. it ≡ event) old new
-    keeps_partly new lines p =
-        let lines_kept : (begun_lines : List (List Line))
-        × (lines_so_far new ≡ lines_so_far old ++ begun_lines) × (length begun_lines ≤ 1) =
+        KeepsLines event old new
+    keeps_partly new lines p = record {
+      begun = inr (
+        ap (λ (w : World D C g). w.events.items) p.others ∙ same_events ∙ begins.taken,
         elim p.kept [
-          | inl is ↦ ([], is ∙ lines_then ∙ sym (append-nil (lines_so_far old)), omega arith)
-          | inr is ↦ (
-            lines ∷ [],
+          | inl is ↦ inl (is ∙ lines_then)
+          | inr is ↦ inr (
+            lines,
             is ∙ ap (λ (l : List (List Line)). l ++ lines ∷ []) lines_then,
-            omega arith,
           )
-        ] in
-        record {
-          own = event ∷ [];
-          took = ap (λ (w : World D C g). w.events.items) p.others ∙ same_events ∙ begins.taken;
-          of = All-from_recursion (λ (it : EventContent). it ≡ event) (event ∷ []) (refl, tt);
-          ended = [];
-          begun = lines_kept.0;
-          added = lines_kept.1;
-          lost = p.marked ∙ lost_then ∙ sym (append-nil (lost_so_far old));
-          within = omega (arith, lines_kept.2);
-          last = omega arith;
-          configs = ap (λ (w : World D C g). w.configs) p.others ∙ configs_then;
-        }
+        ],
+      );
+      lost = p.marked ∙ lost_then;
+      configs = ap (λ (w : World D C g). w.configs) p.others ∙ configs_then;
+    }

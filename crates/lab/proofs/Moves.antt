@@ -27,7 +27,8 @@ use Rattle.lab.specs.declared.node_state.NodeState.{NodeState}
 use Rattle.lab.specs.declared.node_state.NodeState.TheVariants.{Up, Down}
 use Rattle.lab.specs.declared.sim_node.SimNode.{SimNode}
 use Rattle.lab.specs.Disks.{IsCrashOf}
-use Rattle.lab.specs.Outcomes.{HasCrashed, HasDispatched, HasTended, Halts, IsTendedAnswer}
+use Rattle.lab.specs.Dispatches.{HasDispatched}
+use Rattle.lab.specs.Outcomes.{HasCrashed, HasTended, Halts, IsTendedAnswer}
 use Rattle.lab.specs.Outcomes.{StateFollows, Tends, TendsNot, has_struck_in, rises_in}
 use Rattle.lab.specs.SimNodes.{Choice, StateHasLimits, StateRefines, disk_in}
 use Rattle.lab.specs.LinesSoFar.{sim_node_ids}

@@ -34,7 +34,10 @@ use Rattle.lab.specs.Deliveries.{HasNoDelivery, IsCarriedEvent, IsDeliverable}
 use Rattle.lab.specs.Events.{MayBeLost, NamesNode, dropped_lines, epoch_in, reply_count}
 use Rattle.lab.specs.LinesSoFar.{AreEventLines, BeginsWithLine, IsNoticeLine, IsOneLine}
 use Rattle.lab.specs.LinesSoFar.{IsStartLine, IsStopLine, IsTendLine, sim_node_ids}
-use Rattle.lab.specs.Outcomes.{IsDrop, IsOutcomeOf}
+use Rattle.lab.specs.declared.node_state.NodeState.{NodeState}
+use Rattle.lab.specs.declared.node_state.NodeState.TheVariants.{Up, Down}
+use Rattle.lab.specs.Dispatches.{IsOutcomeOf}
+use Rattle.lab.specs.Outcomes.{IsDrop}
 use Rattle.lab.specs.OutcomeLines.{adopted_lines, lines_before_replies, outcome_lines, own_lines}
 use Rattle.lab.specs.OutcomeLines.{replies_by, sent_as, sent_lines}
 use Rattle.lab.specs.Worlds.{HasNoNode}
@@ -157,51 +160,6 @@ drop_lines x told before why output is =
     alone None = refl
     alone (Some epoch) = refl
 
-start_line : (x : ℕ) (told : Option ℕ) (before : ℕ) (did : StepOutcome) →
-    IsOutcomeOf to_node.Start did → HasOneLine (IsStartLine x) x told before did
-start_line x told before (done.Answered output) is = record {
-  own = line.Dropped reason.Running;
-  are = drop_lines x told before reason.Running output is;
-  none = ap length is.replied;
-  is = refl;
-}
-start_line x told before (done.Started epoch count committed) is = record {
-  own = line.Started x epoch count committed;
-  are = refl;
-  none = refl;
-  is = refl;
-}
-start_line x told before (done.Stopped cause) is =
-    record { own = line.Stopped x cause; are = refl; none = refl; is = refl }
-start_line x told before (done.Tended answer) is = absurd is
-
-stop_line : (junk : Junk) (x : ℕ) (told : Option ℕ) (before : ℕ) (did : StepOutcome) →
-    IsOutcomeOf (to_node.Stop junk) did → HasOneLine (IsStopLine x) x told before did
-stop_line junk x told before (done.Answered output) is = record {
-  own = line.Dropped reason.NotRunning;
-  are = drop_lines x told before reason.NotRunning output is;
-  none = ap length is.replied;
-  is = refl;
-}
-stop_line junk x told before (done.Started epoch count committed) is = absurd is
-stop_line junk x told before (done.Stopped cause) is =
-    record { own = line.Stopped x cause; are = refl; none = refl; is = (refl, is) }
-stop_line junk x told before (done.Tended answer) is = absurd is
-
-tend_line : (x : ℕ) (told : Option ℕ) (before : ℕ) (did : StepOutcome) →
-    IsOutcomeOf to_node.Tend did → HasOneLine (IsTendLine x) x told before did
-tend_line x told before (done.Answered output) is = record {
-  own = line.Dropped reason.NotRunning;
-  are = drop_lines x told before reason.NotRunning output is;
-  none = ap length is.replied;
-  is = refl;
-}
-tend_line x told before (done.Started epoch count committed) is = absurd is
-tend_line x told before (done.Stopped cause) is =
-    record { own = line.Stopped x cause; are = refl; none = refl; is = refl }
-tend_line x told before (done.Tended answer) is =
-    record { own = line.Tended answer; are = refl; none = refl; is = tt }
-
 -- a notice begins with its drop or its adoption
 notice_begins : (x epoch : ℕ) (why : Option DropReason) (sent more : List Line) →
     BeginsWithLine (IsNoticeLine x epoch)
@@ -209,14 +167,62 @@ notice_begins : (x epoch : ℕ) (why : Option DropReason) (sent more : List Line
 notice_begins x epoch None sent more = (refl, refl)
 notice_begins x epoch (Some why) sent more = tt
 
-notice_lines : (x epoch before : ℕ) (inp : Input) (did : StepOutcome) (more : List Line) →
-    IsOutcomeOf (to_node.Step inp) did →
-    BeginsWithLine (IsNoticeLine x epoch) (own_lines x (Some epoch) before did ++ more)
-notice_lines x epoch before inp (done.Answered output) more is =
-    notice_begins x epoch output.dropped (sent_lines before output.frames) more
-notice_lines x epoch before inp (done.Started e count committed) more is = absurd is
-notice_lines x epoch before inp (done.Stopped cause) more is = refl
-notice_lines x epoch before inp (done.Tended answer) more is = absurd is
+-- the lines of a start, a stop, a tend and a notice, by the outcome of the node that took it
+module _ {D : Type 0} {g : Ghosts D} where
+  start_line : (old : NodeState D g) (x : ℕ) (told : Option ℕ) (before : ℕ) (did : StepOutcome) →
+      IsOutcomeOf old to_node.Start did → HasOneLine (IsStartLine x) x told before did
+  start_line (Up node) x told before (done.Answered output) is = record {
+    own = line.Dropped reason.Running;
+    are = drop_lines x told before reason.Running output is;
+    none = ap length is.replied;
+    is = refl;
+  }
+  start_line (Down disk) x told before (done.Started epoch count committed) is = record {
+    own = line.Started x epoch count committed;
+    are = refl;
+    none = refl;
+    is = refl;
+  }
+  start_line (Down disk) x told before (done.Stopped cause) is =
+      record { own = line.Stopped x cause; are = refl; none = refl; is = refl }
+  start_line old x told before did is = absurd is
+
+  stop_line : (old : NodeState D g) (junk : Junk) (x : ℕ) (told : Option ℕ) (before : ℕ)
+      (did : StepOutcome) → IsOutcomeOf old (to_node.Stop junk) did →
+      HasOneLine (IsStopLine x) x told before did
+  stop_line (Up node) junk x told before (done.Stopped cause) is =
+      record { own = line.Stopped x cause; are = refl; none = refl; is = (refl, is) }
+  stop_line (Down disk) junk x told before (done.Answered output) is = record {
+    own = line.Dropped reason.NotRunning;
+    are = drop_lines x told before reason.NotRunning output is;
+    none = ap length is.replied;
+    is = refl;
+  }
+  stop_line old junk x told before did is = absurd is
+
+  tend_line : (old : NodeState D g) (x : ℕ) (told : Option ℕ) (before : ℕ) (did : StepOutcome) →
+      IsOutcomeOf old to_node.Tend did → HasOneLine (IsTendLine x) x told before did
+  tend_line (Up node) x told before (done.Stopped cause) is =
+      record { own = line.Stopped x cause; are = refl; none = refl; is = refl }
+  tend_line (Up node) x told before (done.Tended answer) is =
+      record { own = line.Tended answer; are = refl; none = refl; is = tt }
+  tend_line (Down disk) x told before (done.Answered output) is = record {
+    own = line.Dropped reason.NotRunning;
+    are = drop_lines x told before reason.NotRunning output is;
+    none = ap length is.replied;
+    is = refl;
+  }
+  tend_line old x told before did is = absurd is
+
+  notice_lines : (old : NodeState D g) (x epoch before : ℕ) (inp : Input) (did : StepOutcome)
+      (more : List Line) → IsOutcomeOf old (to_node.Step inp) did →
+      BeginsWithLine (IsNoticeLine x epoch) (own_lines x (Some epoch) before did ++ more)
+  notice_lines (Up node) x epoch before inp (done.Answered output) more is =
+      notice_begins x epoch output.dropped (sent_lines before output.frames) more
+  notice_lines (Up node) x epoch before inp (done.Stopped cause) more is = refl
+  notice_lines (Down disk) x epoch before inp (done.Answered output) more is =
+      notice_begins x epoch output.dropped (sent_lines before output.frames) more
+  notice_lines old x epoch before inp did more is = absurd is
 
 -- what a carrier carries may have any
 pub by_kind : (kind : EventKind) (lines : List Line) →
@@ -253,34 +259,38 @@ module _ (cs : Configurations) (frames : List (model_frame.Message BatchContent)
 
   module _ (x : ℕ) (node_input : NodeInput) where
     -- a node took it
-    pub dispatched_lines : (asks : List Transmission → Type 0)
+    pub dispatched_lines : {D : Type 0} {g : Ghosts D} (old : NodeState D g)
+        (asks : List Transmission → Type 0)
         (kind : EventKind) (before : ℕ) (did : StepOutcome) (lines : List Line) →
-        IsDeliverable cs frames i kind (delivery.To x node_input) → IsOutcomeOf node_input did →
+        IsDeliverable cs frames i kind (delivery.To x node_input) →
+        IsOutcomeOf old node_input did →
         RepliesFollow asks x (replies_by did)
         (own_lines x (epoch_in kind) before did) lines → AreEventLines kind lines
-    dispatched_lines asks (Notice node epoch) before did lines is outcome follow =
+    dispatched_lines old asks (Notice node epoch) before did lines is outcome follow =
         subst (λ (n : ℕ). BeginsWithLine (IsNoticeLine n epoch) lines) is.same
         (subst (BeginsWithLine (IsNoticeLine x epoch)) (sym follow.lines)
-        (notice_lines x epoch before (input.Notice epoch (at_epoch cs epoch)) did
+        (notice_lines old x epoch before (input.Notice epoch (at_epoch cs epoch)) did
         (replied (replies_heard follow.each))
-        (subst (λ (k : NodeInput). IsOutcomeOf k did) is.is outcome)))
-    dispatched_lines asks (Tend node) before did lines is outcome follow =
+        (subst (λ (k : NodeInput). IsOutcomeOf old k did) is.is outcome)))
+    dispatched_lines old asks (Tend node) before did lines is outcome follow =
         subst (λ (n : ℕ). IsOneLine (IsTendLine n) lines) is.0
         (one_line (IsTendLine x) x None before did (replies_heard follow.each) lines
-        (tend_line x None before did (subst (λ (k : NodeInput). IsOutcomeOf k did) is.1 outcome))
+        (tend_line old x None before did
+        (subst (λ (k : NodeInput). IsOutcomeOf old k did) is.1 outcome))
         follow.lines (few_heard asks x (replies_by did) _ lines follow))
-    dispatched_lines asks (Start node) before did lines is outcome follow =
+    dispatched_lines old asks (Start node) before did lines is outcome follow =
         subst (λ (n : ℕ). IsOneLine (IsStartLine n) lines) is.0
         (one_line (IsStartLine x) x None before did (replies_heard follow.each) lines
-        (start_line x None before did (subst (λ (k : NodeInput). IsOutcomeOf k did) is.1 outcome))
+        (start_line old x None before did
+        (subst (λ (k : NodeInput). IsOutcomeOf old k did) is.1 outcome))
         follow.lines (few_heard asks x (replies_by did) _ lines follow))
-    dispatched_lines asks (Stop node junk) before did lines is outcome follow =
+    dispatched_lines old asks (Stop node junk) before did lines is outcome follow =
         subst (λ (n : ℕ). IsOneLine (IsStopLine n) lines) is.0
         (one_line (IsStopLine x) x None before did (replies_heard follow.each) lines
-        (stop_line junk x None before did
-        (subst (λ (k : NodeInput). IsOutcomeOf k did) is.1 outcome)) follow.lines (few_heard asks x
-        (replies_by did) _ lines follow))
-    dispatched_lines asks other before did lines is outcome follow = tt
+        (stop_line old junk x None before did
+        (subst (λ (k : NodeInput). IsOutcomeOf old k did) is.1 outcome)) follow.lines
+        (few_heard asks x (replies_by did) _ lines follow))
+    dispatched_lines old asks other before did lines is outcome follow = tt
 
     has_it : {D : Type 0} {g : Ghosts D} (sims : List (SimNode D g)) (ids : Configurations)
         (node : ℕ) → sim_node_ids sims ≡ at_epoch ids 0 → has (at_epoch ids 0) node ≡ true →

@@ -17,7 +17,7 @@ use Rattle.lab.specs.declared.report.Line.TheVariants as line
 use Rattle.lab.specs.Arrivals.{RepliesFollow, replies_heard}
 use Rattle.lab.specs.Events.{dropped_lines}
 use Rattle.lab.specs.LinesSoFar.{StandsAfter}
-use Rattle.lab.specs.Outcomes.{StandsByOutcome}
+use Rattle.lab.specs.Dispatches.{StandsByOutcome}
 use Rattle.lab.specs.OutcomeLines.{adopted_lines, own_lines, replies_by, sent_as, sent_lines}
 use Rattle.lab.specs.SimNodes.{IsDown}
 use Rattle.lab.proofs.Arrivals.{few_heard, replied}

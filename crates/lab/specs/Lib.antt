@@ -7,6 +7,7 @@ pub mod Disks
 pub mod Arrivals
 pub mod Deliveries
 pub mod Outcomes
+pub mod Dispatches
 pub mod Stops
 pub mod OutcomeLines
 pub mod Freshness
@@ -32,7 +33,8 @@ pub use Rattle.events.specs.declared.kind.EventKind
 pub use Rattle.lab.specs.Events.{NamesNode, node_in}
 pub use Rattle.events.specs.{delivered_place, faultless}
 pub use Rattle.lab.specs.LinesSoFar.{AddsLines, AreEventLines, EventAddsLines, HasItsNodes}
-pub use Rattle.lab.specs.LinesSoFar.{HasRunNothing, KeepsLines, LeavesNodes, LosesCarried}
+pub use Rattle.lab.specs.LinesSoFar.{HasJustBegun, HasRunNothing, KeepsLines, LeavesNodes}
+pub use Rattle.lab.specs.LinesSoFar.{LosesCarried}
 pub use Rattle.lab.specs.LinesSoFar.{MovesAtMostOne, RunsEvents, StepIsRefused, StepsOnce}
 pub use Rattle.lab.specs.LinesSoFar.{configs_of}
 pub use Rattle.lab.specs.LinesSoFar.{drops_in_steps, events_so_far, is_lost, lines_so_far}

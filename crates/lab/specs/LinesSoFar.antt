@@ -5,6 +5,7 @@ use Rattle.std.specs.Prelude.{get_or, suc, true}
 use Rattle.std.specs.List.{remove}
 use Rattle.configurations.specs.{Configurations, at_epoch}
 use Rattle.disk.specs.declared.disk.Disk.{Ghosts}
+use Rattle.kv_types.specs.declared.Limits.{Limits}
 use Rattle.chain_model.specs.declared.DropReason.TheVariants as reason
 use Rattle.carriers.specs.{HasCarried}
 use Rattle.carriers.specs.declared.Carrier.{Ghosts as Carriers}
@@ -25,10 +26,11 @@ use Rattle.lab.specs.Arrivals.{RepliesFollow}
 use Rattle.lab.specs.Deliveries.{Brings, IsCarriedEvent}
 use Rattle.lab.specs.Events.{NamesNode, epoch_in}
 use Rattle.lab.specs.OutcomeLines.{own_lines, replies_by, sent_by}
-use Rattle.lab.specs.Outcomes.{RunsWith}
+use Rattle.lab.specs.Dispatches.{RunsWith}
 use Rattle.lab.specs.Posting.{HasPosted, HasPostedPart}
 use Rattle.lab.specs.SimNodes.{IsDown}
-use Rattle.lab.specs.Worlds.{HasMoved, HasNoNode, IsIndexOf, WorldHasEnded, WorldKeepsLimits}
+use Rattle.lab.specs.Worlds.{AreCreated, HasMoved, HasNoNode, IsIndexOf, WorldHasEnded}
+use Rattle.lab.specs.Worlds.{WorldKeepsLimits}
 use Rattle.lab.specs.Worlds.{frames_in_steps}
 
 -- ---- the lines that an event has, whatever its node is
@@ -157,6 +159,14 @@ module _ {D C : Type 0} {g : Ghosts D} where
   abbrev pub nodes_of : World D C g → List (SimNode D g)
   nodes_of world = world.nodes.items
 
+  -- a world of the nodes of the first of these configurations, just created with these limits,
+  -- which has run nothing
+  pub record HasJustBegun (cs : Configurations) (limits : Limits) (world : World D C g)
+      : Type 0 where
+    pub nothing : HasRunNothing world
+    pub configs : configs_of world ≡ cs
+    pub nodes : AreCreated (at_epoch cs 0) (at_epoch cs 0) limits (nodes_of world)
+
   -- the frames that were sent so far
   abbrev pub frames_of : World D C g → List Posted
   frames_of world = world.frames.items
@@ -255,19 +265,17 @@ module _ {D C : Type 0} {g : Ghosts D} where
       pub ends : MatchResult result (λ _. WorldHasEnded new → ⊥) (λ _. WorldHasEnded new)
       pub again : WorldHasEnded old → IsErr result × (new ≡ old)
 
-  -- The world has the events, lines and losses that it had, and perhaps more behind them: events,
-  -- each of them such (`is_own`). All of these but the last have ended: with their lines, and lost
-  -- exactly where these say so. The last one may have its lines, or none.
-  pub record KeepsLines (is_own : EventContent → Type 0) (old new : World D C g) : Type 0 where
-    pub own : List EventContent
-    pub took : events_so_far new ≡ events_so_far old ++ own
-    pub of : All is_own own
-    pub ended : List (List Line)
-    pub begun : List (List Line)
-    pub added : lines_so_far new ≡ lines_so_far old ++ (ended ++ begun)
-    pub lost : lost_so_far new ≡ lost_so_far old ++ map is_lost ended
-    pub within : length ended + length begun ≤ length own
-    pub last : length own ≤ suc (length ended)
+  -- of an event that was begun: its lines are kept, or none
+  abbrev pub AddsLinesAtMost : World D C g → World D C g → Type 0
+  AddsLinesAtMost old new = (lines_so_far new ≡ lines_so_far old)
+      ⊎ ((lines : List Line) × (lines_so_far new ≡ lines_so_far old ++ lines ∷ []))
+
+  -- the world has the events, lines and losses that it had; or behind the events this one, which
+  -- was begun, with its lines or none
+  pub record KeepsLines (event : EventContent) (old new : World D C g) : Type 0 where
+    pub begun : ((events_so_far new ≡ events_so_far old) × (lines_so_far new ≡ lines_so_far old))
+        ⊎ ((events_so_far new ≡ events_so_far old ++ event ∷ []) × AddsLinesAtMost old new)
+    pub lost : lost_so_far new ≡ lost_so_far old
     pub configs : configs_of new ≡ configs_of old
 
   -- the node that was to take an event was lost, for want of memory, and all else is as it was
@@ -299,12 +307,11 @@ module _ {D C : Type 0} {g : Ghosts D} where
   LeavesNodes h event old new = ((nodes_of new ≡ nodes_of old) × (frames_of new ≡ frames_of old))
       ⊎ LosesNode h event old new ⊎ SendsPart h event old new
 
-  -- What the step of an event leaves where it is refused: it begins this event at most.
+  -- what the step of an event leaves where it is refused
   pub record StepIsRefused (h : Carriers C) (event : EventContent) (old new : World D C g) : Type 0
     where
-      pub keeps : KeepsLines (λ it. it ≡ event) old new
+      pub keeps : KeepsLines event old new
       pub left : LeavesNodes h event old new
-      pub once : length (events_so_far new) ≤ suc (length (events_so_far old))
 
   -- the event was not begun, and the world has ended and is as it was otherwise
   pub record HasNotBegun (old new : World D C g) : Type 0 where

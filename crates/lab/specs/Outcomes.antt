@@ -1,13 +1,12 @@
 -- The outcomes of a simulated node: the state that each input leaves, and its disk.
-use Rattle.std.specs.Prelude.{◌≡◌, ◌↔◌, ◌⊎◌, ℕ, List, [], ◌∷◌, length, Option}
+use Rattle.std.specs.Prelude.{◌≡◌, ◌⊎◌, ℕ, List, [], ◌∷◌, length, Option}
 use Rattle.std.specs.Prelude.{Bool, Some, None, IsSome, true, false}
-use Rattle.kv_types.specs.declared.Limits.{Limits}
 use Rattle.kv_types.specs.{BatchContent}
 use Rattle.disk.specs.{IsEnvironmental}
 use Rattle.disk.specs.declared.disk.Disk.{Ghosts}
 use Rattle.disk.specs.declared.Fault.{Fault}
 use Rattle.disk.specs.declared.Junk.{Junk}
-use Rattle.disk.specs.{RisesByOne, CrashOutcome, IsLastLeft, Marks, State, fault_of, struck_call}
+use Rattle.disk.specs.{RisesByOne, CrashOutcome, IsLastLeft, Marks, State, struck_call}
 use Rattle.chain_model.specs.{Answer, dropped_for, refused, silent, started, stopped}
 use Rattle.chain_model.specs.Rules.{tend}
 use Rattle.engine.specs.Tended.{Tended}
@@ -23,17 +22,16 @@ use Rattle.node.specs.declared.Stop.{Stop as Cause}
 use Rattle.node.specs.declared.Stop.TheVariants.{Disk, Memory}
 use Rattle.engine.specs.{IsTendAnswer, facts_of}
 use Rattle.node.specs.{answer_to_tend, facts_for, has_risen}
-use Rattle.node.specs.{replies_of, disk_of, engine_of, node_core, HasLongFile}
+use Rattle.node.specs.{replies_of, disk_of, engine_of, HasLongFile}
 use Rattle.carriers.specs.declared.NodeInput.{NodeInput}
 use Rattle.carriers.specs.declared.NodeInput.TheVariants as to_node
 use Rattle.lab.specs.declared.input.StepOutcome.{StepOutcome}
 use Rattle.lab.specs.declared.input.StepOutcome.TheVariants as done
 use Rattle.lab.specs.declared.node_state.NodeState.{NodeState}
 use Rattle.lab.specs.declared.node_state.NodeState.TheVariants.{Up, Down}
-use Rattle.lab.specs.Disks.{HasGrown, IsCrashOf, IsMarkedBy, before_crash, has_reached, junk_at_end}
+use Rattle.lab.specs.Disks.{IsCrashOf, IsMarkedBy, before_crash, has_reached, junk_at_end}
 use Rattle.lab.specs.Events.{line_cause}
-use Rattle.lab.specs.SimNodes.{StateHasLimits, StateIsReady, StateIsSound, StateRefines, IsDown}
-use Rattle.lab.specs.SimNodes.{disk_in}
+use Rattle.lab.specs.SimNodes.{StateRefines, IsDown, disk_in}
 
 -- ---- what a node answers
 
@@ -315,67 +313,3 @@ IsIgnored (Up node) to_node.Tend = ⊥
 IsIgnored (Up node) (to_node.Stop junk) = ⊥
 IsIgnored (Down disk) to_node.Start = ⊥
 IsIgnored _ _ = Unit {0}
-
--- ---- one input of a node
-
--- the outcome of an input, whatever the node: a start, a stop and a tend have no other than these,
--- and what is no frame is dropped
-abbrev pub IsOutcomeOf : NodeInput → StepOutcome → Type 0
-IsOutcomeOf (to_node.Step inp) (done.Answered output) = Unit {0}
-IsOutcomeOf (to_node.Step inp) (done.Stopped cause) = Unit {0}
-IsOutcomeOf (to_node.BadFrame why) (done.Answered output) = IsSome output.dropped
-IsOutcomeOf to_node.Tend (done.Tended answer) = Unit {0}
-IsOutcomeOf to_node.Tend (done.Stopped cause) = Unit {0}
-IsOutcomeOf to_node.Tend (done.Answered output) = IsDrop reason.NotRunning output
-IsOutcomeOf to_node.Start (done.Started epoch count committed) = Unit {0}
-IsOutcomeOf to_node.Start (done.Stopped cause) = Unit {0}
-IsOutcomeOf to_node.Start (done.Answered output) = IsDrop reason.Running output
-IsOutcomeOf (to_node.Stop junk) (done.Stopped cause) = cause ≡ None
-IsOutcomeOf (to_node.Stop junk) (done.Answered output) = IsDrop reason.NotRunning output
-IsOutcomeOf _ _ = ⊥
-
--- a node that is up has these numbers
-abbrev pub RunsWith : {D : Type 0} {g : Ghosts D} → (epoch count committed : ℕ) → NodeState D g
-    → Type 0
-RunsWith epoch count committed (Up node) =
-    (epoch ≡ (node_core node.value).epoch) × (count ≡ (node_core node.value).count)
-    × (committed ≡ (node_core node.value).committed)
-RunsWith epoch count committed (Down disk) = ⊥
-
--- a node stands as its outcome tells: one that started is up with these numbers, one that stopped
--- is down, and any other is up or down as it was
-abbrev pub StandsByOutcome : {D : Type 0} {g : Ghosts D} → NodeState D g → StepOutcome
-    → NodeState D g → Type 0
-StandsByOutcome old (done.Answered output) new = IsDown new ↔ IsDown old
-StandsByOutcome old (done.Started epoch count committed) new = RunsWith epoch count committed new
-StandsByOutcome old (done.Stopped cause) new = IsDown new
-StandsByOutcome old (done.Tended answer) new = IsDown new ↔ IsDown old
-
--- a node in the old state took this input, with this fault armed, and these limits if it was
--- started: its new state and its outcome
-pub record HasDispatched {D : Type 0} (g : Ghosts D) (given : Limits) (fault : Fault)
-    (node_input : NodeInput) (old new : NodeState D g) (did : StepOutcome) : Type 0 where
-  pub ready : StateIsReady new
-  pub outcome : IsOutcomeOf node_input did
-  pub stands : StandsByOutcome old did new
-  pub refines : (x : ℕ) (n : Machine) → StateRefines g.is_honest g.state old x n →
-      OutcomeRefines g.is_honest g.state fault
-      (has_struck_in g.past fault (disk_in old) new) x n node_input old new did
-  pub disk : g.is_honest (disk_in old) →
-      DiskFits g.state g.failures g.past (input_junk node_input) fault
-      (has_struck_in g.past fault (disk_in old) new) did (disk_in old) new
-  pub only : StateIsSound g old → g.is_reliable (disk_in old) →
-      IsExplained (g.state (disk_in old)) (has_struck_in g.past fault (disk_in old) new) did
-  pub follows : StateFollows g.is_honest g.state g.failures g.past old node_input new
-  -- it has the same disk
-  pub grows : (x : ℕ) (n : Machine) → StateRefines g.is_honest g.state old x n →
-      HasGrown g.past (disk_in old) (disk_in new)
-  pub marked : g.is_honest (disk_in old) →
-      MarksFit g.state g.past g.marks (input_junk node_input) fault
-      (has_struck_in g.past fault (disk_in old) new) did (disk_in old) new
-  -- the fault is forgotten
-  pub forgets : g.is_honest (disk_in old) →
-      (IsIgnored old node_input → fault_of (g.marks (disk_in old)) ≡ None) →
-      fault_of (g.marks (disk_in new)) ≡ None
-  -- a node that is up has the given limits, if it was down or had those
-  pub limits : StateHasLimits old given → StateHasLimits new given

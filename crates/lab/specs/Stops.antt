@@ -32,6 +32,8 @@ module _ {D : Type 0} (g : Ghosts D) (disk : D) where
         ((length (g.past disk), Crashed junk) ∷ g.marks disk) (disk_in new)
     pub forgets : g.is_honest disk → fault_of (g.marks (disk_in new)) ≡ None
     pub limits : (limits : Limits) → StateHasLimits new limits
+    -- a crash is no failure, whatever the disk
+    pub count : g.failures (disk_in new) ≡ g.failures disk
 
   -- A node stopped by itself for this cause, and its calls left this disk, with this fault. What it
   -- tells and with which junk the disk crashed depends on whether the fault struck.

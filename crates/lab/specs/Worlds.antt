@@ -37,7 +37,7 @@ use Rattle.lab.specs.declared.world.World.{World}
 use Rattle.lab.specs.SimNodes.{Arrives, Choice, StateRefines, disk_in, in_memory, state}
 use Rattle.lab.specs.SimNodes.{StateHasLimits, IsDown, IsUnarmed}
 use Rattle.lab.specs.Events.{NamesNode, modelled}
-use Rattle.lab.specs.Outcomes.{HasDispatched}
+use Rattle.lab.specs.Dispatches.{HasDispatched}
 use Rattle.lab.specs.Disks.{AreDisksAfter, DiskFollows, HaveDisks, IsCrashOf, IsDiskOf, IsNewDisk}
 use Rattle.lab.specs.Freshness.{NodesKeepEnough, ReadsAreFresh}
 use Rattle.lab.specs.History.{IsHistory}

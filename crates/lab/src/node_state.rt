@@ -2,7 +2,7 @@
 ghost use Rattle.std.specs.Prelude.{◌≡◌, IfOk};
 ghost use Rattle.node.specs.{IsReady, disk_of};
 ghost use Rattle.node.specs.Steps.{DiskAlwaysRefines, IfRefines};
-ghost use Rattle.lab.specs.Outcomes.{HasDispatched};
+ghost use Rattle.lab.specs.Dispatches.{HasDispatched};
 ghost use Rattle.lab.specs.SimNodes.{StateIsReady};
 ghost use Rattle.lab.specs.Stops.{IsDownAfter, StopsWithDisk};
 

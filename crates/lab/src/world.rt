@@ -13,7 +13,7 @@ ghost use Rattle.lab.specs.Worlds.{IsDownAmong, IsReportOf, IsRunSoFar, ShowsNum
 ghost use Rattle.lab.specs.Worlds.{WorldHasEnded, WorldHasLimits, WorldRun};
 ghost use Rattle.lab.specs.Worlds.{direct_carrier, empty_run, frames_in_steps, losses_of};
 ghost use Rattle.lab.specs.LinesSoFar.{EndsIfRefused, HasNotBegun, HasPartlyKept};
-ghost use Rattle.lab.specs.LinesSoFar.{HasRunNothing, StepIsRefused, StepsOnce};
+ghost use Rattle.lab.specs.LinesSoFar.{HasJustBegun, HasRunNothing, StepIsRefused, StepsOnce};
 ghost use Rattle.lab.specs.LinesSoFar.{configs_of, events_so_far, lines_so_far, lost_so_far};
 ghost use Rattle.lab.specs.LinesSoFar.{nodes_of, sent_so_far};
 ghost use Rattle.lab.specs.Transmissions.{carrier_of};
@@ -140,6 +140,7 @@ impl World<MemDisk, Direct> {
     ) -> Result<World<MemDisk, Direct>, LabError>
         ensures ran { IfOk result
             (λ world. HasRun direct_carrier world (empty_run configs.now)) }
+        ensures begun { IfOk result (HasJustBegun configs.now limits.now) }
         ensures goes_on { IfOk result (λ world. WorldHasEnded world → ⊥) }
         ensures limits { IfOk result (λ world. WorldHasLimits world limits.now) }
     {
@@ -157,6 +158,7 @@ impl<C: Carrier + Drop> World<MemDisk, C> {
     ) -> Result<World<MemDisk, C>, LabError>
         ensures ran { C.is_faithful carrier →
             IfOk result (λ world. HasRun C.Carrier world (empty_run configs.now)) }
+        ensures begun { IfOk result (HasJustBegun configs.now limits.now) }
         ensures carrier { IfOk result (λ world. carrier_of world ≡ carrier) }
         ensures goes_on { IfOk result (λ world. WorldHasEnded world → ⊥) }
         ensures limits { IfOk result (λ world. WorldHasLimits world limits.now) }

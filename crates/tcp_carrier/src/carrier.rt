@@ -28,7 +28,8 @@ impl<R: Net<Listener = TcpListener, Stream = TcpStream>> TcpCarrier<R> {
     /// A carrier that connects to this listener, which nobody else should use. The first call of
     /// `carry` makes the connection.
     pub fn new(rt: R, listener: TcpListener) -> TcpCarrier<R>
-        ensures { result.state ≡ ConnectionState.NotMade }
+        ensures listener { result.listener ≡ listener }
+        ensures state { result.state ≡ ConnectionState.NotMade }
     {
         TcpCarrier {
             rt,

@@ -37,4 +37,5 @@ returns g c =
       };
       forgets = λ honest. ap fault_of (e.marks honest);
       limits = λ limits. tt;
+      count = e.count;
     })

@@ -2,7 +2,7 @@ use Rattle.std.proofs.Common.{sym, subst}
 use Rattle.std.specs.Prelude.{IfOk}
 use Rattle.carriers.specs.declared.NodeInput.{NodeInput}
 use Rattle.lab.specs.declared.node_state.NodeState.TheVariants.{Down}
-use Rattle.lab.specs.Outcomes.{HasDispatched}
+use Rattle.lab.specs.Dispatches.{HasDispatched}
 use Rattle.lab.proofs.Dispatching.{answered_at_rest}
 use Rattle.lab.proofs.node_state.dispatch_down.Goals as goal
 

@@ -1,12 +1,14 @@
-use Rattle.std.proofs.Common.{false, refl, inl, inr, subst, rules}
+use Rattle.std.proofs.Common.{false, refl, inl, inr, subst, sym, rules}
 use Rattle.chain_model.specs.{started, stopped, silent}
 use Rattle.disk.specs.{State, contents}
 use Rattle.disk.specs.StepsLemmas.{read_is_outcome}
+use Rattle.node.specs.Starts.{StartRefusal}
 use Rattle.node.specs.{DiskAlwaysRefines}
 use Rattle.carriers.specs.declared.NodeInput.TheVariants as to_node
 use Rattle.lab.specs.declared.node_state.NodeState.TheVariants.{Down}
 use Rattle.lab.specs.SimNodes.{StateRefines}
 use Rattle.lab.specs.Outcomes.{Starts, Fails}
+use Rattle.lab.proofs.Dispatches.{counts_same}
 use Rattle.lab.proofs.Dispatching.{each_answer, halted, halts_so, holding, honest_left}
 use Rattle.lab.proofs.Dispatching.{in_disk_box, into_box}
 use Rattle.lab.proofs.Faults.{grown_since, marked_so, same_state, stays_so}
@@ -46,6 +48,10 @@ returns-in_ok-new-in-Ok g c =
           record { spared = stays.0; count = stays.1; same = λ down. absurd down };
       only = search rules;
       follows = tt;
+      tells = λ own stops. absurd cc;
+      counts = counts_same g.D.Disk own c.arm.new.self _ _ c.arm.ensures c.in-Ok.ensures.kept
+          (λ never. never) c.arm-in-Ok.ensures.armed;
+      explains = λ honest starts cause stops. absurd cc;
       grows = λ x n r.
           let armed = c.arm.ensures in
           let represents = subst (λ (s : State). DiskAlwaysRefines s x n)
@@ -101,4 +107,7 @@ returns-in-Err g c =
     let leaves = explains.any_moment x n n (armed.honest.1 r.0)
     (λ left now. inl (represents left now)) in
     grown_since g.D.Disk _ own c.arm.new.self c.in-Err.disk c.in-Err.disk armed.past leaves
-    refl))) c.stop_by_itself.ensures
+    refl)
+    (λ honest _. subst (λ (s : State). StartRefusal c.in-Err.stop (contents s))
+    (sym (same_state (armed.same honest))) (explains.told (armed.honest.1 honest)))))
+    c.stop_by_itself.ensures

@@ -10,6 +10,7 @@ use Rattle.node.specs.{disk_of, engine_of}
 use Rattle.carriers.specs.declared.NodeInput.TheVariants as to_node
 use Rattle.lab.specs.declared.node_state.NodeState.TheVariants.{Up}
 use Rattle.lab.specs.Outcomes.{Answers, Ends}
+use Rattle.lab.proofs.Dispatches.{counts_same}
 use Rattle.lab.proofs.Dispatching.{each_answer, halted, halts_so, holding, in_box}
 use Rattle.lab.proofs.Faults.{grown_since, marked_so, same_state, stays_so}
 use Rattle.lab.proofs.node_state.step.Goals as goal
@@ -40,6 +41,10 @@ returns-in-Ok g c = λ limits.
           record { spared = stays.0; count = stays.1; same = λ down. absurd down };
       only = search rules;
       follows = tt;
+      tells = λ own stops. absurd cc;
+      counts = counts_same g.D.Disk (disk_of own) (disk_of c.arm.new.self) _ _
+          c.arm.ensures.armed c.in-Ok.ensures.kept.disk (λ never. cc) c.arm-in-Ok.ensures.armed;
+      explains = λ honest starts cause stops. absurd cc;
       grows = λ x n r.
           let ended = c.in-Ok.ensures.ends x n (c.arm.ensures.refines x n r) in
           grown_since g.D.Disk _ (disk_of own) (disk_of c.arm.new.self) _ _
@@ -88,4 +93,5 @@ returns-in-Err g c = λ limits.
     (λ x n r.
     let ends = c.in-Err.ensures.ends x n (c.arm.ensures.refines x n r) in
     grown_since g.D.Disk _ (disk_of own) (disk_of c.arm.new.self) _ c.disk_in_box.result
-    c.arm.ensures.armed.past ends.any_moment (ap g.D.Disk.past disk)))) c.stop_by_itself.ensures
+    c.arm.ensures.armed.past ends.any_moment (ap g.D.Disk.past disk))
+    (λ honest starts. absurd cc))) c.stop_by_itself.ensures

@@ -1,6 +1,6 @@
 use Rattle.std.proofs.Common.{refl, subst}
 use Rattle.disk.specs.declared.Fault.{Fault}
-use Rattle.lab.specs.Outcomes.{HasDispatched}
+use Rattle.lab.specs.Dispatches.{HasDispatched}
 use Rattle.lab.proofs.Moves.{moved}
 use Rattle.lab.proofs.world.deliver.Goals as goal
 

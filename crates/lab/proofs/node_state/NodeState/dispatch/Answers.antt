@@ -9,7 +9,8 @@ use Rattle.lab.specs.declared.input.StepOutcome.TheVariants as done
 use Rattle.lab.specs.declared.node_state.NodeState.{NodeState}
 use Rattle.lab.specs.declared.node_state.NodeState.TheVariants.{Up}
 use Rattle.lab.specs.SimNodes.{StateRefines, disk_in}
-use Rattle.lab.specs.Outcomes.{Drops, HasCrashed, HasDispatched, RunsOn, Stops}
+use Rattle.lab.specs.Dispatches.{HasDispatched}
+use Rattle.lab.specs.Outcomes.{Drops, HasCrashed, RunsOn, Stops}
 use Rattle.lab.proofs.Dispatching.{answered_only, dispatched_as, each_answer, ready_up}
 use Rattle.lab.proofs.Dispatching.{some_drop}
 use Rattle.lab.proofs.Faults.{before_is, crash_grows}
@@ -42,7 +43,7 @@ returns-in-BadFrame g c =
     dispatched_as c.args.limits.now c.args.fault c.in-BadFrame.is c.in-Up.is
     (answered_only g.D.Disk c.args.limits.now c.args.fault (to_node.BadFrame c.in-BadFrame.why)
     (Up node) output.result (ready_up node (c.requires node c.in-Up.is))
-    (some_drop c.in-BadFrame.why output.result output.ensures)
+    output.ensures
     (inr (some_drop c.in-BadFrame.why output.result output.ensures)) tt
     (λ x n r. Drops r.core.running r (output.result, refl, output.ensures)) refl)
 
@@ -85,6 +86,9 @@ returns-in_ok-state-in-Stop g c =
       disk = crashed;
       only = λ sound reliable stops. absurd cc;
       follows = crashed;
+      tells = λ own stops. absurd cc;
+      counts = e.count ∙ ap g.D.Disk.failures left;
+      explains = λ honest starts cause stops. absurd cc;
       grows = λ x n r. crash_grows g.D.Disk junk (disk_of node.value) (disk_of node.value) new
           (crashed r.honest) ([], refl);
       marked = λ honest.

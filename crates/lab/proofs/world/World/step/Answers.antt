@@ -123,8 +123,7 @@ returns-clause-steps = took_steps
 
 pub returns-then-self-clause-refused : goal.returns-then-self-clause-refused
 returns-then-self-clause-refused g c = refused_none g.C.Carrier c.args.event.now c.args.self.now
-    c.args.self.now (keeps_nothing (λ (it : EventContent). it ≡ c.args.event.now) c.args.self.now)
-    refl refl refl
+    c.args.self.now (keeps_nothing c.args.event.now c.args.self.now) refl refl
 
 pub returns-in_err-begin-clause-refused : goal.returns-in_err-begin-clause-refused
 returns-in_err-begin-clause-refused g c =
@@ -132,7 +131,7 @@ returns-in_err-begin-clause-refused g c =
     let old = c.args.self.now in
     let new = c.begin.new.self in
     on_err c.from_residual.result (refused_none g.C.Carrier c.args.event.now old new
-    (keeps_unbegun old new c.args.event.now not_begun) not_begun.taken
+    (keeps_unbegun old new c.args.event.now not_begun)
     (ap (λ (w : World g.row.D.Denot g.row.C.Denot g.D.Disk). nodes_of w) not_begun.others)
     (ap (λ (w : World g.row.D.Denot g.row.C.Denot g.D.Disk). frames_of w) not_begun.others))
 

@@ -1,5 +1,5 @@
 -- What a step does in any world, at each of its ends.
-use Rattle.std.proofs.Common.{List, [], ◌∷◌, Option, ℕ, ap, length, refl, subst, sym, ◌∙◌}
+use Rattle.std.proofs.Common.{List, get_or, [], ◌∷◌, Option, ℕ, ap, length, refl, subst, sym, ◌∙◌}
 use Rattle.std.proofs.lemmas.Option.{MatchOption-at_none}
 use Rattle.std.proofs.lemmas.Result.{on_ok_weaker}
 use Rattle.carriers.specs.{HasCarried}
@@ -176,6 +176,7 @@ took_steps g c =
     c.deliver.new.nodes.items took)
     (c.names_node.ensures.0 c.if-not-names_node.false)
     (λ _. by_kind kind lines (λ certain. dispatched_lines begun.configs [] i x c.in-To.input
+    (get_or begun.nodes.items took.index took.sim).state
     (HasCarried h c.delivery_of.new.carrier c.trace_of.new.carrier)
     kind (length begun.frames.items) did lines
     (subst (IsDeliverable begun.configs [] i kind) c.in-To.is
