@@ -2,6 +2,7 @@
 use Rattle.std.proofs.Common.{◌≡◌, ◌≤◌, ◌+◌, ◌-◌, ℕ, suc, List, [], ◌∷◌, ◌++◌, length, map}
 use Rattle.std.proofs.Common.{take, drop, refl, sym, ap, ap₂, subst, ◌∙◌, arith, append_assoc}
 use Rattle.std.proofs.Common.{append-nil, All}
+use Rattle.std.proofs.lemmas.List.{take-append-drop}
 use Rattle.std.proofs.lemmas.List.Elements.{recursion_from_All}
 use Rattle.disk.specs.declared.disk.Disk.{Ghosts}
 use Rattle.lab.specs.EventContent as lab
@@ -9,7 +10,7 @@ use Rattle.lab.specs.EventKind.{EventKind}
 use Rattle.lab.specs.declared.world.World.{World}
 use Rattle.lab.specs.{EventAddsLines, events_so_far, sent_so_far}
 use Rattle.scripts.specs.declared.statement.Action.{Action}
-use Rattle.client.specs.ReportedRuns.{DeliversLeft, places_between}
+use Rattle.client.specs.ReportedRuns.{DeliversLeft, DeliversUpTo, places_between}
 use Rattle.client.specs.ScriptRuns.{IsRising, delivery, left_after, left_after_event, most}
 use Rattle.client.specs.ScriptRuns.{places_after}
 use Rattle.client.proofs.Flowing.{drop_more, map-more, places_after-more, reaches, take_more}
@@ -109,6 +110,22 @@ module _ {D C : Type 0} {g : Ghosts D} where
         within = subst (λ (l : List ℕ). suc count ≤ length l) (sym more)
             (reaches all new rest count p front);
         stays = λ none. absurd (omega (arith, none));
+      }
+
+  -- .. and the next one is about to be
+  pub delivers_next : (first now : World D C g) (old left rest : List ℕ) (count p : ℕ) →
+      Delivers first now old left count → left ≡ p ∷ rest →
+      DeliversUpTo first now old (delivery p)
+  delivers_next first now old left rest count p d is =
+      let all = old ++ places_between first now in
+      record {
+        first = take count all;
+        place = p;
+        rest = rest;
+        all = sym (take-append-drop count all)
+            ∙ ap (λ (l : List ℕ). take count all ++ l) (sym d.behind ∙ is);
+        events = d.took;
+        next = refl;
       }
 
   -- no frame is left

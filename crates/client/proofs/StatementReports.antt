@@ -79,7 +79,7 @@ module _ {D C : Type 0} {g : Ghosts D} (h : Carriers C) where
   pub cut_in_memory : (first world now : World D C g) (left : List ℕ) (all : List Statement) (i : ℕ)
       (places : List ℕ) (before : ℕ) (old new : Option (List ℕ)) → i < length all →
       ReportsSoFar first world left (take i all) places before old new →
-      IsCutAtFirst h (drop i all) world now → ReportIsCut h Memory first now all old new
+      IsCutAtFirst h (drop i all) left world now → ReportIsCut h Memory first now all old new
   cut_in_memory first world now left all i places before old new within r kept = record {
     count = i;
     within = within;

@@ -9,7 +9,7 @@ use Rattle.lab.specs.declared.Line.{Line}
 use Rattle.scripts.specs.declared.statement.Action.{Action}
 use Rattle.client.specs.declared.statement_result.Note.TheVariants as note
 use Rattle.client.specs.declared.statement_result.StatementResult.{StatementResult}
-use Rattle.client.specs.ReportedRuns.{EndsIn, EndsSo}
+use Rattle.client.specs.ReportedRuns.{EndsIn, EndsSo, HaveWorked}
 use Rattle.client.specs.ScriptRuns.{HasSettled, ShowsLast, has_worked, most}
 use Rattle.client.proofs.Settling.{all_worked}
 
@@ -21,13 +21,6 @@ HasTendedOn old new = (own : List (List Line)) × (new ≡ old ++ own) × HasSet
 abbrev pub TellsWhetherWorked : List (List Line) → Bool → Type 0
 TellsWhetherWorked lines b = (before : List (List Line)) (last : List Line) →
     lines ≡ before ++ last ∷ [] → b ≡ has_worked last
-
--- so many tends worked, and have lines behind those that there were
-pub record HaveWorked (first now : List (List Line)) (count : ℕ) : Type 0 where
-  pub own : List (List Line)
-  pub added : now ≡ first ++ own
-  pub each : length own ≡ count
-  pub worked : All (λ step. has_worked step ≡ true) own
 
 pub none_worked : (lines : List (List Line)) → HaveWorked lines lines 0
 none_worked lines = record {

@@ -2,7 +2,7 @@
 -- lines that it reports.
 use Rattle.std.specs.Prelude.{◌≡◌, ◌⊎◌, ◌≤◌, ◌<◌, ◌-◌, ℕ, suc, List, [], ◌∷◌, ◌++◌, Option}
 use Rattle.std.specs.Prelude.{length, take, drop}
-use Rattle.std.specs.Prelude.{All, Bool, if◌then◌else◌, replicate}
+use Rattle.std.specs.Prelude.{All, Bool, if◌then◌else◌, map, replicate, true}
 use Rattle.std.specs.Io.KnownBytes.{Appends}
 use Rattle.disk.specs.declared.disk.Disk.{Ghosts}
 use Rattle.lab.specs.declared.Line.{Line}
@@ -27,7 +27,7 @@ use Rattle.client.specs.declared.statement_result.Note.TheVariants as note
 use Rattle.client.specs.declared.run_error.RunError.{RunError}
 use Rattle.client.specs.declared.run_error.RunError.TheVariants.{Memory, Write}
 use Rattle.client.specs.ScriptRuns.{HasSettled, IsRising, ShowsLast, busy, deliveries, delivery}
-use Rattle.client.specs.ScriptRuns.{left_after, most, places_after, shown, tending}
+use Rattle.client.specs.ScriptRuns.{has_worked, left_after, most, places_after, shown, tending}
 use Rattle.client.specs.Text.{result_text}
 
 -- how a statement is answered in any world: so many events, of which so many are silent, and what
@@ -84,6 +84,13 @@ EndsSo action turn own = Unit {0}
 abbrev pub EndsIn : Action → StatementResult → (old new : List (List Line)) → Type 0
 EndsIn action turn old new = (own : List (List Line)) × (new ≡ old ++ own) × EndsSo action turn own
 
+-- so many tends worked, and have lines behind those that there were
+pub record HaveWorked (old new : List (List Line)) (count : ℕ) : Type 0 where
+  pub own : List (List Line)
+  pub added : new ≡ old ++ own
+  pub each : length own ≡ count
+  pub worked : All (λ step. has_worked step ≡ true) own
+
 -- what is said of a node is so of these: it is down or unknown, or it is up and has these numbers
 abbrev pub ShowsNow : {D : Type 0} {g : Ghosts D} → List (SimNode D g) → Note → Type 0
 ShowsNow sims note.Nothing = Unit {0}
@@ -113,19 +120,36 @@ module _ {D C : Type 0} {g : Ghosts D} where
   StepIsCut h event old new =
       (new ≡ old) ⊎ StepIsRefused h event old new ⊎ StepsOnce h event old new
 
-  -- a statement ended early at one of its events, and those before that were run
-  pub record ActionIsCut (h : Carriers C) (action : Action) (old new : World D C g) : Type 0 where
+  -- the places of the frames that were sent between two moments of a world
+  abbrev pub places_between : World D C g → World D C g → List ℕ
+  places_between old new = places_after (sent_so_far old) (sent_so_far new - sent_so_far old)
+
+  -- The frames that are left, with those that are sent meanwhile, were delivered in the order of
+  -- this list up to one of them, and this event delivers that one.
+  pub record DeliversUpTo (old mid : World D C g) (left : List ℕ) (event : EventContent) : Type 0
+    where
+      pub first : List ℕ
+      pub place : ℕ
+      pub rest : List ℕ
+      pub all : left ++ places_between old mid ≡ first ++ place ∷ rest
+      pub events : events_so_far mid ≡ events_so_far old ++ map delivery first
+      pub next : event ≡ delivery place
+
+  -- A statement ended early at one of its events, and those before that were run: by a flow, with
+  -- these frames left, the deliveries of the frames before the one that this event delivers; by a
+  -- settle tends that worked.
+  pub record ActionIsCut (h : Carriers C) (action : Action) (left : List ℕ) (old new : World D C g)
+      : Type 0 where
     pub count : ℕ
     pub few : count < most_events action
     pub mid : World D C g
     pub runs : RunsAction h action count old mid
     pub event : EventContent
     pub own : IsActionEvent action event
+    pub order : action ≡ Flow → DeliversUpTo old mid left event
+    pub worked : (node : ℕ) → action ≡ Settle node → Names (configs_of old) action →
+        HaveWorked (lines_so_far old) (lines_so_far mid) count
     pub cut : StepIsCut h event mid new
-
-  -- the places of the frames that were sent between two moments of a world
-  abbrev pub places_between : World D C g → World D C g → List ℕ
-  places_between old new = places_after (sent_so_far old) (sent_so_far new - sent_so_far old)
 
   -- the frames that are left, with those that are sent meanwhile, were delivered in the order of
   -- this list up to the bound of a flow, and the others are left
@@ -179,13 +203,13 @@ pub data AreReported {D C : Type 0} {g : Ghosts D} (h : Carriers C) (first : Wor
       (places ++ replicate turn.events turn.line) (steps ++ own)
       (text ++ result_text (places ++ replicate turn.events turn.line) turn own)
 
--- the first of these statements ended early at one of its events; or it was run, and ended before
--- its text was made
-abbrev pub IsCutAtFirst : {D C : Type 0} {g : Ghosts D} → Carriers C → List Statement
+-- the first of these statements ended early at one of its events, with these frames left before it;
+-- or it was run to its end, and its text was not made
+abbrev pub IsCutAtFirst : {D C : Type 0} {g : Ghosts D} → Carriers C → List Statement → List ℕ
     → (old new : World D C g) → Type 0
-IsCutAtFirst h [] old new = ⊥
-IsCutAtFirst h (it ∷ statements) old new = ActionIsCut h it.action old new
-    ⊎ ((turn : StatementResult) × IsAnswered it turn × RunsAction h it.action turn.events old new)
+IsCutAtFirst h [] left old new = ⊥
+IsCutAtFirst h (it ∷ statements) left old new = ActionIsCut h it.action left old new
+    ⊎ ((turn : StatementResult) × (next : List ℕ) × IsReportedIn h old new it turn left next)
 
 module _ {D C : Type 0} {g : Ghosts D} where
   -- the statements were run in a world, which has their lines behind those that it had, and exactly
@@ -213,9 +237,9 @@ module _ {D C : Type 0} {g : Ghosts D} where
     pub is : part ≡ take beginning next
 
   -- Statements were run in a world, and this ended them early, at the statement behind so many
-  -- first ones. The text of these was written. Where memory was short, nothing more was, and the
-  -- world is as these left it, or as the first events of the next one did. Where the output took no
-  -- more, the next one was run too, and a beginning of its text was written.
+  -- first ones. The text of these was written. Where memory was short, nothing more was, and of the
+  -- next one the first events were run up to one that was cut, or all. Where the output took no
+  -- more, the next one was run to its end, and a beginning of its text was written.
   pub record ReportIsCut (h : Carriers C) (error : RunError) (old new : World D C g)
       (statements : List Statement) (before after : Option (List ℕ)) : Type 0 where
     pub count : ℕ
@@ -230,5 +254,5 @@ module _ {D C : Type 0} {g : Ghosts D} where
     pub part : List ℕ
     pub wrote : Appends before after (text ++ part)
     pub memory : error ≡ Memory →
-        (part ≡ []) × IsCutAtFirst h (drop count statements) behind new
+        (part ≡ []) × IsCutAtFirst h (drop count statements) left behind new
     pub output : error ≡ Write → ReportsOneMore h old new statements count text part

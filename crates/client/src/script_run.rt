@@ -182,7 +182,8 @@ fn flow<D: Crash + Drop, C: Carrier + Drop>(
         × DeliversLeft world.old world.new left.old.items left.new.items) }
     ensures runs { IfOk result
         (λ count. RunsAction C.Carrier Action.Flow count world.old world.new) }
-    ensures refused { OnErr result (ActionIsCut C.Carrier Action.Flow world.old world.new) }
+    ensures refused { OnErr result
+        (ActionIsCut C.Carrier Action.Flow left.old.items world.old world.new) }
 {
     let mut count = 0;
     while count < MOST {
@@ -231,7 +232,7 @@ fn settle<D: Crash + Drop, C: Carrier + Drop>(
     ensures runs { IfOk result
         (λ count. RunsAction C.Carrier (Action.Settle node) count world.old world.new) }
     ensures refused { OnErr result
-        (ActionIsCut C.Carrier (Action.Settle node) world.old world.new) }
+        (ActionIsCut C.Carrier (Action.Settle node) left.old.items world.old world.new) }
 {
     let mut count = 0;
     while count < MOST {
@@ -260,7 +261,7 @@ pub fn run_statement<D: Crash + Drop, C: Carrier + Drop>(
     ensures reported { IfOk result (λ turn. IsReportedIn C.Carrier world.old world.new
         statement.now turn left.old.items left.new.items) }
     ensures refused { OnErr result
-        (ActionIsCut C.Carrier statement.now.action world.old world.new) }
+        (ActionIsCut C.Carrier statement.now.action left.old.items world.old world.new) }
 {
     let line = statement.line;
     match &statement.action {

@@ -125,8 +125,9 @@ returns-in_err-turn-clause-reported g c =
     let all = c.args.script.now.statements.items in
     let i = c.loop-statement.statement-index in
     let same = c.deref-statement-items.ensures.value in
-    let at_first = cut_at_first h all i _ c.statement-item.result c.loop-statement.world
-    c.run_statement.new.world (rw same at c.loop-statement-test.true)
+    let at_first = cut_at_first h all i _ c.statement-item.result
+    c.loop-statement.left.items c.loop-statement.world c.run_statement.new.world
+    (rw same at c.loop-statement-test.true)
     (rw same at c.statement-item.is) (inl c.in_err-turn.ensures.refused) in
     let cut = cut_in_memory h c.args.world.now c.loop-statement.world c.run_statement.new.world
     c.loop-statement.left.items all i
@@ -141,10 +142,11 @@ returns-in_err-make_text-clause-reported g c =
     let all = c.args.script.now.statements.items in
     let i = c.loop-statement.statement-index in
     let same = c.deref-statement-items.ensures.value in
-    let report = c.in_ok-turn.ensures.reported in
-    let at_first = cut_at_first h all i _ c.statement-item.result c.loop-statement.world
-    c.run_statement.new.world (rw same at c.loop-statement-test.true)
-    (rw same at c.statement-item.is) (inr (c.in_ok-turn.turn, report.answered, report.runs)) in
+    let at_first = cut_at_first h all i _ c.statement-item.result
+    c.loop-statement.left.items c.loop-statement.world c.run_statement.new.world
+    (rw same at c.loop-statement-test.true)
+    (rw same at c.statement-item.is)
+    (inr (c.in_ok-turn.turn, c.run_statement.new.left.items, c.in_ok-turn.ensures.reported)) in
     let cut = cut_in_memory h c.args.world.now c.loop-statement.world c.run_statement.new.world
     c.loop-statement.left.items all i
     c.loop-statement.places.items c.loop-statement.before (g.W.Write.contents c.args.out.now)

@@ -2,9 +2,9 @@ use Rattle.std.proofs.Common.{ℕ, List, subst, add-one, arith, inl, inr, refl, 
 use Rattle.client.specs.ScriptRuns.{delivery, followed_by}
 use Rattle.client.proofs.Flowing.{Flows, flows_none, flows_on, flowed_all, flowed_most, emptied}
 use Rattle.client.proofs.PlacesBetween.{Delivers, delivered_all, delivered_most, delivers_none}
-use Rattle.client.proofs.PlacesBetween.{delivers_on}
+use Rattle.client.proofs.PlacesBetween.{delivers_next, delivers_on}
 use Rattle.client.proofs.ReportedLemmas.{adds_delivery, adds_more, adds_nothing}
-use Rattle.client.proofs.RunsActions.{cut_behind, runs_more, runs_none}
+use Rattle.client.proofs.RunsActions.{flow_cut, runs_more, runs_none}
 use Rattle.scripts.specs.declared.statement.Action.TheVariants.{Flow}
 use Rattle.client.proofs.script_run.flow.Goals as goal
 
@@ -108,7 +108,11 @@ returns-clause-runs g c = c.loop-count.invariant.3
 -- memory is wanted behind some of them
 pub returns-in_err-happen-clause-refused : goal.returns-in_err-happen-clause-refused
 returns-in_err-happen-clause-refused g c =
-    let cut = cut_behind g.C.Carrier Flow c.args.world.now c.loop-count.world c.happen.new.world
-    c.loop-count.count (delivery c.in-Some.place) (omega (arith, c.loop-count-test.true))
-    c.loop-count.invariant.3 (c.in-Some.place, refl) c.in_err-happen.ensures.refused in
+    let order = delivers_next c.args.world.now c.loop-count.world c.args.left.now.items
+    c.loop-count.left.items c.pop_front.new.self.items c.loop-count.count c.in-Some.place
+    c.loop-count.invariant.2 c.in-Some.ensures.items in
+    let cut = flow_cut g.C.Carrier c.args.world.now c.loop-count.world c.happen.new.world
+    c.args.left.now.items c.loop-count.count c.in-Some.place
+    (omega (arith, c.loop-count-test.true)) c.loop-count.invariant.3 order
+    c.in_err-happen.ensures.refused in
     search (rules, cut)

@@ -13,7 +13,7 @@ use Rattle.client.proofs.StatementResults.{turned_by_event, turned_by_flow, turn
 use Rattle.client.proofs.StatementResults.{turned_by_show, turned_without}
 use Rattle.client.proofs.ReportedLemmas.{reported_event, reported_flow, reported_invalid}
 use Rattle.client.proofs.ReportedLemmas.{reported_settle, reported_show}
-use Rattle.client.proofs.RunsActions.{cut_behind, runs_none, runs_one}
+use Rattle.client.proofs.RunsActions.{event_cut, runs_one}
 use Rattle.client.proofs.script_run.run_statement.Goals as goal
 
 pub returns-in_ok-step-in-Event-clause-ran : goal.returns-in_ok-step-in-Event-clause-ran
@@ -118,21 +118,23 @@ pub returns-in_err-step-in-Event-clause-refused : goal.returns-in_err-step-in-Ev
 returns-in_err-step-in-Event-clause-refused g c =
     let old = c.args.world.now in
     let event = c.in-Event.event in
-    let cut = subst (λ (a : Action). ActionIsCut g.C.Carrier a old c.step.new.world)
-    (sym c.in-Event.is) (cut_behind g.C.Carrier (Event event) old old c.step.new.world 0 event
-    (omega arith) (runs_none g.C.Carrier (Event event) old) refl
+    let left = c.args.left.now.items in
+    let cut = subst (λ (a : Action). ActionIsCut g.C.Carrier a left old c.step.new.world)
+    (sym c.in-Event.is) (event_cut g.C.Carrier old c.step.new.world left event
     c.in_err-step-in-Event.ensures.refused) in
     search (rules, cut)
 
 pub returns-in_err-events-in-Flow-clause-refused : goal.returns-in_err-events-in-Flow-clause-refused
 returns-in_err-events-in-Flow-clause-refused g c =
-    let cut = subst (λ (a : Action). ActionIsCut g.C.Carrier a c.args.world.now c.flow.new.world)
-    (sym c.in-Flow.is) c.in_err-events-in-Flow.ensures.refused in
+    let cut = subst (λ (a : Action). ActionIsCut g.C.Carrier a c.args.left.now.items
+    c.args.world.now c.flow.new.world) (sym c.in-Flow.is)
+    c.in_err-events-in-Flow.ensures.refused in
     search (rules, cut)
 
 pub returns-in_err-tends-in-Settle-clause-refused
     : goal.returns-in_err-tends-in-Settle-clause-refused
 returns-in_err-tends-in-Settle-clause-refused g c =
-    let cut = subst (λ (a : Action). ActionIsCut g.C.Carrier a c.args.world.now
-    c.settle.new.world) (sym c.in-Settle.is) c.in_err-tends-in-Settle.ensures.refused in
+    let cut = subst (λ (a : Action). ActionIsCut g.C.Carrier a c.args.left.now.items
+    c.args.world.now c.settle.new.world) (sym c.in-Settle.is)
+    c.in_err-tends-in-Settle.ensures.refused in
     search (rules, cut)

@@ -3,7 +3,7 @@ use Rattle.lab.specs.NodeLists.{Configurations}
 use Rattle.lab.specs.{lines_so_far}
 use Rattle.scripts.specs.Scripts.{Names}
 use Rattle.client.specs.ScriptRuns.{followed_by, tending}
-use Rattle.client.proofs.RunsActions.{cut_behind, runs_more, runs_none}
+use Rattle.client.proofs.RunsActions.{runs_more, runs_none, settle_cut}
 use Rattle.client.proofs.PlacesBetween.{leaves_none, leaves_on}
 use Rattle.client.proofs.Settling.{settles_none, settles_on, settled, settled_most}
 use Rattle.client.proofs.Tends.{none_worked, settled_at_bound, settled_now, worked_more}
@@ -129,8 +129,8 @@ returns-clause-runs g c = c.loop-count.invariant.4
 -- memory is wanted behind some tends
 pub returns-in_err-happen-clause-refused : goal.returns-in_err-happen-clause-refused
 returns-in_err-happen-clause-refused g c =
-    let cut = cut_behind g.C.Carrier (Settle c.args.node) c.args.world.now c.loop-count.world
-    c.happen.new.world c.loop-count.count (tending c.args.node)
-    (omega (arith, c.loop-count-test.true)) c.loop-count.invariant.4 refl
+    let cut = settle_cut g.C.Carrier c.args.node c.args.world.now c.loop-count.world
+    c.happen.new.world c.args.left.now.items c.loop-count.count
+    (omega (arith, c.loop-count-test.true)) c.loop-count.invariant.4 c.loop-count.invariant.2
     c.in_err-happen.ensures.refused in
     search (rules, cut)

@@ -5,11 +5,10 @@ use Rattle.lab.specs.{configs_of, lines_so_far}
 use Rattle.scripts.specs.Scripts.{Names}
 use Rattle.scripts.specs.declared.setup.Setup.{Setup}
 use Rattle.scripts.specs.declared.statement.Action.TheVariants.{Settle}
-use Rattle.client.specs.ReportedRuns.{ActionAddsLines, RunsAction}
+use Rattle.client.specs.ReportedRuns.{ActionAddsLines, HaveWorked, RunsAction}
 use Rattle.client.specs.ScriptRuns.{HasRunTo, Stretch, most}
 use Rattle.client.proofs.PlacesBetween.{LeavesSent}
 use Rattle.client.proofs.Settling.{Settles}
-use Rattle.client.proofs.Tends.{HaveWorked}
 use Rattle.client.proofs.script_run.settle.Given as goal
 
 -- so many tends worked, and the world has a list of lines of each, if it has the node

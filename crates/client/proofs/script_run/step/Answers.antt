@@ -1,4 +1,4 @@
-use Rattle.std.proofs.Common.{inl, inr, rules}
+use Rattle.std.proofs.Common.{inl, inr}
 use Rattle.client.specs.ReportedRuns.{StepIsCut}
 use Rattle.client.specs.ScriptRuns.{followed_by, one_step, run_of}
 use Rattle.client.proofs.Flowing.{added}
@@ -37,4 +37,4 @@ pub returns-in_err-add_sent-clause-refused : goal.returns-in_err-add_sent-clause
 returns-in_err-add_sent-clause-refused g c =
     let cut : StepIsCut g.C.Carrier c.args.event.now c.args.world.now c.step.new.self =
     inr (inr c.in_ok-step.ensures.steps) in
-    search (rules, cut)
+    on_err c.from_residual-in_err-add_sent.result cut
