@@ -19,7 +19,7 @@ use Rattle.node.specs.declared.stop.Stop.TheVariants as stop
 use Rattle.dumps.specs.declared.dump_error.DumpError.{DumpError}
 use Rattle.dumps.specs.declared.dump_error.DumpError.TheVariants.{Store}
 use Rattle.dumps.specs.Dumped.{AreOpenedFiles, DiskIsOnlyRead, HasOpenedFiles, IsDumpRefusal}
-use Rattle.dumps.specs.Dumped.{IsNotOpened, IsOfOpened, IsOfOutput, LeavesDevice}
+use Rattle.dumps.specs.Dumped.{IsNotOpened, IsOfOpened, IsOfOutput, LeavesDevice, RefusesText}
 use Rattle.dumps.specs.Dumped.{UnopenedRefusal, WritesText, disk_of_dump}
 
 -- ---- errors
@@ -33,6 +33,19 @@ pub of_engine : (e : EngineError) → IsEnvironmental engine.Disk engine.Memory 
     IsDumpRefusal (Store (engine_stop e))
 of_engine e (inl is) = inl (ap (λ (x : EngineError). Store (engine_stop x)) is)
 of_engine e (inr is) = inr (inl (ap (λ (x : EngineError). Store (engine_stop x)) is))
+
+-- a text is refused for memory, or since the output takes no more
+pub output_refusal : (text : List ℕ) (old new : Option (List ℕ)) (error : DumpError) →
+    RefusesText text old new error → IsOfOutput error
+output_refusal text old new error (inl memory) = inl memory.0
+output_refusal text old new error (inr full) = inr full.0
+
+-- what is so of an error is so of a refusal that passes it on
+pub refused_so : {T : Type 0} (P : T → Type 0) (Q : DumpError → Type 0)
+    (result : Result T DumpError) (error : DumpError) → IsErrAnd result (λ x. x ≡ error) →
+    Q error → MatchResult result P Q
+refused_so P Q (Ok x) error same so = absurd same
+refused_so P Q (Err x) error same so = subst Q (sym same) so
 
 -- a read that is refused is so of a store that was created
 pub read_of_opened : (T : Type 0) (told : LookUps) (at : ℕ) (e : EngineError) →
@@ -90,13 +103,15 @@ pub text_not_of_device : {T : Type 0} (text : List ℕ) (old new : Option (List 
     IsErrOf result (Store stop.Disk) → ⊥
 text_not_of_device text old new (Ok x) writes fails = cc
 text_not_of_device text old new (Err error) writes fails =
-    let disk : error ≡ Store stop.Disk = cc in output_not_of_device error writes.0 disk
+    let disk : error ≡ Store stop.Disk = cc in
+    output_not_of_device error (output_refusal text old new error writes) disk
 
 -- and it is one of a store that was created
 pub text_of_opened : {T : Type 0} (text : List ℕ) (old new : Option (List ℕ))
     (result : Result T DumpError) → WritesText text old new result → IfErr result IsOfOpened
 text_of_opened text old new (Ok x) writes = tt
-text_of_opened text old new (Err error) writes = output_of_opened error writes.0
+text_of_opened text old new (Err error) writes =
+    output_of_opened error (output_refusal text old new error writes)
 
 -- a refusal for a last row is one for memory, where there is a row
 pub of_last_row : {P : Type 0} (error : DumpError) →
@@ -215,13 +230,16 @@ IsPassedOn written disk result =
     MatchResult written (λ _. result ≡ Ok disk) (λ e. result ≡ Err (e, disk))
 
 -- so what is so of the one is so of the other
-pub passed_on : {D : Type 0} (P Q : Type 0) (written : Result (Unit {0}) DumpError) (disk : D)
-    (result : Result D (DumpError × D)) → IsPassedOn written disk result →
-    MatchResult written (λ _. P) (λ _. Q) → MatchResult result (λ _. P) (λ _. Q)
+pub passed_on : {D : Type 0} (P : Type 0) (Q : DumpError → Type 0)
+    (written : Result (Unit {0}) DumpError) (disk : D) (result : Result D (DumpError × D)) →
+    IsPassedOn written disk result → MatchResult written (λ _. P) Q →
+    MatchResult result (λ _. P) (λ refused. Q refused.0)
 passed_on {D} P Q (Ok x) disk result is so =
-    subst (λ (r : Result D (DumpError × D)). MatchResult r (λ _. P) (λ _. Q)) (sym is) so
+    subst (λ (r : Result D (DumpError × D)). MatchResult r (λ _. P) (λ refused. Q refused.0))
+    (sym is) so
 passed_on {D} P Q (Err e) disk result is so =
-    subst (λ (r : Result D (DumpError × D)). MatchResult r (λ _. P) (λ _. Q)) (sym is) so
+    subst (λ (r : Result D (DumpError × D)). MatchResult r (λ _. P) (λ refused. Q refused.0))
+    (sym is) so
 
 module _ {D : Type 0} (g : Ghosts D) where
   -- an opening that was refused keeps the device

@@ -1,5 +1,5 @@
 -- The rows of one page more are written.
-use Rattle.std.proofs.Common.{◌≡◌, ◌+◌, inl, inr, ℕ, List, [], ◌∷◌, ◌++◌, Option, drop, take}
+use Rattle.std.proofs.Common.{◌≡◌, ◌≢◌, ◌+◌, inl, inr, ℕ, List, [], ◌∷◌, ◌++◌, Option, drop, take}
 use Rattle.std.proofs.Common.{ap, false, length, length-append, refl, subst, sym, ◌∙◌}
 use Rattle.std.proofs.lemmas.Grind.{flat_map-append}
 use Rattle.std.specs.List.{flat_map}
@@ -12,6 +12,8 @@ use Rattle.kv_types.specs.Order.{IsBelow, IsStrictOrder}
 use Rattle.kv_types.specs.Pages.{IsPage, PagesAgree, page_of}
 use Rattle.kv_types.specs.{BatchContent, Rows, map_of}
 use Rattle.client.specs.PrintedRuns.{AppendsPart}
+use Rattle.dumps.specs.declared.dump_error.DumpError.{DumpError}
+use Rattle.dumps.specs.declared.dump_error.DumpError.TheVariants.{Write}
 use Rattle.dumps.specs.Dumped.{AreAllWritten, AreBegun, AreWritten, DiskIsOnlyRead, ShowsList}
 use Rattle.dumps.specs.Dumped.{StillShows, row_line}
 use Rattle.dumps.specs.Walks.{AreRowsOf, all_from}
@@ -45,11 +47,12 @@ module _ {D : Type 0} {g : Ghosts D} where
 -- what was written of all lists that are shown later, was of those that are shown now
 module _ (IsShown IsShownLater : List BatchContent → Type 0) (at : ℕ)
     (still : (list : List BatchContent) → IsShown list → IsShownLater list) where
-  pub begun_for : (old new : Option (List ℕ)) → AreBegun IsShownLater at old new →
-      AreBegun IsShown at old new
-  begun_for old new it = record {
+  pub begun_for : (old new : Option (List ℕ)) (error : DumpError) →
+      AreBegun IsShownLater at old new error → AreBegun IsShown at old new error
+  begun_for old new error it = record {
     rows = it.rows;
     part = it.part;
+    whole = it.whole;
     first = λ list shown. it.first list (still list shown);
   }
 
@@ -80,11 +83,13 @@ module _ (IsShown : List BatchContent → Type 0) (at : ℕ) where
   }
 
   -- what was written so far is a beginning of the text of all rows
-  pub begun_so_far : (from : List ℕ) (known count : ℕ) (old new : Option (List ℕ)) →
-      AreWritten IsShown at from known count old new → AreBegun IsShown at old new
-  begun_so_far from known count old new before = record {
+  pub begun_so_far : (from : List ℕ) (known count : ℕ) (old new : Option (List ℕ))
+      (error : DumpError) → AreWritten IsShown at from known count old new →
+      AreBegun IsShown at old new error
+  begun_so_far from known count old new error before = record {
     rows = before.rows;
     part = part_same old new (flat_map row_line before.rows) before.wrote;
+    whole = λ other. before.wrote;
     first = λ list shown.
         let are = before.first list shown in (
           are.walked.left,
@@ -93,8 +98,9 @@ module _ (IsShown : List BatchContent → Type 0) (at : ℕ) where
   }
 
   -- nothing is a beginning of it
-  pub begun_none : PagesAgree → (out : Option (List ℕ)) → AreBegun IsShown at out out
-  begun_none agree out = begun_so_far [] 0 0 out out (none_written agree out)
+  pub begun_none : PagesAgree → (out : Option (List ℕ)) (error : DumpError) →
+      AreBegun IsShown at out out error
+  begun_none agree out error = begun_so_far [] 0 0 out out error (none_written agree out)
 
   module _ (order : IsStrictOrder IsBelow) (agree : PagesAgree) (from : List ℕ)
       (known count : ℕ) (old mid new : Option (List ℕ)) (page : Rows)
@@ -113,11 +119,20 @@ module _ (IsShown : List BatchContent → Type 0) (at : ℕ) where
         ≡ flat_map row_line before.rows ++ flat_map row_line (drop known page.rows)
     parts = flat_map-append row_line before.rows (drop known page.rows)
 
+    behind_all : Appends mid new (flat_map row_line (drop known page.rows)) →
+        Appends old new (flat_map row_line rows)
+    behind_all wrote = subst (Appends old new) (sym parts)
+        (appends_more old mid new (flat_map row_line before.rows)
+        (flat_map row_line (drop known page.rows)) before.wrote wrote)
+
     -- so is what was written so far, and a beginning of a page more
-    pub begun_with_page : AppendsPart mid new (flat_map row_line (drop known page.rows)) →
-        AreBegun IsShown at old new
-    begun_with_page part = record {
+    pub begun_with_page : (error : DumpError) →
+        AppendsPart mid new (flat_map row_line (drop known page.rows)) →
+        (error ≢ Write → Appends mid new (flat_map row_line (drop known page.rows))) →
+        AreBegun IsShown at old new error
+    begun_with_page error part all = record {
       rows = rows;
+      whole = λ other. behind_all (all other);
       part = subst (AppendsPart old new) (sym parts)
           (part_behind old mid new (flat_map row_line before.rows)
           (flat_map row_line (drop known page.rows)) before.wrote part);
@@ -128,12 +143,17 @@ module _ (IsShown : List BatchContent → Type 0) (at : ℕ) where
           (all.0, subst (AreRowsOf (map_of (take at list))) all.1 are.is_all);
     }
 
+    -- .. and all of it
+    pub begun_with_all : (error : DumpError) →
+        Appends mid new (flat_map row_line (drop known page.rows)) →
+        AreBegun IsShown at old new error
+    begun_with_all error wrote = begun_with_page error
+        (part_same mid new (flat_map row_line (drop known page.rows)) wrote) (λ other. wrote)
+
     module _ (now : ℕ) (wrote : Appends mid new (flat_map row_line (drop known page.rows)))
         (counted : now ≡ count + length (drop known page.rows)) where
       all_text : Appends old new (flat_map row_line rows)
-      all_text = subst (Appends old new) (sym parts)
-          (appends_more old mid new (flat_map row_line before.rows)
-          (flat_map row_line (drop known page.rows)) before.wrote wrote)
+      all_text = behind_all wrote
 
       all_count : now ≡ length rows
       all_count = counted ∙ ap (λ c. c + length (drop known page.rows)) before.counted

@@ -1,6 +1,7 @@
 -- The text of a store is that of its numbers, its rows and their count.
-use Rattle.std.proofs.Common.{◌≡◌, ◌++◌, ℕ, List, [], Option, inr, length, refl, subst, sym}
-use Rattle.std.proofs.Common.{arith, take}
+use Rattle.std.proofs.Common.{◌≡◌, ◌≢◌, ◌++◌, ◌∷◌, ℕ, List, [], Option, inl, inr, length, refl}
+use Rattle.std.proofs.Common.{append-nil, arith, subst, sym, take}
+use Rattle.std.proofs.Math.Seq.{take-append_seam}
 use Rattle.std.proofs.lemmas.Grind.{flat_map-append}
 use Rattle.std.proofs.lemmas.List.{take_all}
 use Rattle.std.specs.Prelude.{IfErr, IsErrAnd, MatchResult, OnOk, Result, Ok, Err}
@@ -12,13 +13,15 @@ use Rattle.kv_types.specs.{BatchContent, map_of}
 use Rattle.engine.specs.{AreOrdered, Facts, IsReadable, LookUps, with_committed}
 use Rattle.client.specs.PrintedRuns.{AppendsPart}
 use Rattle.dumps.specs.declared.dump_error.DumpError.{DumpError}
-use Rattle.dumps.specs.declared.dump_error.DumpError.TheVariants.{Write}
-use Rattle.dumps.specs.Dumped.{AreAllWritten, AreBegun, IsBegunDump, IsBegunFor, IsCutDump}
+use Rattle.dumps.specs.declared.dump_error.DumpError.TheVariants.{Store, Write}
+use Rattle.node.specs.declared.stop.Stop.TheVariants as stop
+use Rattle.dumps.specs.Dumped.{AreAllWritten, AreBegun, EndsAtLine, IsBegunDump, IsBegunFor}
+use Rattle.dumps.specs.Dumped.{IsCutDump, IsCutText, IsOfOpened, RefusesText}
 use Rattle.dumps.specs.Dumped.{IsDumpFor, IsDumpOf, IsDumpRefusal, IsSomeBegun}
 use Rattle.dumps.specs.Dumped.{IsSomeDump, WritesText, count_line, dump_text, row_line}
 use Rattle.dumps.specs.Dumped.{store_line}
 use Rattle.dumps.specs.Walks.{AreRowsOf, all_from}
-use Rattle.dumps.proofs.DeviceLemmas.{IsPassedOn}
+use Rattle.dumps.proofs.DeviceLemmas.{IsPassedOn, output_refusal}
 use Rattle.dumps.proofs.TextsLemmas.{appends_more, part_behind, part_none, part_of_longer}
 
 -- the output took no more than a beginning of a text
@@ -26,7 +29,26 @@ pub written_in_part : {T : Type 0} (text : List ℕ) (old new : Option (List ℕ
     (result : Result T DumpError) → IsErrAnd result (λ e. e ≡ Write) → AppendsPart old new text →
     WritesText text old new result
 written_in_part text old new (Ok x) told part = absurd told
-written_in_part text old new (Err e) told part = (inr told, part)
+written_in_part text old new (Err e) told part = inr (told, part)
+
+-- memory was short for a text
+pub no_text : {T : Type 0} (text : List ℕ) (out : Option (List ℕ)) (result : Result T DumpError) →
+    IsErrAnd result (λ e. e ≡ Store stop.Memory) → WritesText text out out result
+no_text text out (Ok x) told = absurd told
+no_text text out (Err e) told = inl (told, refl)
+
+-- a text that is refused was written in part
+refused_in_part : (text : List ℕ) (old new : Option (List ℕ)) (error : DumpError) →
+    RefusesText text old new error → AppendsPart old new text
+refused_in_part text old new error (inl memory) =
+    subst (λ out. AppendsPart old out text) (sym memory.1) (part_none old text)
+refused_in_part text old new error (inr full) = full.1
+
+-- and not at all, unless the output took no more
+refused_for_memory : (text : List ℕ) (old new : Option (List ℕ)) (error : DumpError) →
+    RefusesText text old new error → error ≢ Write → new ≡ old
+refused_for_memory text old new error (inl memory) other = memory.1
+refused_for_memory text old new error (inr full) other = absurd (other full.0)
 
 -- all batches up to the last one
 all_batches : (list : List BatchContent) (at : ℕ) → at ≡ length list → take at list ≡ list
@@ -46,24 +68,41 @@ all_rows agree list =
 
 -- ---- a store that was not opened: nothing is written
 
-pub none_begun : PagesAgree → (facts : Facts) (list : List BatchContent) (out : Option (List ℕ)) →
-    IsBegunDump facts list out out
-none_begun agree facts list out =
+-- no level has a table
+abbrev no_tables : List ℕ
+no_tables = 0 ∷ 0 ∷ 0 ∷ 0 ∷ 0 ∷ 0 ∷ 0 ∷ []
+
+pub none_begun : PagesAgree → (facts : Facts) (list : List BatchContent) (out : Option (List ℕ))
+    (error : DumpError) → IsBegunDump facts list out out error
+none_begun agree facts list out error =
     let all = all_rows agree list in
-    let text = dump_text facts (length list) [] all.0 in
+    let text = dump_text facts (length list) no_tables all.0 in
     record {
       text = text;
-      is = record { tables = []; rows = all.0; is_all = all.1; is = refl };
+      is = record {
+        tables = no_tables;
+        levels = refl;
+        rows = all.0;
+        is_all = all.1;
+        is = refl;
+      };
       part = part_none out text;
+      whole = λ other. inl refl;
     }
 
-pub none_of_some : (facts : Facts) (out : Option (List ℕ)) → IsSomeBegun out out
-none_of_some facts out = record {
+pub none_of_some : (facts : Facts) (out : Option (List ℕ)) (error : DumpError) →
+    IsSomeBegun out out error
+none_of_some facts out error = record {
   facts = facts;
   count = 0;
-  tables = [];
+  tables = no_tables;
+  levels = refl;
   rows = [];
-  part = part_none out (dump_text facts 0 [] []);
+  cut = record {
+    part = part_none out (dump_text facts 0 no_tables []);
+    whole = λ other. inl refl;
+  };
+  none = λ is. refl;
 }
 
 -- ---- one that was opened: the lines, one behind another
@@ -77,40 +116,64 @@ module _ (IsShown : List BatchContent → Type 0) (AreCounts : List ℕ → Type
   abbrev behind_it : List Row → List ℕ
   behind_it rows = flat_map row_line rows ++ count_line (length rows) at
 
-  -- refused within the first line
-  pub cut_in_numbers : PagesAgree → (old new : Option (List ℕ)) → AppendsPart old new first_line →
-      IsBegunFor IsShown AreCounts facts at old new
-  cut_in_numbers agree old new part = record {
-    tables = tables;
-    counts = counts;
-    rows = [];
-    part = part_of_longer old new first_line (behind_it []) part;
-    of = λ list shown.
-        let all = all_rows agree (take at list) in
-        (all.0, all.1, part_of_longer old new first_line (behind_it all.0) part);
-  }
+  -- refused within the first line, or before it
+  pub cut_in_numbers : PagesAgree → (old new : Option (List ℕ)) (error : DumpError) →
+      RefusesText first_line old new error →
+      IsBegunFor IsShown AreCounts facts at old new error
+  cut_in_numbers agree old new error refuses =
+      let cut : (rows : List Row) → IsCutText facts at tables rows old new error =
+      λ rows. record {
+        part = part_of_longer old new first_line (behind_it rows)
+            (refused_in_part first_line old new error refuses);
+        whole = λ other. inl (refused_for_memory first_line old new error refuses other);
+      } in record {
+        tables = tables;
+        counts = counts;
+        rows = [];
+        cut = cut [];
+        of = λ list shown. let all = all_rows agree (take at list) in (all.0, all.1, cut all.0);
+      }
 
-  in_rows : (old first new : Option (List ℕ)) (rows : List Row) → Appends old first first_line →
-      AppendsPart first new (flat_map row_line rows) →
-      AppendsPart old new (dump_text facts at tables rows)
-  in_rows old first new rows numbers part =
-      part_behind old first new first_line (behind_it rows) numbers
-      (part_of_longer first new (flat_map row_line rows) (count_line (length rows) at) part)
+  -- behind the first line, and those of first rows
+  ends_at_row : (old first new : Option (List ℕ)) (rows left : List Row) →
+      Appends old first first_line → Appends first new (flat_map row_line rows) →
+      EndsAtLine facts at tables (rows ++ left) old new
+  ends_at_row old first new rows left numbers wrote = inr (
+    length rows,
+    subst (λ (some : List Row). Appends old new (first_line ++ flat_map row_line some))
+        (sym (take-append_seam rows left))
+        (appends_more old first new first_line (flat_map row_line rows) numbers wrote),
+  )
 
   -- refused within the rows
-  pub cut_in_rows : (old first new : Option (List ℕ)) → Appends old first first_line →
-      AreBegun IsShown at first new → IsBegunFor IsShown AreCounts facts at old new
-  cut_in_rows old first new numbers begun = record {
+  in_rows : (old first new : Option (List ℕ)) (error : DumpError) (rows left : List Row) →
+      Appends old first first_line → AppendsPart first new (flat_map row_line rows) →
+      (error ≢ Write → Appends first new (flat_map row_line rows)) →
+      IsCutText facts at tables (rows ++ left) old new error
+  in_rows old first new error rows left numbers part wrote =
+      let more : AppendsPart first new (flat_map row_line (rows ++ left)) =
+      subst (AppendsPart first new) (sym (flat_map-append row_line rows left))
+      (part_of_longer first new (flat_map row_line rows) (flat_map row_line left) part) in record {
+        part = part_behind old first new first_line (behind_it (rows ++ left)) numbers
+            (part_of_longer first new (flat_map row_line (rows ++ left))
+            (count_line (length (rows ++ left)) at) more);
+        whole = λ other. ends_at_row old first new rows left numbers (wrote other);
+      }
+
+  pub cut_in_rows : (old first new : Option (List ℕ)) (error : DumpError) →
+      Appends old first first_line → AreBegun IsShown at first new error →
+      IsBegunFor IsShown AreCounts facts at old new error
+  cut_in_rows old first new error numbers begun = record {
     tables = tables;
     counts = counts;
-    rows = begun.rows;
-    part = in_rows old first new begun.rows numbers begun.part;
+    rows = begun.rows ++ [];
+    cut = in_rows old first new error begun.rows [] numbers begun.part begun.whole;
     of = λ list shown.
-        let all = begun.first list shown in
-        let part = subst (AppendsPart first new) (sym (flat_map-append row_line begun.rows all.0))
-        (part_of_longer first new (flat_map row_line begun.rows) (flat_map row_line all.0)
-        begun.part) in
-        (begun.rows ++ all.0, all.1, in_rows old first new (begun.rows ++ all.0) numbers part);
+        let all = begun.first list shown in (
+          begun.rows ++ all.0,
+          all.1,
+          in_rows old first new error begun.rows all.0 numbers begun.part begun.whole,
+        );
   }
 
   -- the last line was written, or refused
@@ -119,7 +182,7 @@ module _ (IsShown : List BatchContent → Type 0) (AreCounts : List ℕ → Type
       AreAllWritten IsShown at count first second →
       WritesText (count_line count at) second new result →
       MatchResult result (λ _. IsDumpFor IsShown AreCounts facts at old new)
-      (λ _. IsBegunFor IsShown AreCounts facts at old new)
+      (IsBegunFor IsShown AreCounts facts at old new)
   dumped count (Ok x) old first second new numbers rows writes = record {
     tables = tables;
     counts = counts;
@@ -131,23 +194,33 @@ module _ (IsShown : List BatchContent → Type 0) (AreCounts : List ℕ → Type
     all = rows.all;
   }
   dumped count (Err error) old first second new numbers rows writes =
+      let last = count_line count at in
       let part = part_behind old first new first_line (behind_it rows.rows) numbers
       (part_behind first second new (flat_map row_line rows.rows)
       (count_line (length rows.rows) at) rows.wrote
-      (subst (λ (n : ℕ). AppendsPart second new (count_line n at)) rows.counted writes.1)) in
-      record {
+      (subst (λ (n : ℕ). AppendsPart second new (count_line n at)) rows.counted
+      (refused_in_part last second new error writes))) in
+      let wrote : error ≢ Write → Appends first new (flat_map row_line rows.rows) =
+      λ other. subst (λ out. Appends first out (flat_map row_line rows.rows))
+      (sym (refused_for_memory last second new error writes other)) rows.wrote in
+      let cut : IsCutText facts at tables rows.rows old new error = record {
+        part = part;
+        whole = λ other. subst (λ all. EndsAtLine facts at tables all old new)
+            (append-nil rows.rows)
+            (ends_at_row old first new rows.rows [] numbers (wrote other));
+      } in record {
         tables = tables;
         counts = counts;
         rows = rows.rows;
-        part = part;
-        of = λ list shown. (rows.rows, rows.all list shown, part);
+        cut = cut;
+        of = λ list shown. (rows.rows, rows.all list shown, cut);
       }
 
 -- a line is refused for the output or for memory
 pub of_output : {T : Type 0} (text : List ℕ) (old new : Option (List ℕ))
     (result : Result T DumpError) → WritesText text old new result → IfErr result IsDumpRefusal
 of_output text old new (Ok x) writes = tt
-of_output text old new (Err error) writes = inr writes.0
+of_output text old new (Err error) writes = inr (output_refusal text old new error writes)
 
 -- ---- what was written of a store
 
@@ -156,73 +229,83 @@ abbrev DumpsFor : {T : Type 0} → (List BatchContent → Type 0) → (List ℕ 
     (old new : Option (List ℕ)) → Result T DumpError → Type 0
 DumpsFor IsShown AreCounts facts count old new result =
     MatchResult result (λ _. IsDumpFor IsShown AreCounts facts count old new)
-    (λ _. IsBegunFor IsShown AreCounts facts count old new)
+    (IsBegunFor IsShown AreCounts facts count old new)
 
 -- of any store
 pub dumped_some : {T : Type 0} (IsShown : List BatchContent → Type 0)
     (AreCounts : List ℕ → Type 0) (facts : Facts) (count : ℕ) (old new : Option (List ℕ))
-    (result : Result T DumpError) → DumpsFor IsShown AreCounts facts count old new result →
-    MatchResult result (λ _. IsSomeDump old new) (λ _. IsSomeBegun old new)
-dumped_some IsShown AreCounts facts count old new (Ok x) dump = record {
+    (result : Result T DumpError) → ((tables : List ℕ) → AreCounts tables → length tables ≡ 7) →
+    IfErr result IsOfOpened → DumpsFor IsShown AreCounts facts count old new result →
+    MatchResult result (λ _. IsSomeDump old new) (IsSomeBegun old new)
+dumped_some IsShown AreCounts facts count old new (Ok x) levels opened dump = record {
   facts = facts;
   count = count;
   tables = dump.tables;
+  levels = levels dump.tables dump.counts;
   rows = dump.rows;
   wrote = dump.wrote;
 }
-dumped_some IsShown AreCounts facts count old new (Err e) begun = record {
+dumped_some IsShown AreCounts facts count old new (Err e) levels opened begun = record {
   facts = facts;
   count = count;
   tables = begun.tables;
+  levels = levels begun.tables begun.counts;
   rows = begun.rows;
-  part = begun.part;
+  cut = begun.cut;
+  none = λ is. absurd (opened is);
 }
 
 -- of a list that is shown
 module _ (IsShown : List BatchContent → Type 0) (AreCounts : List ℕ → Type 0)
     (known facts : Facts) (count : ℕ) (list : List BatchContent) (old new : Option (List ℕ))
-    (same : known ≡ facts) (is : count ≡ length list) (shown : IsShown list) where
+    (levels : (tables : List ℕ) → AreCounts tables → length tables ≡ 7) (same : known ≡ facts)
+    (is : count ≡ length list) (shown : IsShown list) where
   all_of : (rows : List Row) → AreRowsOf (map_of (take count list)) rows →
       AreRowsOf (map_of list) rows
   all_of rows are = subst (λ (batches : List BatchContent). AreRowsOf (map_of batches) rows)
       (all_batches list count is) are
 
-  as_told : (P : List ℕ → Type 0) (tables : List ℕ) (rows : List Row) →
-      P (dump_text known count tables rows) → P (dump_text facts (length list) tables rows)
-  as_told P tables rows p = subst (λ (f : Facts). P (dump_text f (length list) tables rows)) same
-      (subst (λ (n : ℕ). P (dump_text known n tables rows)) is p)
+  as_told : (P : Facts → ℕ → Type 0) → P known count → P facts (length list)
+  as_told P p = subst (λ (f : Facts). P f (length list)) same
+      (subst (λ (n : ℕ). P known n) is p)
 
   pub dumped_list : {T : Type 0} (result : Result T DumpError) →
       DumpsFor IsShown AreCounts known count old new result →
-      MatchResult result (λ _. IsDumpOf facts list old new) (λ _. IsBegunDump facts list old new)
+      MatchResult result (λ _. IsDumpOf facts list old new) (IsBegunDump facts list old new)
   dumped_list (Ok x) dump = record {
     text = dump_text facts (length list) dump.tables dump.rows;
     is = record {
       tables = dump.tables;
+      levels = levels dump.tables dump.counts;
       rows = dump.rows;
       is_all = all_of dump.rows (dump.all list shown);
       is = refl;
     };
-    wrote = as_told (Appends old new) dump.tables dump.rows dump.wrote;
+    wrote = as_told (λ f n. Appends old new (dump_text f n dump.tables dump.rows)) dump.wrote;
   }
   dumped_list (Err e) begun =
       let all = begun.of list shown in
+      let cut : IsCutText facts (length list) begun.tables all.0 old new e =
+      as_told (λ f n. IsCutText f n begun.tables all.0 old new e) all.2 in
       record {
         text = dump_text facts (length list) begun.tables all.0;
         is = record {
           tables = begun.tables;
+          levels = levels begun.tables begun.counts;
           rows = all.0;
           is_all = all_of all.0 all.1;
           is = refl;
         };
-        part = as_told (AppendsPart old new) begun.tables all.0 all.2;
+        part = cut.part;
+        whole = cut.whole;
       }
 
 module _ (facts : Facts) (list : List BatchContent) (old new : Option (List ℕ)) where
   -- .. and the answer has the disk besides
   abbrev PassesOn : {D : Type 0} → Result D (DumpError × D) → Type 0
   PassesOn result =
-      MatchResult result (λ _. IsDumpOf facts list old new) (λ _. IsBegunDump facts list old new)
+      MatchResult result (λ _. IsDumpOf facts list old new)
+      (λ refused. IsBegunDump facts list old new refused.0)
 
   -- the store was written out whole
   pub dumped_whole : {D : Type 0} (result : Result D (DumpError × D)) → PassesOn result →

@@ -1,6 +1,6 @@
 -- What is written of a store: its numbers, all rows of the map at its count, and how many they are.
-use Rattle.std.specs.Prelude.{◌≡◌, ◌⊎◌, ◌<◌, ℕ, List, [], ◌∷◌, ◌++◌, Option, length, codes, take}
-use Rattle.std.specs.Prelude.{slice_index}
+use Rattle.std.specs.Prelude.{◌≡◌, ◌≢◌, ◌⊎◌, ◌<◌, ℕ, List, [], ◌∷◌, ◌++◌, Option, length, codes}
+use Rattle.std.specs.Prelude.{slice_index, take}
 use Rattle.std.specs.Prelude.{Result, Ok, Err, IfErr, IsErrAnd}
 use Rattle.std.specs.List.{flat_map}
 use Rattle.std.specs.Fmt.{decimal}
@@ -78,19 +78,37 @@ pub record AreAllWritten (IsShown : List BatchContent → Type 0) (at count : �
   pub wrote : Appends old new (flat_map row_line rows)
   pub all : (list : List BatchContent) → IsShown list → AreRowsOf (map_of (take at list)) rows
 
--- a beginning of the text of rows was written, the first ones of each list that is shown
+-- A beginning of the text of rows was written before a refusal for this, the first ones of each
+-- list that is shown. It is all of that text, unless the output took no more.
 pub record AreBegun (IsShown : List BatchContent → Type 0) (at : ℕ) (old new : Option (List ℕ))
-    : Type 0 where
+    (error : DumpError) : Type 0 where
   pub rows : List Row
   pub part : AppendsPart old new (flat_map row_line rows)
+  pub whole : error ≢ Write → Appends old new (flat_map row_line rows)
   pub first : (list : List BatchContent) → IsShown list →
       (left : List Row) × AreRowsOf (map_of (take at list)) (rows ++ left)
 
 -- ---- the text of a store
 
--- the text of a store: of facts, and of the map of a list of batches
+-- nothing of the text of a store was written, or its first line and those of so many first rows
+abbrev pub EndsAtLine : Facts → ℕ → List ℕ → List Row → (old new : Option (List ℕ)) → Type 0
+EndsAtLine facts count tables rows old new =
+    (new ≡ old)
+    ⊎ ((first : ℕ)
+    × Appends old new (store_line facts count tables ++ flat_map row_line (take first rows)))
+
+-- A beginning of the text of a store was written before it was refused for this. It ends at the end
+-- of a line, unless the output took no more.
+pub record IsCutText (facts : Facts) (count : ℕ) (tables : List ℕ) (rows : List Row)
+    (old new : Option (List ℕ)) (error : DumpError) : Type 0 where
+  pub part : AppendsPart old new (dump_text facts count tables rows)
+  pub whole : error ≢ Write → EndsAtLine facts count tables rows old new
+
+-- the text of a store: of facts, and of the map of a list of batches, with the numbers of tables of
+-- seven levels
 pub record IsDumpText (facts : Facts) (list : List BatchContent) (text : List ℕ) : Type 0 where
   pub tables : List ℕ
+  pub levels : length tables ≡ 7
   pub rows : List Row
   pub is_all : AreRowsOf (map_of list) rows
   pub is : text ≡ dump_text facts (length list) tables rows
@@ -102,12 +120,14 @@ pub record IsDumpOf (facts : Facts) (list : List BatchContent) (old new : Option
   pub is : IsDumpText facts list text
   pub wrote : Appends old new text
 
--- a beginning of it was written
+-- A beginning of it was written before a refusal for this. It ends at the end of a line, unless the
+-- output took no more.
 pub record IsBegunDump (facts : Facts) (list : List BatchContent) (old new : Option (List ℕ))
-    : Type 0 where
+    (error : DumpError) : Type 0 where
   pub text : List ℕ
   pub is : IsDumpText facts list text
   pub part : AppendsPart old new text
+  pub whole : error ≢ Write → EndsAtLine facts (length list) is.tables is.rows old new
 
 -- where the disk is honest, exactly the text was written of each store that its files represent, or
 -- were meant to
@@ -119,10 +139,12 @@ pub record WritesStoreOf {D : Type 0} (g : Ghosts D) (disk : D) (old new : Optio
       WereMeant facts list (contents (g.state disk)) → IsDumpOf facts list old new
 
 -- where the disk is honest, a beginning of the text was written of each store that its files were
--- meant to represent
-abbrev pub BeginsStoreOf : {D : Type 0} → Ghosts D → D → (old new : Option (List ℕ)) → Type 0
-BeginsStoreOf g disk old new = (facts : Facts) (list : List BatchContent) → g.is_honest disk →
-    WereMeant facts list (contents (g.state disk)) → IsBegunDump facts list old new
+-- meant to represent, before it was refused for this
+abbrev pub BeginsStoreOf : {D : Type 0} → Ghosts D → D → (old new : Option (List ℕ)) → DumpError →
+    Type 0
+BeginsStoreOf g disk old new error = (facts : Facts) (list : List BatchContent) →
+    g.is_honest disk → WereMeant facts list (contents (g.state disk)) →
+    IsBegunDump facts list old new error
 
 -- Exactly the text of these facts, so many batches, tables that are so many, and some rows was
 -- written: all rows of each list that is shown.
@@ -134,32 +156,37 @@ pub record IsDumpFor (IsShown : List BatchContent → Type 0) (AreCounts : List 
   pub wrote : Appends old new (dump_text facts count tables rows)
   pub all : (list : List BatchContent) → IsShown list → AreRowsOf (map_of (take count list)) rows
 
--- A beginning of such a text was written, and one of the text of each list that is shown.
+-- A beginning of such a text was written before a refusal for this, and one of the text of each
+-- list that is shown.
 pub record IsBegunFor (IsShown : List BatchContent → Type 0) (AreCounts : List ℕ → Type 0)
-    (facts : Facts) (count : ℕ) (old new : Option (List ℕ)) : Type 0 where
+    (facts : Facts) (count : ℕ) (old new : Option (List ℕ)) (error : DumpError) : Type 0 where
   pub tables : List ℕ
   pub counts : AreCounts tables
   pub rows : List Row
-  pub part : AppendsPart old new (dump_text facts count tables rows)
+  pub cut : IsCutText facts count tables rows old new error
   pub of : (list : List BatchContent) → IsShown list → (all : List Row)
       × AreRowsOf (map_of (take count list)) all
-      × AppendsPart old new (dump_text facts count tables all)
+      × IsCutText facts count tables all old new error
 
 -- exactly the text of some store was written
 pub record IsSomeDump (old new : Option (List ℕ)) : Type 0 where
   pub facts : Facts
   pub count : ℕ
   pub tables : List ℕ
+  pub levels : length tables ≡ 7
   pub rows : List Row
   pub wrote : Appends old new (dump_text facts count tables rows)
 
--- a beginning of the text of some store was written
-pub record IsSomeBegun (old new : Option (List ℕ)) : Type 0 where
+-- A beginning of the text of some store was written before a refusal for this: nothing, where that
+-- is that no store was created.
+pub record IsSomeBegun (old new : Option (List ℕ)) (error : DumpError) : Type 0 where
   pub facts : Facts
   pub count : ℕ
   pub tables : List ℕ
+  pub levels : length tables ≡ 7
   pub rows : List Row
-  pub part : AppendsPart old new (dump_text facts count tables rows)
+  pub cut : IsCutText facts count tables rows old new error
+  pub none : error ≡ Store stop.NotCreated → new ≡ old
 
 -- ---- refusals
 
@@ -175,16 +202,22 @@ IsDumpRefusal error = (error ≡ Store stop.Disk) ⊎ IsOfOutput error
 abbrev pub IsOfOpened : DumpError → Type 0
 IsOfOpened error = error ≡ Store stop.NotCreated → ⊥
 
--- a text was written, or a beginning of it where memory was short or the output took no more
+-- a text was refused: nothing of it was written, where memory was short; or a beginning of it,
+-- where the output took no more
+abbrev pub RefusesText : List ℕ → (old new : Option (List ℕ)) → DumpError → Type 0
+RefusesText text old new error =
+    ((error ≡ Store stop.Memory) × (new ≡ old)) ⊎ ((error ≡ Write) × AppendsPart old new text)
+
+-- a text was written, or refused
 abbrev pub WritesText : {T : Type 0} → List ℕ → (old new : Option (List ℕ)) → Result T DumpError
     → Type 0
 WritesText text old new (Ok x) = Appends old new text
-WritesText text old new (Err error) = IsOfOutput error × AppendsPart old new text
+WritesText text old new (Err error) = RefusesText text old new error
 
 -- a store was refused for the device, for want of memory or since the output took no more, and a
 -- beginning of its text was written
 abbrev pub IsCutDump : Facts → List BatchContent → (old new : Option (List ℕ)) → DumpError → Type 0
-IsCutDump facts list old new error = IsDumpRefusal error × IsBegunDump facts list old new
+IsCutDump facts list old new error = IsDumpRefusal error × IsBegunDump facts list old new error
 
 -- why no store was opened, by the content of the disk
 abbrev pub UnopenedRefusal : Contents → DumpError → Type 0

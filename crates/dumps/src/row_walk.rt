@@ -107,7 +107,7 @@ pub fn write_rows<D: Disk + Drop, W: Write>(
     ensures rows { MatchResult result
         (λ count. AreAllWritten (ShowsList D.Disk engine.old) at count
         (W.contents out.old) (W.contents out.new))
-        (λ _. AreBegun (ShowsList D.Disk engine.old) at (W.contents out.old) (W.contents out.new)) }
+        (AreBegun (ShowsList D.Disk engine.old) at (W.contents out.old) (W.contents out.new)) }
     ensures refused { (list : List BatchContent) → EngineReads D.Disk engine.old list →
         IsReadable (look_ups engine.old).facts.floor (look_ups engine.old).committed at →
         IfErr result IsDumpRefusal }

@@ -92,7 +92,7 @@ fn write_store<D: Disk + Drop, W: Write>(
     ensures dump { MatchResult result
         (λ _. IsDumpFor (ShowsList D.Disk engine.old) (AreTableCounts engine.old)
         (facts_of engine.old) (look_ups engine.old).count (W.contents out.old) (W.contents out.new))
-        (λ _. IsBegunFor (ShowsList D.Disk engine.old) (AreTableCounts engine.old)
+        (IsBegunFor (ShowsList D.Disk engine.old) (AreTableCounts engine.old)
         (facts_of engine.old) (look_ups engine.old).count (W.contents out.old)
         (W.contents out.new)) }
     ensures refused { (list : List BatchContent) → EngineReads D.Disk engine.old list →
@@ -129,16 +129,17 @@ pub fn dump_store<D: Disk + Drop, W: Write>(
     ensures meant { (facts : Facts) (list : List BatchContent) → D.is_honest disk →
         WereMeant facts list (contents (D.state disk)) → MatchResult result
         (λ _. IsDumpOf facts list (W.contents out.old) (W.contents out.new))
-        (λ _. IsBegunDump facts list (W.contents out.old) (W.contents out.new)) }
+        (λ refused. IsBegunDump facts list (W.contents out.old) (W.contents out.new) refused.0) }
 
     ensures unopened { D.is_honest disk → AreShut (contents (D.state disk)) →
         IsNotOpened D.Disk disk (W.contents out.old) (W.contents out.new) result }
 
-    // Of any disk: the text of some store was written, or a beginning of it. It is refused for the
-    // device exactly where a failure is counted.
+    // Of any disk: the text of some store was written, or a beginning of it, which ends within a
+    // line only where the output took no more. It is refused for the device exactly where a failure
+    // is counted.
     ensures printed { MatchResult result
         (λ _. IsSomeDump (W.contents out.old) (W.contents out.new))
-        (λ _. IsSomeBegun (W.contents out.old) (W.contents out.new)) }
+        (λ refused. IsSomeBegun (W.contents out.old) (W.contents out.new) refused.0) }
     ensures device { LeavesDevice D.Disk disk result }
 
     // No file is changed behind the opening, also where a crash cuts the dump short. A store that

@@ -1,6 +1,6 @@
 -- A text that has a line too long or one too many has one fault, whatever follows it.
-use Rattle.std.proofs.Common.{◌≡◌, ℕ, List, [], ◌++◌, refl, sym, subst, ◌∙◌, arith, Option}
-use Rattle.std.proofs.Common.{Some, None, append-nil}
+use Rattle.std.proofs.Common.{◌≡◌, ◌≤◌, ℕ, List, [], ◌++◌, refl, sym, subst, ◌∙◌, arith, Option}
+use Rattle.std.proofs.Common.{Some, None, append-nil, length}
 use Rattle.std.specs.Prelude.{Bool, IfSome}
 use Rattle.std.specs.Io.KnownBytes.{Consumes, IsAtEnd}
 use Rattle.std.proofs.KnownBytes.{Consumes-trans}
@@ -12,13 +12,29 @@ use Rattle.program.specs.declared.failure.Failure.TheVariants.{Unreadable, Scrip
 use Rattle.program.specs.Failures.{IsFailureOf, IsOfInput, IsOfReading}
 use Rattle.script_words.specs.Lines.{script_lines}
 use Rattle.scripts.specs.Faults.{script_fault, start, IsReported}
-use Rattle.scripts.specs.Beginnings.{IsFaulty, IsEnough}
+use Rattle.scripts.specs.Beginnings.{HasExtent, IsEnough, IsFaulty, IsWithinLimits}
 use Rattle.scripts.specs.BeginningsLemmas.{reported_enough}
+use Rattle.scripts.specs.declared.extent.Extent.{Extent}
+use Rattle.program.specs.Readings.{EndsInTime}
+use Rattle.program.specs.Readings.EndsInTime.{Piece}
 
 pub read_more : (old mid new : Option (List ℕ)) (text bytes all : List ℕ) →
     all ≡ text ++ bytes → Consumes old mid text → Consumes mid new bytes → Consumes old new all
 read_more old mid new text bytes all is before after =
     subst (λ l. Consumes old new l) (sym is) (Consumes-trans old mid new text bytes before after)
+
+-- one piece more was read
+pub one_more : (front last all : List ℕ) (extent : Extent) → all ≡ front ++ last →
+    EndsInTime front → HasExtent front extent → IsWithinLimits extent → length last ≤ 8192 →
+    EndsInTime all
+one_more front last all extent is before has within piece =
+    subst EndsInTime (sym is) (Piece front last extent before has within piece)
+
+-- no more was read
+pub read_no_more : (old mid new : Option (List ℕ)) (text : List ℕ) → Consumes old mid text →
+    Consumes mid new [] → Consumes old new text
+read_no_more old mid new text before after =
+    read_more old mid new text [] text (sym (append-nil text)) before after
 
 pub whole_read : (old new : Option (List ℕ)) (text : List ℕ) → Consumes old new text →
     IsAtEnd new → IfSome old (λ whole. IsEnough whole text)

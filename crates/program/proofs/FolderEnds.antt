@@ -1,9 +1,8 @@
 -- How a run in folders ends.
 use Rattle.std.proofs.Common.{◌≡◌, ◌⊎◌, inl, inr, ℕ, Bool, Option, None, Some, refl, sym, subst}
-use Rattle.std.proofs.Common.{true, false, List, [], ◌++◌, ap, append-nil, ◌∙◌, arith}
+use Rattle.std.proofs.Common.{true, false, List, [], ◌++◌, ap, ◌∙◌, arith}
 use Rattle.std.specs.Prelude.{Result, Ok, Err, IfErr, IfOk, IfSome, MatchResult, All}
 use Rattle.std.proofs.lemmas.List.Elements.{All-weaker}
-use Rattle.std.specs.Io.KnownBytes.{Appends}
 use Rattle.disk.specs.declared.disk.Disk.{Ghosts}
 use Rattle.dir_disk.specs.declared.folder.DirDisk.{DirDisk}
 use Rattle.dir_disk.specs.declared.unchanged.Unchanged.{Unchanged}
@@ -20,7 +19,6 @@ use Rattle.client.specs.declared.run_error.RunError.{RunError}
 use Rattle.client.specs.declared.run_error.RunError.TheVariants as run
 use Rattle.client.specs.PrintedRuns.{AppendsPart, HasEndedEarly}
 use Rattle.client.specs.ReportedRuns.{ReportIsCut, ReportIsPrinted}
-use Rattle.dumps.specs.Dumped.{IsSomeBegun}
 use Rattle.folder_nodes.specs.Finding.{sim_ids}
 use Rattle.folder_nodes.specs.FoundNodes.{IsFoundIn}
 use Rattle.tcp_carrier.specs.declared.carrier.TcpCarrier.{TcpCarrier}
@@ -273,20 +271,6 @@ loop_not_usage folder text old_out new_out old_err new_err answer (inr fails) tw
 
 -- ---- what is written of a folder
 
-appends_none : (out : Option (List ℕ)) → Appends out out []
-appends_none None = tt
-appends_none (Some xs) = sym (append-nil xs)
-
--- nothing is a beginning of each text
-pub nothing_dumped : (out : Option (List ℕ)) → IsSomeBegun out out
-nothing_dumped out = record {
-  facts = record { id = 0; epoch = 0; ids = []; floor = 0; kept = 0 };
-  count = 0;
-  tables = [];
-  rows = [];
-  part = record { count = 0; wrote = appends_none out };
-}
-
 -- memory was wanting for the words, and that was reported
 pub no_words : {R : Type 0} {g : Ghosts (Unchanged (DirDisk R))} (path : List ℕ)
     (out old_err new_err : Option (List ℕ)) (answer : ℕ) → answer ≡ 1 →
@@ -296,6 +280,5 @@ no_words path out old_err new_err answer one told = inr (record {
   status = one;
   failure = dumped.Memory;
   failed = inl (refl, refl);
-  part = nothing_dumped out;
   told = told;
 })

@@ -30,8 +30,9 @@ pub record IsDumpOfFolder {R : Type 0} (g : Ghosts (Unchanged (DirDisk R))) (pat
   pub kept : LeavesDevice g disk (Ok left)
   pub written : WritesStoreOf g disk old_out new_out
 
--- it was read from such a disk, and a beginning of its text was written; it was refused for what is
--- reported as this failure
+-- It was read from such a disk, and a beginning of its text was written. A failure of the disk was
+-- counted exactly where this failure is the device's. Where it is that no store was created,
+-- nothing was written; and the text ends at the end of a line, unless the output took no more.
 pub record IsBegunOfFolder {R : Type 0} (g : Ghosts (Unchanged (DirDisk R))) (path : List ℕ)
     (old_out new_out : Option (List ℕ)) (failure : DumpFailure) : Type 0 where
   pub disk : Unchanged (DirDisk R)
@@ -39,7 +40,8 @@ pub record IsBegunOfFolder {R : Type 0} (g : Ghosts (Unchanged (DirDisk R))) (pa
   pub refused : DumpError × Unchanged (DirDisk R)
   pub cause : failure ≡ dump_failure_of refused.0
   pub kept : LeavesDevice g disk (Err refused)
-  pub begun : BeginsStoreOf g disk old_out new_out
+  pub begun : BeginsStoreOf g disk old_out new_out refused.0
+  pub some : IsSomeBegun old_out new_out refused.0
 
 -- why there is no disk of the folder at this path: the path is empty, or memory was wanting
 abbrev pub IsUnreadFor : List ℕ → DumpFailure → Type 0
@@ -48,7 +50,7 @@ IsUnreadFor path failure =
     ⊎ ((failure ≡ Store stop.Memory) × (path ≢ []))
 
 -- why the store of the folder at this path was not written out whole: there is no disk of it, and
--- nothing was written; or it was refused
+-- nothing was written; or a beginning of its text was
 abbrev pub DumpHasFailed : {R : Type 0} → Ghosts (Unchanged (DirDisk R)) → List ℕ →
     (old_out new_out : Option (List ℕ)) → DumpFailure → Type 0
 DumpHasFailed g path old_out new_out failure =
@@ -74,7 +76,6 @@ pub record DumpIsReported {R : Type 0} (g : Ghosts (Unchanged (DirDisk R))) (pat
   pub failure : DumpFailure
   pub failed : ((failure ≡ Memory) × (new_out ≡ old_out))
       ⊎ DumpHasFailed g path old_out new_out failure
-  pub part : IsSomeBegun old_out new_out
   pub told : AppendsPart old_err new_err (dump_failure_line failure)
 
 -- how a dump of the folder at this path ends

@@ -4,3 +4,4 @@ pub mod Invocations
 pub mod Runs
 pub mod FolderRuns
 pub mod FolderDumps
+pub mod Readings

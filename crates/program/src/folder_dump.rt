@@ -1,6 +1,6 @@
 //! What the store of one folder has is written out.
 ghost use Rattle.std.specs.Prelude.{◌≢◌, [], IfOk, MatchResult, OnOk};
-ghost use Rattle.dumps.specs.Dumped.{IsSomeBegun, IsSomeDump};
+ghost use Rattle.dumps.specs.Dumped.{IsSomeDump};
 ghost use Rattle.program.specs.FolderDumps.{DumpHasFailed, IsDumpOfFolder, IsFolderToRead};
 
 use crate::folder_failure::DumpFailure;
@@ -24,15 +24,12 @@ fn disk_to_read<F: Files<File = File> + Alloc<A = Global> + Clone + Drop>(
 }
 
 /// Writes what the store of a folder has. No file of it is changed, and none is made.
-#[tactic(auto, using(crate::proofs::FolderEnds::nothing_dumped))]
 pub fn dump_folder<F: Files<File = File> + Alloc<A = Global> + Clone + Drop, W: Write>(
     rt: &F,
     folder: &str,
     out: &mut W,
 ) -> Result<(), DumpFailure>
-    ensures printed { MatchResult result
-        (λ _. IsSomeDump (W.contents out.old) (W.contents out.new))
-        (λ _. IsSomeBegun (W.contents out.old) (W.contents out.new)) }
+    ensures printed { OnOk result (IsSomeDump (W.contents out.old) (W.contents out.new)) }
     ensures from { MatchResult result
         (λ _. IsDumpOfFolder ⟦<Unchanged<DirDisk<F>> as Disk>⟧ folder.now (W.contents out.old)
         (W.contents out.new))

@@ -5,6 +5,7 @@ ghost use Rattle.std.specs.IoError.{error_kind};
 ghost use Rattle.std.specs.Io.KnownBytes.{Consumes, IsAtEnd};
 ghost use Rattle.scripts.specs.Beginnings.{IsEnough};
 ghost use Rattle.program.specs.Failures.{IsOfInput};
+ghost use Rattle.program.specs.Readings.{EndsInTime};
 ghost use Rattle.program.specs.declared.failure.Failure.TheVariants.{Memory, Unreadable};
 
 use crate::failure::Failure;
@@ -46,10 +47,13 @@ fn read_some<R: Read>(input: &mut R, chunk: &mut [u8]) -> Result<Option<usize>, 
     }
 }
 
-/// The text of a script, or a beginning of it that shows the fault of the whole.
+/// The text of a script, or a beginning of it that shows the fault of the whole. No more is read
+/// than a piece behind what a script may be.
 pub fn script_text<R: Read>(alloc: Global, input: &mut R) -> Result<Vec<u8>, Failure>
     ensures read { IfOk result (λ text.
         IfSome (R.remaining input.old) (λ whole. IsEnough whole text.items)) }
+    ensures end { IfOk result (λ text. EndsInTime text.items
+        × Consumes (R.remaining input.old) (R.remaining input.new) text.items) }
     ensures cause { IfErr result IsOfInput }
 {
     let mut text = Vec::new(alloc);

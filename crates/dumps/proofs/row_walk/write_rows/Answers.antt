@@ -14,11 +14,11 @@ use Rattle.dumps.specs.Walks.{all_from}
 use Rattle.dumps.proofs.DeviceLemmas.{answers, read_as_passed, read_as_told, read_more, read_then}
 use Rattle.dumps.proofs.DeviceLemmas.{last_of_opened, not_of_device, of_last_row}
 use Rattle.dumps.proofs.DeviceLemmas.{opened_as_passed, other_not_of_device}
-use Rattle.dumps.proofs.DeviceLemmas.{refused_as_passed, untouched}
+use Rattle.dumps.proofs.DeviceLemmas.{refused_as_passed, refused_so, untouched}
 use Rattle.dumps.proofs.PageRowsLemmas.{has_row}
-use Rattle.dumps.proofs.RowWalkLemmas.{all_written, begun_none, begun_so_far, begun_with_page}
-use Rattle.dumps.proofs.RowWalkLemmas.{more_written, none_written, shown_still, shows_on}
-use Rattle.dumps.proofs.RowWalkLemmas.{shows_same}
+use Rattle.dumps.proofs.RowWalkLemmas.{all_written, begun_none, begun_so_far, begun_with_all}
+use Rattle.dumps.proofs.RowWalkLemmas.{begun_with_page, more_written, none_written, shown_still}
+use Rattle.dumps.proofs.RowWalkLemmas.{shows_on, shows_same}
 use Rattle.dumps.proofs.row_walk.write_rows.Goals as goal
 
 pub loop-init : goal.loop-init
@@ -35,8 +35,8 @@ loop-init g c =
 pub returns-in_err-from-clause-rows : goal.returns-in_err-from-clause-rows
 returns-in_err-from-clause-rows g c =
     let begun = begun_none (ShowsList g.D.Disk c.args.engine.now) c.args.at
-    c.pages_agree.ensures.agree (g.W.Write.contents c.args.out.now) in
-    search (rules, begun)
+    c.pages_agree.ensures.agree (g.W.Write.contents c.args.out.now) c.in_err-from.field-0.0 in
+    refused_so _ _ c.from_residual.result c.in_err-from.field-0.0 c.from_residual.ensures.1 begun
 
 pub returns-in_err-from-clause-device : goal.returns-in_err-from-clause-device
 returns-in_err-from-clause-device g c =
@@ -50,8 +50,9 @@ pub returns-in_err-page-clause-rows : goal.returns-in_err-page-clause-rows
 returns-in_err-page-clause-rows g c =
     let begun = begun_so_far (ShowsList g.D.Disk c.args.engine.now) c.args.at c.loop.from
     c.loop.known c.loop.count (g.W.Write.contents c.args.out.now) (g.W.Write.contents c.loop.out)
-    c.loop.invariant.2 in
-    search (rules, begun)
+    c.in_err-page.field-0.0 c.loop.invariant.2 in
+    refused_so _ _ c.from_residual-in_err-page.result c.in_err-page.field-0.0
+    c.from_residual-in_err-page.ensures.1 begun
 
 pub returns-in_err-page-clause-refused : goal.returns-in_err-page-clause-refused
 returns-in_err-page-clause-refused g c = λ list reads may.
@@ -76,8 +77,9 @@ pub returns-in_err-make_text-clause-rows : goal.returns-in_err-make_text-clause-
 returns-in_err-make_text-clause-rows g c =
     let begun = begun_so_far (ShowsList g.D.Disk c.args.engine.now) c.args.at c.loop.from
     c.loop.known c.loop.count (g.W.Write.contents c.args.out.now) (g.W.Write.contents c.loop.out)
-    c.loop.invariant.2 in
-    search (rules, begun)
+    (Store stop.Memory) c.loop.invariant.2 in
+    refused_so _ _ c.from_residual-in_err-make_text.result (Store stop.Memory)
+    c.from_residual-in_err-make_text.ensures.1 begun
 
 pub returns-in_err-make_text-clause-device : goal.returns-in_err-make_text-clause-device
 returns-in_err-make_text-clause-device g c =
@@ -106,8 +108,10 @@ returns-in_err-print-clause-rows g c =
     (shown_still c.args.engine.now c.loop.engine list (c.loop.invariant.1 list) shows) in
     let begun = begun_with_page (ShowsList g.D.Disk c.args.engine.now) c.args.at
     c.byte_order_is_strict.ensures.strict c.pages_agree.ensures.agree c.loop.from c.loop.known
-    c.loop.count (g.W.Write.contents c.args.out.now) mid new page before is part in
-    search (rules, begun)
+    c.loop.count (g.W.Write.contents c.args.out.now) mid new page before is Write part
+    (λ other. absurd (other refl)) in
+    refused_so _ _ c.from_residual-in_err-print.result Write
+    c.from_residual-in_err-print.ensures.1 begun
 
 pub returns-in_err-print-clause-device : goal.returns-in_err-print-clause-device
 returns-in_err-print-clause-device g c =
@@ -123,21 +127,21 @@ returns-in_default-clause-rows g c =
     let mid = g.W.Write.contents c.loop.out in
     let new = g.W.Write.contents c.print.new.out in
     let page = c.in_ok-page.page in
-    let part : AppendsPart mid new (flat_map row_line (drop c.loop.known page.rows)) =
+    let wrote : Appends mid new (flat_map row_line (drop c.loop.known page.rows)) =
     rw (
       c.as_bytes.ensures.value,
       c.in_ok-make_text.ensures,
       c.behind-rows.ensures,
       c.rows.ensures,
-    ) at c.in_ok-print.ensures.part in
+    ) at c.in_ok-print.ensures.whole in
     let is : (list : List BatchContent) → ShowsList g.D.Disk c.args.engine.now list →
     page ≡ page_of (take c.args.at list) (all_from c.loop.from) =
     λ list shows. c.in_ok-page.ensures.page list
     (shown_still c.args.engine.now c.loop.engine list (c.loop.invariant.1 list) shows) in
-    let begun = begun_with_page (ShowsList g.D.Disk c.args.engine.now) c.args.at
+    begun_with_all (ShowsList g.D.Disk c.args.engine.now) c.args.at
     c.byte_order_is_strict.ensures.strict c.pages_agree.ensures.agree c.loop.from c.loop.known
-    c.loop.count (g.W.Write.contents c.args.out.now) mid new page before is part in
-    begun
+    c.loop.count (g.W.Write.contents c.args.out.now) mid new page before is (Store stop.Memory)
+    wrote
 
 pub returns-in_default-clause-device : goal.returns-in_default-clause-device
 returns-in_default-clause-device g c =
@@ -182,21 +186,23 @@ returns-in_err-from-2-clause-rows g c =
     let mid = g.W.Write.contents c.loop.out in
     let new = g.W.Write.contents c.print.new.out in
     let page = c.in_ok-page.page in
-    let part : AppendsPart mid new (flat_map row_line (drop c.loop.known page.rows)) =
+    let wrote : Appends mid new (flat_map row_line (drop c.loop.known page.rows)) =
     rw (
       c.as_bytes.ensures.value,
       c.in_ok-make_text.ensures,
       c.behind-rows.ensures,
       c.rows.ensures,
-    ) at c.in_ok-print.ensures.part in
+    ) at c.in_ok-print.ensures.whole in
     let is : (list : List BatchContent) → ShowsList g.D.Disk c.args.engine.now list →
     page ≡ page_of (take c.args.at list) (all_from c.loop.from) =
     λ list shows. c.in_ok-page.ensures.page list
     (shown_still c.args.engine.now c.loop.engine list (c.loop.invariant.1 list) shows) in
-    let begun = begun_with_page (ShowsList g.D.Disk c.args.engine.now) c.args.at
+    let begun = begun_with_all (ShowsList g.D.Disk c.args.engine.now) c.args.at
     c.byte_order_is_strict.ensures.strict c.pages_agree.ensures.agree c.loop.from c.loop.known
-    c.loop.count (g.W.Write.contents c.args.out.now) mid new page before is part in
-    search (rules, begun)
+    c.loop.count (g.W.Write.contents c.args.out.now) mid new page before is
+    c.in_err-from-2.field-0.0 wrote in
+    refused_so _ _ c.from_residual-in_err-from-2.result c.in_err-from-2.field-0.0
+    c.from_residual-in_err-from-2.ensures.1 begun
 
 pub returns-in_err-from-2-clause-refused : goal.returns-in_err-from-2-clause-refused
 returns-in_err-from-2-clause-refused g c = λ list reads may.
@@ -263,7 +269,7 @@ pub returns-clause-rows : goal.returns-clause-rows
 returns-clause-rows g c =
     begun_so_far (ShowsList g.D.Disk c.args.engine.now) c.args.at c.loop.from c.loop.known
     c.loop.count (g.W.Write.contents c.args.out.now) (g.W.Write.contents c.loop.out)
-    c.loop.invariant.2
+    (Store stop.Memory) c.loop.invariant.2
 
 -- more rows or pages than can be counted
 pub returns-clause-device : goal.returns-clause-device

@@ -14,12 +14,14 @@ pub returns-in-Err-clause-refused : goal.returns-in-Err-clause-refused
 returns-in-Err-clause-refused g c = λ facts list honest read. (
   rw c.from.ensures
       (of_engine c.in-Err.e ((c.in-Err.ensures.opened facts list honest).whole read)),
-  none_begun c.pages_agree.ensures.agree facts list (g.W.Write.contents c.args.out.now),
+  none_begun c.pages_agree.ensures.agree facts list (g.W.Write.contents c.args.out.now)
+      c.from.result,
 )
 
 pub returns-in-Err-clause-meant : goal.returns-in-Err-clause-meant
 returns-in-Err-clause-meant g c = λ facts list honest were.
     none_begun c.pages_agree.ensures.agree facts list (g.W.Write.contents c.args.out.now)
+    c.from.result
 
 pub returns-in-Err-clause-unopened : goal.returns-in-Err-clause-unopened
 returns-in-Err-clause-unopened g c = λ honest shut.
@@ -29,7 +31,7 @@ returns-in-Err-clause-unopened g c = λ honest shut.
 pub returns-in-Err-clause-printed : goal.returns-in-Err-clause-printed
 returns-in-Err-clause-printed g c = none_of_some
     (record { id = 0; epoch = 0; ids = []; floor = 0; kept = 0 })
-    (g.W.Write.contents c.args.out.now)
+    (g.W.Write.contents c.args.out.now) c.from.result
 
 pub returns-in-Err-clause-device : goal.returns-in-Err-clause-device
 returns-in-Err-clause-device g c =
@@ -60,7 +62,8 @@ returns-clause-written g c = λ facts list honest read.
     c.write_store-written.result c.into_disk.result c.with_disk.result
     c.with_disk.ensures
     (dumped_list (ShowsList g.D.Disk engine) (AreTableCounts engine) (facts_of engine) facts
-    (look_ups engine).count list old new opened.facts opened.holds.reads.count
+    (look_ups engine).count list old new (λ tables counts. counts.levels) opened.facts
+    opened.holds.reads.count
     (inl opened.holds.reads)
     c.write_store-written.result c.write_store-written.ensures.dump))
 
@@ -76,7 +79,8 @@ returns-clause-refused g c = λ facts list honest read.
     c.write_store-written.result c.into_disk.result c.with_disk.result
     c.with_disk.ensures
     (dumped_list (ShowsList g.D.Disk engine) (AreTableCounts engine) (facts_of engine) facts
-    (look_ups engine).count list old new opened.facts opened.holds.reads.count
+    (look_ups engine).count list old new (λ tables counts. counts.levels) opened.facts
+    opened.holds.reads.count
     (inl opened.holds.reads)
     c.write_store-written.result c.write_store-written.ensures.dump))
     (c.write_store-written.ensures.refused list opened.holds.reads)
@@ -92,7 +96,8 @@ returns-clause-meant g c = λ facts list honest were.
     (dumped_list (ShowsList g.D.Disk engine) (AreTableCounts engine) (facts_of engine) facts
     (look_ups engine).count list
     (g.W.Write.contents c.args.out.now) (g.W.Write.contents c.write_store-written.new.out)
-    opened.facts opened.meant.count (inr opened.meant) c.write_store-written.result
+    (λ tables counts. counts.levels) opened.facts opened.meant.count (inr opened.meant)
+    c.write_store-written.result
     c.write_store-written.ensures.dump)
 
 pub returns-clause-printed : goal.returns-clause-printed
@@ -105,7 +110,8 @@ returns-clause-printed g c =
     (dumped_some (ShowsList g.D.Disk engine) (AreTableCounts engine) (facts_of engine)
     (look_ups engine).count
     (g.W.Write.contents c.args.out.now) (g.W.Write.contents c.write_store-written.new.out)
-    c.write_store-written.result c.write_store-written.ensures.dump)
+    c.write_store-written.result (λ tables counts. counts.levels)
+    c.write_store-written.ensures.created c.write_store-written.ensures.dump)
 
 -- its disk is returned
 pub returns-clause-device : goal.returns-clause-device

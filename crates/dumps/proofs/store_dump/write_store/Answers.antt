@@ -5,8 +5,9 @@ use Rattle.engine.specs.{facts_of, look_ups}
 use Rattle.dumps.specs.Dumped.{AreTableCounts, IsBegunFor, IsDumpFor, IsDumpRefusal, IsOfOpened}
 use Rattle.dumps.specs.Dumped.{ShowsList}
 use Rattle.dumps.proofs.DeviceLemmas.{answers, other_not_of_device, output_not_of_device}
-use Rattle.dumps.proofs.DeviceLemmas.{output_of_opened, read_as, read_as_passed}
-use Rattle.dumps.proofs.DeviceLemmas.{refused_as_passed, text_not_of_device, text_of_opened}
+use Rattle.dumps.proofs.DeviceLemmas.{output_of_opened, output_refusal, read_as, read_as_passed}
+use Rattle.dumps.proofs.DeviceLemmas.{refused_as_passed, refused_so, text_not_of_device}
+use Rattle.dumps.proofs.DeviceLemmas.{text_of_opened}
 use Rattle.dumps.proofs.DeviceLemmas.{untouched}
 use Rattle.dumps.proofs.RowWalkLemmas.{all_for, begun_for, shown_still}
 use Rattle.dumps.proofs.StoreDumpLemmas.{all_readable, cut_in_numbers, cut_in_rows, dumped}
@@ -18,16 +19,19 @@ pub returns-in_err-write_numbers-clause-dump : goal.returns-in_err-write_numbers
 returns-in_err-write_numbers-clause-dump g c =
     let numbers = c.in_err-write_numbers.ensures in
     let old = c.args.engine.now in
+    let error = c.in_err-write_numbers.field-0.0 in
     let cut = cut_in_numbers (ShowsList g.D.Disk old) (AreTableCounts old) (facts_of old)
     (look_ups old).count numbers.0 numbers.2 c.pages_agree.ensures.agree
-    (g.W.Write.contents c.args.out.now) (g.W.Write.contents c.write_numbers.new.out)
-    numbers.1.1 in
-    search (rules, cut)
+    (g.W.Write.contents c.args.out.now) (g.W.Write.contents c.write_numbers.new.out) error
+    numbers.1 in
+    refused_so _ _ c.from_residual.result error c.from_residual.ensures.1 cut
 
 pub returns-in_err-write_numbers-clause-refused : goal.returns-in_err-write_numbers-clause-refused
 returns-in_err-write_numbers-clause-refused g c = λ list reads.
+    let numbers = c.in_err-write_numbers.ensures in
     let cause : IsDumpRefusal c.in_err-write_numbers.field-0.0 =
-    inr c.in_err-write_numbers.ensures.1.0 in
+    inr (output_refusal _ (g.W.Write.contents c.args.out.now)
+    (g.W.Write.contents c.write_numbers.new.out) c.in_err-write_numbers.field-0.0 numbers.1) in
     search (rules, cause)
 
 -- the rows were refused
@@ -37,19 +41,21 @@ returns-in_err-count-clause-dump g c =
     let IsShown = ShowsList g.D.Disk old in
     let numbers = c.in_ok-write_numbers.ensures in
     let is = c.count-at.ensures.count in
+    let error = c.in_err-count.field-0.0 in
     let begun = begun_for IsShown (ShowsList g.D.Disk c.set_committed.new.self) c.count-at.result
     (λ list. shown_still old c.set_committed.new.self list (record {
       reads = c.set_committed.ensures.stays.reads list;
       meant = c.set_committed.ensures.stays.meant list;
     })) (g.W.Write.contents c.write_numbers.new.out) (g.W.Write.contents c.write_rows.new.out)
-    c.in_err-count.ensures.rows in
+    error c.in_err-count.ensures.rows in
     let out = g.W.Write.contents c.args.out.now in
     let new = g.W.Write.contents c.write_rows.new.out in
     let AreCounts = AreTableCounts old in
-    let cut = subst (λ n. IsBegunFor IsShown AreCounts (facts_of old) n out new) is
+    let cut = subst (λ n. IsBegunFor IsShown AreCounts (facts_of old) n out new error) is
     (cut_in_rows IsShown AreCounts (facts_of old) c.count-at.result numbers.0 numbers.2 out
-    (g.W.Write.contents c.write_numbers.new.out) new (rw (← is) at numbers.1) begun) in
-    search (rules, cut)
+    (g.W.Write.contents c.write_numbers.new.out) new error (rw (← is) at numbers.1) begun) in
+    refused_so _ _ c.from_residual-in_err-count.result error c.from_residual-in_err-count.ensures.1
+    cut
 
 pub returns-in_err-count-clause-refused : goal.returns-in_err-count-clause-refused
 returns-in_err-count-clause-refused g c = λ list reads.
@@ -80,7 +86,7 @@ returns-clause-dump g c =
     let AreCounts = AreTableCounts old in
     subst (λ n. MatchResult c.write_count.result
     (λ _. IsDumpFor IsShown AreCounts (facts_of old) n out new)
-    (λ _. IsBegunFor IsShown AreCounts (facts_of old) n out new)) is
+    (IsBegunFor IsShown AreCounts (facts_of old) n out new)) is
     (dumped IsShown AreCounts (facts_of old) c.count-at.result numbers.0 numbers.2
     c.in_ok-count.count c.write_count.result out first second new (rw (← is) at numbers.1) all
     c.write_count.ensures)
@@ -96,7 +102,10 @@ returns-in_err-write_numbers-clause-device g c =
     untouched g.D.Disk _
     (other_not_of_device c.from_residual.result c.in_err-write_numbers.field-0.0
     c.from_residual.ensures.1
-    (output_not_of_device c.in_err-write_numbers.field-0.0 c.in_err-write_numbers.ensures.1.0))
+    (output_not_of_device c.in_err-write_numbers.field-0.0
+    (output_refusal _ (g.W.Write.contents c.args.out.now)
+    (g.W.Write.contents c.write_numbers.new.out) c.in_err-write_numbers.field-0.0
+    c.in_err-write_numbers.ensures.1)))
 
 pub returns-in_err-count-clause-device : goal.returns-in_err-count-clause-device
 returns-in_err-count-clause-device g c =
@@ -115,7 +124,10 @@ returns-clause-device g c =
 pub returns-in_err-write_numbers-clause-created : goal.returns-in_err-write_numbers-clause-created
 returns-in_err-write_numbers-clause-created g c =
     let created : IsOfOpened c.in_err-write_numbers.field-0.0 =
-    output_of_opened c.in_err-write_numbers.field-0.0 c.in_err-write_numbers.ensures.1.0 in
+    output_of_opened c.in_err-write_numbers.field-0.0
+    (output_refusal _ (g.W.Write.contents c.args.out.now)
+    (g.W.Write.contents c.write_numbers.new.out) c.in_err-write_numbers.field-0.0
+    c.in_err-write_numbers.ensures.1) in
     search (rules, created)
 
 pub returns-in_err-count-clause-created : goal.returns-in_err-count-clause-created

@@ -26,4 +26,5 @@ returns-in-Err-clause-from g c = inr (record {
   cause = c.from.ensures;
   kept = c.in-Err.ensures.device;
   begun = c.in-Err.ensures.meant;
+  some = c.in-Err.ensures.printed;
 })

@@ -17,6 +17,5 @@ returns-in-Err g c = inr (record {
   status = c.report_dump.ensures.status;
   failure = c.in-Err.failure;
   failed = inr c.in-Err.ensures.from;
-  part = c.in-Err.ensures.printed;
   told = c.report_dump.ensures.text;
 })
