@@ -1,6 +1,6 @@
 // Replies as a list of lines keeps them.
-ghost use Rattle.std.specs.Prelude.{◌≡◌, IfOk};
-ghost use Rattle.carriers.specs.KeptReplies.{kept_reply};
+ghost use Rattle.std.specs.Prelude.{◌≡◌, IfOk, IsOk};
+ghost use Rattle.carriers.specs.KeptReplies.{IsCommit, kept_reply};
 
 use kv_types::Number;
 use node::Reply;
@@ -30,9 +30,10 @@ impl Model for KeptReply {
 }
 
 impl KeptReply {
-    /// This reply. Refused where memory runs out.
+    /// This reply. Refused where memory runs out for its box; that of a commit has none.
     pub fn new(alloc: Global, reply: Reply) -> Result<KeptReply, AllocError>
-        ensures { IfOk result (λ it. it ≡ reply) }
+        ensures same { IfOk result (λ it. it ≡ reply) }
+        ensures unboxed { IsCommit reply → IsOk result }
     {
         let form = match reply {
             Reply::Committed { request, number } => ReplyForm::Committed { request, number },

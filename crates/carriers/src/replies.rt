@@ -72,7 +72,7 @@ fn reply_of(frame: Frame) -> Option<Reply>
 }
 
 /// Sends a reply of a node to the client: what arrives of it. `None` where it is lost, or what
-/// arrives is no reply.
+/// arrives is no reply. A direct carrier needs no frame.
 pub fn send_reply<C: Carrier>(
     alloc: Global,
     carrier: &mut C,
@@ -84,6 +84,9 @@ pub fn send_reply<C: Carrier>(
         (Peer.Node from) Peer.Client (frame_bytes (reply_frame reply))
         (λ got. IsHeard reply got it)) }
 {
+    if carrier.is_direct() {
+        return Ok(Some(reply));
+    }
     match send(
         alloc,
         carrier,
