@@ -2,6 +2,7 @@ pub mod States
 pub mod CoreState
 pub mod Queues
 pub mod ShortLists
+pub mod SentFrames
 pub mod Decisions
 pub mod Steps
 -- What crates above name.
@@ -12,6 +13,7 @@ pub use Rattle.chain_core.specs.Decisions.{answer_to, done_of, frame_as, respons
 pub use Rattle.chain_core.specs.States.{AreSnapshots, Core, CoreRefines, IsAtStart}
 pub use Rattle.chain_core.specs.States.{HasOrderedNumbers, IsStartOf, Machine}
 pub use Rattle.chain_core.specs.States.{committed_responses, waiting}
+pub use Rattle.chain_core.specs.SentFrames.{frames_held}
 pub use Rattle.chain_core.specs.ShortLists.{items_held}
 pub use Rattle.chain_core.specs.Steps.{StandsLast, StepLeaves, StepsLeave, epoch_after, floor_after}
 pub use Rattle.chain_core.specs.Steps.{frames_after, ids_after, kept_after, list_after}

@@ -158,6 +158,7 @@ fn of_tick(state: &CoreState) -> Decision
 }
 
 /// Decides what a node does with an input. It changes nothing.
+#[inline(always)]
 pub fn decide(state: &CoreState, input: Input) -> Decision
     ensures { IsDecisionOn state.now input result }
 {

@@ -11,6 +11,7 @@ mod pending_submit;
 mod persistent_state;
 mod queue;
 mod sending;
+mod sent_frames;
 mod short_list;
 mod state;
 
@@ -23,5 +24,6 @@ pub use input::Input;
 pub use pending_submit::PendingSubmit;
 pub use persistent_state::PersistentState;
 pub use sending::Sent;
+pub use sent_frames::SentFrames;
 pub use short_list::{HeldItems, ShortList, only_item};
 pub use state::CoreState;

@@ -8,6 +8,7 @@ use std::alloc::{AllocError, Global};
 use std::collections::VecDeque;
 
 // The requests at the front with numbers up to this one.
+#[inline(always)]
 pub(crate) fn due_of(
     alloc: Global,
     pending: &VecDeque<PendingSubmit>,

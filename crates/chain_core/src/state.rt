@@ -245,6 +245,7 @@ impl CoreState {
     }
 
     // Adds the batch of a client's request, which is pending at the head. A tail commits it.
+    #[inline(always)]
     fn add_submit(
         &mut self,
         alloc: Global,
@@ -369,6 +370,7 @@ impl CoreState {
 
     /// Applies the store's part of a step to the state. Returns the requests whose batches are now
     /// committed, in order of number.
+    #[inline(always)]
     pub fn after(
         &mut self,
         alloc: Global,

@@ -7,7 +7,7 @@ use configurations::Epoch;
 use engine::Tended;
 use kv_types::Number;
 use link_messages::Refusal;
-use node::{DropReason, Input, Output, Reply, ShortList, Stop};
+use node::{DropReason, Input, Output, Reply, SentFrames, ShortList, Stop};
 
 /// How a step of a node ended.
 #[derive(Drop)]
@@ -29,7 +29,7 @@ pub fn dropped(why: DropReason) -> Output
 {
     Output {
         dropped: Some(why),
-        frames: ShortList::new(),
+        frames: SentFrames::new(),
         replies: ShortList::new(),
     }
 }
@@ -41,7 +41,7 @@ fn refused(request: Number) -> Output
     let refusal = Refusal::NotRunning;
     Output {
         dropped: None,
-        frames: ShortList::new(),
+        frames: SentFrames::new(),
         replies: ShortList::one(Reply::Refused { request, refusal }),
     }
 }

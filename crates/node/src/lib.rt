@@ -10,7 +10,7 @@ mod replying;
 mod starting;
 mod stop;
 
-pub use chain_core::{DropReason, HeldItems, Input, Sent, ShortList, only_item};
+pub use chain_core::{DropReason, HeldItems, Input, Sent, SentFrames, ShortList, only_item};
 pub use engine::Tended;
 pub use node::Node;
 pub use numbers::Numbers;

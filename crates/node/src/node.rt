@@ -32,6 +32,7 @@ impl<D: Disk + Drop> Node<D> {
     /// Handles an input completely. A batch is durable before it is forwarded or acknowledged, and
     /// a configuration before the node acts in it.
     /// After a `Stop` the node has ended, and only its disk remains of use.
+    #[inline(always)]
     pub fn step(&mut self, alloc: Global, input: Input) -> Result<Output, Stop>
         requires { IsReady self.old }
         ensures kept { KeepsNode D.Disk self.old self.new result }

@@ -1,5 +1,5 @@
 // The outputs of a step: frames for other nodes, replies for clients.
-use chain_core::{DropReason, Sent, ShortList};
+use chain_core::{DropReason, SentFrames, ShortList};
 use kv_types::{Number, Page, Value};
 use link_messages::Refusal;
 
@@ -45,7 +45,7 @@ pub struct Output {
     /// Why the input was dropped, if it was.
     pub dropped: Option<DropReason>,
     /// The frames for other nodes, in order.
-    pub frames: ShortList<Sent>,
+    pub frames: SentFrames,
     /// The replies for clients, in order.
     pub replies: ShortList<Reply>,
 }

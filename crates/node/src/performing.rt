@@ -18,7 +18,7 @@ use crate::replying::{
 };
 use crate::{Node, Output, Reply, Stop};
 use chain_core::laws::{one_by_one, stands_last, steps_leave};
-use chain_core::{CoreState, Decision, Done, Sent, ShortList};
+use chain_core::{CoreState, Decision, Done, SentFrames};
 use configurations::{Config, Epoch};
 use disk::Disk;
 use engine::Engine;
@@ -31,7 +31,7 @@ fn resent<D: Disk + Drop>(
     alloc: Global,
     core: &CoreState,
     engine: &mut Engine<D>,
-) -> Result<ShortList<Sent>, Stop>
+) -> Result<SentFrames, Stop>
     requires { AreInStep core.now engine.old }
     ensures read { IsOnlyRead D.Disk engine.old engine.new result }
     ensures sent { (n : Machine) → CoreRefines core.now n →
@@ -43,7 +43,7 @@ fn resent<D: Disk + Drop>(
 {
     one_by_one(); // law: frames are sent one by one
     let numbers = core.resends();
-    let mut sent = ShortList::new();
+    let mut sent = SentFrames::new();
     for number in numbers.start..numbers.end {
         let number = Number::new(number).unwrap();
         let batch = engine.batch(alloc, number)?;
@@ -55,6 +55,7 @@ fn resent<D: Disk + Drop>(
 impl<D: Disk + Drop> Node<D> {
     // Appends a batch to the store, and then to the node's state. It is durable before it is
     // forwarded, and a tail acknowledges a batch of its predecessor.
+    #[inline(always)]
     fn append(&mut self, alloc: Global, batch: Batch, done: Done) -> Result<Output, Stop>
         requires may { IsReady self.old }
         requires room { self.old.core.count < MAX_NUMBER }
@@ -73,6 +74,7 @@ impl<D: Disk + Drop> Node<D> {
     }
 
     // Applies the successor's report, and reports to the predecessor if more is committed.
+    #[inline(always)]
     fn on_ack(&mut self, alloc: Global, committed: Number, have: Number) -> Result<Output, Stop>
         requires may { IsReady self.old }
         requires there { IsReport self.old.core committed have }
@@ -84,11 +86,12 @@ impl<D: Disk + Drop> Node<D> {
         let grows = committed > self.core.committed();
         let due = self.core.after(alloc, Done::Acked { committed, have })?;
         self.engine.set_committed(self.core.committed());
-        output_of(alloc, &self.core, ShortList::new(), grows, &due).map_err(Stop::from)
+        output_of(alloc, &self.core, SentFrames::new(), grows, &due).map_err(Stop::from)
     }
 
     // Adopts a configuration, and acknowledges to the predecessor in it. The store has recorded it
     // before the node acts in it.
+    #[inline(never)]
     fn adopt(&mut self, alloc: Global, epoch: Epoch, config: Config) -> Result<Output, Stop>
         requires may { IsReady self.old }
         requires adoptable { IsAdoptable self.old.core epoch config }
@@ -98,10 +101,11 @@ impl<D: Disk + Drop> Node<D> {
         self.engine.adopt(alloc, epoch, &config)?;
         let due = self.core.after(alloc, Done::Adopted { epoch, config })?;
         self.engine.set_committed(self.core.committed());
-        output_of(alloc, &self.core, ShortList::new(), true, &due).map_err(Stop::from)
+        output_of(alloc, &self.core, SentFrames::new(), true, &due).map_err(Stop::from)
     }
 
     // Sends again the batches that the successor may lack, and acknowledges again.
+    #[inline(never)]
     fn resend(&mut self, alloc: Global) -> Result<Output, Stop>
         requires { IsReady self.old }
         ensures { ExecutesDecision D.Disk self.old self.new Decision.Resend result }
@@ -111,6 +115,7 @@ impl<D: Disk + Drop> Node<D> {
     }
 
     // Answers the client with the value of the key at a number.
+    #[inline(always)]
     fn read(&mut self, alloc: Global, request: Number, key: Key, at: Number) -> Result<Output, Stop>
         requires { IsReady self.old }
         ensures { ExecutesDecision D.Disk self.old self.new (Decision.Read request key at) result }
@@ -120,6 +125,7 @@ impl<D: Disk + Drop> Node<D> {
     }
 
     // Answers the client with the page of a range at a number.
+    #[inline(never)]
     fn read_rows(
         &mut self,
         alloc: Global,
@@ -136,6 +142,7 @@ impl<D: Disk + Drop> Node<D> {
     }
 
     // Opens one more snapshot at a number, in the store and in the node's state.
+    #[inline(never)]
     fn open(&mut self, alloc: Global, request: Number, number: Number) -> Result<Output, Stop>
         requires may { IsReady self.old }
         requires room { HasRoomAt self.old.core number }
@@ -148,6 +155,7 @@ impl<D: Disk + Drop> Node<D> {
     }
 
     // Closes one snapshot at a number, in the store and in the node's state.
+    #[inline(never)]
     fn close(&mut self, alloc: Global, request: Number, number: Number) -> Result<Output, Stop>
         requires may { IsReady self.old }
         requires open { IsTrue (is_open number self.old.core.snapshots) }
@@ -161,6 +169,7 @@ impl<D: Disk + Drop> Node<D> {
     }
 
     // Executes a decision.
+    #[inline(always)]
     pub(crate) fn perform(&mut self, alloc: Global, decision: Decision) -> Result<Output, Stop>
         requires may { IsReady self.old }
         requires room { DecisionFits self.old.core decision }

@@ -10,14 +10,15 @@ ghost use Rattle.chain_core.specs.{Machine, CoreRefines, AreFrames};
 ghost use Rattle.node.specs.Outputs.{OutputHas, OutputRefines, acks_after, committed_reply};
 
 use crate::{Output, Reply};
-use chain_core::{CoreState, Done, DropReason, Input, PendingSubmit, Sent, ShortList};
+use chain_core::{CoreState, Done, DropReason, Input, PendingSubmit, Sent, SentFrames, ShortList};
 use kv_types::{Batch, Number, Page, Value};
 use link_messages::Refusal;
 use std::alloc::{AllocError, Global};
 
+#[inline(always)]
 pub(crate) fn push_some(
     alloc: Global,
-    frames: &mut ShortList<Sent>,
+    frames: &mut SentFrames,
     sent: Option<Sent>,
 ) -> Result<(), AllocError>
     ensures { OnOk result (frames.new ≡ frames.old ++ option_to_list sent) }
@@ -36,6 +37,7 @@ fn ack_where(core: &CoreState, acks: bool) -> Option<Sent>
 }
 
 // The acknowledgements of these requests, whose batches are committed.
+#[inline(always)]
 fn replies_to(alloc: Global, due: &[PendingSubmit]) -> Result<ShortList<Reply>, AllocError>
     ensures { IfOk result (λ replies. replies ≡ map committed_reply due.now) }
 {
@@ -56,17 +58,18 @@ pub(crate) fn replying(reply: Reply) -> Output
 {
     Output {
         dropped: None,
-        frames: ShortList::new(),
+        frames: SentFrames::new(),
         replies: ShortList::one(reply),
     }
 }
 
 /// The output of a step: these frames, where `acks` the acknowledgement for the predecessor, and a
 /// reply to each request that is due.
+#[inline(always)]
 pub(crate) fn output_of(
     alloc: Global,
     core: &CoreState,
-    sent: ShortList<Sent>,
+    sent: SentFrames,
     acks: bool,
     due: &[PendingSubmit],
 ) -> Result<Output, AllocError>
@@ -92,6 +95,7 @@ pub(crate) fn acks_after(core: &CoreState, done: &Done) -> bool
 }
 
 /// The output after an append: the batch is forwarded.
+#[inline(always)]
 pub(crate) fn output_of_append(
     alloc: Global,
     core: &CoreState,
@@ -104,7 +108,7 @@ pub(crate) fn output_of_append(
         IfOk result (OutputHas None (forward core.now.id n core.now.count
         ++ (if acks then ack core.now.id n else [])) (map committed_reply due.now)) }
 {
-    let mut sent = ShortList::new();
+    let mut sent = SentFrames::new();
     push_some(alloc, &mut sent, core.forward(core.count(), batch))?;
     output_of(alloc, core, sent, acks, due)
 }
@@ -115,7 +119,7 @@ pub(crate) fn ack_duplicate(alloc: Global, core: &CoreState) -> Result<Output, A
     ensures { (n : Machine) (input : Input) → CoreRefines core.now n →
         IfOk result (OutputRefines input (ack_duplicate core.now.id n)) }
 {
-    let mut frames = ShortList::new();
+    let mut frames = SentFrames::new();
     push_some(alloc, &mut frames, core.ack())?;
     Ok(Output {
         dropped: Some(DropReason::OtherNumber),
@@ -163,7 +167,7 @@ pub(crate) fn output_of_drop(reason: DropReason) -> Output
 {
     Output {
         dropped: Some(reason),
-        frames: ShortList::new(),
+        frames: SentFrames::new(),
         replies: ShortList::new(),
     }
 }

@@ -1,9 +1,27 @@
-use Rattle.std.proofs.Common.{List, subst}
+use Rattle.std.proofs.Common.{ℕ, List, [], append-nil, rules, subst, sym}
+use Rattle.lab.specs.declared.delivery.Posted.{Posted}
 use Rattle.chain_core.specs.declared.Sent.{Sent}
-use Rattle.lab.specs.Posting.{HasPosted}
+use Rattle.lab.specs.Posting.{HasPosted, HasPostedPart}
 use Rattle.lab.proofs.AnyWorlds.{posted_whole}
 use Rattle.lab.proofs.LinesSoFarLemmas.{on_err}
 use Rattle.lab.proofs.trace.trace_output.Goals as goal
+
+-- no frame is posted yet
+posted_none : (x : ℕ) (old : List Posted) (sent : List Sent) → HasPostedPart old x sent old
+posted_none x old sent = (
+  0,
+  record { more = []; whole = sym (append-nil old); each = search rules },
+)
+
+pub returns-in_err-trace_drop-clause-refused : goal.returns-in_err-trace_drop-clause-refused
+returns-in_err-trace_drop-clause-refused g c = on_err c.from_residual.result
+    (posted_none c.args.id c.args.frames.now.items c.args.output.frames)
+
+pub returns-in_err-trace_adoption-clause-refused :
+    goal.returns-in_err-trace_adoption-clause-refused
+returns-in_err-trace_adoption-clause-refused g c =
+    on_err c.from_residual-in_err-trace_adoption.result
+    (posted_none c.args.id c.args.frames.now.items c.args.output.frames)
 
 -- all frames are posted before the replies are carried
 pub returns-in_err-carry_replies-clause-refused : goal.returns-in_err-carry_replies-clause-refused
