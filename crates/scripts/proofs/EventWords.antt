@@ -7,15 +7,16 @@ use Rattle.std.specs.Fmt.{decimal}
 use Rattle.std.proofs.lemmas.Bool.{cases_Bool, and_parts}
 use Rattle.std.proofs.lemmas.Bool.Decides.{nat_tests}
 use Rattle.std.proofs.lemmas.List.Elements.{All-head, All-tail}
-use Rattle.lab.specs.Fault.{Fault}
-use Rattle.lab.specs.Junk.{Junk}
-use Rattle.lab.specs.Junk.TheVariants.{Old, New, Bytes}
+use Rattle.disk.specs.declared.Fault.{Fault}
+use Rattle.disk.specs.declared.Junk.{Junk}
+use Rattle.disk.specs.declared.Junk.TheVariants.{Old, New, Bytes}
 use Rattle.kv_types.specs.declared.Edit.{Edit}
 use Rattle.kv_types.specs.declared.Edit.TheVariants.{Put, Delete}
-use Rattle.lab.specs.EventContent.{EventContent}
-use Rattle.lab.specs.EventKind.{EventKind}
-use Rattle.lab.specs.EventKind.TheVariants.{Submit, Get, Deliver, Tick, Tend, Start, Stop}
-use Rattle.lab.specs.EventKind.TheVariants.{Rows, Open, Close, Notice}
+use Rattle.events.specs.declared.EventContent.{EventContent}
+use Rattle.events.specs.declared.EventKind.{EventKind}
+use Rattle.events.specs.declared.EventKind.TheVariants.{Submit, Get, Deliver, Tick}
+use Rattle.events.specs.declared.EventKind.TheVariants.{Tend, Start, Stop}
+use Rattle.events.specs.declared.EventKind.TheVariants.{Rows, Open, Close, Notice}
 use Rattle.script_words.specs.Words.{AreBytes, is_plain, bound_text, bytes_text, begins_fault}
 use Rattle.script_words.specs.Words.{has_fault, before_fault, from_fault}
 use Rattle.script_words.specs.Edits.{AreBytesIn, edit_word}
@@ -37,7 +38,7 @@ use Rattle.scripts.specs.Laws.{EventsAreRead, is_faultless}
 use Rattle.script_words.specs.declared.error.ScriptError.{ScriptError}
 use Rattle.std.specs.Str.{bytes_eq}
 use Rattle.std.proofs.lemmas.Grind.{common_steps}
-use Rattle.lab.specs.Fault.TheVariants as disk
+use Rattle.disk.specs.declared.Fault.TheVariants as disk
 
 -- ---- no word of an event begins a fault
 

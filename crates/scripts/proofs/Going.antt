@@ -7,8 +7,8 @@ use Rattle.std.proofs.lemmas.List.Elements.{All-nil, All-cons}
 use Rattle.std.proofs.lemmas.Grind.{common_steps}
 use Rattle.std.specs.Option.{option_map_or}
 use Rattle.kv_types.specs.{has}
-use Rattle.lab.specs.NodeLists.{Configurations, at_epoch}
-use Rattle.lab.specs.{NamesNode, node_in}
+use Rattle.configurations.specs.NodeLists.{Configurations, at_epoch}
+use Rattle.events.specs.{NamesNode, node_in}
 use Rattle.script_words.specs.declared.limits.ScriptLimits.{ScriptLimits}
 use Rattle.scripts.specs.declared.setup.Setup.{Setup}
 use Rattle.scripts.specs.declared.statement.ParserState.{ParserState}
@@ -27,7 +27,7 @@ use Rattle.scripts.specs.Faults.{script_fault}
 use Rattle.scripts.specs.Reading.{IsItem, after_item, statements_of, ReadsNext}
 use Rattle.script_words.specs.LimitsLemmas.{HasRanges, with_ranges}
 use Rattle.script_words.proofs.Numbers.{taken}
-use Rattle.lab.specs.EventContent as lab
+use Rattle.events.specs.declared.EventContent.{EventContent}
 
 -- lines that may stand behind configurations, if there were some
 abbrev pub IsRest : Option Configurations → Bool → ScriptLimits → ℕ → List (List ℕ) → Setup
@@ -87,7 +87,7 @@ goes_on before n line lines setup rest item is more =
     go before.faults before.configs before.begun before.limits n line lines setup rest item is more
 
 -- the statements' events name nodes of the configuration
-has_name : (cs : Configurations) (event : lab.EventContent) (o : Option KvError)
+has_name : (cs : Configurations) (event : EventContent) (o : Option KvError)
     → NamesNode cs event.kind → Names cs (option_map_or (λ e. Invalid e) o (Event event))
 has_name cs event None e = e
 has_name cs event (Some x) e = tt

@@ -6,15 +6,15 @@ use Rattle.std.specs.List.{list_all}
 use Rattle.std.specs.Fmt.{decimal}
 use Rattle.std.proofs.lemmas.Bool.{cases_Bool}
 use Rattle.std.proofs.lemmas.List.Elements.{All-head, All-tail}
-use Rattle.lab.specs.NodeLists.{IsId}
-use Rattle.lab.specs.Configs.{IsConfig, TestDecidesConfig, is_config}
-use Rattle.lab.specs.ConfigError.{ConfigError}
+use Rattle.configurations.specs.NodeLists.{IsId}
+use Rattle.configurations.specs.Configs.{IsConfig, TestDecidesConfig, is_config}
+use Rattle.configurations.specs.declared.ConfigError.{ConfigError}
 use Rattle.script_words.specs.declared.error.ScriptError.{ScriptError}
 use Rattle.script_words.specs.Words.{is_number, has_fault}
 use Rattle.scripts.specs.Faults.{numbers_of}
 use Rattle.script_words.specs.WordsLemmas.{number_word, number_back, number_faultless}
 use Rattle.script_words.specs.declared.error.ScriptError.TheVariants.{BadConfiguration, OutOfMemory}
-use Rattle.lab.specs.ConfigError.TheVariants as fault
+use Rattle.configurations.specs.declared.ConfigError.TheVariants as fault
 use Rattle.script_words.specs.declared.error.ScriptError.TheVariants as script
 
 -- what the words of ids are

@@ -5,8 +5,8 @@ use Rattle.std.specs.Prelude.{nat_lt, Result}
 use Rattle.std.specs.Option.{option_map_or}
 use Rattle.std.specs.Str.{bytes_eq}
 use Rattle.kv_types.specs.declared.KvError.{KvError}
-use Rattle.lab.specs.NodeLists.{Configurations}
-use Rattle.lab.specs.EventKind.{EventKind}
+use Rattle.configurations.specs.NodeLists.{Configurations}
+use Rattle.events.specs.declared.EventKind.{EventKind}
 use Rattle.script_words.specs.declared.error.ScriptError.{ScriptError}
 use Rattle.scripts.specs.declared.statement.Action.{Action}
 use Rattle.scripts.specs.declared.statement.Action.TheVariants.{Event, Invalid}
@@ -20,7 +20,7 @@ use Rattle.script_words.specs.Lines.{words_of}
 use Rattle.scripts.proofs.EventWords.{opens}
 use Rattle.scripts.proofs.FirstWords.{first_word}
 use Rattle.scripts.proofs.OneEvent.{name_of, of_name}
-use Rattle.lab.specs.EventContent as lab
+use Rattle.events.specs.declared.EventContent.{EventContent}
 
 never_shows : (what : EventKind) → bytes_eq (name_of what) (codes "show") ≡ false
 never_shows = of_name (λ name. bytes_eq name (codes "show") ≡ false) (record {
@@ -38,7 +38,7 @@ never_shows = of_name (λ name. bytes_eq name (codes "show") ≡ false) (record 
   stop = refl;
 })
 
-event_begins : (event : lab.EventContent) (o : Option KvError) →
+event_begins : (event : EventContent) (o : Option KvError) →
     begins (option_map_or (λ e. Invalid e) o (Event event)) ≡ true
 event_begins event None = refl
 event_begins event (Some e) = refl

@@ -9,16 +9,17 @@ use Rattle.std.proofs.lemmas.Bool.{and_parts, cases_Bool}
 use Rattle.std.proofs.lemmas.Bool.Decides.{nat_tests}
 use Rattle.kv_types.specs.{Part, is_part, has}
 use Rattle.configurations.specs.Refusals.{ListHas}
-use Rattle.lab.specs.NodeLists.{Configurations, Lawful, Shrinks, at_epoch, last_of, leaves_out}
-use Rattle.lab.specs.Configs.{IsConfig, TestDecidesConfig, is_config}
-use Rattle.lab.specs.ConfigError.{ConfigError}
+use Rattle.configurations.specs.NodeLists.{Configurations, Lawful, Shrinks, at_epoch}
+use Rattle.configurations.specs.NodeLists.{last_of, leaves_out}
+use Rattle.configurations.specs.Configs.{IsConfig, TestDecidesConfig, is_config}
+use Rattle.configurations.specs.declared.ConfigError.{ConfigError}
 use Rattle.script_words.specs.declared.error.ScriptError.{ScriptError}
 use Rattle.script_words.specs.declared.error.ScriptError.TheVariants.{BadConfiguration, OutOfMemory}
 use Rattle.scripts.specs.declared.statement.ParserState.{ParserState}
 use Rattle.script_words.specs.Words.{before_fault, has_fault, is_number}
 use Rattle.scripts.specs.Faults.{config_fault, may_follow, numbers_of}
 use Rattle.scripts.specs.Scripts.{MayFollow, up_to}
-use Rattle.lab.specs.ConfigError.TheVariants as fault
+use Rattle.configurations.specs.declared.ConfigError.TheVariants as fault
 
 -- the test of a part decides
 abbrev pub DecidesPart : Type 0

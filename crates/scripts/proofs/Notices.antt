@@ -5,9 +5,9 @@ use Rattle.std.specs.Prelude.{nat_lt, Bool}
 use Rattle.std.specs.Fmt.{decimal}
 use Rattle.std.specs.Option.{option_map_or}
 use Rattle.std.proofs.lemmas.Bool.Decides.{nat_tests}
-use Rattle.lab.specs.NodeLists.{Configurations}
-use Rattle.lab.specs.Fault.{Fault}
-use Rattle.lab.specs.EventKind.TheVariants.{Notice}
+use Rattle.configurations.specs.NodeLists.{Configurations}
+use Rattle.disk.specs.declared.Fault.{Fault}
+use Rattle.events.specs.declared.EventKind.TheVariants.{Notice}
 use Rattle.script_words.specs.declared.error.ScriptError.{ScriptError}
 use Rattle.scripts.specs.declared.statement.ParserState.{ParserState}
 use Rattle.scripts.specs.declared.statement.Action.TheVariants.{Event}
@@ -18,9 +18,9 @@ use Rattle.scripts.specs.Reading.{HasEpoch, Places}
 use Rattle.script_words.specs.FaultWords.{ReadsFaultAs}
 use Rattle.scripts.proofs.Placing.{IsRead, is_of_place, is_read, stands}
 use Rattle.scripts.proofs.ReadBack.{event_read}
-use Rattle.lab.specs.EventContent as lab
+use Rattle.events.specs.declared.EventContent.{EventContent}
 
-abbrev noticing : ℕ → ℕ → Fault → lab.EventContent
+abbrev noticing : ℕ → ℕ → Fault → EventContent
 noticing node epoch fault = record { kind = Notice node epoch; fault = fault }
 
 pub read_notice : (faults : Bool) (args cut behind : List (List ℕ)) (node epoch : ℕ) (fault : Fault)

@@ -2,7 +2,7 @@
 use Rattle.std.proofs.Common.{◌≡◌, ℕ, List, [], ◌∷◌, refl, sym, ap, ◌∙◌, inl, inr, arith, Bool}
 use Rattle.std.proofs.Common.{true, false, map, codes, Option, Some, None, length}
 use Rattle.std.specs.Fmt.{decimal}
-use Rattle.lab.specs.Junk.{Junk}
+use Rattle.disk.specs.declared.Junk.{Junk}
 use Rattle.std.specs.Prelude.{All, IfSome, ◌==◌, ◌||◌, if◌then◌else◌}
 use Rattle.std.specs.Str.{bytes_eq}
 use Rattle.std.proofs.lemmas.Bool.Decides.{nat_tests}
@@ -14,9 +14,10 @@ use Rattle.script_words.specs.Words.{AreBytes, bound_text, bytes_text}
 use Rattle.script_words.specs.Edits.{edit_word, AreBytesIn}
 use Rattle.scripts.specs.Statements.{IsSpelled, CanBeSaid, NumberCanBeSaid, RangeCanBeSaid}
 use Rattle.scripts.specs.Statements.{number_words, walk_name}
-use Rattle.lab.specs.EventKind.{EventKind}
-use Rattle.lab.specs.EventKind.TheVariants.{Submit, Get, Deliver, Tick, Tend, Start, Stop}
-use Rattle.lab.specs.EventKind.TheVariants.{Rows, Open, Close, Notice}
+use Rattle.events.specs.declared.EventKind.{EventKind}
+use Rattle.events.specs.declared.EventKind.TheVariants.{Submit, Get, Deliver, Tick}
+use Rattle.events.specs.declared.EventKind.TheVariants.{Tend, Start, Stop}
+use Rattle.events.specs.declared.EventKind.TheVariants.{Rows, Open, Close, Notice}
 use Rattle.scripts.proofs.FirstWords.{first_word, head, words_behind}
 use Rattle.script_words.specs.EditsLemmas.{no_star, one_edit, one_text}
 use Rattle.script_words.specs.JunksLemmas.{one_junk}

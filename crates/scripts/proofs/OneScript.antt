@@ -4,8 +4,8 @@ use Rattle.std.proofs.Common.{◌∙◌, inl, inr, arith, true, false, map}
 use Rattle.std.specs.Prelude.{if◌then◌else◌, ◌⊎◌, ◌||◌, Bool, Option, Some, None}
 use Rattle.std.specs.Str.{bytes_eq}
 use Rattle.std.specs.Fmt.{decimal}
-use Rattle.lab.specs.EventKind.{EventKind}
-use Rattle.lab.specs.NodeLists.{Configurations}
+use Rattle.events.specs.declared.EventKind.{EventKind}
+use Rattle.configurations.specs.NodeLists.{Configurations}
 use Rattle.kv_types.specs.declared.LimitName.{LimitName}
 use Rattle.script_words.specs.declared.limits.ScriptLimits.{ScriptLimits}
 use Rattle.scripts.specs.declared.setup.Setup.{Setup}
@@ -28,7 +28,7 @@ use Rattle.scripts.proofs.Ids.{ids_read}
 use Rattle.script_words.specs.LimitsLemmas.{is_small, named_by, one_name}
 use Rattle.scripts.proofs.ReadScripts.{each_id, statement_letter}
 use Rattle.scripts.proofs.FirstBytes.{first_byte, not_skipped}
-use Rattle.lab.specs.EventContent as lab
+use Rattle.events.specs.declared.EventContent.{EventContent}
 
 -- ---- what kind of line words are, by their first one
 
@@ -80,7 +80,7 @@ event_number = of_name (λ name. name_number name ≡ 0) (record {
 })
 
 -- words of an event have no number
-event_words : (words : List (List ℕ)) (event : lab.EventContent) → SpellsEvent words event
+event_words : (words : List (List ℕ)) (event : EventContent) → SpellsEvent words event
     → words_number words ≡ 0
 event_words words event spells =
     let front = opens event.kind spells.first spells.kind in

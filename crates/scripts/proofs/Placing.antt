@@ -10,13 +10,14 @@ use Rattle.std.specs.Str.{bytes_eq}
 use Rattle.std.specs.Str.Parse.{digits_value}
 use Rattle.std.specs.Fmt.{decimal}
 use Rattle.kv_types.specs.{has}
-use Rattle.lab.specs.NodeLists.{Configurations, at_epoch}
-use Rattle.lab.specs.Fault.{Fault}
-use Rattle.lab.specs.EventKind.{EventKind}
-use Rattle.lab.specs.EventKind.TheVariants.{Submit, Get, Deliver, Tick, Tend, Start, Stop}
-use Rattle.lab.specs.EventKind.TheVariants.{Rows, Open, Close, Notice}
-use Rattle.lab.specs.Events.{epoch_in}
-use Rattle.lab.specs.{node_in, NamesNode}
+use Rattle.configurations.specs.NodeLists.{Configurations, at_epoch}
+use Rattle.disk.specs.declared.Fault.{Fault}
+use Rattle.events.specs.declared.EventKind.{EventKind}
+use Rattle.events.specs.declared.EventKind.TheVariants.{Submit, Get, Deliver, Tick}
+use Rattle.events.specs.declared.EventKind.TheVariants.{Tend, Start, Stop}
+use Rattle.events.specs.declared.EventKind.TheVariants.{Rows, Open, Close, Notice}
+use Rattle.events.specs.{epoch_in}
+use Rattle.events.specs.{node_in, NamesNode}
 use Rattle.scripts.specs.declared.command.Command.{Command}
 use Rattle.script_words.specs.declared.error.ScriptError.{ScriptError}
 use Rattle.script_words.specs.declared.error.ScriptError.TheVariants.{OutOfPlace, BadFault}
@@ -39,7 +40,7 @@ use Rattle.script_words.specs.FaultWordsLemmas.{split_words}
 use Rattle.scripts.proofs.OneEvent.{name_of, named, of_walk}
 use Rattle.scripts.proofs.ReadBack.{event_read}
 use Rattle.script_words.specs.WordsLemmas.{number_back}
-use Rattle.lab.specs.EventContent as lab
+use Rattle.events.specs.declared.EventContent.{EventContent}
 use Rattle.scripts.specs.declared.command.Command.TheVariants as command
 
 -- a walk is no delivery, and no notice
@@ -134,7 +135,7 @@ no_spelling faults name args cut behind first others good bare free =
 
 -- what the reader knows of a statement whose place it looks for
 pub record IsRead (faults : Bool) (name : List ℕ) (args : List (List ℕ))
-    (event : lab.EventContent) :
+    (event : EventContent) :
     Type 0
   where
     pub good : spelling_fault faults name args ≡ None
@@ -143,7 +144,7 @@ pub record IsRead (faults : Bool) (name : List ℕ) (args : List (List ℕ))
     pub spells : SpellsEvent (name ∷ args) event
 
 pub is_read : (faults : Bool) (name : List ℕ) (args cut behind : List (List ℕ))
-    (event : lab.EventContent) → cut ≡ before_fault args → behind ≡ from_fault args
+    (event : EventContent) → cut ≡ before_fault args → behind ≡ from_fault args
     → fault_of_words (name ∷ cut) ≡ None → junk_fault faults name cut ≡ None
     → CanBeSaid event.kind → IsSpelled event.kind (name ∷ cut)
     → ReadsFaultAs faults name behind event.fault → IsRead faults name args event
@@ -176,7 +177,7 @@ no_epoch (command.Start node) = refl
 
 -- a statement that stands in its place, and one that does not
 pub is_placed : (before : ParserState) (name : List ℕ) (args : List (List ℕ))
-    (event : lab.EventContent)
+    (event : EventContent)
     (action : Action) (node : ℕ) → IsRead before.faults name args event
     → node_in event.kind ≡ Some node
     → epoch_in event.kind ≡ None → node_fault before.configs (Some node) ≡ None
@@ -190,7 +191,7 @@ is_placed before name args event action node r at none free is =
     )
 
 pub is_misplaced : (before : ParserState) (name : List ℕ) (args : List (List ℕ))
-    (event : lab.EventContent) (node : ℕ) (e : ScriptError) → IsRead before.faults name args event
+    (event : EventContent) (node : ℕ) (e : ScriptError) → IsRead before.faults name args event
     → node_in event.kind ≡ Some node → epoch_in event.kind ≡ None
     → node_fault before.configs (Some node) ≡ Some e → Places before name args (Err e)
 is_misplaced before name args event node e r at none fault =
@@ -218,7 +219,7 @@ some_config : (configs : Option Configurations) → is_none configs ≡ false �
 some_config None e = grind (arith, common_steps)
 some_config (Some cs) e = (cs, refl)
 
-abbrev delivery : ℕ → Fault → lab.EventContent
+abbrev delivery : ℕ → Fault → EventContent
 delivery place fault = record { kind = Deliver place; fault = fault }
 
 pub read_delivery : (faults : Bool) (args cut behind : List (List ℕ)) (place : ℕ) (fault : Fault)

@@ -8,9 +8,10 @@ use Rattle.std.specs.List.{list_any, zip}
 use Rattle.std.proofs.lemmas.List.Elements.{All-head, All-tail}
 use Rattle.kv_types.specs.{Span}
 use Rattle.kv_types.specs.declared.Edit.{Edit}
-use Rattle.lab.specs.EventKind.{EventKind}
-use Rattle.lab.specs.EventKind.TheVariants.{Submit, Get, Deliver, Tick, Tend, Start, Stop}
-use Rattle.lab.specs.EventKind.TheVariants.{Rows, Open, Close, Notice}
+use Rattle.events.specs.declared.EventKind.{EventKind}
+use Rattle.events.specs.declared.EventKind.TheVariants.{Submit, Get, Deliver, Tick}
+use Rattle.events.specs.declared.EventKind.TheVariants.{Tend, Start, Stop}
+use Rattle.events.specs.declared.EventKind.TheVariants.{Rows, Open, Close, Notice}
 use Rattle.script_words.specs.Words.{bytes_text, bound_text}
 use Rattle.script_words.specs.Edits.{edit_word, AreBytesIn}
 use Rattle.scripts.specs.Statements.{IsSpelled, is_bad_number, is_bad_text, is_bad_junk}

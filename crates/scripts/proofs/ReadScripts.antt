@@ -7,12 +7,12 @@ use Rattle.std.specs.Str.{bytes_eq}
 use Rattle.std.specs.Fmt.{decimal}
 use Rattle.std.proofs.lemmas.Bool.Decides.{nat_tests}
 use Rattle.std.proofs.lemmas.List.Elements.{All-head, All-tail}
-use Rattle.lab.specs.EventKind.{EventKind}
-use Rattle.lab.specs.Events.{epoch_in}
-use Rattle.lab.specs.{node_in, NamesNode}
+use Rattle.events.specs.declared.EventKind.{EventKind}
+use Rattle.events.specs.{epoch_in}
+use Rattle.events.specs.{node_in, NamesNode}
 use Rattle.kv_types.specs.{has}
-use Rattle.lab.specs.NodeLists.{Configurations, IsId, at_epoch}
-use Rattle.lab.specs.Configs.{TestDecidesConfig}
+use Rattle.configurations.specs.NodeLists.{Configurations, IsId, at_epoch}
+use Rattle.configurations.specs.Configs.{TestDecidesConfig}
 use Rattle.scripts.specs.declared.statement.Action.{Action}
 use Rattle.scripts.specs.declared.statement.Action.TheVariants.{Settle, Show}
 use Rattle.scripts.specs.Reading.{IsOfOneNode}
@@ -42,7 +42,7 @@ use Rattle.scripts.proofs.OneEvent.{name_of, of_name}
 use Rattle.scripts.proofs.EventWords.{divides, divided_read, opens}
 use Rattle.scripts.specs.Laws.{AreFaultless, ScriptsAreRead, is_faultless}
 use Rattle.scripts.proofs.FirstBytes.{first_byte, not_skipped}
-use Rattle.lab.specs.EventContent as lab
+use Rattle.events.specs.declared.EventContent.{EventContent}
 
 -- ---- a line that is a statement has no fault
 
@@ -95,7 +95,7 @@ known cs None is = refl
 known cs (Some epoch) is = known_epoch cs epoch is
 
 good_statement : (faults : Bool) (cs : Configurations) (begun : Bool) (limits : ScriptLimits)
-    (event : lab.EventContent) (name : List ℕ) (args : List (List ℕ)) →
+    (event : EventContent) (name : List ℕ) (args : List (List ℕ)) →
     Allows faults (name ∷ args) →
     SpellsEvent (name ∷ args) event →
     NamesNode cs event.kind → NamesEpoch cs event.kind
@@ -107,7 +107,7 @@ good_statement faults cs begun limits event name args allows spells named told =
     ∙ rw (known cs (epoch_in event.kind) told) (free cs (node_in event.kind) named)
 
 passes : (faults : Bool) (cs : Configurations) (begun : Bool) (limits : ScriptLimits)
-    (event : lab.EventContent) (words : List (List ℕ)) (action : Action) (name : List ℕ)
+    (event : EventContent) (words : List (List ℕ)) (action : Action) (name : List ℕ)
     (args : List (List ℕ)) → Allows faults words →
     words ≡ name ∷ args → bytes_eq name (codes "config") ≡ false →
     bytes_eq name (codes "limit") ≡ false → 97 ≤ first_byte (name ∷ args) →
@@ -175,7 +175,7 @@ lettered what args = of_name (λ name. 97 ≤ first_byte (name ∷ args)) (recor
 }) what
 
 event_passes : (faults : Bool) (cs : Configurations) (begun : Bool) (limits : ScriptLimits)
-    (event : lab.EventContent) (words : List (List ℕ)) (action : Action) → Allows faults words →
+    (event : EventContent) (words : List (List ℕ)) (action : Action) → Allows faults words →
     SpellsEvent words event →
     NamesNode cs event.kind → NamesEpoch cs event.kind → action ≡ action_of event →
     IsPassed faults cs begun limits words action

@@ -6,15 +6,15 @@ use Rattle.std.proofs.lemmas.Grind.{common_steps}
 use Rattle.std.specs.Option.{option_or}
 use Rattle.kv_types.specs.declared.Edit.{Edit}
 use Rattle.kv_types.specs.declared.KvError.{KvError}
-use Rattle.lab.specs.EventKind.TheVariants.{Submit}
-use Rattle.lab.specs.Fault.{Fault}
+use Rattle.events.specs.declared.EventKind.TheVariants.{Submit}
+use Rattle.disk.specs.declared.Fault.{Fault}
 use Rattle.scripts.specs.Actions.{action_of, edit_error, edits_error, submit_error}
 use Rattle.scripts.specs.Reading.{Places}
 use Rattle.scripts.specs.declared.statement.Action.{Action}
 use Rattle.scripts.specs.declared.statement.ParserState.{ParserState}
 use Rattle.script_words.specs.declared.error.ScriptError.{ScriptError}
 use Rattle.scripts.specs.declared.statement.Action.TheVariants.{Event, Invalid}
-use Rattle.lab.specs.EventContent as lab
+use Rattle.events.specs.declared.EventContent.{EventContent}
 
 or_none : (error : Option KvError) → option_or error None ≡ error
 or_none None = refl
@@ -32,7 +32,7 @@ errors_behind (first ∷ edits) edit =
     ap (λ o. option_or (edit_error first) o) (errors_behind edits edit)
     ∙ or_both (edit_error first) (edits_error edits) (edit_error edit)
 
-abbrev pub submitting : ℕ → List Edit → Fault → lab.EventContent
+abbrev pub submitting : ℕ → List Edit → Fault → EventContent
 submitting node edits fault = record { kind = Submit node edits; fault = fault }
 
 -- what a batch comes to, and what its first error does

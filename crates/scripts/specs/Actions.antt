@@ -8,12 +8,13 @@ use Rattle.kv_types.specs.declared.Edit.TheVariants.{Put, Delete}
 use Rattle.kv_types.specs.declared.KvError.{KvError}
 use Rattle.kv_types.specs.declared.KvError.TheVariants.{KeyTooLong, ValueTooLong, BadLimit}
 use Rattle.kv_types.specs.{batch_error, Span}
-use Rattle.lab.specs.EventKind.{EventKind}
-use Rattle.lab.specs.EventKind.TheVariants.{Submit, Get, Deliver, Tick, Tend, Start, Stop}
-use Rattle.lab.specs.EventKind.TheVariants.{Rows, Open, Close, Notice}
+use Rattle.events.specs.declared.EventKind.{EventKind}
+use Rattle.events.specs.declared.EventKind.TheVariants.{Submit, Get, Deliver, Tick}
+use Rattle.events.specs.declared.EventKind.TheVariants.{Tend, Start, Stop}
+use Rattle.events.specs.declared.EventKind.TheVariants.{Rows, Open, Close, Notice}
 use Rattle.scripts.specs.declared.statement.Action.{Action}
 use Rattle.scripts.specs.declared.statement.Action.TheVariants.{Event, Invalid}
-use Rattle.lab.specs.EventContent as lab
+use Rattle.events.specs.declared.EventContent.{EventContent}
 
 -- what is wrong with a key, if anything is
 abbrev pub key_error : List ℕ → Option KvError
@@ -67,5 +68,5 @@ error_of (Start node) = None
 error_of (Stop node junk) = None
 
 -- a statement with an error is no event
-abbrev pub action_of : lab.EventContent → Action
+abbrev pub action_of : EventContent → Action
 action_of event = option_map_or (λ e. Invalid e) (error_of event.kind) (Event event)

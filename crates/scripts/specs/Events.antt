@@ -1,12 +1,13 @@
 -- The spelling of an event: the words of its kind, and behind them those of its fault.
 use Rattle.std.specs.Prelude.{◌≡◌, ℕ, Bool, true, false, List, ◌++◌}
-use Rattle.lab.specs.EventContent.{EventContent}
-use Rattle.lab.specs.EventKind.{EventKind}
-use Rattle.lab.specs.EventKind.TheVariants.{Submit, Get, Deliver, Tick, Tend, Start, Stop}
-use Rattle.lab.specs.EventKind.TheVariants.{Rows, Open, Close, Notice}
+use Rattle.events.specs.declared.EventContent.{EventContent}
+use Rattle.events.specs.declared.EventKind.{EventKind}
+use Rattle.events.specs.declared.EventKind.TheVariants.{Submit, Get, Deliver, Tick}
+use Rattle.events.specs.declared.EventKind.TheVariants.{Tend, Start, Stop}
+use Rattle.events.specs.declared.EventKind.TheVariants.{Rows, Open, Close, Notice}
 use Rattle.scripts.specs.Statements.{CanBeSaid, IsSpelled}
 use Rattle.script_words.specs.FaultWords.{FaultCanBeSaid, IsFault}
-use Rattle.lab.specs.Fault.TheVariants as disk
+use Rattle.disk.specs.declared.Fault.TheVariants as disk
 
 -- a stop bears no fault
 abbrev pub bears_fault : EventKind → Bool

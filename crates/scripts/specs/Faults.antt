@@ -7,8 +7,8 @@ use Rattle.std.specs.Option.{option_map_or, option_or}
 use Rattle.std.specs.Str.{bytes_eq}
 use Rattle.std.specs.Str.Parse.{digits_value}
 use Rattle.kv_types.specs.{has}
-use Rattle.lab.specs.NodeLists.{Configurations, at_epoch, last_of, leaves_out}
-use Rattle.lab.specs.Configs.{is_config}
+use Rattle.configurations.specs.NodeLists.{Configurations, at_epoch, last_of, leaves_out}
+use Rattle.configurations.specs.Configs.{is_config}
 use Rattle.script_words.specs.declared.error.ScriptError.{ScriptError}
 use Rattle.script_words.specs.declared.error.ScriptError.TheVariants.{LineTooLong, BadNumber}
 use Rattle.script_words.specs.declared.error.ScriptError.TheVariants.{UnknownStatement}

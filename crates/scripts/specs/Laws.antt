@@ -2,7 +2,7 @@
 use Rattle.std.specs.Prelude.{◌≡◌, ◌≤◌, ℕ, List, ◌∷◌, All, length, None, Bool, [], codes, false}
 use Rattle.std.specs.Prelude.{not, true, ◌&&◌, ◌==◌}
 use Rattle.kv_types.specs.declared.Edit.{Edit}
-use Rattle.lab.specs.EventContent.{EventContent}
+use Rattle.events.specs.declared.EventContent.{EventContent}
 use Rattle.script_words.specs.declared.limits.ScriptLimits.{ScriptLimits}
 use Rattle.scripts.specs.declared.setup.Setup.{Setup}
 use Rattle.scripts.specs.declared.statement.Statement.{Statement}

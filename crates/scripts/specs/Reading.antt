@@ -2,13 +2,13 @@
 use Rattle.std.specs.Prelude.{◌≡◌, ◌≢◌, ◌≤◌, ℕ, Bool, ◌||◌, true, false, List, [], ◌∷◌, ◌++◌, map}
 use Rattle.std.specs.Prelude.{codes, Option, Some, None, Result, Ok, Err, ◌⊎◌, ◌<◌, ◌^◌, length}
 use Rattle.std.specs.Fmt.{decimal}
-use Rattle.lab.specs.Fault.{Fault}
-use Rattle.lab.specs.EventKind.{EventKind}
+use Rattle.disk.specs.declared.Fault.{Fault}
+use Rattle.events.specs.declared.EventKind.{EventKind}
 use Rattle.kv_types.specs.{has}
 use Rattle.kv_types.specs.Content.{BatchContent, edits_of}
 use Rattle.kv_types.specs.declared.Edit.{Edit}
 use Rattle.kv_types.specs.declared.KvError.{KvError}
-use Rattle.lab.specs.NodeLists.{Configurations, at_epoch}
+use Rattle.configurations.specs.NodeLists.{Configurations, at_epoch}
 use Rattle.script_words.specs.declared.error.ScriptError.{ScriptError}
 use Rattle.script_words.specs.declared.error.ScriptError.TheVariants.{OutOfMemory}
 use Rattle.scripts.specs.declared.command.Command.{Command}
@@ -28,7 +28,7 @@ use Rattle.script_words.specs.Lines.{words_of}
 use Rattle.scripts.specs.Faults.{statement_fault, words_fault, after_words, line_fault, after_line}
 use Rattle.scripts.specs.Faults.{numbered_fault, junk_fault}
 use Rattle.std.specs.Option.{option_or}
-use Rattle.lab.specs.EventKind.TheVariants as what
+use Rattle.events.specs.declared.EventKind.TheVariants as what
 
 -- the event that a command asks for
 abbrev pub what_of : Command → EventKind

@@ -3,11 +3,11 @@ use Rattle.std.specs.Prelude.{◌≡◌, ◌⊎◌, ◌<◌, ◌^◌, ℕ, suc, 
 use Rattle.std.specs.Prelude.{◌∷◌, ◌++◌, length, map, codes, Option, Some, None, IfSome}
 use Rattle.std.specs.Fmt.{decimal}
 use Rattle.kv_types.specs.{has}
-use Rattle.lab.specs.NodeLists.{Configurations, at_epoch, last_of, leaves_out}
-use Rattle.lab.specs.EventKind.{EventKind}
-use Rattle.lab.specs.Events.{epoch_in}
-use Rattle.lab.specs.Configs.{IsConfig}
-use Rattle.lab.specs.{NamesNode}
+use Rattle.configurations.specs.NodeLists.{Configurations, at_epoch, last_of, leaves_out}
+use Rattle.events.specs.declared.EventKind.{EventKind}
+use Rattle.events.specs.{epoch_in}
+use Rattle.configurations.specs.Configs.{IsConfig}
+use Rattle.events.specs.{NamesNode}
 use Rattle.kv_types.specs.declared.LimitName.{LimitName}
 use Rattle.script_words.specs.declared.limits.ScriptLimits.{ScriptLimits}
 use Rattle.scripts.specs.declared.setup.Setup.{Setup}
@@ -18,7 +18,7 @@ use Rattle.scripts.specs.Events.{SpellsEvent}
 use Rattle.scripts.specs.Actions.{action_of}
 use Rattle.script_words.specs.Limits.{AreLimits, SetsLimit, default_limits, limits_with}
 use Rattle.script_words.specs.Lines.{words_of}
-use Rattle.lab.specs.EventContent as lab
+use Rattle.events.specs.declared.EventContent.{EventContent}
 
 -- an empty line, or a comment
 abbrev pub is_skipped : List ℕ → Bool
@@ -51,7 +51,7 @@ NamesEpoch cs kind = IfSome (epoch_in kind) (λ epoch. epoch < length cs)
 abbrev pub IsStatement : Configurations → List (List ℕ) → Action → Type 0
 IsStatement cs words action =
     IsOtherStatement cs words action
-    ⊎ ((event : lab.EventContent) × SpellsEvent words event × NamesNode cs event.kind
+    ⊎ ((event : EventContent) × SpellsEvent words event × NamesNode cs event.kind
     × NamesEpoch cs event.kind × (action ≡ action_of event))
 
 -- a run has begun with a statement, but not with one that only shows

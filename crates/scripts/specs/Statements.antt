@@ -6,10 +6,11 @@ use Rattle.std.specs.List.{list_any, zip}
 use Rattle.std.specs.Option.{option_map_or}
 use Rattle.std.specs.Str.{bytes_eq}
 use Rattle.kv_types.specs.{Span}
-use Rattle.lab.specs.Junk.TheVariants.{Old}
-use Rattle.lab.specs.EventKind.{EventKind}
-use Rattle.lab.specs.EventKind.TheVariants.{Submit, Get, Deliver, Tick, Tend, Start, Stop}
-use Rattle.lab.specs.EventKind.TheVariants.{Rows, Open, Close, Notice}
+use Rattle.disk.specs.declared.Junk.TheVariants.{Old}
+use Rattle.events.specs.declared.EventKind.{EventKind}
+use Rattle.events.specs.declared.EventKind.TheVariants.{Submit, Get, Deliver, Tick}
+use Rattle.events.specs.declared.EventKind.TheVariants.{Tend, Start, Stop}
+use Rattle.events.specs.declared.EventKind.TheVariants.{Rows, Open, Close, Notice}
 use Rattle.script_words.specs.declared.error.ScriptError.{ScriptError}
 use Rattle.script_words.specs.declared.error.ScriptError.TheVariants.{UnknownStatement}
 use Rattle.script_words.specs.declared.error.ScriptError.TheVariants.{WrongNumberOfWords, BadNumber}

@@ -1,13 +1,15 @@
 //! What a command comes to: an event, or the first error of its keys and range.
 ghost use Rattle.std.specs.Prelude.{◌≡◌, None, Some, IfOk, MatchResult};
-ghost use Rattle.lab.specs.{node_in};
+ghost use Rattle.events.specs.{node_in};
 ghost use Rattle.scripts.specs.Actions.{key_error, bound_error, range_error, action_of};
 ghost use Rattle.scripts.specs.Reading.{what_of};
 
 use crate::command::Command;
 use crate::statement::Action;
+use configurations::NodeId;
+use disk::Fault;
+use events::{Event, EventKind};
 use kv_types::{Key, KvError, Range};
-use lab::{Event, EventKind, Fault, NodeId};
 use script_words::{Bytes, RawRange};
 use std::alloc::{AllocError, Global};
 

@@ -1,10 +1,10 @@
 //! The words of a statement whose form is right.
 ghost use Rattle.std.specs.Prelude.{◌≡◌, Some};
-ghost use Rattle.lab.specs.{node_in};
+ghost use Rattle.events.specs.{node_in};
 ghost use Rattle.scripts.specs.Reading.{what_of};
 
+use disk::Junk;
 use kv_types::Number;
-use lab::Junk;
 use script_words::{Bytes, RawRange};
 
 /// What a line other than a submit asks for, before anything but its spelling is known.

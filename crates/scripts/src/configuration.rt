@@ -3,8 +3,8 @@ ghost use Rattle.std.specs.Prelude.{◌≡◌, ◌≢◌, map, true, false, Some
 ghost use Rattle.std.specs.Prelude.{IfSome, MatchOption, List, ℕ};
 ghost use Rattle.std.specs.Fmt.{decimal};
 ghost use Rattle.std.specs.List.{list_all};
-ghost use Rattle.lab.specs.Configs.{IsConfig, is_config};
-ghost use Rattle.lab.specs.NodeLists.{Lawful};
+ghost use Rattle.configurations.specs.Configs.{IsConfig, is_config};
+ghost use Rattle.configurations.specs.NodeLists.{Lawful};
 ghost use Rattle.script_words.specs.declared.error.ScriptError.TheVariants.{OutOfMemory};
 ghost use Rattle.script_words.specs.declared.error.ScriptError.TheVariants.{BadConfiguration};
 ghost use Rattle.script_words.specs.Words.{is_number};
@@ -12,8 +12,9 @@ ghost use Rattle.scripts.specs.Faults.{config_fault, may_follow, numbers_of};
 ghost use Rattle.scripts.specs.Scripts.{MayFollow, up_to};
 
 use crate::statement::ParserState;
+use configurations::laws::test_decides_config;
+use configurations::{Config, ConfigError, Configs, Epoch};
 use kv_types::laws::is_part_decides;
-use lab::{Config, ConfigError, Configs, Epoch, test_decides_config};
 use script_words::{ScriptError, number, split_fault};
 use std::alloc::{AllocError, Global};
 

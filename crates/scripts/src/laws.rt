@@ -2,7 +2,7 @@
 ghost use Rattle.scripts.specs.Laws.{StringsDiffer, EditsDiffer, EventsDiffer, ScriptsDiffer};
 ghost use Rattle.scripts.specs.Laws.{EventsAreRead, ScriptsAreRead, FaultsAreRefused};
 
-use lab::test_decides_config;
+use configurations::laws::test_decides_config;
 
 /// A word spells one byte string at most, and one edit, words one event, and lines one script.
 pub fn spellings_differ()

@@ -17,8 +17,10 @@ use crate::setup::Setup;
 use crate::statement::{Action, LineItem, ParserState, Statement};
 use crate::statements::command_of;
 use crate::submit::submit;
+use configurations::NodeId;
+use disk::Fault;
+use events::{Event, EventKind};
 use kv_types::LimitName;
-use lab::{Event, EventKind, Fault, NodeId};
 use script_words::{
     ScriptError, ScriptLimits, ScriptLines, fault_behind, limit_of, number, put_words, split_fault,
 };
@@ -37,6 +39,7 @@ fn skips(line: &[u8]) -> bool
 }
 
 // The limit that a line sets, and the number that it is to be.
+#[inline(never)]
 fn limit(before: &ParserState, args: &[&[u8]]) -> Result<(LimitName, u64), ScriptError>
     ensures { MatchResult result
         (λ it. (limit_fault before.now (map (λ w. w.now) args.now) ≡ None)
@@ -65,6 +68,7 @@ fn limit(before: &ParserState, args: &[&[u8]]) -> Result<(LimitName, u64), Scrip
 }
 
 // A frame's delivery, if it may stand here.
+#[inline(never)]
 fn deliver(alloc: Global, before: &ParserState, args: &[&[u8]]) -> Result<Action, ScriptError>
     ensures { Places before.now (codes "deliver") (map (λ w. w.now) args.now) result }
 {
@@ -84,6 +88,7 @@ fn deliver(alloc: Global, before: &ParserState, args: &[&[u8]]) -> Result<Action
 }
 
 // A notice, if it may stand here.
+#[inline(never)]
 fn notice(alloc: Global, before: &ParserState, args: &[&[u8]]) -> Result<Action, ScriptError>
     ensures { Places before.now (codes "notice") (map (λ w. w.now) args.now) result }
 {
@@ -177,6 +182,7 @@ fn fault_borne(
 }
 
 /// What any other statement with an event at a named node comes to, if it may stand here.
+#[inline(never)]
 fn placed(
     alloc: Global,
     before: &ParserState,

@@ -1,6 +1,6 @@
 //! What a script sets up before its first statement.
+use configurations::Configs;
 use kv_types::Limits;
-use lab::Configs;
 
 /// The configurations of a chain in order, and the limits of its nodes.
 #[derive(Drop)]

@@ -6,8 +6,9 @@ ghost use Rattle.scripts.specs.Faults.{node_fault, place_fault};
 ghost use Rattle.scripts.specs.Reading.{HasEpoch, after_item, statements_of};
 ghost use Rattle.scripts.specs.Scripts.{begins};
 
+use configurations::{Configs, Epoch, NodeId};
+use events::Event;
 use kv_types::{KvError, LimitName};
-use lab::{Configs, Epoch, Event, NodeId};
 use script_words::{ScriptError, ScriptLimits};
 use std::alloc::AllocError;
 

@@ -6,7 +6,7 @@ ghost use Rattle.scripts.specs.Statements.{walk_name};
 ghost use Rattle.scripts.specs.Reading.{ReadsCommand};
 
 use crate::command::Command;
-use lab::Junk;
+use disk::Junk;
 use script_words::{
     Bytes, RawRange, ScriptError, batch_number, bounds_of, bytes_of, junk_of, number,
 };

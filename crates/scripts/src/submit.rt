@@ -9,8 +9,8 @@ ghost use Rattle.scripts.specs.Reading.{IsBatchOf, Places, ReadsSubmit};
 
 use crate::action::key_of;
 use crate::statement::{Action, ParserState};
+use events::{Event, EventKind};
 use kv_types::{Batch, Edit, KvError, Value};
-use lab::{Event, EventKind};
 use script_words::{Bytes, RawEdit, ScriptError, fault_behind, number, raw_edit_of, split_fault};
 use std::alloc::{AllocError, Global};
 

@@ -1,5 +1,5 @@
 use Rattle.std.proofs.Common.{◌∙◌, subst, List, ℕ}
-use Rattle.lab.specs.Configs.{IsConfig}
+use Rattle.configurations.specs.Configs.{IsConfig}
 use Rattle.scripts.proofs.Ids.{no_config_of}
 use Rattle.scripts.proofs.configuration.config_of.Goals as goal
 

@@ -1,5 +1,5 @@
 use Rattle.std.proofs.Common.{◌∙◌, refl, subst}
-use Rattle.lab.specs.NodeLists.{Configurations, Lawful}
+use Rattle.configurations.specs.NodeLists.{Configurations, Lawful}
 use Rattle.configurations.specs.Refusals.{ListHas}
 use Rattle.scripts.proofs.NextConfig.{may, next_follows, refused_next}
 use Rattle.scripts.proofs.configuration.extended.Goals as goal

@@ -1,5 +1,5 @@
 use Rattle.std.proofs.Common.{map, rules}
-use Rattle.lab.specs.EventContent.{EventContent}
+use Rattle.events.specs.declared.EventContent.{EventContent}
 use Rattle.scripts.specs.Reading.{what_of}
 use Rattle.scripts.proofs.Placing.{is_misplaced, is_placed, is_read, no_epoch}
 use Rattle.scripts.proofs.reader.placed.Goals as goal
