@@ -11,7 +11,7 @@ use Rattle.events.specs.declared.lent.LentKind.TheVariants as shared
 -- the event that is kept in this form
 abbrev pub shared_event : EventForm → EventContent
 shared_event (form.Deliver place) = faultless (event_kind.Deliver place)
-shared_event (form.Submit node batch) = faultless (event_kind.Submit node batch.value)
+shared_event (form.Submit node batch) = faultless (event_kind.Submit node batch)
 shared_event (form.Get node lookup) =
     faultless (event_kind.Get node lookup.value.key lookup.value.at)
 shared_event (form.Faultless kind) = faultless kind.value

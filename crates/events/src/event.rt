@@ -25,7 +25,7 @@ pub struct Lookup {
 #[derive(Drop)]
 pub enum EventForm {
     Deliver(u64),
-    Submit(NodeId, Rc<Batch>),
+    Submit(NodeId, Batch),
     Get(NodeId, Rc<Lookup>),
     Faultless(Rc<EventKind>),
     Faulty(Rc<EventContent>),
@@ -49,12 +49,13 @@ impl Model for Event {
 
 impl Event {
     /// The event of this kind that no fault strikes.
+    #[inline(always)]
     pub fn faultless(alloc: Global, kind: EventKind) -> Result<Event, AllocError>
         ensures { IfOk result (λ event. event ≡ faultless kind) }
     {
         let form = match kind {
             EventKind::Deliver { place } => EventForm::Deliver(place),
-            EventKind::Submit { node, batch } => EventForm::Submit(node, Rc::new(alloc, batch)?),
+            EventKind::Submit { node, batch } => EventForm::Submit(node, batch),
             EventKind::Get { node, key, at } => {
                 EventForm::Get(node, Rc::new(alloc, Lookup { key, at })?)
             }
@@ -64,6 +65,7 @@ impl Event {
     }
 
     /// The event of this kind and fault.
+    #[inline(always)]
     pub fn new(alloc: Global, kind: EventKind, fault: Fault) -> Result<Event, AllocError>
         ensures { IfOk result (λ event. event ≡ record { kind = kind; fault = fault }) }
     {
@@ -92,12 +94,13 @@ impl Event {
     }
 
     /// The kind.
+    #[inline(always)]
     pub fn kind(&self) -> LentKind<'_>
         ensures { shared_kind result ≡ self.now.kind }
     {
         match &self.form {
             EventForm::Deliver(place) => LentKind::Deliver(*place),
-            EventForm::Submit(node, batch) => LentKind::Submit(*node, batch.as_ref()),
+            EventForm::Submit(node, batch) => LentKind::Submit(*node, batch),
             EventForm::Get(node, lookup) => {
                 let Lookup { key, at } = lookup.as_ref();
                 LentKind::Get(*node, key, *at)
@@ -108,6 +111,7 @@ impl Event {
     }
 
     /// The fault, with memory of its own.
+    #[inline(always)]
     pub fn fault(&self) -> Result<Fault, AllocError>
         ensures { IfOk result (λ fault. fault ≡ self.now.fault) }
     {
@@ -118,6 +122,7 @@ impl Event {
     }
 
     /// The node that the event names; a frame goes to its addressee.
+    #[inline(always)]
     fn node(&self) -> Option<NodeId>
         ensures { result ≡ node_in self.now.kind }
     {
@@ -129,6 +134,7 @@ impl Event {
     }
 
     /// Whether the event names a node of the first configuration, if it names one.
+    #[inline(always)]
     pub fn names_node(&self, configs: &Configs) -> bool
         ensures { IsTrue result ↔ NamesNode configs.now self.now.kind }
     {
@@ -139,6 +145,7 @@ impl Event {
     }
 
     /// The epoch of a notice.
+    #[inline(always)]
     pub fn epoch(&self) -> Option<Epoch>
         ensures { result ≡ epoch_in self.now.kind }
     {
@@ -149,6 +156,7 @@ impl Event {
     }
 
     /// The place of the frame that it delivers.
+    #[inline(always)]
     pub fn delivered(&self) -> Option<u64>
         ensures { result ≡ delivered_place self.now.kind }
     {
