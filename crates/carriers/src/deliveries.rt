@@ -35,6 +35,7 @@ pub enum Delivery {
 }
 
 // The input that a frame is to its addressee.
+#[inline(always)]
 fn input_of(frame: Frame) -> NodeInput
     ensures { result ≡ input_of frame }
 {
@@ -66,6 +67,7 @@ fn input_of(frame: Frame) -> NodeInput
 }
 
 // The input that a client's frame is to its node.
+#[inline(always)]
 fn request_input(frame: Frame) -> NodeInput
     ensures { result ≡ request_input frame }
 {
@@ -87,6 +89,7 @@ fn unreadable(node: NodeId) -> Delivery
 }
 
 /// Sends the frame of a client's request to its node: what arrives there.
+#[inline(always)]
 pub fn send_request<C: Carrier>(
     alloc: Global,
     carrier: &mut C,
@@ -106,6 +109,7 @@ pub fn send_request<C: Carrier>(
 }
 
 /// Sends the bytes of a frame from one node to another: what arrives there.
+#[inline(always)]
 pub fn send_posted<C: Carrier>(
     alloc: Global,
     carrier: &mut C,

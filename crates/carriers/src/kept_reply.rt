@@ -31,6 +31,7 @@ impl Model for KeptReply {
 
 impl KeptReply {
     /// This reply. Refused where memory runs out for its box; that of a commit has none.
+    #[inline(always)]
     pub fn new(alloc: Global, reply: Reply) -> Result<KeptReply, AllocError>
         ensures same { IfOk result (λ it. it ≡ reply) }
         ensures unboxed { IsCommit reply → IsOk result }

@@ -73,6 +73,7 @@ fn reply_of(frame: Frame) -> Option<Reply>
 
 /// Sends a reply of a node to the client: what arrives of it. `None` where it is lost, or what
 /// arrives is no reply. A direct carrier needs no frame.
+#[inline(always)]
 pub fn send_reply<C: Carrier>(
     alloc: Global,
     carrier: &mut C,

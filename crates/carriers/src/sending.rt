@@ -47,6 +47,7 @@ fn read_frame(alloc: Global, bytes: &[u8]) -> Result<Received, LabError>
 }
 
 /// Sends the bytes of a frame: what arrives of it. What arrives is read.
+#[inline(always)]
 pub fn send_bytes<C: Carrier>(
     alloc: Global,
     carrier: &mut C,
@@ -67,6 +68,7 @@ pub fn send_bytes<C: Carrier>(
 
 /// Sends a frame: what arrives of it. Bytes that arrive as they were sent are not read again, and a
 /// direct carrier needs none.
+#[inline(always)]
 pub fn send<C: Carrier>(
     alloc: Global,
     carrier: &mut C,

@@ -21,6 +21,7 @@ pub struct Posted {
 }
 
 // The frame in this place, from 1.
+#[inline(always)]
 fn posted_at(posted: &[Posted], place: u64) -> Option<&Posted>
     ensures { MatchOption result (HasNoFrame posted.now place)
         (λ it. IsPostedAt posted.now place it.now) }
@@ -32,6 +33,7 @@ fn posted_at(posted: &[Posted], place: u64) -> Option<&Posted>
 }
 
 // The delivery of the frame in this place, from 1.
+#[inline(always)]
 fn delivered<C: Carrier>(
     alloc: Global,
     carrier: &mut C,
@@ -49,6 +51,7 @@ fn delivered<C: Carrier>(
 }
 
 // The node that is told of an epoch, and its configuration as an input, where the list has it.
+#[inline(never)]
 fn noticed(configs: &Configs, node: NodeId, epoch: Epoch) -> Result<Delivery, LabError>
     ensures { (i : ℕ) →
         IfOk result (IsDeliverable configs.now [] i (EventKind.Notice node epoch)) }
@@ -62,6 +65,7 @@ fn noticed(configs: &Configs, node: NodeId, epoch: Epoch) -> Result<Delivery, La
 }
 
 // The delivery of a client's batch, where its request has this number.
+#[inline(always)]
 fn submitted<C: Carrier>(
     alloc: Global,
     carrier: &mut C,
@@ -79,6 +83,7 @@ fn submitted<C: Carrier>(
 }
 
 // The delivery of a read of a key, where its request has this number.
+#[inline(always)]
 fn looked_up<C: Carrier>(
     alloc: Global,
     carrier: &mut C,
@@ -97,6 +102,7 @@ fn looked_up<C: Carrier>(
 }
 
 // The delivery of an event of this kind, where a request has this number.
+#[inline(never)]
 fn delivery_of_kind<C: Carrier>(
     alloc: Global,
     carrier: &mut C,
@@ -135,6 +141,7 @@ fn delivery_of_kind<C: Carrier>(
 
 /// The delivery of an event, where a request has this number: requests and posted frames are
 /// carried, and may be lost.
+#[inline(always)]
 pub fn delivery_of<C: Carrier>(
     alloc: Global,
     carrier: &mut C,

@@ -24,6 +24,7 @@ pub enum NodeState<D: Disk + Drop> {
 
 // The disk of a node that stops. It has a function of its own, so that no other event makes room
 // for a whole node.
+#[inline(never)]
 fn disk_in_box<D: Disk + Drop>(boxed: Box<Node<D>>) -> D
     ensures disk { result ≡ disk_of boxed.value }
     ensures rests { IfRefines boxed.value (λ x n. DiskAlwaysRefines (D.state result) x n) }
@@ -32,6 +33,7 @@ fn disk_in_box<D: Disk + Drop>(boxed: Box<Node<D>>) -> D
 }
 
 // The state of a node that stopped: its disk crashed with this junk. Refused where memory runs out.
+#[inline(never)]
 fn crash<D: Crash + Drop>(
     alloc: Global,
     mut disk: D,
@@ -49,6 +51,7 @@ fn crash<D: Crash + Drop>(
 // The state and the outcome of a node that stopped by itself and left this disk. Where the fault
 // stopped its machine, the disk crashes with the fault's junk, and no cause is told. Refused where
 // memory runs out.
+#[inline(never)]
 fn stop_by_itself<D: Crash + Drop>(
     alloc: Global,
     disk: D,
@@ -67,6 +70,7 @@ fn stop_by_itself<D: Crash + Drop>(
 }
 
 // A node that was down starts, on a disk with this fault. Refused where memory runs out for it.
+#[inline(never)]
 fn start<D: Crash + Drop>(
     alloc: Global,
     boxed: Box<D>,
@@ -97,6 +101,7 @@ fn start<D: Crash + Drop>(
 
 // A node that is up takes a step, on a disk with this fault. Refused where memory runs out for the
 // disk of one that stops.
+#[inline(always)]
 fn step<D: Crash + Drop>(
     alloc: Global,
     mut boxed: Box<Node<D>>,
@@ -122,6 +127,7 @@ fn step<D: Crash + Drop>(
 
 // A node that is up tends its store, on a disk with this fault. Refused where memory runs out for
 // the disk of one that stops.
+#[inline(never)]
 fn tend<D: Crash + Drop>(
     alloc: Global,
     mut boxed: Box<Node<D>>,
@@ -145,6 +151,7 @@ fn tend<D: Crash + Drop>(
 }
 
 // A node that is down takes an input: it can only be started.
+#[inline(never)]
 fn dispatch_down<D: Crash + Drop>(
     alloc: Global,
     boxed: Box<D>,
@@ -166,6 +173,7 @@ fn dispatch_down<D: Crash + Drop>(
 impl<D: Crash + Drop> NodeState<D> {
     /// Dispatches an input to the node, whose disk has the fault meanwhile: the state that it
     /// leaves, and the outcome. Refused where memory runs out.
+    #[inline(always)]
     pub fn dispatch(
         self,
         alloc: Global,

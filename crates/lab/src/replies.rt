@@ -11,6 +11,7 @@ use node::{HeldItems, Reply, ShortList, only_item};
 use std::alloc::{AllocError, Global};
 
 // Adds the line of a reply that arrived.
+#[inline(always)]
 fn push_reply(alloc: Global, lines: &mut Lines, reply: Reply) -> Result<(), AllocError>
     ensures { OnOk result (lines.new ≡ lines.old ++ Line.Replied reply ∷ []) }
 {
@@ -20,6 +21,7 @@ fn push_reply(alloc: Global, lines: &mut Lines, reply: Reply) -> Result<(), Allo
 
 // Carries a reply of a node to the client. If it arrives, it has a line behind those that there
 // are.
+#[inline(always)]
 fn carry_reply<C: Carrier>(
     alloc: Global,
     carrier: &mut C,
@@ -38,6 +40,7 @@ fn carry_reply<C: Carrier>(
 }
 
 // Carries many replies of a node to the client, one after another.
+#[inline(never)]
 fn carry_all<C: Carrier>(
     alloc: Global,
     carrier: &mut C,
@@ -57,6 +60,7 @@ fn carry_all<C: Carrier>(
 
 /// Carries the replies of a node to the client, one after another. Each that arrives has a line
 /// behind those that there are.
+#[inline(always)]
 pub fn carry_replies<C: Carrier>(
     alloc: Global,
     carrier: &mut C,

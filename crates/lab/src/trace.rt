@@ -95,6 +95,7 @@ fn post_all(
 }
 
 // A drop has a line with its reason.
+#[inline(always)]
 fn trace_drop(
     alloc: Global,
     lines: &mut Lines,
@@ -109,6 +110,7 @@ fn trace_drop(
 }
 
 // A node that was told of an epoch, and did not drop that, has a line of it.
+#[inline(always)]
 fn trace_adoption(
     alloc: Global,
     lines: &mut Lines,
@@ -127,6 +129,7 @@ fn trace_adoption(
 
 // The lines of an output of a node that was told of an epoch or not: the reason of a drop, then an
 // adoption, then the frames that were sent, then the replies that arrive.
+#[inline(always)]
 fn trace_output<C: Carrier>(
     alloc: Global,
     carrier: &mut C,
@@ -154,6 +157,7 @@ fn trace_output<C: Carrier>(
 /// Posts the frames that a node sent, carries its replies to the client, and makes the lines of its
 /// outcome, where it was told of an epoch or not. A reply that does not arrive has none. Where this
 /// is refused, the first of the frames are posted.
+#[inline(always)]
 pub fn trace_of<C: Carrier>(
     alloc: Global,
     carrier: &mut C,

@@ -94,6 +94,7 @@ fn created_nodes(
 }
 
 // Where the node with this id is.
+#[inline(always)]
 fn index_of<D: Disk + Drop>(nodes: &[SimNode<D>], id: NodeId) -> Option<usize>
     ensures { MatchOption result (HasNoNode nodes.now id)
         (λ index. IsIndexOf nodes.now index id) }
@@ -103,6 +104,7 @@ fn index_of<D: Disk + Drop>(nodes: &[SimNode<D>], id: NodeId) -> Option<usize>
 
 // Dispatches what an event delivers to the node at this index, with the event's fault: the outcome.
 // Where memory is short the node is lost.
+#[inline(always)]
 fn deliver<D: Crash + Drop>(
     alloc: Global,
     nodes: &mut Vec<SimNode<D>>,
@@ -243,6 +245,7 @@ impl<D: Disk + Drop, C: Carrier + Drop> World<D, C> {
     }
 
     // Begins an event, which is in the list before anything is done for it.
+    #[inline(always)]
     fn begin(&mut self, event: &Event) -> Result<(), LabError>
         ensures begun { OnOk result (HasBegunEvent self.old self.new event.now) }
         ensures ends { OnErr result (WorldHasEnded self.new) }
@@ -254,6 +257,7 @@ impl<D: Disk + Drop, C: Carrier + Drop> World<D, C> {
     }
 
     // Keeps the lines of the event that was begun, which was lost or not, and goes on.
+    #[inline(always)]
     fn keep(&mut self, lost: bool, lines: Lines) -> Result<(), LabError>
         ensures kept { OnOk result (HasKept self.old self.new lost lines) }
         ensures ends { OnErr result (self.new.ended ≡ self.old.ended) }
