@@ -5,7 +5,6 @@ use Rattle.std.specs.Prelude.{Result, Ok, Err, IfErr, IfOk, IfSome, MatchResult,
 use Rattle.std.proofs.lemmas.List.Elements.{All-weaker}
 use Rattle.disk.specs.declared.disk.Disk.{Ghosts}
 use Rattle.dir_disk.specs.declared.folder.DirDisk.{DirDisk}
-use Rattle.dir_disk.specs.declared.unchanged.Unchanged.{Unchanged}
 use Rattle.carriers.specs.declared.Carrier.{Ghosts as Carriers}
 use Rattle.lab.specs.declared.Line.{Line}
 use Rattle.lab.specs.declared.SimNode.{SimNode}
@@ -29,12 +28,10 @@ use Rattle.scripts.specs.declared.setup.Setup.{Setup}
 use Rattle.scripts.specs.declared.statement.Statement.{Statement}
 use Rattle.program.specs.declared.failure.Failure.{Failure}
 use Rattle.program.specs.declared.failure.Failure.TheVariants.{Memory, Output, Script, Unreadable}
-use Rattle.program.specs.declared.folder_failure.DumpFailure.TheVariants as dumped
 use Rattle.program.specs.declared.folder_failure.LoopFailure.{LoopFailure}
 use Rattle.program.specs.declared.folder_failure.LoopFailure.TheVariants.{Folder, Network, Run}
 use Rattle.program.specs.Failures.{IsFailureOf, IsOfReading, failure_of}
-use Rattle.program.specs.FolderFailures.{IsLoopFailureOf, dump_failure_line, loop_failure_line}
-use Rattle.program.specs.FolderDumps.{DumpEndsFor}
+use Rattle.program.specs.FolderFailures.{IsLoopFailureOf, loop_failure_line}
 use Rattle.program.specs.FolderRuns.{EndsEarly, FailsInFolders, HasFoundNodes}
 use Rattle.program.specs.FolderRuns.{IsOfScript, IsPrintedReport, IsRunInFolders}
 use Rattle.program.specs.FolderRuns.{IsWorldOfFound, LoopEnds, LoopHasFailed, ReportFails}
@@ -268,17 +265,3 @@ loop_not_usage folder text old_out new_out old_err new_err answer (inl ran) two 
     stopped_not_usage ran.stopped (sym ran.status ∙ two)
 loop_not_usage folder text old_out new_out old_err new_err answer (inr fails) two =
     omega (arith, fails.status, two)
-
--- ---- what is written of a folder
-
--- memory was wanting for the words, and that was reported
-pub no_words : {R : Type 0} {g : Ghosts (Unchanged (DirDisk R))} (path : List ℕ)
-    (out old_err new_err : Option (List ℕ)) (answer : ℕ) → answer ≡ 1 →
-    AppendsPart old_err new_err (dump_failure_line dumped.Memory) →
-    DumpEndsFor g path out out old_err new_err answer
-no_words path out old_err new_err answer one told = inr (record {
-  status = one;
-  failure = dumped.Memory;
-  failed = inl (refl, refl);
-  told = told;
-})

@@ -68,14 +68,12 @@ pub record DumpIsWritten {R : Type 0} (g : Ghosts (Unchanged (DirDisk R))) (path
   pub from : IsDumpOfFolder g path old_out new_out
   pub quiet : new_err ≡ old_err
 
--- It was not, and the line that says why was told, or a beginning of it. Where memory was wanting
--- for the words, nothing was written.
+-- it was not, and the line that says why was told, or a beginning of it
 pub record DumpIsReported {R : Type 0} (g : Ghosts (Unchanged (DirDisk R))) (path : List ℕ)
     (old_out new_out old_err new_err : Option (List ℕ)) (answer : ℕ) : Type 0 where
   pub status : answer ≡ 1
   pub failure : DumpFailure
-  pub failed : ((failure ≡ Memory) × (new_out ≡ old_out))
-      ⊎ DumpHasFailed g path old_out new_out failure
+  pub failed : DumpHasFailed g path old_out new_out failure
   pub told : AppendsPart old_err new_err (dump_failure_line failure)
 
 -- how a dump of the folder at this path ends
@@ -85,9 +83,17 @@ DumpEndsFor g path old_out new_out old_err new_err answer =
     DumpIsWritten g path old_out new_out old_err new_err answer
     ⊎ DumpIsReported g path old_out new_out old_err new_err answer
 
--- how the words `dump ..` end: as a dump of some folder, or with the usage
+-- memory was wanting for the words: that was told, or a beginning of it, and nothing was written
+pub record WordsWantMemory (old_out new_out old_err new_err : Option (List ℕ)) (answer : ℕ)
+    : Type 0 where
+  pub status : answer ≡ 1
+  pub none : new_out ≡ old_out
+  pub told : AppendsPart old_err new_err (dump_failure_line Memory)
+
+-- how the words `dump ..` end: as a dump of some folder, for want of memory, or with the usage
 abbrev pub DumpOrUsage : {R : Type 0} → Ghosts (Unchanged (DirDisk R)) →
     (old_out new_out old_err new_err : Option (List ℕ)) → ℕ → Type 0
 DumpOrUsage g old_out new_out old_err new_err answer =
     ((path : List ℕ) × DumpEndsFor g path old_out new_out old_err new_err answer)
-    ⊎ UsageIsReported old_out new_out old_err new_err answer
+    ⊎ (WordsWantMemory old_out new_out old_err new_err answer
+    ⊎ UsageIsReported old_out new_out old_err new_err answer)

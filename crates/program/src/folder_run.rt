@@ -138,8 +138,10 @@ where
         (R.remaining input.old) (W.contents out.old) (W.contents out.new)) }
 {
     let alloc = rt.alloc();
-    let script = input_script(alloc, input, false)?;
+    let mut text = Vec::new(alloc);
+    let script = input_script(alloc, input, false, &mut text)?;
     let ran = run_at_nodes(rt, &script, folder, out);
     drop(script);
+    drop(text);
     ran
 }

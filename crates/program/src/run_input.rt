@@ -15,8 +15,15 @@ use scripts::{Script, read_script};
 use std::alloc::Global;
 use std::io::{Read, Write};
 
-/// The script that is read, in which faults of disks may be spelled, or not.
-pub fn input_script<R: Read>(alloc: Global, input: &mut R, faults: bool) -> Result<Script, Failure>
+/// The script that is read, in which faults of disks may be spelled, or not. `kept` gets its text,
+/// if that was read: the caller frees it behind the run, since an allocator that was given back so
+/// large a piece may no longer let lists grow where they are.
+pub fn input_script<R: Read>(
+    alloc: Global,
+    input: &mut R,
+    faults: bool,
+    kept: &mut Vec<u8>,
+) -> Result<Script, Failure>
     ensures found { IfOk result (λ script. IfSome (R.remaining input.old) (λ text.
         IsScript 1 (script_lines text) script.setup script.statements.items)) }
     ensures lawful { OnOk result (IfSome (R.remaining input.old) (λ text.
@@ -28,7 +35,9 @@ pub fn input_script<R: Read>(alloc: Global, input: &mut R, faults: bool) -> Resu
         All (λ it. Names script.setup.configs it.action) script.statements.items) }
 {
     let text = reading::script_text(alloc, input)?;
-    match read_script(alloc, &text, faults) {
+    let read = read_script(alloc, &text, faults);
+    *kept = text;
+    match read {
         Ok(script) => Ok(script),
         Err(fault) => Err(Failure::Script(fault)),
     }
@@ -61,8 +70,10 @@ pub fn run_input<R: Read, W: Write>(
     ensures failed { IfErr result
         (RunHasFailed (R.remaining input.old) (W.contents out.old) (W.contents out.new)) }
 {
-    let script = input_script(alloc, input, true)?;
+    let mut text = Vec::new(alloc);
+    let script = input_script(alloc, input, true, &mut text)?;
     let ran = run_in_memory(alloc, &script, out);
     drop(script);
+    drop(text);
     ran
 }

@@ -16,6 +16,6 @@ pub returns-in-Err : goal.returns-in-Err
 returns-in-Err g c = inr (record {
   status = c.report_dump.ensures.status;
   failure = c.in-Err.failure;
-  failed = inr c.in-Err.ensures.from;
+  failed = c.in-Err.ensures.from;
   told = c.report_dump.ensures.text;
 })

@@ -13,10 +13,10 @@ returns-in_err-text-clause-cause g c =
     let failed = of_reading c.in_err-text.field-0.0 c.in_err-text.ensures.cause in
     search (rules, failed)
 
-pub returns-clause-fault : goal.returns-clause-fault
-returns-clause-fault g c =
+pub returns-in-Err-clause-fault : goal.returns-in-Err-clause-fault
+returns-in-Err-clause-fault g c =
     reported_input c.args.faults (g.R.Read.remaining c.args.input.now) c.in_ok-text.text.items
     c.in-Err.fault c.in_ok-text.ensures.read (rw (
       c.deref.ensures.value,
       c.in-Err.is,
-    ) at c.read_script.ensures.fault)
+    ) at c.read_script-read.ensures.fault)
