@@ -1,5 +1,4 @@
-//! Pages of rows, read through a cursor: only as many entries are met as the page has rows, and one
-//! more.
+//! Pages of rows, read through a cursor: it meets the entries of the page and at most two more.
 #![tactic(auto)]
 
 mod page_rows;

@@ -1,4 +1,4 @@
-//! Cursors one after another, as one cursor.
+//! Searches and steps among cursors in series.
 ghost use Rattle.std.specs.Prelude.{◌≡◌, ◌<◌, ◌≤◌, ℕ, IsTrue, vec_len, Some};
 ghost use Rattle.std.specs.List.{slice_get};
 ghost use Rattle.kv_types.specs.{Entry, lent_key};
