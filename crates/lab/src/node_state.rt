@@ -150,6 +150,52 @@ fn tend<D: Crash + Drop>(
     }
 }
 
+// A node that is up drops what is no frame, for this reason.
+#[inline(never)]
+fn drop_frame<D: Crash + Drop>(
+    boxed: Box<Node<D>>,
+    why: DropReason,
+    fault: Fault,
+) -> (NodeState<D>, StepOutcome)
+    requires { IsReady boxed.value }
+    ensures { (limits : Limits) → HasDispatched D.Disk limits fault (NodeInput.BadFrame why)
+        (NodeState.Up boxed) result.0 result.1 }
+{
+    drop(fault);
+    let output = dropped(why);
+    (NodeState::Up(boxed), StepOutcome::Answered(output))
+}
+
+// A node that is up drops a start.
+#[inline(never)]
+fn drop_start<D: Crash + Drop>(boxed: Box<Node<D>>, fault: Fault) -> (NodeState<D>, StepOutcome)
+    requires { IsReady boxed.value }
+    ensures { (limits : Limits) → HasDispatched D.Disk limits fault NodeInput.Start
+        (NodeState.Up boxed) result.0 result.1 }
+{
+    drop(fault);
+    let output = dropped(DropReason::Running);
+    (NodeState::Up(boxed), StepOutcome::Answered(output))
+}
+
+// A node that is up stops, and its disk crashes with this junk. Refused where memory runs out for
+// the disk.
+#[inline(never)]
+fn stop<D: Crash + Drop>(
+    alloc: Global,
+    boxed: Box<Node<D>>,
+    junk: Junk,
+    fault: Fault,
+) -> Result<(NodeState<D>, StepOutcome), AllocError>
+    requires { IsReady boxed.value }
+    ensures { (limits : Limits) → IfOk result (λ it. HasDispatched D.Disk limits fault
+        (NodeInput.Stop junk) (NodeState.Up boxed) it.0 it.1) }
+{
+    drop(fault);
+    let state = crash(alloc, disk_in_box(boxed), junk)?;
+    Ok((state, StepOutcome::Stopped(None)))
+}
+
 // A node that is down takes an input: it can only be started.
 #[inline(never)]
 fn dispatch_down<D: Crash + Drop>(
@@ -192,21 +238,9 @@ impl<D: Crash + Drop> NodeState<D> {
         match input {
             NodeInput::Step(input) => step(alloc, node, input, fault),
             NodeInput::Tend => tend(alloc, node, fault),
-            NodeInput::BadFrame(why) => {
-                drop(fault);
-                let output = dropped(why);
-                Ok((NodeState::Up(node), StepOutcome::Answered(output)))
-            }
-            NodeInput::Start => {
-                drop(fault);
-                let output = dropped(DropReason::Running);
-                Ok((NodeState::Up(node), StepOutcome::Answered(output)))
-            }
-            NodeInput::Stop(junk) => {
-                drop(fault);
-                let state = crash(alloc, disk_in_box(node), junk)?;
-                Ok((state, StepOutcome::Stopped(None)))
-            }
+            NodeInput::BadFrame(why) => Ok(drop_frame(node, why, fault)),
+            NodeInput::Start => Ok(drop_start(node, fault)),
+            NodeInput::Stop(junk) => stop(alloc, node, junk, fault),
         }
     }
 }

@@ -14,6 +14,7 @@ use lab::World;
 use scripts::{Script, read_script};
 use std::alloc::Global;
 use std::io::{Read, Write};
+use std::mem::forget;
 
 /// The script that is read, in which faults of disks may be spelled, or not. `kept` gets its text,
 /// if that was read: the caller frees it behind the run, since an allocator that was given back so
@@ -43,7 +44,8 @@ pub fn input_script<R: Read>(
     }
 }
 
-/// Runs a script at nodes that are created for it, on disks in memory, and prints what happens.
+/// Runs a script at nodes that are created for it, on disks in memory, and prints what happens. The
+/// memory of the nodes is not freed.
 fn run_in_memory<W: Write>(alloc: Global, script: &Script, out: &mut W) -> Result<(), Failure>
     requires { All (λ it. Names script.now.setup.configs it.action) script.now.statements.items }
     ensures run { OnOk result (IsRunOf script.now.setup script.now.statements.items
@@ -53,13 +55,14 @@ fn run_in_memory<W: Write>(alloc: Global, script: &Script, out: &mut W) -> Resul
 {
     let mut world = World::new(alloc, &script.setup.configs, &script.setup.limits)?;
     let ran = run_script(alloc, script, &mut world, out);
-    world.close();
+    forget(world);
     ran?;
     Ok(())
 }
 
 /// Reads a script whole, runs it at the nodes of its configurations, and writes what happens,
-/// statement by statement.
+/// statement by statement. The memory of a run that was begun is not freed: a process ends with it,
+/// and the system frees all of that at once.
 pub fn run_input<R: Read, W: Write>(
     alloc: Global,
     input: &mut R,
@@ -73,7 +76,7 @@ pub fn run_input<R: Read, W: Write>(
     let mut text = Vec::new(alloc);
     let script = input_script(alloc, input, true, &mut text)?;
     let ran = run_in_memory(alloc, &script, out);
-    drop(script);
-    drop(text);
+    forget(script);
+    forget(text);
     ran
 }

@@ -166,7 +166,6 @@ is_read faults name args cut behind event first others good bare said spelled re
 
 -- what a command asks for is no notice
 pub no_epoch : (command : Command) → epoch_in (what_of command) ≡ None
-no_epoch (command.Get node key at) = refl
 no_epoch (command.Rows node range at) = refl
 no_epoch (command.Open node at) = refl
 no_epoch (command.Close node number) = refl

@@ -2,6 +2,7 @@
 use Rattle.std.specs.Prelude.{◌≡◌, ◌≢◌, ◌≤◌, ℕ, Bool, ◌||◌, true, false, List, [], ◌∷◌, ◌++◌, map}
 use Rattle.std.specs.Prelude.{codes, Option, Some, None, Result, Ok, Err, ◌⊎◌, ◌<◌, ◌^◌, length}
 use Rattle.std.specs.Fmt.{decimal}
+use Rattle.std.specs.Str.{bytes_eq}
 use Rattle.disk.specs.declared.Fault.{Fault}
 use Rattle.events.specs.declared.EventKind.{EventKind}
 use Rattle.kv_types.specs.{has}
@@ -12,8 +13,9 @@ use Rattle.configurations.specs.NodeLists.{Configurations, at_epoch}
 use Rattle.script_words.specs.declared.error.ScriptError.{ScriptError}
 use Rattle.script_words.specs.declared.error.ScriptError.TheVariants.{OutOfMemory}
 use Rattle.scripts.specs.declared.command.Command.{Command}
-use Rattle.scripts.specs.declared.command.Command.TheVariants.{Get, Tick, Tend, Stop, Start}
+use Rattle.scripts.specs.declared.command.Command.TheVariants.{Tick, Tend, Stop, Start}
 use Rattle.scripts.specs.declared.command.Command.TheVariants.{Rows, Open, Close}
+use Rattle.scripts.specs.declared.look_up.RawLookup.{RawLookup}
 use Rattle.scripts.specs.declared.statement.ParserState.{ParserState}
 use Rattle.scripts.specs.declared.statement.LineItem.{LineItem}
 use Rattle.scripts.specs.declared.statement.LineItem.TheVariants.{Skipped, Limit, Config, Asks}
@@ -32,7 +34,6 @@ use Rattle.events.specs.declared.EventKind.TheVariants as what
 
 -- the event that a command asks for
 abbrev pub what_of : Command → EventKind
-what_of (Get node key at) = what.Get node key at
 what_of (Rows node range at) = what.Rows node range at
 what_of (Open node at) = what.Open node at
 what_of (Close node number) = what.Close node number
@@ -41,11 +42,30 @@ what_of (Tick node) = what.Tick node
 what_of (Tend node) = what.Tend node
 what_of (Start node) = what.Start node
 
+-- the name of a statement that has no reader of its own
+abbrev pub IsReadAsCommand : List ℕ → Type 0
+IsReadAsCommand name =
+    (bytes_eq name (codes "submit") ≡ false) × (bytes_eq name (codes "get") ≡ false)
+    × (bytes_eq name (codes "deliver") ≡ false) × (bytes_eq name (codes "notice") ≡ false)
+    × (bytes_eq name (codes "flow") ≡ false) × (bytes_eq name (codes "settle") ≡ false)
+    × (bytes_eq name (codes "show") ≡ false)
+
 -- a reader gives the statement that is spelled, or the least fault, unless memory runs out
 abbrev pub ReadsCommand : List (List ℕ) → Result Command ScriptError → Type 0
 ReadsCommand words (Ok command) =
     (fault_of_words words ≡ None) × CanBeSaid (what_of command) × IsSpelled (what_of command) words
 ReadsCommand words (Err e) = (e ≢ OutOfMemory) → fault_of_words words ≡ Some e
+
+-- the event that a get asks for
+abbrev pub looking_up : RawLookup → EventKind
+looking_up it = what.Get it.node it.key it.at
+
+-- a reader gives the get that is spelled, or the least fault, unless memory runs out
+abbrev pub ReadsLookup : List (List ℕ) → Result RawLookup ScriptError → Type 0
+ReadsLookup words (Ok lookup) =
+    (fault_of_words words ≡ None) × CanBeSaid (looking_up lookup)
+    × IsSpelled (looking_up lookup) words
+ReadsLookup words (Err e) = (e ≢ OutOfMemory) → fault_of_words words ≡ Some e
 
 -- what became of the edits of a batch: a batch, or their first error
 abbrev pub IsBatchOf : List Edit → Result BatchContent KvError → Type 0

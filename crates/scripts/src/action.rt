@@ -57,10 +57,6 @@ pub fn action(
         (record { kind = what_of command; fault = fault })) }
 {
     let kind = match command {
-        Command::Get(_, key, at) => match key_of(key) {
-            Ok(key) => EventKind::Get { node, key, at },
-            Err(e) => return Ok(Action::Invalid(e)),
-        },
         Command::Rows(_, range, at) => match range_of(range) {
             Ok(range) => EventKind::Rows { node, range, at },
             Err(e) => return Ok(Action::Invalid(e)),

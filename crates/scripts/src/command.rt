@@ -5,12 +5,11 @@ ghost use Rattle.scripts.specs.Reading.{what_of};
 
 use disk::Junk;
 use kv_types::Number;
-use script_words::{Bytes, RawRange};
+use script_words::RawRange;
 
-/// What a line other than a submit asks for, before anything but its spelling is known.
+/// What a line other than a submit or a get asks for, before anything but its spelling is known.
 #[derive(Drop)]
 pub enum Command {
-    Get(u64, Bytes, Option<Number>),
     Rows(u64, RawRange, Option<Number>),
     Open(u64, Option<Number>),
     Close(u64, Number),
@@ -26,7 +25,6 @@ impl Command {
         ensures { node_in (what_of self.now) ≡ Some result }
     {
         match self {
-            Command::Get(node, _, _) => *node,
             Command::Rows(node, _, _) => *node,
             Command::Open(node, _) => *node,
             Command::Close(node, _) => *node,

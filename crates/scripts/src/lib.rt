@@ -6,6 +6,7 @@ mod command;
 mod configuration;
 mod extent;
 mod laws;
+mod look_up;
 mod reader;
 mod setup;
 mod statement;

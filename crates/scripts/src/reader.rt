@@ -1,7 +1,6 @@
 //! The reader of scripts: all statements, or the first fault.
-ghost use Rattle.std.specs.Prelude.{◌≡◌, ◌≢◌, ◌∷◌, [], map, codes, true, false, Some, None};
+ghost use Rattle.std.specs.Prelude.{◌≡◌, ◌≢◌, ◌∷◌, [], map, codes, true, Some, None};
 ghost use Rattle.std.specs.Prelude.{IfErr, IfOk, MatchResult, All, List, ℕ};
-ghost use Rattle.std.specs.Str.{bytes_eq};
 ghost use Rattle.script_words.specs.declared.error.ScriptError.TheVariants.{BadConfiguration};
 ghost use Rattle.script_words.specs.declared.error.ScriptError.TheVariants.{OutOfMemory};
 ghost use Rattle.script_words.specs.Limits.{limits_with, SetsLimit};
@@ -9,10 +8,12 @@ ghost use Rattle.script_words.specs.Lines.{script_lines};
 ghost use Rattle.scripts.specs.Scripts.{is_skipped, IsScript, Names};
 ghost use Rattle.scripts.specs.Faults.{limit_fault, limits_after, IsReported, script_fault, start};
 ghost use Rattle.scripts.specs.Reading.{IsOfOneNode, PlacesNode, ReadsLine, ReadsWords, Places};
+ghost use Rattle.scripts.specs.Reading.{IsReadAsCommand};
 ghost use Rattle.scripts.specs.Reading.{ReadsBorne, ReadsNext};
 
 use crate::action::action;
 use crate::configuration::config;
+use crate::look_up::look_up;
 use crate::setup::Setup;
 use crate::statement::{Action, LineItem, ParserState, Statement};
 use crate::statements::command_of;
@@ -189,12 +190,7 @@ fn placed(
     name: &[u8],
     args: &[&[u8]],
 ) -> Result<Action, ScriptError>
-    requires submit { bytes_eq name.now (codes "submit") ≡ false }
-    requires deliver { bytes_eq name.now (codes "deliver") ≡ false }
-    requires notice { bytes_eq name.now (codes "notice") ≡ false }
-    requires flow { bytes_eq name.now (codes "flow") ≡ false }
-    requires settle { bytes_eq name.now (codes "settle") ≡ false }
-    requires show { bytes_eq name.now (codes "show") ≡ false }
+    requires { IsReadAsCommand name.now }
     ensures { Places before.now name.now (map (λ w. w.now) args.now) result }
 {
     let (words, behind) = split_fault(args);
@@ -227,6 +223,8 @@ fn statement(
 {
     if name == b"submit".as_slice() {
         submit(alloc, before, args)
+    } else if name == b"get".as_slice() {
+        look_up(alloc, before, args)
     } else if name == b"deliver".as_slice() {
         deliver(alloc, before, args)
     } else if name == b"notice".as_slice() {

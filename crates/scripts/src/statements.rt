@@ -1,40 +1,13 @@
 //! Each statement, read from its words.
-ghost use Rattle.std.specs.Prelude.{◌≡◌, ◌≢◌, ◌∷◌, IfErr, false, map, codes};
-ghost use Rattle.std.specs.Str.{bytes_eq};
+ghost use Rattle.std.specs.Prelude.{◌≢◌, ◌∷◌, IfErr, map, codes};
 ghost use Rattle.script_words.specs.declared.error.ScriptError.TheVariants.{OutOfMemory};
 ghost use Rattle.scripts.specs.Statements.{walk_name};
-ghost use Rattle.scripts.specs.Reading.{ReadsCommand};
+ghost use Rattle.scripts.specs.Reading.{IsReadAsCommand, ReadsCommand};
 
 use crate::command::Command;
 use disk::Junk;
-use script_words::{
-    Bytes, RawRange, ScriptError, batch_number, bounds_of, bytes_of, junk_of, number,
-};
+use script_words::{RawRange, ScriptError, batch_number, bounds_of, junk_of, number};
 use std::alloc::Global;
-
-fn get(alloc: Global, args: &[&[u8]]) -> Result<Command, ScriptError>
-    ensures { ReadsCommand (codes "get" ∷ map (λ w. w.now) args.now) result }
-{
-    let (node, key, at) = match args {
-        [node, key] => (node, key, None),
-        [node, key, at] => (node, key, Some(at)),
-        _ => return Err(ScriptError::WrongNumberOfWords),
-    };
-    let Some(node) = number(node) else {
-        return Err(ScriptError::BadNumber);
-    };
-    let at = match at {
-        None => None,
-        Some(at) => match batch_number(at) {
-            None => return Err(ScriptError::BadNumber),
-            at => at,
-        },
-    };
-    match bytes_of(alloc, key)? {
-        None => Err(ScriptError::BadBytes),
-        Some(key) => Ok(Command::Get(node, Bytes::new(key), at)),
-    }
-}
 
 fn rows(alloc: Global, backward: bool, args: &[&[u8]]) -> Result<Command, ScriptError>
     ensures { ReadsCommand (walk_name backward ∷ map (λ w. w.now) args.now) result }
@@ -157,20 +130,13 @@ fn stop(alloc: Global, args: &[&[u8]]) -> Result<Command, ScriptError>
     Ok(Command::Stop(node, junk))
 }
 
-/// What the words behind the name of a statement with an event at a node ask for, or their least
-/// fault.
+/// What the words behind the name of any other statement with an event at a node ask for, or their
+/// least fault.
 pub fn command_of(alloc: Global, name: &[u8], args: &[&[u8]]) -> Result<Command, ScriptError>
-    requires submit { bytes_eq name.now (codes "submit") ≡ false }
-    requires deliver { bytes_eq name.now (codes "deliver") ≡ false }
-    requires notice { bytes_eq name.now (codes "notice") ≡ false }
-    requires flow { bytes_eq name.now (codes "flow") ≡ false }
-    requires settle { bytes_eq name.now (codes "settle") ≡ false }
-    requires show { bytes_eq name.now (codes "show") ≡ false }
+    requires { IsReadAsCommand name.now }
     ensures { ReadsCommand (name.now ∷ map (λ w. w.now) args.now) result }
 {
-    if name == b"get".as_slice() {
-        get(alloc, args)
-    } else if name == b"rows".as_slice() {
+    if name == b"rows".as_slice() {
         rows(alloc, false, args)
     } else if name == b"back".as_slice() {
         rows(alloc, true, args)

@@ -279,6 +279,9 @@ impl LevelTables {
             IsErrOf result Damaged →
             OneLacksBlock (⟦<CachedDisk<D> as Disk>⟧.state files.old) tables key.now at }
     {
+        if self.tables.is_empty() {
+            return Ok(None); // no filter is asked: the key needs no digest
+        }
         let hashes = KeyHashes::of(key.as_bytes());
         let mut level = 0;
         let mut best = None;

@@ -1,8 +1,9 @@
 use Rattle.std.proofs.Common.{◌+◌, ◌≡◌, ◌⊎◌, ℕ, List, [], None, inl, inr, drop}
 use Rattle.disk.specs.{IsEnvironmental, Slot}
-use Rattle.std.proofs.Common.{rules, subst, sym, take, ◌∙◌}
+use Rattle.std.proofs.Common.{◌≤◌, Contains, arith, length, refl, rules, subst, sym, take, ◌∙◌}
 use Rattle.std.specs.List.{AllZip}
 use Rattle.store_model.specs.{LevelTable}
+use Rattle.store_model.specs.PlacesLemmas.{contains_none}
 use Rattle.store_tables.specs.declared.error.EngineError.TheVariants as engine
 use Rattle.store_tables.specs.declared.levels.OpenTable.{OpenTable}
 use Rattle.disk.specs.KeepingLemmas.{answered}
@@ -21,6 +22,34 @@ use Rattle.store_tables.proofs.levels.LevelTables.get.Goals.{else-is_some-via-el
 use Rattle.store_tables.proofs.levels.LevelTables.get.Goals.{
   else-is_some-via-then-is_some+else-open-level,
 }
+
+-- there is no table
+pub returns-then-is_empty-clause-reads : goal.returns-then-is_empty-clause-reads
+returns-then-is_empty-clause-reads g c =
+    let disk = c.args.files.now in
+    record {
+      kept = record {
+        honest = (λ honest. honest, λ honest. honest);
+        failed = λ fails. absurd cc;
+        count = λ works. refl;
+        only = λ reliable spared fails. absurd cc;
+        reliable = λ reliable works. reliable;
+        files = λ honest file. refl;
+        fault = refl;
+        spared = λ spared works. spared;
+      };
+      causes = tt;
+      still = (none_read (files_ghosts g.D.Disk) disk).still;
+    }
+
+pub returns-then-is_empty-clause-found : goal.returns-then-is_empty-clause-found
+returns-then-is_empty-clause-found g c = λ meant tables flushed honest served leveled rise.
+    let s0 = g.D.Disk.state c.args.files.now.disk in
+    let items = c.args.self.now.tables.items in
+    let none : length items ≤ 0 = grind (arith, c.is_empty.ensures, c.if-is_empty.true) in
+    let taken : [] ≡ tables = all_taken (WasServed s0 meant) items tables 0 served none in
+    λ t has. absurd (contains_none t (subst (λ (l : List LevelTable). Contains l t) (sym taken)
+    has))
 
 -- no table was passed
 pub loop-open-init : goal.loop-open-init

@@ -1,6 +1,6 @@
 use Rattle.std.proofs.Common.{arith}
 use Rattle.std.proofs.lemmas.Grind.{common_steps}
-use Rattle.scripts.proofs.statements.get.Goals as goal
+use Rattle.scripts.proofs.look_up.raw_lookup.Goals as goal
 
 pub returns-in_default : goal.returns-in_default
 returns-in_default c = grind (arith, common_steps)
