@@ -52,6 +52,7 @@ fn delivered<C: Carrier>(
 
 // The node that is told of an epoch, and its configuration as an input, where the list has it.
 #[inline(never)]
+#[cold]
 fn noticed(configs: &Configs, node: NodeId, epoch: Epoch) -> Result<Delivery, LabError>
     ensures { (i : ℕ) →
         IfOk result (IsDeliverable configs.now [] i (EventKind.Notice node epoch)) }

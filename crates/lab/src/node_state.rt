@@ -25,6 +25,7 @@ pub enum NodeState<D: Disk + Drop> {
 // The disk of a node that stops. It has a function of its own, so that no other event makes room
 // for a whole node.
 #[inline(never)]
+#[cold]
 fn disk_in_box<D: Disk + Drop>(boxed: Box<Node<D>>) -> D
     ensures disk { result ≡ disk_of boxed.value }
     ensures rests { IfRefines boxed.value (λ x n. DiskAlwaysRefines (D.state result) x n) }
@@ -34,6 +35,7 @@ fn disk_in_box<D: Disk + Drop>(boxed: Box<Node<D>>) -> D
 
 // The state of a node that stopped: its disk crashed with this junk. Refused where memory runs out.
 #[inline(never)]
+#[cold]
 fn crash<D: Crash + Drop>(
     alloc: Global,
     mut disk: D,
@@ -52,6 +54,7 @@ fn crash<D: Crash + Drop>(
 // stopped its machine, the disk crashes with the fault's junk, and no cause is told. Refused where
 // memory runs out.
 #[inline(never)]
+#[cold]
 fn stop_by_itself<D: Crash + Drop>(
     alloc: Global,
     disk: D,
@@ -69,8 +72,24 @@ fn stop_by_itself<D: Crash + Drop>(
     Ok((state, StepOutcome::Stopped(cause)))
 }
 
+// The same of a node that was up.
+#[inline(never)]
+#[cold]
+fn stop_node<D: Crash + Drop>(
+    alloc: Global,
+    boxed: Box<Node<D>>,
+    stop: Stop,
+    fault: Fault,
+) -> Result<(NodeState<D>, StepOutcome), AllocError>
+    ensures { IfOk result
+        (λ it. StopsWithDisk D.Disk (disk_of boxed.value) stop fault it.0 it.1) }
+{
+    stop_by_itself(alloc, disk_in_box(boxed), stop, fault)
+}
+
 // A node that was down starts, on a disk with this fault. Refused where memory runs out for it.
 #[inline(never)]
+#[cold]
 fn start<D: Crash + Drop>(
     alloc: Global,
     boxed: Box<D>,
@@ -121,7 +140,7 @@ fn step<D: Crash + Drop>(
             node.arm(&Fault::None);
             Ok((NodeState::Up(boxed), StepOutcome::Answered(output)))
         }
-        Err(stop) => stop_by_itself(alloc, disk_in_box(boxed), stop, fault),
+        Err(stop) => stop_node(alloc, boxed, stop, fault),
     }
 }
 
@@ -146,12 +165,13 @@ fn tend<D: Crash + Drop>(
             node.arm(&Fault::None);
             Ok((NodeState::Up(boxed), StepOutcome::Tended(did)))
         }
-        Err(stop) => stop_by_itself(alloc, disk_in_box(boxed), stop, fault),
+        Err(stop) => stop_node(alloc, boxed, stop, fault),
     }
 }
 
 // A node that is up drops what is no frame, for this reason.
 #[inline(never)]
+#[cold]
 fn drop_frame<D: Crash + Drop>(
     boxed: Box<Node<D>>,
     why: DropReason,
@@ -168,6 +188,7 @@ fn drop_frame<D: Crash + Drop>(
 
 // A node that is up drops a start.
 #[inline(never)]
+#[cold]
 fn drop_start<D: Crash + Drop>(boxed: Box<Node<D>>, fault: Fault) -> (NodeState<D>, StepOutcome)
     requires { IsReady boxed.value }
     ensures { (limits : Limits) → HasDispatched D.Disk limits fault NodeInput.Start
@@ -181,6 +202,7 @@ fn drop_start<D: Crash + Drop>(boxed: Box<Node<D>>, fault: Fault) -> (NodeState<
 // A node that is up stops, and its disk crashes with this junk. Refused where memory runs out for
 // the disk.
 #[inline(never)]
+#[cold]
 fn stop<D: Crash + Drop>(
     alloc: Global,
     boxed: Box<Node<D>>,
@@ -196,8 +218,31 @@ fn stop<D: Crash + Drop>(
     Ok((state, StepOutcome::Stopped(None)))
 }
 
+// A node that is up takes an input. All but a step is rare, so a step has its own way.
+#[inline(never)]
+#[cold]
+fn dispatch_up<D: Crash + Drop>(
+    alloc: Global,
+    boxed: Box<Node<D>>,
+    input: NodeInput,
+    fault: Fault,
+) -> Result<(NodeState<D>, StepOutcome), AllocError>
+    requires { IsReady boxed.value }
+    ensures { (limits : Limits) → IfOk result (λ it. HasDispatched D.Disk limits fault input
+        (NodeState.Up boxed) it.0 it.1) }
+{
+    match input {
+        NodeInput::Step(input) => step(alloc, boxed, input, fault),
+        NodeInput::Tend => tend(alloc, boxed, fault),
+        NodeInput::BadFrame(why) => Ok(drop_frame(boxed, why, fault)),
+        NodeInput::Start => Ok(drop_start(boxed, fault)),
+        NodeInput::Stop(junk) => stop(alloc, boxed, junk, fault),
+    }
+}
+
 // A node that is down takes an input: it can only be started.
 #[inline(never)]
+#[cold]
 fn dispatch_down<D: Crash + Drop>(
     alloc: Global,
     boxed: Box<D>,
@@ -235,12 +280,13 @@ impl<D: Crash + Drop> NodeState<D> {
             NodeState::Up(node) => node,
             NodeState::Down(disk) => return dispatch_down(alloc, disk, &input, fault, limits),
         };
-        match input {
-            NodeInput::Step(input) => step(alloc, node, input, fault),
-            NodeInput::Tend => tend(alloc, node, fault),
-            NodeInput::BadFrame(why) => Ok(drop_frame(node, why, fault)),
-            NodeInput::Start => Ok(drop_start(node, fault)),
-            NodeInput::Stop(junk) => stop(alloc, node, junk, fault),
-        }
+        let rare = match input {
+            NodeInput::Step(input) => return step(alloc, node, input, fault),
+            NodeInput::Tend => NodeInput::Tend,
+            NodeInput::BadFrame(why) => NodeInput::BadFrame(why),
+            NodeInput::Start => NodeInput::Start,
+            NodeInput::Stop(junk) => NodeInput::Stop(junk),
+        };
+        dispatch_up(alloc, node, rare, fault)
     }
 }

@@ -41,6 +41,7 @@ fn carry_reply<C: Carrier>(
 
 // Carries many replies of a node to the client, one after another.
 #[inline(never)]
+#[cold]
 fn carry_all<C: Carrier>(
     alloc: Global,
     carrier: &mut C,

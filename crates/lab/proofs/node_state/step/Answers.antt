@@ -1,11 +1,11 @@
 use Rattle.std.specs.Prelude.{IsErrOf}
 use Rattle.std.proofs.Common.{false, Err, Result, inr, refl, sym, ap, subst, rules}
 use Rattle.chain_core.specs.{answer_to}
-use Rattle.disk.specs.{KeepsDisk, State, fault_of}
+use Rattle.disk.specs.{State, fault_of}
 use Rattle.node.specs.declared.Stop.TheVariants as stop
 use Rattle.node.specs.declared.Output.{Output}
 use Rattle.node.specs.declared.Stop.{Stop as Cause}
-use Rattle.node.specs.{HasLongFile, IsNearlyFull, IsOwned, StopRefines}
+use Rattle.node.specs.{HasLongFile, IsNearlyFull, IsOwned}
 use Rattle.node.specs.{disk_of, engine_of}
 use Rattle.carriers.specs.declared.NodeInput.TheVariants as to_node
 use Rattle.lab.specs.declared.node_state.NodeState.TheVariants.{Up}
@@ -63,16 +63,13 @@ returns-in-Err g c = λ limits.
     let ended : Result Output Cause = Err c.in-Err.stop in
     let full = IsNearlyFull (engine_of c.arm.new.self) in
     let own = c.as_mut-node.result.now in
-    let disk = c.disk_in_box.ensures.disk in
-    let same = sym disk in
-    let kept = subst (λ d. KeepsDisk g.D.Disk (disk_of c.arm.new.self) d
-    (IsErrOf ended stop.Disk) full
-    IsOwned) same c.in-Err.ensures.kept.disk in
-    each_answer c.stop_by_itself.result (λ did stops.
+    let left = disk_of c.step.new.self in
+    let kept = c.in-Err.ensures.kept.disk in
+    each_answer c.stop_node.result (λ did stops.
     in_box g.D.Disk limits c.args.fault (to_node.Step c.args.input) c.args.boxed own did.0 did.1
     c.as_mut-node.ensures.value
     (halted g.D.Disk c.args.fault (Up (holding c.args.boxed own)) did.0 did.1
-    (disk_of c.arm.new.self) c.disk_in_box.result c.in-Err.stop
+    (disk_of c.arm.new.self) left c.in-Err.stop
     (IsErrOf ended stop.Disk) full IsOwned c.arm.ensures.armed kept (λ fails. cc)
     (λ is. ap (λ (e : Cause). Err e) is) stops limits (to_node.Step c.args.input) refl
     (λ told. tt)
@@ -81,17 +78,17 @@ returns-in-Err g c = λ limits.
     let ends = c.in-Err.ensures.ends x n (c.arm.ensures.refines x n r) in
     Ends r.core.running
     (halts_so g.D.Disk c.args.fault (Up (holding c.args.boxed own)) did.0 did.1
-    (disk_of c.arm.new.self) c.disk_in_box.result c.in-Err.stop
+    (disk_of c.arm.new.self) left c.in-Err.stop
     (IsErrOf ended stop.Disk) full IsOwned c.arm.ensures.armed kept (λ fails. cc)
     (λ is. ap (λ (e : Cause). Err e) is) stops r.honest ends.done)
-    (stops.down.refines x n a (subst g.D.Disk.is_honest same ends.honest)
-    (subst (λ d. StopRefines (g.D.Disk.state d) x n a) same ends.any_moment.now)))
+    (stops.down.refines x n a ends.honest
+    ends.any_moment.now))
     (λ sound why. subst (λ (s : State). HasLongFile s)
     (sym (same_state (c.arm.ensures.armed.same sound.2.honest)))
     (c.full_logs_are_long.ensures c.arm.new.self sound.0 sound.1
     (c.arm.ensures.refines sound.0 sound.1 sound.2) why)) tt
     (λ x n r.
     let ends = c.in-Err.ensures.ends x n (c.arm.ensures.refines x n r) in
-    grown_since g.D.Disk _ (disk_of own) (disk_of c.arm.new.self) _ c.disk_in_box.result
-    c.arm.ensures.armed.past ends.any_moment (ap g.D.Disk.past disk))
-    (λ honest starts. absurd cc))) c.stop_by_itself.ensures
+    grown_since g.D.Disk _ (disk_of own) (disk_of c.arm.new.self) _ left
+    c.arm.ensures.armed.past ends.any_moment refl)
+    (λ honest starts. absurd cc))) c.stop_node.ensures

@@ -1,8 +1,7 @@
-use Rattle.std.proofs.Common.{None, [], ◌∷◌, ◌∙◌, ℕ, ap, length, refl, sym, subst, inl, inr}
+use Rattle.std.proofs.Common.{[], ◌∷◌, ◌∙◌, ℕ, ap, length, refl, sym, subst, inl, inr}
 use Rattle.disk.specs.declared.Mark.TheVariants.{Crashed}
 use Rattle.lab.specs.Disks.{IsMarkedSo}
 use Rattle.chain_model.specs.{stopped, silent}
-use Rattle.lab.specs.declared.node_state.NodeState.TheVariants.{Up}
 use Rattle.lab.specs.SimNodes.{StateRefines, disk_in}
 use Rattle.lab.specs.Outcomes.{HasCrashed, Stops}
 use Rattle.lab.proofs.Faults.{before_is, crash_grows}

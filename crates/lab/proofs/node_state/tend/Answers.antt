@@ -2,12 +2,12 @@ use Rattle.std.specs.Prelude.{IsErrOf}
 use Rattle.std.proofs.Common.{◌⊎◌, Err, Result, inl, inr, refl, sym, ap, subst, rules}
 use Rattle.std.proofs.Common.{true, false}
 use Rattle.chain_model.specs.Rules.{tend}
-use Rattle.disk.specs.{KeepsDisk, State, fault_of}
+use Rattle.disk.specs.{State, fault_of}
 use Rattle.engine.specs.{IsAdrift, raised_facts}
 use Rattle.engine.specs.Tended.{Tended}
 use Rattle.node.specs.declared.Stop.TheVariants as stop
 use Rattle.node.specs.declared.Stop.{Stop as Cause}
-use Rattle.node.specs.{HasLongFile, IsNearlyFull, IsOwned, StopRefines}
+use Rattle.node.specs.{HasLongFile, IsNearlyFull, IsOwned}
 use Rattle.node.specs.{disk_of, engine_of}
 use Rattle.carriers.specs.declared.NodeInput.TheVariants as to_node
 use Rattle.lab.specs.declared.node_state.NodeState.TheVariants.{Up}
@@ -65,30 +65,26 @@ returns-in-Err g c = λ limits.
     let may : Type 0 = IsNearlyFull (engine_of c.arm.new.self)
     ⊎ IsAdrift g.D.Disk (engine_of c.arm.new.self) in
     let own = c.as_mut-node.result.now in
-    let disk = c.disk_in_box.ensures.disk in
-    let same = sym disk in
-    let kept = subst (λ d. KeepsDisk g.D.Disk (disk_of c.arm.new.self) d
-    (IsErrOf ended stop.Disk) may
-    IsOwned) same c.in-Err.ensures.kept in
-    each_answer c.stop_by_itself.result (λ did stops.
+    let left = disk_of c.tend.new.self in
+    let kept = c.in-Err.ensures.kept in
+    each_answer c.stop_node.result (λ did stops.
     in_box g.D.Disk limits c.args.fault to_node.Tend c.args.boxed own did.0 did.1
     c.as_mut-node.ensures.value
     (halted g.D.Disk c.args.fault (Up (holding c.args.boxed own)) did.0 did.1
-    (disk_of c.arm.new.self) c.disk_in_box.result c.in-Err.stop
+    (disk_of c.arm.new.self) left c.in-Err.stop
     (IsErrOf ended stop.Disk) may IsOwned c.arm.ensures.armed kept (λ fails. cc)
     (λ is. ap (λ (e : Cause). Err e) is) stops limits to_node.Tend refl (λ told. tt)
     (λ x n r.
     let ends = c.in-Err.ensures.ends x n (c.arm.ensures.refines x n r) in
     Halts r.core.running
     (halts_so g.D.Disk c.args.fault (Up (holding c.args.boxed own)) did.0 did.1
-    (disk_of c.arm.new.self) c.disk_in_box.result c.in-Err.stop
+    (disk_of c.arm.new.self) left c.in-Err.stop
     (IsErrOf ended stop.Disk) may IsOwned c.arm.ensures.armed kept (λ fails. cc)
     (λ is. ap (λ (e : Cause). Err e) is) stops r.honest ends.done)
     (raised_facts (engine_of c.arm.new.self)).kept
     (stops.down.refines x n (tend n true (raised_facts (engine_of c.arm.new.self)).kept)
-    (subst g.D.Disk.is_honest same ends.honest)
-    (subst (λ d. StopRefines (g.D.Disk.state d) x n
-    (tend n true (raised_facts (engine_of c.arm.new.self)).kept)) same ends.any_moment.now)))
+    ends.honest
+    ends.any_moment.now))
     (λ sound why. elim why as (λ _. HasLongFile (g.D.Disk.state (disk_of own))) [
       | inl full ↦ subst (λ (s : State). HasLongFile s)
           (sym (same_state (c.arm.ensures.armed.same sound.2.honest)))
@@ -99,6 +95,6 @@ returns-in-Err g c = λ limits.
     ]) tt
     (λ x n r.
     let ends = c.in-Err.ensures.ends x n (c.arm.ensures.refines x n r) in
-    grown_since g.D.Disk _ (disk_of own) (disk_of c.arm.new.self) _ c.disk_in_box.result
-    c.arm.ensures.armed.past ends.any_moment (ap g.D.Disk.past disk))
-    (λ honest starts. absurd cc))) c.stop_by_itself.ensures
+    grown_since g.D.Disk _ (disk_of own) (disk_of c.arm.new.self) _ left
+    c.arm.ensures.armed.past ends.any_moment refl)
+    (λ honest starts. absurd cc))) c.stop_node.ensures
