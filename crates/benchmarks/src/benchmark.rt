@@ -46,6 +46,7 @@ impl Benchmark {
         }
     }
 
+    /// The name that is read as this benchmark.
     pub fn name(self) -> &'static str
         ensures { result.now ≡ name_of self }
     {

@@ -23,6 +23,7 @@ pub struct Count {
 }
 
 impl Count {
+    /// Nothing was done yet.
     pub fn new() -> Count
         ensures { result ≡ no_count }
     {

@@ -36,8 +36,9 @@ pub trait Carrier {
     ghost loses: { Type 0 };
 
     /// The carrier was asked for exactly these, in this order, and this arrived of each. Only
-    /// `carry` makes this list longer, so of a carrier of which nothing else is known it tells what
-    /// was asked of it, and what it answered. A carrier may leave the list open.
+    /// `carry` makes this list longer. So of a carrier that is not direct, and of which nothing
+    /// else is known, it says what was asked of it, and what it answered. A carrier may leave it
+    /// open.
     ghost has_carried: { Self → List Transmission → Type 0 };
 
     /// Whether all that is sent arrives as it is, and nothing of it is kept. Then `carry` need not

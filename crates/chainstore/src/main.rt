@@ -1,4 +1,5 @@
-//! The program: its words and streams go to `serve`, whose status it ends with.
+//! The program: its words and streams go to `serve`, whose status it ends with. Where the words
+//! can't be had, it ends as for want of memory, or with the usage.
 #![tactic(auto)]
 
 use program::{Failure, refuse, report, serve};

@@ -1,5 +1,4 @@
-//! Scripts are run in a world of nodes, and printed statement by statement. What reads scripts is
-//! handed on.
+//! Scripts are run in a world of nodes, and printed statement by statement.
 #![tactic(auto)]
 
 mod printed_run;
@@ -11,6 +10,5 @@ mod writing;
 
 pub use printed_run::run_script;
 pub use run_error::RunError;
-pub use scripts::{Script, ScriptError, ScriptFault, read_script};
 pub use text::{RowText, StoreText, cause_name, fault_name};
 pub use writing::print;

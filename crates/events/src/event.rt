@@ -79,7 +79,8 @@ impl Event {
         }
     }
 
-    /// The same event. Refused where no more owners can be counted.
+    /// The same event. Refused where no more owners can be counted, or for want of memory where its
+    /// batch is copied.
     pub fn clone(&self) -> Result<Event, AllocError>
         ensures { IfOk result (λ event. event ≡ self.now) }
     {
@@ -93,7 +94,8 @@ impl Event {
         Ok(Event { form })
     }
 
-    /// The kind.
+    /// The kind. A delivery, a submit and a get without a fault are lent in their parts; every
+    /// other kind, and that of an event with a fault, as a whole.
     #[inline(always)]
     pub fn kind(&self) -> LentKind<'_>
         ensures { shared_kind result ≡ self.now.kind }
@@ -168,7 +170,8 @@ impl Event {
     }
 }
 
-/// Whether each event that names a node names one of the first configuration, as `run` requires.
+/// Whether each event that names a node names one of the first configuration, as `run` of lab
+/// requires.
 pub fn names_nodes(configs: &Configs, events: &[Event]) -> bool
     ensures { IsTrue result ↔ NamesNodes configs.now events.now }
 {

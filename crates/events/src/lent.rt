@@ -3,7 +3,7 @@ use crate::kind::EventKind;
 use configurations::NodeId;
 use kv_types::{Batch, Key, Number};
 
-/// The kind of an event, lent: whole, or in its parts.
+/// The kind of an event, lent: as a whole (`Kept`), or in its parts.
 #[derive(Clone, Copy)]
 pub enum LentKind<'a> {
     Deliver(u64),

@@ -19,7 +19,7 @@ pub enum StepOutcome {
         count: Number,
         committed: Number,
     },
-    /// It stopped: for the event's sake, or by itself and then for this cause.
+    /// It stopped: by itself for this cause, or the event or its fault stopped it.
     Stopped(Option<Stop>),
 }
 

@@ -13,10 +13,8 @@ mod sim_node;
 mod trace;
 mod world;
 
-// The types that events, lines and reports have, and a law of their words, so that a caller names
-// this crate alone.
+// The types that events, lines and reports have, so that a caller need not name their crates.
 pub use carriers::{Carried, Carrier, Direct, KeptReply, LabError, Peer, ReplyForm};
-pub use configurations::laws::test_decides_config;
 pub use configurations::{Config, ConfigError, Configs, Epoch, NodeId};
 pub use disk::{Fault, Junk, JunkBytes, MemDisk};
 pub use engine::Tended;

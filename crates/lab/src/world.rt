@@ -103,7 +103,7 @@ fn index_of<D: Disk + Drop>(nodes: &[SimNode<D>], id: NodeId) -> Option<usize>
 }
 
 // Dispatches what an event delivers to the node at this index, with the event's fault: the outcome.
-// Where memory is short the node is lost.
+// Where memory is short the node may be lost.
 #[inline(always)]
 fn deliver<D: Crash + Drop>(
     alloc: Global,

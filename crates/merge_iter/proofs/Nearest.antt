@@ -167,11 +167,44 @@ module _ {C : Type 0} (position : C → Position) where
         ];
       }
 
+  -- where no other child stands on an entry, one that does is the best of all
+  pub alone_best : (way : Direction) (children : List C) (but n k : ℕ) (c : C)
+      → length children ≤ but → slice_get children k ≡ Some c → IsOn (position c)
+      → IsSecond position way children k None → IsBest position way children but n k
+  alone_best way children but n k c past at on none =
+      let r = on_row (position c) on in
+      let w : k < length children = slice_get_within children k c at in
+      record {
+        within = w;
+        apart = λ e. omega (arith, e);
+        child = c;
+        entry = r.0;
+        found = at;
+        on = r.1;
+        best = λ j d q l out is stood precedes. elim (same_or_not j k) [
+          | inl e ↦
+              let same : On q ≡ On r.0 = sym stood ∙ (ap position (at_one children k j c d at is e)
+              ∙ r.1) in
+              let entries : q ≡ r.0 = cc in
+              never way r.0 (subst (λ x. EntryPrecedes way x r.0) entries precedes)
+          | inr e ↦ none j d (slice_get_within children j d is) e is (subst IsOn (sym stood) tt)
+        ];
+      }
+
+  -- and if that one does not either, none does
+  pub none_of_all : (way : Direction) (children : List C) (but n k : ℕ) (c : C)
+      → slice_get children k ≡ Some c → (IsOn (position c) → ⊥)
+      → IsSecond position way children k None → IsNearest position way children but n None
+  none_of_all way children but n k c at off none = λ j d l out is on. elim (same_or_not j k) [
+    | inl e ↦ off (subst (λ x. IsOn (position x)) (at_one children k j c d at is e) on)
+    | inr e ↦ none j d (slice_get_within children j d is) e is on
+  ]
+
   -- the nearest of the others is the second one
   pub second_of : (way : Direction) (children : List C) (k n : ℕ) (second : Option ℕ)
       → length children ≤ n → IsNearest position way children k n second
       → IsSecond position way children k second
-  second_of way children k n None all near = tt
+  second_of way children k n None all near = λ j d l. near j d (omega (arith, l, all))
   second_of way children k n (Some other) all near = record {
     within = near.within;
     apart = near.apart;
@@ -186,7 +219,8 @@ module _ {C : Type 0} (position : C → Position) where
   pub second_stays : (way : Direction) (old new : List C) (k : ℕ) (second : Option ℕ)
       → length new ≡ length old → OthersStay k old new → IsSecond position way old k second
       → IsSecond position way new k second
-  second_stays way old new k None len stay b = tt
+  second_stays way old new k None len stay none =
+      λ j d l out is. none j d (omega (arith, l, len)) out (sym (stay j out) ∙ is)
   second_stays way old new k (Some other) len stay b =
       let w = b.within in
       record {

@@ -52,11 +52,10 @@ module _ {C : Type 0} where
       → ⊥
   IsNearest position way children but n (Some k) = IsBest position way children but n k
 
-  -- the second child, if one is named, is the nearest of all but child k
+  -- the second child is the nearest of all but child k
   abbrev pub IsSecond : (C → Position) → Direction → List C → ℕ → Option ℕ → Type 0
-  IsSecond position way children k None = Unit {0}
-  IsSecond position way children k (Some other) =
-      IsBest position way children k (length children) other
+  IsSecond position way children k second =
+      IsNearest position way children k (length children) second
 
   -- all children but child k are as they were
   abbrev pub OthersStay : ℕ → List C → List C → Type 0

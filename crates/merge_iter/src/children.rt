@@ -1,5 +1,5 @@
 //! Several cursors, moved together.
-ghost use Rattle.std.specs.Prelude.{◌≡◌, ◌↔◌, ◌<◌, ◌≤◌, ◌+◌, IsTrue, OnOk, vec_len, Some};
+ghost use Rattle.std.specs.Prelude.{◌≡◌, ◌↔◌, ◌<◌, ◌≤◌, ◌+◌, IsTrue, OnOk, vec_len, None, Some};
 ghost use Rattle.std.specs.List.{slice_get, sum_by};
 ghost use Rattle.kv_types.specs.{Entry, lent_key};
 ghost use Rattle.merge_iter.specs.Order.{spot};
@@ -77,6 +77,26 @@ pub fn settle<C: Cursor>(children: &Vec<C>, way: Direction) -> Place
     }
 }
 
+// Where the union stands, once child `k` has moved, where none of the others stands on an entry.
+fn alone<C: Cursor>(children: &Vec<C>, k: usize, way: Direction) -> Place
+    requires room { k < vec_len children.now }
+    ensures settles { (meant : C.Meant) (start : WalkStart) (source : C.Source) →
+        IsSecond C.position way children.now.items k None → AreFirst C.Cursor
+        meant way start children.now.items source → IsFirst way (λ p. union_of C.Cursor meant
+        children.now.items source p × WalkMeets way start p) (union_position C.position
+        children.now.items result) × IsPlaced (λ c. C.holds meant c source) C.position
+        children.now.items result }
+    ensures left { merged_left C.left C.most children.now.items result way
+        ≤ sum_by (λ c. C.left c way) children.now.items }
+    ensures unbroken { IsBroken (union_position C.position children.now.items result) → ⊥ }
+{
+    if children[k].valid() {
+        Place::On(way, k, None)
+    } else {
+        Place::Off
+    }
+}
+
 /// Where the union stands, once child `k` has moved, and where it was moved in the same direction,
 /// the others stand as they did, with the nearest of them as the second one.
 pub fn resettle<C: Cursor>(
@@ -101,7 +121,7 @@ pub fn resettle<C: Cursor>(
         return settle(children, way);
     }
     let Some(other_place) = second else {
-        return settle(children, way);
+        return alone(children, k, way);
     };
     if other_place >= children.len() {
         return settle(children, way);

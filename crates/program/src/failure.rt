@@ -13,9 +13,13 @@ use std::fmt;
 /// written; with `Output` a beginning of the next one's text too.
 #[derive(Clone, Copy)]
 pub enum Failure {
+    /// The script can't be opened or read.
     Unreadable,
+    /// A line of the script has this fault.
     Script(ScriptFault),
+    /// The output takes no more.
     Output,
+    /// Memory was wanting.
     Memory,
 }
 

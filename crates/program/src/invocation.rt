@@ -250,7 +250,7 @@ pub fn loop_request<'a>(
     parsed_loop(alloc, words)
 }
 
-/// The request of words that name `lab`. The first word is the program's name.
+/// The request of words that name `lab`, or no command. The first word is the program's name.
 pub fn invocation_of<'a>(alloc: Global, words: &'a [&'a str]) -> Result<Invocation<'a>, WordsError>
     ensures none { lab_script (map (λ w. w.now) words.now) ≡ None →
         has_option (codes "lab") (map (λ w. w.now) words.now) ≡ false →

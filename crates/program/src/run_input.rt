@@ -17,7 +17,7 @@ use std::io::{Read, Write};
 use std::mem::forget;
 
 /// The script that is read, in which faults of disks may be spelled, or not. `kept` gets its text,
-/// if that was read: the caller frees it behind the run, since an allocator that was given back so
+/// if that was read. The caller keeps it until the run has ended: an allocator that got back so
 /// large a piece may no longer let lists grow where they are.
 pub fn input_script<R: Read>(
     alloc: Global,

@@ -24,9 +24,9 @@ const USAGE: &str = "usage: chainstore lab SCRIPT | loop SCRIPT --dir D | dump D
 /// Room for the line of a failure: each is shorter.
 pub const LINE: usize = 64;
 
-/// Does what words ask for that name `lab`, and answers the exit status: 0 for a run, whatever
-/// became of its nodes, 1 for a fault in script, output or memory, 2 for words that ask for
-/// nothing. A fault is reported in one line on `err`.
+/// Does what words ask for that name `lab` or no command, and answers the exit status: 0 for a
+/// run, whatever became of its nodes, 1 for a fault in script, output or memory, 2 for words that
+/// ask for nothing. A fault is reported in one line on `err`.
 pub fn serve_lab<F: Files + Alloc<A = Global>, R: Read, O: Write, E: Write>(
     rt: &F,
     words: &[&str],

@@ -4,7 +4,8 @@ ghost use Rattle.script_words.specs.declared.error.ScriptError.TheVariants.{OutO
 
 use std::alloc::{AllocError, AllocFailed};
 
-/// What is wrong with a line, in the order in which it is looked for.
+/// What is wrong with a line, in the order in which it is looked for. The table of faults in
+/// docs/SCRIPT.md says which lines have each; `OutOfMemory` may come in place of any other.
 #[derive(Clone, Copy)]
 pub enum ScriptError {
     LineTooLong = 1,

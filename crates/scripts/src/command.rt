@@ -7,7 +7,8 @@ use disk::Junk;
 use kv_types::Number;
 use script_words::RawRange;
 
-/// What a line other than a submit or a get asks for, before anything but its spelling is known.
+/// What a statement asks for that has no reader of its own, before anything but its spelling is
+/// known: pages, snapshots, a tick, a tend, a stop and a start.
 #[derive(Drop)]
 pub enum Command {
     Rows(u64, RawRange, Option<Number>),

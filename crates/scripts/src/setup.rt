@@ -1,4 +1,4 @@
-//! What a script sets up before its first statement.
+//! What a script sets up before its first statement that is more than a look.
 use configurations::Configs;
 use kv_types::Limits;
 

@@ -1,4 +1,4 @@
-//! Each statement, read from its words.
+//! The statements that have no reader of their own, read from their words.
 ghost use Rattle.std.specs.Prelude.{◌≢◌, ◌∷◌, IfErr, map, codes};
 ghost use Rattle.script_words.specs.declared.error.ScriptError.TheVariants.{OutOfMemory};
 ghost use Rattle.scripts.specs.Statements.{walk_name};
