@@ -60,11 +60,11 @@ impl Count {
     }
 
     /// Counts a row by the lengths of its key and value.
-    fn add_row(&mut self, key: &Key, value: usize)
-        ensures { self.new ≡ with_row self.old (length key.now + value) }
+    fn add_row(&mut self, key: usize, value: usize)
+        ensures { self.new ≡ with_row self.old (key + value) }
     {
         self.rows = self.rows.saturating_add(1);
-        let bytes = (key.as_bytes().len() as u64).saturating_add(value as u64);
+        let bytes = (key as u64).saturating_add(value as u64);
         self.bytes = self.bytes.saturating_add(bytes);
     }
 
@@ -72,7 +72,7 @@ impl Count {
         ensures { self.new ≡ with_rows self.old rows.now }
     {
         for row in rows {
-            self.add_row(&row.key, row.value.as_bytes().len());
+            self.add_row(row.key().len(), row.value().len());
         }
     }
 
@@ -83,7 +83,7 @@ impl Count {
         match edit {
             Edit::Put(key, value) => {
                 self.add_operations(1);
-                self.add_row(key, value.as_bytes().len());
+                self.add_row(key.as_bytes().len(), value.as_bytes().len());
             }
             Edit::Delete(_) => self.add_operations(1),
         }
@@ -106,7 +106,7 @@ impl Count {
     {
         self.add_operations(1);
         if let Some(value) = read? {
-            self.add_row(&key, value.as_bytes().len());
+            self.add_row(key.as_bytes().len(), value.as_bytes().len());
         }
         Ok(())
     }
@@ -125,7 +125,7 @@ impl Count {
         ensures { self.new ≡ with_found self.old rows.now key.now }
     {
         if let [row, ..] = rows {
-            if row.key == *key {
+            if row.key().is_same(key.lent()) {
                 self.add_rows(rows);
             }
         }

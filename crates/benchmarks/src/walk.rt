@@ -23,7 +23,7 @@ fn range_behind(alloc: Global, row: &Row, is_backward: bool) -> Result<Range, Kv
     ensures refused { IfErr result (λ e. (e ≡ KvError.Memory) ⊎ ((e ≡ KvError.KeyTooLong)
         × (is_backward ≡ false) × (length row.now.key ≡ MAX_KEY))) }
 {
-    let mut bytes = row.key.as_bytes().to_vec(alloc)?;
+    let mut bytes = row.key().as_bytes().to_vec(alloc)?;
     if is_backward {
         let bound = Key::new(bytes)?;
         return Range::new(Key::new(Vec::new(alloc))?, Some(bound), true, ROWS);

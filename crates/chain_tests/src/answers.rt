@@ -19,8 +19,8 @@ pub fn holds_at(rt: &impl Abort, index: usize, holds: bool) {
     assert!(rt; holds, "row {index} does not hold");
 }
 
-fn shown(value: &Value) -> &str {
-    std::str::from_utf8(value.as_bytes()).unwrap_or("no text")
+fn shown(bytes: &[u8]) -> &str {
+    std::str::from_utf8(bytes).unwrap_or("no text")
 }
 
 fn put_value(
@@ -30,7 +30,11 @@ fn put_value(
     value: &Option<Value>,
 ) -> Result<(), AllocError> {
     match value {
-        Some(value) => write!(text, "{request}: value {} at {number}", shown(value)),
+        Some(value) => write!(
+            text,
+            "{request}: value {} at {number}",
+            shown(value.as_bytes())
+        ),
         None => write!(text, "{request}: none at {number}"),
     }
 }
@@ -38,8 +42,8 @@ fn put_value(
 /// The rows of a page, and whether there are more.
 fn put_page(text: &mut String, number: u64, page: &Page) -> Result<(), AllocError> {
     for row in page.rows() {
-        let key = std::str::from_utf8(row.key.as_bytes()).unwrap_or("no text");
-        write!(text, " {key}={}", shown(&row.value))?;
+        let (key, value) = (shown(row.key().as_bytes()), shown(row.value()));
+        write!(text, " {key}={value}")?;
     }
     if page.has_more() {
         text.push_str(" more")?;

@@ -197,9 +197,7 @@ static KEYS: [&str; 3] = ["a", "b", "c"];
 // Whether the page has this row at this place.
 fn has_row(page: &Page, place: usize, key: &Key, value: &Value) -> bool {
     match page.rows().get(place) {
-        Some(row) => {
-            row.key.as_bytes() == key.as_bytes() && row.value.as_bytes() == value.as_bytes()
-        }
+        Some(row) => { row.key().as_bytes() == key.as_bytes() && row.value() == value.as_bytes() }
         None => false,
     }
 }

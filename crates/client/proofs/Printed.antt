@@ -6,7 +6,7 @@ use Rattle.std.proofs.Math.Seq.{take-suc}
 use Rattle.std.proofs.lemmas.Grind.{flat_map-append}
 use Rattle.std.specs.Io.KnownBytes.{Appends}
 use Rattle.std.specs.List.{flat_map}
-use Rattle.kv_types.specs.declared.row.Row.{Row}
+use Rattle.kv_types.specs.{Row}
 use Rattle.lab.specs.declared.Line.{Line}
 use Rattle.client.specs.declared.statement_result.StatementResult.{StatementResult}
 use Rattle.client.specs.Text.{event_lines, line_output, line_text, note_text, numbered_line}

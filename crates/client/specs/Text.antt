@@ -7,7 +7,7 @@ use Rattle.std.specs.List.{flat_map}
 use Rattle.std.specs.Option.{option_map_or}
 use Rattle.kv_types.specs.declared.KvError.{KvError}
 use Rattle.kv_types.specs.declared.KvError.TheVariants as kv
-use Rattle.kv_types.specs.declared.row.Row.{Row}
+use Rattle.kv_types.specs.{Row}
 use Rattle.kv_types.specs.Spans as page
 use Rattle.lab.specs.Refusal.{Refusal}
 use Rattle.lab.specs.Refusal.TheVariants as refused

@@ -8,7 +8,7 @@ use Rattle.std.proofs.lemmas.List.Elements.{recursion_from_All}
 use Rattle.kv_types.specs.declared.bounds.TheConstants.{MAX_PAGE, MAX_ROWS}
 use Rattle.kv_types.specs.declared.edit.Edit.{Edit}
 use Rattle.kv_types.specs.declared.edit.Edit.TheVariants.{Put}
-use Rattle.kv_types.specs.declared.row.Row.{Row}
+use Rattle.kv_types.specs.{Row}
 use Rattle.kv_types.specs.Content.{edits_of}
 use Rattle.kv_types.specs.Maps.{MapsAgree, joined}
 use Rattle.kv_types.specs.OrderLemmas.{Among, among_of_All}

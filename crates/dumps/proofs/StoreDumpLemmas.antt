@@ -7,7 +7,7 @@ use Rattle.std.proofs.lemmas.List.{take_all}
 use Rattle.std.specs.Prelude.{IfErr, IsErrAnd, MatchResult, OnOk, Result, Ok, Err}
 use Rattle.std.specs.List.{flat_map}
 use Rattle.std.specs.Io.KnownBytes.{Appends}
-use Rattle.kv_types.specs.declared.row.Row.{Row}
+use Rattle.kv_types.specs.{Row}
 use Rattle.kv_types.specs.Pages.{PagesAgree, page_of}
 use Rattle.kv_types.specs.{BatchContent, map_of}
 use Rattle.engine.specs.{AreOrdered, Facts, IsReadable, LookUps, with_committed}

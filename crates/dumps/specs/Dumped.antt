@@ -5,7 +5,7 @@ use Rattle.std.specs.Prelude.{Result, Ok, Err, IfErr, IsErrAnd}
 use Rattle.std.specs.List.{flat_map}
 use Rattle.std.specs.Fmt.{decimal}
 use Rattle.std.specs.Io.KnownBytes.{Appends}
-use Rattle.kv_types.specs.declared.row.Row.{Row}
+use Rattle.kv_types.specs.{Row}
 use Rattle.kv_types.specs.{BatchContent, map_of}
 use Rattle.disk.specs.{Contents, IsSame, IsStill, KeepsDisk, State, contents}
 use Rattle.disk.specs.declared.Disk.{Ghosts}

@@ -1,7 +1,7 @@
 -- All rows of a map, and the first of them that a walk by pages has passed.
 use Rattle.std.specs.Prelude.{◌≡◌, ℕ, List, [], ◌∷◌, ◌++◌, false, None}
 use Rattle.kv_types.specs.declared.bounds.TheConstants.{MAX_ROWS}
-use Rattle.kv_types.specs.declared.row.Row.{Row}
+use Rattle.kv_types.specs.{Row}
 use Rattle.kv_types.specs.Pages.{IsWalk, Map}
 use Rattle.kv_types.specs.{Span}
 

@@ -82,14 +82,14 @@ fn behind(rows: &[Row], count: usize) -> &[Row]
 }
 
 // The key of the last row. It is refused for memory, or where there is no row.
-fn last_key(rows: &[Row]) -> Result<Key, DumpError>
+fn last_key(alloc: Global, rows: &[Row]) -> Result<Key, DumpError>
     ensures key { IfOk result (λ key. (front : List Row) × (last : Row)
         × (rows.now ≡ front ++ last ∷ []) × (key ≡ last.key)) }
     ensures refused { IfErr result (λ error. (error ≡ Store stop.Memory)
         ⊎ ((error ≡ Store stop.Damaged) × (length rows.now ≡ 0))) }
 {
     match rows.split_last() {
-        Some((last, _front)) => Ok(last.key.clone()?),
+        Some((last, _front)) => Ok(last.key().to_stored(alloc)?),
         None => Err(DumpError::Store(Stop::Damaged)),
     }
 }
@@ -132,7 +132,7 @@ pub fn write_rows<D: Disk + Drop, W: Write>(
         if !page.has_more() {
             return Ok(count);
         }
-        from = last_key(page.rows())?;
+        from = last_key(alloc, page.rows())?;
         known = 1;
     }
     Err(DumpError::Store(Stop::Memory))

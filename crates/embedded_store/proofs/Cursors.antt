@@ -3,7 +3,7 @@ use Rattle.std.proofs.Common.{◌≡◌, ◌≤◌, ◌+◌, ◌⊎◌, inl, inr
 use Rattle.std.proofs.Common.{◌∷◌, ◌++◌, ◌∙◌, length, Option, Some, None, arith, refl, sym, subst}
 use Rattle.std.specs.List.{All, slice_get}
 use Rattle.std.specs.Prelude.{Result, Ok, Err, IfOk}
-use Rattle.kv_types.specs.declared.row.Row.{Row}
+use Rattle.kv_types.specs.{Row}
 use Rattle.std.proofs.lemmas.List.Elements.{Contains-append_cases}
 use Rattle.kv_types.specs.Content.{edits_of}
 use Rattle.kv_types.specs.Maps.{MapsAgree, joined}

@@ -5,7 +5,7 @@ use Rattle.std.proofs.Common.{subst, ◌∙◌, ap}
 use Rattle.std.specs.List.{slice_get}
 use Rattle.std.specs.Prelude.{IsSome}
 use Rattle.std.proofs.lemmas.Option.{slice_get_cases}
-use Rattle.kv_types.specs.declared.row.Row.{Row}
+use Rattle.kv_types.specs.{Row}
 use Rattle.kv_types.specs.{Span, row_size}
 use Rattle.kv_types.specs.declared.bounds.TheConstants.{MAX_KEY, MAX_PAGE, MAX_VALUE}
 use Rattle.kv_types.specs.declared.bounds.TheConstants.{ROW_OVERHEAD}

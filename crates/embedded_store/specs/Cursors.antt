@@ -4,7 +4,7 @@ use Rattle.std.specs.Prelude.{Bool, true, false, length, Option, Some, None}
 use Rattle.std.specs.Prelude.{IsSome, Result, IfErr, IfOk, MatchResult}
 use Rattle.std.specs.List.{slice_get}
 use Rattle.kv_types.specs.{BatchContent, Rows, Span, map_of, row_size}
-use Rattle.kv_types.specs.declared.row.Row.{Row}
+use Rattle.kv_types.specs.{Row}
 use Rattle.kv_types.specs.Order.{IsBelow}
 use Rattle.kv_types.specs.Pages.{IsPage, Map, PrecedesRow}
 use Rattle.kv_types.specs.declared.bounds.TheConstants.{MAX_KEY, MAX_VALUE, ROW_OVERHEAD}

@@ -6,7 +6,7 @@ use Rattle.std.proofs.lemmas.Bool.{leb-true, leb-false}
 use Rattle.std.proofs.lemmas.List.{append_cancel_left}
 use Rattle.std.proofs.lemmas.List.Sums.{sum_by-cons}
 use Rattle.kv_types.specs.declared.bounds.TheConstants.{MAX_PAGE}
-use Rattle.kv_types.specs.declared.row.Row.{Row}
+use Rattle.kv_types.specs.Spans.{Row}
 use Rattle.kv_types.specs.Maps.{map_of}
 use Rattle.kv_types.specs.Spans.{Span}
 use Rattle.kv_types.specs.Pages.{Map, IsRowOf, PrecedesRow, IsWalk, row_size, KeepsLimits, IsFull}

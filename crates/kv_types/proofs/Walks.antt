@@ -13,7 +13,7 @@ use Rattle.std.proofs.lemmas.Bool.Decides.{Decides-and}
 use Rattle.std.proofs.lemmas.Map.Text.{is_eq-slice_cmp}
 use Rattle.std.proofs.lemmas.Slice.Eq.{bytes_eq-Decides}
 use Rattle.kv_types.specs.declared.edit.Edit.{Edit}
-use Rattle.kv_types.specs.declared.row.Row.{Row}
+use Rattle.kv_types.specs.Spans.{Row}
 use Rattle.kv_types.specs.Content.{BatchContent}
 use Rattle.kv_types.specs.Order.{IsBelow}
 use Rattle.kv_types.specs.Maps.{key_of, value_put, joined, last_edit, map_of}

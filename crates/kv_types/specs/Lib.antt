@@ -28,6 +28,6 @@ pub use Rattle.kv_types.specs.Maps.{last_edit, map_of}
 pub use Rattle.kv_types.specs.Pages.{KeepsLimits, row_size}
 unfoldable pub use Rattle.kv_types.specs.Reading.{batch_at}
 pub use Rattle.kv_types.specs.Refusals.{batch_error}
-pub use Rattle.kv_types.specs.Spans.{Rows, Span}
+pub use Rattle.kv_types.specs.Spans.{Row, Rows, Span}
 pub use Rattle.kv_types.specs.Spelling.{IsBatch, SpellingsDiffer, batch_bytes}
 pub use Rattle.kv_types.specs.StoredKeys.{StoredKey, lent_key, stored_cmp}

@@ -8,7 +8,7 @@ use Rattle.std.specs.Ordering.{nat_cmp, is_lt, match_ordering}
 use Rattle.std.specs.Cmp.Lexicographic.{slice_cmp}
 use Rattle.kv_types.specs.declared.bounds.TheConstants.{MAX_PAGE, ROW_OVERHEAD}
 use Rattle.kv_types.specs.declared.edit.Edit.{Edit}
-use Rattle.kv_types.specs.declared.row.Row.{Row}
+use Rattle.kv_types.specs.Spans.{Row}
 use Rattle.kv_types.specs.Content.{BatchContent}
 use Rattle.kv_types.specs.Order.{IsBelow}
 use Rattle.kv_types.specs.Maps.{key_of, joined, map_of}

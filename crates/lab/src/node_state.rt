@@ -280,6 +280,7 @@ impl<D: Crash + Drop> NodeState<D> {
             NodeState::Up(node) => node,
             NodeState::Down(disk) => return dispatch_down(alloc, disk, &input, fault, limits),
         };
+        // What is left of the input lacks its step, so the rare ones are made again.
         let rare = match input {
             NodeInput::Step(input) => return step(alloc, node, input, fault),
             NodeInput::Tend => NodeInput::Tend,

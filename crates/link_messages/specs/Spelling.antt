@@ -6,7 +6,7 @@ use Rattle.std.specs.Int.{w8, w16, w32, w64, to_be_bytes}
 use Rattle.configurations.specs.{IsConfig, config_text, IsId}
 use Rattle.kv_types.specs.declared.bounds.TheConstants.{MAX_KEY, MAX_VALUE, MAX_ROWS, MAX_PAGE}
 use Rattle.kv_types.specs.declared.bounds.TheConstants.{MAX_NUMBER}
-use Rattle.kv_types.specs.declared.Row.{Row}
+use Rattle.kv_types.specs.{Row}
 use Rattle.kv_types.specs.{Span, Rows, IsBatch, batch_bytes as batch_text, KeepsLimits}
 use Rattle.byte_fields.specs.{text_bytes}
 use Rattle.chain_model.specs.declared.Refusal.{Refusal}

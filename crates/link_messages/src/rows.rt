@@ -9,6 +9,7 @@ ghost use Rattle.link_messages.specs.Reading.{ReadsField, items_of, row_at, rows
 use crate::FrameError;
 use crate::fields::{key_of, value_of};
 use crate::numbers::{put_truth, put_u16, truth_of, u16_of};
+use byte_fields::put_text;
 use kv_types::bounds::{MAX_PAGE, MAX_ROWS};
 use kv_types::{Page, Row};
 use std::alloc::{AllocError, Global};
@@ -19,8 +20,8 @@ fn put_row(out: &mut Vec<u8>, row: &Row) -> Result<(), AllocError>
     ensures spelled { OnOk result (out.new.items ≡ out.old.items ++ row_text row.now) }
     ensures is { OnOk result (IsRow row.now) }
 {
-    row.key.spell_into(out)?;
-    row.value.spell_into(out)
+    put_text(out, row.key().as_bytes())?;
+    put_text(out, row.value())
 }
 
 fn put_rows(out: &mut Vec<u8>, rows: &[Row]) -> Result<(), AllocError>
@@ -50,7 +51,7 @@ fn row_of(alloc: Global, bytes: &mut &[u8]) -> Result<Row, FrameError>
 {
     let key = key_of(alloc, bytes)?;
     let value = value_of(alloc, bytes)?;
-    Ok(Row { key, value })
+    Ok(Row::new(alloc, key.lent(), value.as_bytes())?)
 }
 
 fn rows_in(alloc: Global, count: u16, bytes: &mut &[u8]) -> Result<Vec<Row>, FrameError>

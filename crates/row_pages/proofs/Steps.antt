@@ -3,7 +3,7 @@ use Rattle.std.proofs.Common.{◌≡◌, ◌⊎◌, ℕ, List, [], ◌∷◌, �
 use Rattle.std.proofs.Common.{subst, ◌∙◌, Bool, true, false, Option, Some, None, OnOk, Ok, Err}
 use Rattle.std.proofs.Common.{Result, append_assoc, IfSome, arith}
 use Rattle.std.specs.Prelude.{IsSome}
-use Rattle.kv_types.specs.declared.Row.{Row}
+use Rattle.kv_types.specs.{Row}
 use Rattle.kv_types.specs.declared.bounds.TheConstants.{MAX_PAGE}
 use Rattle.kv_types.specs.Order.{IsBelow}
 use Rattle.kv_types.specs.Pages.{IsPage, IsRowOf, IsWalk, IsWithin, Map, PrecedesRow}

@@ -1,6 +1,6 @@
 -- The rows of a map in a range, as entries that a cursor has.
 use Rattle.std.specs.Prelude.{◌≡◌, ◌↔◌, ◌≤◌, ℕ, List, Some, IsSome}
-use Rattle.kv_types.specs.declared.Row.{Row}
+use Rattle.kv_types.specs.{Row}
 use Rattle.kv_types.specs.declared.bounds.TheConstants.{MAX_NUMBER}
 use Rattle.kv_types.specs.Pages.{IsWalk, IsWithin, Map}
 use Rattle.kv_types.specs.{Entry, Span}

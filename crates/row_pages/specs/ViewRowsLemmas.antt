@@ -4,7 +4,7 @@ use Rattle.std.proofs.Common.{arith}
 use Rattle.std.specs.declared.cmp.Ordering.TheVariants.{Equal}
 use Rattle.std.specs.Ordering.{nat_cmp, ordering_then}
 use Rattle.std.specs.Cmp.{tied_itself}
-use Rattle.kv_types.specs.declared.Row.{Row}
+use Rattle.kv_types.specs.{Row}
 use Rattle.kv_types.specs.declared.bounds.TheConstants.{MAX_NUMBER}
 use Rattle.kv_types.specs.Pages.{IsPage, Map}
 use Rattle.kv_types.specs.{Entry, IsNewest, IsShown, Rows, Span, ViewShows, stored_cmp}

@@ -1,6 +1,6 @@
 -- Where a walk over a range begins, and where it stands.
 use Rattle.std.specs.Prelude.{◌≡◌, ◌⊎◌, ◌≤◌, ◌++◌, ℕ, List, [], ◌∷◌, Bool, true, false, IfSome}
-use Rattle.kv_types.specs.declared.Row.{Row}
+use Rattle.kv_types.specs.{Row}
 use Rattle.kv_types.specs.declared.bounds.TheConstants.{MAX_NUMBER, MAX_PAGE}
 use Rattle.kv_types.specs.Order.{IsBelow}
 use Rattle.kv_types.specs.Pages.{IsWithin}

@@ -6,7 +6,7 @@ ghost use Rattle.kv_types.specs.{lent_key, row_size};
 ghost use Rattle.row_pages.specs.Additions.{AddsRow, HasRoom};
 
 use kv_types::bounds::{MAX_PAGE, ROW_OVERHEAD};
-use kv_types::{LentKey, Page, Row, Value};
+use kv_types::{LentKey, Page, Row};
 use std::alloc::{AllocError, Global};
 use std::marker::Model;
 
@@ -23,7 +23,7 @@ pub struct PageRows {
 impl Model for PageRows {
     ghost use Rattle.std.specs.Prelude.{◌≡◌, ◌≤◌, List};
     ghost use Rattle.std.specs.List.{sum_by};
-    ghost use Rattle.kv_types.specs.declared.Row.{Row};
+    ghost use Rattle.kv_types.specs.{Row};
     ghost use Rattle.kv_types.specs.declared.bounds.TheConstants.{MAX_PAGE};
     ghost use Rattle.kv_types.specs.{row_size};
 
@@ -68,7 +68,7 @@ impl PageRows {
         if !self.has_room(limit, size) {
             return Ok(false);
         }
-        self.rows.push(copy_row(alloc, key, value)?)?;
+        self.rows.push(Row::new(alloc, key, value)?)?;
         self.size += size;
         Ok(true)
     }
@@ -88,27 +88,4 @@ fn size_of_row(key: LentKey, value: &[u8]) -> usize
     ensures { result ≡ row_size (record { key = lent_key key.entry; value = value.now }) }
 {
     key.len() + value.len() + ROW_OVERHEAD
-}
-
-// A copy of the value.
-fn copy_value(alloc: Global, value: &[u8]) -> Result<Value, AllocError>
-    requires { length value.now ≤ MAX_VALUE }
-    ensures { IfOk result (λ copy. copy ≡ value.now) }
-{
-    match Value::new(Vec::from_slice(alloc, value)?) {
-        Ok(copy) => Ok(copy),
-        Err(_) => unreachable!(),
-    }
-}
-
-// The row of this key and value, with memory of its own.
-fn copy_row(alloc: Global, key: LentKey, value: &[u8]) -> Result<Row, AllocError>
-    requires key { length (lent_key key) ≤ MAX_KEY }
-    requires value { length value.now ≤ MAX_VALUE }
-    ensures { IfOk result (λ row. row ≡ record { key = lent_key key.entry; value = value.now }) }
-{
-    Ok(Row {
-        key: key.to_stored(alloc)?,
-        value: copy_value(alloc, value)?,
-    })
 }

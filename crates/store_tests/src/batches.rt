@@ -3,7 +3,7 @@ use crate::cases::{Case, all_hold, has_memory, is_so};
 use crate::items::{
     batch_of, deletion, deletions, is_same, key_of, long_batch, try_key, try_value, value_of,
 };
-use kv_types::{Batch, KvError, Number, Page, Range, Row, Value, value_at};
+use kv_types::{Batch, KvError, LentKey, Number, Page, Range, Row, Value, value_at};
 use std::alloc::Global;
 use std::process::Abort;
 
@@ -314,10 +314,7 @@ fn copies_batch(rt: &impl Abort, alloc: Global) -> bool {
 }
 
 fn row_of(rt: &impl Abort, alloc: Global) -> Row {
-    Row {
-        key: key_of(rt, alloc, b"a"),
-        value: value_of(rt, alloc, b"1"),
-    }
+    Row::new(alloc, LentKey::new(b"a"), b"1").expect(rt, "memory")
 }
 
 /// Whether a page of this row has one row, and says that there are more.

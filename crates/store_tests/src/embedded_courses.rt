@@ -94,8 +94,7 @@ pub fn agrees<D: Disk + Drop>(
 /// Whether this is the row of a key after so many batches.
 pub fn is_row(row: &Row, index: u64, count: u64) -> bool {
     let want = plain(index, count).unwrap_or(0);
-    is_same(row.key.as_bytes(), &index.to_be_bytes())
-        && is_same(row.value.as_bytes(), &want.to_be_bytes())
+    is_same(row.key().as_bytes(), &index.to_be_bytes()) && is_same(row.value(), &want.to_be_bytes())
 }
 
 // Whether these are the rows of the map after so many batches, in the order of their keys.

@@ -5,28 +5,28 @@ use crate::folder_rows::{empty_folder, remove_folder};
 use crate::items::{batch_of, is_same, key_of};
 use disk::Disk;
 use embedded_store::{EmbeddedStore, EngineError, OpenError};
-use kv_types::{Batch, Key, Limits, Number, Value};
+use kv_types::{Batch, Key, Limits, Number, Row, Value};
 use std::alloc::Global;
 use std::process::Abort;
 
 // README begins
-/// The values of the snapshot's first hundred rows, in the order of their keys.
+/// The snapshot's first hundred rows, in the order of their keys.
 fn walk<D: Disk + Drop>(
     alloc: Global,
     store: &mut EmbeddedStore<D>,
     snapshot: Number,
-) -> Result<Vec<Value>, EngineError> {
-    let mut values = Vec::new(alloc);
+) -> Result<Vec<Row>, EngineError> {
+    let mut rows = Vec::new(alloc);
     let mut cursor = store.cursor(alloc, Some(snapshot));
     cursor.first(alloc, store)?;
     for _ in 0..100u64 {
         let Some(row) = cursor.row() else {
             break;
         };
-        values.push(row.value.clone()?)?;
+        rows.push(row.clone()?)?;
         cursor.next(alloc, store)?;
     }
-    Ok(values)
+    Ok(rows)
 }
 
 /// Writes two batches; answers what the key has now, and all that was there between the two.
@@ -35,7 +35,7 @@ fn write_and_read<D: Disk + Drop>(
     store: &mut EmbeddedStore<D>,
     batches: (&Batch, &Batch),
     key: &Key,
-) -> Result<(Option<Value>, Vec<Value>), EngineError> {
+) -> Result<(Option<Value>, Vec<Row>), EngineError> {
     store.write(batches.0)?;
     let snapshot = store.snapshot()?;
     store.write(batches.1)?;
@@ -52,7 +52,7 @@ fn in_folder(
     folder: &str,
     batches: (&Batch, &Batch),
     key: &Key,
-) -> Result<(Option<Value>, Vec<Value>), OpenError> {
+) -> Result<(Option<Value>, Vec<Row>), OpenError> {
     let mut store = EmbeddedStore::open(rt, folder, &Limits::default())?;
     let found = write_and_read(rt.alloc(), &mut store, batches, key);
     store.close();
@@ -60,10 +60,10 @@ fn in_folder(
 }
 // README ends
 
-// Whether it is one value of these bytes.
-fn is_one(values: &[Value], want: &[u8]) -> bool {
-    match values {
-        [value] => is_same(value.as_bytes(), want),
+// Whether it is one row with this value.
+fn is_one(rows: &[Row], want: &[u8]) -> bool {
+    match rows {
+        [row] => is_same(row.value(), want),
         _ => false,
     }
 }

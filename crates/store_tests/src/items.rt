@@ -108,7 +108,7 @@ pub fn deletion(rt: &impl Abort, alloc: Global, key: &[u8]) -> Batch {
 fn row_of(rt: &impl Abort, alloc: Global, key: usize, value: usize) -> Row {
     let key = long_key(rt, alloc, key);
     let value = long_value(rt, alloc, value);
-    Row { key, value }
+    Row::new(alloc, key.lent(), value.as_bytes()).expect(rt, "memory")
 }
 
 /// This many rows with a key and a value of these lengths, and one without a key with this value.

@@ -83,7 +83,7 @@ fn has_rows(
     let mut place = first;
     for row in page.rows() {
         let key = key_at(rt, alloc, place);
-        if !is_same(row.key.as_bytes(), key.as_bytes()) {
+        if !is_same(row.key().as_bytes(), key.as_bytes()) {
             return false;
         }
         place = if backward {

@@ -158,8 +158,8 @@ fn page_of(
 }
 
 fn is_row(row: &Row, key: u16, value: u16) -> bool {
-    row.key.as_bytes() == key.to_be_bytes().as_slice()
-        && row.value.as_bytes() == value.to_be_bytes().as_slice()
+    row.key().as_bytes() == key.to_be_bytes().as_slice()
+        && row.value() == value.to_be_bytes().as_slice()
 }
 
 fn has_rows(page: &Page, want: &[(u16, u16)], more: bool) -> bool {
@@ -365,7 +365,7 @@ fn has_lengths(page: &Page, want: &[usize]) -> bool {
         && rows
             .iter()
             .zip(want)
-            .all(|(row, len)| row.key.as_bytes().len() == *len)
+            .all(|(row, len)| row.key().len() == *len)
 }
 
 /// Of pages about the greatest key, how many are as they are to be.

@@ -63,9 +63,9 @@ fn is_stopped(lines: &[Line]) -> bool {
 }
 
 // The event whose place a value is.
-fn event_in(value: &Value) -> u64 {
+fn event_in(value: &[u8]) -> u64 {
     let mut event = 0u64;
-    for byte in value.as_bytes() {
+    for byte in value {
         event = event.wrapping_mul(256).wrapping_add(u64::from(*byte));
     }
     event
@@ -74,9 +74,9 @@ fn event_in(value: &Value) -> u64 {
 pub fn rows_of(page: &Page) -> Rows {
     let mut rows: Rows = [None; 8];
     for (index, row) in page.rows().iter().enumerate() {
-        let key = row.key.as_bytes().first().copied().unwrap_or(0);
+        let key = row.key().as_bytes().first().copied().unwrap_or(0);
         if let Some(into) = rows.get_mut(index) {
-            *into = Some((key.wrapping_sub(b'a'), event_in(&row.value)));
+            *into = Some((key.wrapping_sub(b'a'), event_in(row.value())));
         }
     }
     rows
@@ -101,7 +101,7 @@ fn answer_of(reply: &Reply) -> Option<(u64, u64, Answer)> {
             value,
         } => {
             let value = match value {
-                Some(value) => Some(event_in(value)),
+                Some(value) => Some(event_in(value.as_bytes())),
                 None => None,
             };
             (request, number, Answer::Value(value))

@@ -2,7 +2,7 @@ use Rattle.std.proofs.Common.{◌≡◌, ◌+◌, List, ℕ, [], ◌∷◌, ◌+
 use Rattle.std.specs.List.{flat_map}
 use Rattle.std.proofs.lemmas.List.{flat_map_more, take_more}
 use Rattle.std.proofs.lemmas.List.Elements.{All-push}
-use Rattle.kv_types.specs.declared.Row.{Row}
+use Rattle.kv_types.specs.{Row}
 use Rattle.link_messages.specs.Spelling.{row_text, IsRow}
 use Rattle.link_messages.proofs.rows.put_rows.Goals as goal
 

@@ -1,5 +1,5 @@
 use Rattle.std.proofs.Common.{ℕ, Bool, List, sym, subst}
-use Rattle.kv_types.specs.declared.Row.{Row}
+use Rattle.kv_types.specs.{Row}
 use Rattle.kv_types.specs.Pages.{IsPage}
 use Rattle.kv_types.specs.{Rows}
 use Rattle.merge_iter.specs.{IfOn}

@@ -1,5 +1,5 @@
 use Rattle.std.proofs.Common.{List}
-use Rattle.kv_types.specs.declared.Row.{Row}
+use Rattle.kv_types.specs.{Row}
 use Rattle.kv_types.specs.Pages.{IsWalk, Map}
 use Rattle.row_pages.specs.Rows.{HasRowsOf}
 use Rattle.row_pages.specs.Walking.{ReadsUpTo, way_of}

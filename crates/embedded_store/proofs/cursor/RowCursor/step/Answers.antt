@@ -1,7 +1,7 @@
 use Rattle.std.proofs.Common.{◌≡◌, Option, Some, subst, sym}
 use Rattle.std.specs.Prelude.{IfSome}
 use Rattle.kv_types.specs.{Span}
-use Rattle.kv_types.specs.declared.row.Row.{Row}
+use Rattle.kv_types.specs.{Row}
 use Rattle.embedded_store.specs.Cursors.{IsOnPage, MovesRowCursor, StepsUnread, cursor_row}
 use Rattle.embedded_store.specs.Cursors.{span_beside}
 use Rattle.embedded_store.specs.Stores.{MeetsDamageIn}
