@@ -1,11 +1,10 @@
 // Lines of one node, and what is printed for each. A line is an input or a stop of the node, which
 // is created at line 1, and a request has its line's number.
 use crate::answers::put_reply;
-use crate::courses::junk_of;
 use crate::items::{Change, ONE, batch_of, config_of, id_of, key_of, number, range_of};
 use crate::nodes::running::Running;
 use configurations::{Epoch, NodeId};
-use disk::Crash;
+use disk::{Crash, Junk, JunkBytes};
 use kv_types::{Number, Range};
 use link_messages::{BoxedRange, Frame};
 use node::{Input, Output, Sent};
@@ -153,6 +152,10 @@ fn step(rt: &impl Abort, alloc: Global, running: &mut Running, input: Input) -> 
     let mut text = String::new(alloc);
     put_output(&mut text, &output).expect(rt, "memory");
     text
+}
+
+fn junk_of(rt: &impl Abort, alloc: Global, bytes: &[u8]) -> Junk {
+    Junk::Bytes(JunkBytes::new(bytes.to_vec(alloc).expect(rt, "memory")))
 }
 
 /// Stops and starts the machine and the node.
