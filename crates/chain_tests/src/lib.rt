@@ -1,19 +1,13 @@
-//! Tests of a store alone, of one node and of whole runs, with expected values from the rules of a
+//! Tests of whole runs and of small and large disks of a node, with expected values from the rules of a
 //! step and from the formats.
 #![tactic(auto)]
 
 #[cfg(test)]
-mod answers;
-#[cfg(test)]
 mod example;
-#[cfg(test)]
-mod items;
 #[cfg(test)]
 mod large_store;
 #[cfg(test)]
 mod listeners;
-#[cfg(test)]
-mod nodes;
 #[cfg(test)]
 mod openings;
 #[cfg(test)]

@@ -1,16 +1,15 @@
 // Adoptions of later configurations: what an engine answers, what is opened again, and a fault at
 // each of the four calls.
 
-use crate::cases::{has_memory, holds_at, is_so};
-use crate::crashes::Choice;
-use crate::faults::mend;
-use crate::items::{batch_of, config_of, is_same, origin};
 use configurations::Config;
 use disk::{Disk, Fault, MemDisk};
 use engine::{Engine, EngineError};
 use kv_types::Limits;
 use std::alloc::Global;
 use std::process::Abort;
+use test_items::acts::{Choice, mend};
+use test_items::cases::{has_memory, holds_at, is_so};
+use test_items::items::{batch_of, config_of, is_same, origin};
 
 /// The refusal of an adoption of a later configuration, if it is refused.
 pub fn refusal<D: Disk + Drop>(

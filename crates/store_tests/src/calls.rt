@@ -3,8 +3,6 @@ ghost use Rattle.std.specs.Prelude.{None};
 ghost use Rattle.disk.specs.{Absent, IsReliable, past_states};
 
 use crate::adoptions::disk_of_adoption;
-use crate::cases::{holds_at, is_so};
-use crate::items::{config_of, origin};
 use crate::manifests;
 use disk::{Disk, DiskError, MemDisk};
 use engine::Engine;
@@ -12,6 +10,8 @@ use kv_types::Limits;
 use record_log::Log;
 use std::alloc::Global;
 use std::process::Abort;
+use test_items::cases::{holds_at, is_so};
+use test_items::items::{config_of, origin};
 
 // A call: to which file, of a write its place and its first byte, and of a cut the length.
 #[derive(Clone, Copy, PartialEq)]

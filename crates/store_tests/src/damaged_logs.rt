@@ -2,13 +2,13 @@
 ghost use Rattle.std.specs.Prelude.{None};
 ghost use Rattle.disk.specs.{Absent, IsReliable, past_states};
 
-use crate::cases::{Case, all_hold, has_memory, is_so};
-use crate::items::{batch_of, config_of, number, origin};
 use disk::{Disk, DiskError, MemDisk};
 use engine::{Engine, EngineError, Tended};
 use kv_types::{Limits, Number};
 use std::alloc::Global;
 use std::process::Abort;
+use test_items::cases::{Case, all_hold, has_memory, is_so};
+use test_items::items::{batch_of, config_of, number, origin};
 
 // The file of a store's first log.
 const LOG: u64 = 3;

@@ -1,11 +1,11 @@
 // Openings of slots that are damaged, or whose numbers are at their limits.
-use crate::cases::{Case, all_hold, holds_at, is_so};
-use crate::items::copy_of;
 use crate::manifests::{SLOT, answer, disk_of, slot_with};
 use kv_types::bounds::MAX_NUMBER;
 use manifest::ManifestError;
 use std::alloc::Global;
 use std::process::Abort;
+use test_items::cases::{Case, all_hold, holds_at, is_so};
+use test_items::items::copy_of;
 
 const DAMAGED: Option<ManifestError> = Some(ManifestError::Damaged);
 

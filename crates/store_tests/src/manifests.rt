@@ -3,15 +3,14 @@ ghost use Rattle.std.specs.Prelude.{IfOk};
 ghost use Rattle.version_edits.specs.Edits.{IsChange};
 ghost use Rattle.version_edits.specs.Versions.{IsFit};
 
-use crate::cases::{Case, all_hold, has_memory, holds_at, is_so};
-use crate::crashes::{Choice, arm};
-use crate::faults::mend;
-use crate::items::{config_of, copy_of, filled, is_same, origin};
 use disk::{Disk, Fault, MemDisk};
 use kv_types::bounds::MAX_NUMBER;
 use manifest::{Manifest, ManifestError, StoreVersion, VersionEdit};
 use std::alloc::{AllocError, Global};
 use std::process::Abort;
+use test_items::acts::{Choice, arm, mend};
+use test_items::cases::{Case, all_hold, has_memory, holds_at, is_so};
+use test_items::items::{config_of, copy_of, filled, is_same, origin};
 
 /// The slot of node 1 alone after its creation: a head of generation 1, a record, a closed gate.
 /// The record is the next file 4, floor, flushed and epoch 0, the ids, and log 3 from batch 1.

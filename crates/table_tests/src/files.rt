@@ -3,13 +3,13 @@
 ghost use Rattle.std.specs.Prelude.{◌≤◌, length};
 
 use crate::counts::is_count;
-use crate::sequence::copy_of;
 use disk::{Crash, Disk, Fault, MemDisk};
 use kv_types::LentKey;
 use std::alloc::Global;
 use std::process::Abort;
 use table_files::CachedDisk;
 use table_format::{FileError, LentEntry, put_entry, seal};
+use test_items::items::copy_of;
 
 /// The length of a block whose one entry has a key and a value of one byte.
 const BLOCK: usize = 27;

@@ -1,10 +1,10 @@
 // The bytes of complete filters, and the keys that they deny.
 use crate::counts::is_count;
-use crate::sequence::key_of;
 use bloom::{KeyHashes, build, may_hold, may_hold_hashed};
 use kv_types::Key;
 use std::alloc::Global;
 use std::process::Abort;
+use test_items::items::key_of;
 
 fn keys_of(rt: &impl Abort, alloc: Global, texts: &[&[u8]]) -> Vec<Key> {
     let mut keys = Vec::new(alloc);

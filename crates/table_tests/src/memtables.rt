@@ -2,12 +2,14 @@
 
 use crate::counts::is_count;
 use crate::numbered::Numbered;
-use crate::sequence::{Change, Sequence, batch_of, change_of, key_of};
+use crate::sequence::{Change, batch_of, change_of};
 use kv_types::{Batch, Key, LentKey, Number, Value, value_at};
 use memtable::{Found, Memtable};
 use merge_iter::Cursor;
 use std::alloc::Global;
 use std::process::Abort;
+use test_items::items::key_of;
+use test_items::sequence::Sequence;
 
 const BATCHES: u16 = 10_000;
 

@@ -1,5 +1,4 @@
 // The parts of the table of one put, written and read, and each of their bytes damaged.
-use crate::sequence::{copy_of, key_of};
 use kv_types::LentKey;
 use std::alloc::Global;
 use std::process::Abort;
@@ -7,6 +6,7 @@ use table_format::{
     Footer, IndexLine, LentEntry, entries_of, entry_of, filter_of, filter_part_of, footer_of,
     footer_part_of, lines_of, put_entry, put_line, seal,
 };
+use test_items::items::{copy_of, key_of};
 
 /// The block of one entry: `1` was put at `a` by the batch with number 1.
 pub static BLOCK: [u8; 27] = [

@@ -1,8 +1,9 @@
 //! Entries as a plain sorted list, and a walk over it: what cursors are compared with.
 
-use crate::sequence::{Change, Sequence};
+use crate::sequence::Change;
 use std::alloc::Global;
 use std::process::Abort;
+use test_items::sequence::Sequence;
 
 /// An entry: keys rise, and in one key numbers fall.
 #[derive(Clone, Copy)]

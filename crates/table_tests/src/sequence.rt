@@ -1,29 +1,10 @@
-//! Numbers that look random and are always the same, and batches made of them.
+//! Batches made of numbers that look random.
 
 use kv_types::{Batch, Edit, Key, Value};
 use std::alloc::Global;
 use std::process::Abort;
-
-/// A linear congruential sequence, with Knuth's constants.
-#[derive(Drop)]
-pub struct Sequence {
-    state: u64,
-}
-
-impl Sequence {
-    pub fn new(seed: u64) -> Sequence {
-        Sequence { state: seed }
-    }
-
-    /// The next number, from 0 to 65,535.
-    pub fn next(&mut self) -> u16 {
-        self.state = self
-            .state
-            .wrapping_mul(6_364_136_223_846_793_005)
-            .wrapping_add(1_442_695_040_888_963_407);
-        (self.state >> 48) as u16
-    }
-}
+use test_items::items::{copy_of, key_of};
+use test_items::sequence::Sequence;
 
 /// A change of a key: a value, or none for a deletion.
 #[derive(Clone, Copy)]
@@ -40,15 +21,6 @@ pub fn change_of(sequence: &mut Sequence, keys: u8) -> Change {
         key,
         value: if value % 4 == 0 { None } else { Some(value) },
     }
-}
-
-/// A copy of these bytes.
-pub fn copy_of(rt: &impl Abort, alloc: Global, bytes: &[u8]) -> Vec<u8> {
-    bytes.to_vec(alloc).expect(rt, "memory")
-}
-
-pub fn key_of(rt: &impl Abort, alloc: Global, bytes: &[u8]) -> Key {
-    Key::new(copy_of(rt, alloc, bytes)).expect(rt, "a key")
 }
 
 fn value_of(rt: &impl Abort, alloc: Global, value: u16) -> Value {

@@ -4,7 +4,7 @@
 use crate::counts::is_count;
 use crate::numbered::Numbered;
 use crate::plain::{PlainEntry, add_all, shown_at};
-use crate::sequence::{Sequence, batch_of, copy_of, key_of};
+use crate::sequence::batch_of;
 use crate::table_cursors::all_owned;
 use crate::table_damage::{SOUND, damaged_files, is_stopped};
 use crate::table_walks::meet_all;
@@ -17,6 +17,8 @@ use sorted_table::CachedDisk;
 use std::alloc::Global;
 use std::process::Abort;
 use store_cursors::{StoreCursor, StoreRows, rows_at};
+use test_items::items::{copy_of, key_of};
+use test_items::sequence::Sequence;
 
 const NUMBERS: u8 = 120;
 

@@ -3,7 +3,6 @@
 
 use crate::counts::is_count;
 use crate::plain::{PlainEntry, add_all};
-use crate::sequence::Sequence;
 use crate::table_walks::meet_all;
 use crate::tables::{FILE, files_of, table_in};
 use crate::walks::{agreeing, changes_of, owned};
@@ -12,6 +11,7 @@ use merge_iter::{Cursor, CursorError, OwnedEntry};
 use sorted_table::{CachedDisk, TableCursor};
 use std::alloc::Global;
 use std::process::Abort;
+use test_items::sequence::Sequence;
 
 const NUMBERS: u8 = 250;
 

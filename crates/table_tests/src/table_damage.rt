@@ -4,7 +4,6 @@ ghost use Rattle.std.specs.Prelude.{IsTrue};
 ghost use Rattle.merge_iter.specs.{IsBroken, IsOn};
 
 use crate::parts::{BLOCK, FILTER};
-use crate::sequence::{copy_of, key_of};
 use crate::tables::{FILE, build, entry_of, table_in, with_cache};
 use disk::{Disk, MemDisk};
 use kv_types::LentKey;
@@ -13,6 +12,7 @@ use sorted_table::{CachedDisk, FileError, TableCursor};
 use std::alloc::Global;
 use std::process::Abort;
 use table_format::{Footer, IndexLine, footer_part_of, put_line, seal};
+use test_items::items::{copy_of, key_of};
 
 /// The file of the sound table.
 pub const SOUND: u64 = 4;

@@ -2,7 +2,6 @@
 ghost use Rattle.table_format.specs.{IsTableEntry, lent_entry};
 
 use crate::counts::is_count;
-use crate::sequence::{copy_of, key_of};
 use disk::{Crash, Disk, Fault, MemDisk};
 use kv_types::LentKey;
 use merge_iter::OwnedEntry;
@@ -12,6 +11,7 @@ use std::process::Abort;
 use table_builder::{Builder, Finished};
 use table_files::CachedDisk;
 use table_format::LentEntry;
+use test_items::items::{copy_of, key_of};
 
 /// The file of the table.
 pub const FILE: u64 = 3;

@@ -4,13 +4,14 @@
 use crate::counts::is_count;
 use crate::numbered::Numbered;
 use crate::plain::{Move, PlainEntry, PlainWalk, add_all, move_of, shown_at};
-use crate::sequence::{Change, Sequence, batch_of, change_of};
+use crate::sequence::{Change, batch_of, change_of};
 use crate::tables::entry_of;
 use kv_types::LentKey;
 use memtable::MemCursor;
 use merge_iter::{AtNumber, Cursor, CursorError, ListCursor, Merged, OwnedEntry};
 use std::alloc::Global;
 use std::process::Abort;
+use test_items::sequence::Sequence;
 
 const CHILDREN: usize = 5;
 
