@@ -1,5 +1,5 @@
-//! Tests of whole runs and of small and large disks of a node, with expected values from the rules of a
-//! step and from the formats.
+//! Tests of whole runs and of small and large disks of a node, with expected values from the rules
+//! of a step and from the formats.
 #![tactic(auto)]
 
 #[cfg(test)]

@@ -1,4 +1,5 @@
-//! Tests of batches and limits, of disks in memory and in folders, and of logs, beyond the contracts.
+//! Tests of batches and limits, of disks in memory and in folders, and of logs, beyond the
+//! contracts.
 #![tactic(auto)]
 
 #[cfg(test)]

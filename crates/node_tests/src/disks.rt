@@ -83,89 +83,20 @@ fn all_hold(rt: &impl Abort, alloc: Global, rows: &[Start]) {
     }
 }
 
-const BLANK: Option<Stop> = Some(Stop::NotCreated);
-
-const DAMAGED: Option<Stop> = Some(Stop::Damaged);
-
-const ALONE: Option<&[u8]> = Some(BATCH_1);
-
-// Slots beside batch 1. The tests of the manifest have each damage of a slot.
-static SLOTS: [Start; 7] = [
-    Start(None, ALONE, BLANK, 0),
-    Start(Some(&[]), ALONE, BLANK, 0),
-    Start(Some(&[0]), ALONE, BLANK, 0),
-    Start(Some(NODE_1), ALONE, None, 1),
-    // The node is in another configuration.
-    Start(Some(NODE_2), ALONE, None, 1),
-    // The slot ends behind its gate, and before its log.
-    Start(Some(&[1]), ALONE, DAMAGED, 0),
-    Start(Some(&[1, 0, 0, 0, 0, 0, 0, 0, 1, 0, 1]), ALONE, DAMAGED, 0),
-];
-
-#[test]
-fn slots(rt: HostRuntime) {
-    all_hold(&rt, rt.alloc(), &SLOTS);
-}
-
-// Batches 1 and 2, of a=1 and a=2.
-const TWO: &[u8] = &[
-    1, 0, 0, 0, 0x11, 0, 0, 0, 0, 0, 0, 0, 1, 0, 1, 1, 0, 1, 0x61, 0, 1, 0x31, //
-    1, 0, 0, 0, 0x11, 0, 0, 0, 0, 0, 0, 0, 2, 0, 1, 1, 0, 1, 0x61, 0, 1, 0x32, 0,
-];
-
-// Batches 1 and 3.
-const GAP: &[u8] = &[
-    1, 0, 0, 0, 0x11, 0, 0, 0, 0, 0, 0, 0, 1, 0, 1, 1, 0, 1, 0x61, 0, 1, 0x31, //
-    1, 0, 0, 0, 0x11, 0, 0, 0, 0, 0, 0, 0, 3, 0, 1, 1, 0, 1, 0x61, 0, 1, 0x32, 0,
-];
-
-// Batch 2 alone.
-const LATE: &[u8] = &[
-    1, 0, 0, 0, 0x11, 0, 0, 0, 0, 0, 0, 0, 2, 0, 1, 1, 0, 1, 0x61, 0, 1, 0x31, 0,
-];
-
-// Batch 1, and a byte behind its only edit.
-const TRAILING: &[u8] = &[
-    1, 0, 0, 0, 0x12, 0, 0, 0, 0, 0, 0, 0, 1, 0, 1, 1, 0, 1, 0x61, 0, 1, 0x31, 0, 0,
-];
-
-// Batch 1, and a possible crash outcome of the next append behind its gate.
-const TORN: &[u8] = &[
-    1, 0, 0, 0, 0x11, 0, 0, 0, 0, 0, 0, 0, 1, 0, 1, 1, 0, 1, 0x61, 0, 1, 0x31, 0, //
-    1, 1, 1, 1, 1, 1, 1, 1, 1, 1, 1, 1, 1, 1, 1, 1, 1, 1, 1, 1, 1, 1,
-];
-
-// Logs of node 1.
-static BATCHES: [Start; 11] = [
-    Start(Some(NODE_1), None, DAMAGED, 0),
-    Start(Some(NODE_1), Some(&[]), DAMAGED, 0),
-    Start(Some(NODE_1), Some(&[0]), None, 0),
+// The cases of damage_lab have each damage of a slot and of a log.
+static STARTS: [Start; 5] = [
+    Start(Some(&[0]), Some(BATCH_1), Some(Stop::NotCreated), 0),
     Start(Some(NODE_1), Some(BATCH_1), None, 1),
-    Start(Some(NODE_1), Some(TORN), None, 1),
-    Start(Some(NODE_1), Some(TWO), None, 2),
-    Start(Some(NODE_1), Some(GAP), DAMAGED, 0),
-    Start(Some(NODE_1), Some(LATE), DAMAGED, 0),
-    Start(Some(NODE_1), Some(TRAILING), DAMAGED, 0),
-    // The file ends before its last gate, and in its record.
-    Start(
-        Some(NODE_1),
-        Some(&[
-            1, 0, 0, 0, 0x11, 0, 0, 0, 0, 0, 0, 0, 1, 0, 1, 1, 0, 1, 0x61, 0, 1, 0x31,
-        ]),
-        DAMAGED,
-        0,
-    ),
-    Start(
-        Some(NODE_1),
-        Some(&[1, 0, 0, 0, 0x11, 0, 0, 0, 0, 0, 0, 0]),
-        DAMAGED,
-        0,
-    ),
+    // The node is in another configuration.
+    Start(Some(NODE_2), Some(BATCH_1), None, 1),
+    // The slot ends behind its gate, and the log is absent.
+    Start(Some(&[1]), Some(BATCH_1), Some(Stop::Damaged), 0),
+    Start(Some(NODE_1), None, Some(Stop::Damaged), 0),
 ];
 
 #[test]
-fn logs_of_batches(rt: HostRuntime) {
-    all_hold(&rt, rt.alloc(), &BATCHES);
+fn starts(rt: HostRuntime) {
+    all_hold(&rt, rt.alloc(), &STARTS);
 }
 
 // Whether these bytes stand in the file, which has so many, of at most 80.

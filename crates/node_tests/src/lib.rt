@@ -1,16 +1,15 @@
-//! Tests of lists of nodes, of frames, of the rules of a step and of one node, beyond the contracts.
+//! Tests of lists of nodes, of numbers in frames, of the rules of a step and of one node, beyond
+//! the contracts.
 #![tactic(auto)]
 
-#[cfg(test)]
-mod bytes;
 #[cfg(test)]
 mod courses;
 #[cfg(test)]
 mod disks;
 #[cfg(test)]
-mod edges;
-#[cfg(test)]
 mod epochs;
+#[cfg(test)]
+mod kinds;
 #[cfg(test)]
 mod lines;
 #[cfg(test)]
@@ -19,8 +18,6 @@ mod lists;
 mod lookups;
 #[cfg(test)]
 mod replies;
-#[cfg(test)]
-mod round_trips;
 #[cfg(test)]
 mod running;
 #[cfg(test)]

@@ -1,10 +1,9 @@
-// Openings of slots that are damaged, or whose numbers are at their limits.
+// Openings of slots of which a byte is another, or that are cut short, by the manifest alone.
 use crate::manifests::{SLOT, answer, disk_of, slot_with};
-use kv_types::bounds::MAX_NUMBER;
 use manifest::ManifestError;
 use std::alloc::Global;
 use std::process::Abort;
-use test_items::cases::{Case, all_hold, holds_at, is_so};
+use test_items::cases::{holds_at, is_so};
 use test_items::items::copy_of;
 
 const DAMAGED: Option<ManifestError> = Some(ManifestError::Damaged);
@@ -16,103 +15,6 @@ fn refusal_with(rt: &impl Abort, alloc: Global, at: usize, byte: u8) -> Option<M
     let bytes = slot_with(rt, alloc, at, byte);
     let mut disk = disk_of(rt, alloc, &bytes, &[0]);
     answer(rt, alloc, &mut disk).err()
-}
-
-// A place of the slot, the byte there, and the refusal.
-struct Changed(usize, u8, Option<ManifestError>);
-
-impl Case for Changed {
-    fn holds(&self, rt: &impl Abort, alloc: Global) -> bool {
-        refusal_with(rt, alloc, self.0, self.1) == self.2
-    }
-}
-
-static CHANGED: [Changed; 27] = [
-    // The gate, the generation and the id.
-    Changed(0, 0, NOT_CREATED),
-    Changed(0, 2, NOT_CREATED),
-    Changed(1, 0x7f, None),
-    Changed(1, 0x80, DAMAGED),
-    Changed(10, 9, None),
-    Changed(10, 0, DAMAGED),
-    // The gate and the length of the record.
-    Changed(11, 0, DAMAGED),
-    Changed(15, 54, DAMAGED),
-    Changed(15, 56, DAMAGED),
-    // Next file, floor, flushed and epoch.
-    Changed(23, 5, None),
-    Changed(23, 3, DAMAGED),
-    Changed(16, 0x80, DAMAGED),
-    Changed(31, 7, None),
-    Changed(24, 0x80, DAMAGED),
-    Changed(32, 0x80, DAMAGED),
-    Changed(43, 15, None),
-    Changed(43, 16, DAMAGED),
-    // The ids.
-    Changed(44, 0, DAMAGED),
-    Changed(46, 0, DAMAGED),
-    // The log: how many, its file, its first number.
-    Changed(50, 0, DAMAGED),
-    Changed(58, 2, DAMAGED),
-    Changed(58, 4, DAMAGED),
-    Changed(66, 0, DAMAGED),
-    // A table that is given up, one that is added, and the last gate.
-    Changed(68, 1, DAMAGED),
-    Changed(70, 1, DAMAGED),
-    Changed(71, 1, DAMAGED),
-    Changed(71, 9, None),
-];
-
-#[test]
-fn damaged_slots(rt: HostRuntime) {
-    all_hold(&rt, rt.alloc(), &CHANGED);
-}
-
-// The slot with this number in the eight bytes from this place on.
-fn slot_with_number(rt: &impl Abort, alloc: Global, at: usize, number: u64) -> Vec<u8> {
-    let mut bytes = copy_of(rt, alloc, SLOT);
-    for (index, byte) in number.to_be_bytes().iter().enumerate() {
-        *bytes
-            .get_mut(at.saturating_add(index))
-            .expect(rt, "a place") = *byte;
-    }
-    bytes
-}
-
-// A place of the slot, the number there, and the refusal.
-struct Limit(usize, u64, Option<ManifestError>);
-
-impl Case for Limit {
-    fn holds(&self, rt: &impl Abort, alloc: Global) -> bool {
-        let bytes = slot_with_number(rt, alloc, self.0, self.1);
-        let mut disk = disk_of(rt, alloc, &bytes, &[0]);
-        answer(rt, alloc, &mut disk).err() == self.2
-    }
-}
-
-// 2^63, where the greatest number is one less.
-const BEHIND: u64 = 9223372036854775808;
-
-static LIMITS: [Limit; 10] = [
-    // The generation.
-    Limit(1, MAX_NUMBER, None),
-    Limit(1, BEHIND, DAMAGED),
-    // Next file, floor and flushed.
-    Limit(16, BEHIND, None),
-    Limit(16, 9223372036854775809, DAMAGED),
-    Limit(24, MAX_NUMBER, None),
-    Limit(24, BEHIND, DAMAGED),
-    Limit(32, MAX_NUMBER, None),
-    Limit(32, BEHIND, DAMAGED),
-    // The first number of the log.
-    Limit(59, BEHIND, None),
-    Limit(59, 9223372036854775809, DAMAGED),
-];
-
-// A next file and a log's first number may be one behind the greatest number.
-#[test]
-fn numbers_at_their_limits(rt: HostRuntime) {
-    all_hold(&rt, rt.alloc(), &LIMITS);
 }
 
 // Whether an open slot with this byte at this place is read. No byte but the slot's own and those

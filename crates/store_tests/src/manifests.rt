@@ -1,4 +1,4 @@
-// The bytes of a manifest's slots, which slot counts, and faults.
+// The bytes of a manifest's slots, and faults.
 ghost use Rattle.std.specs.Prelude.{IfOk};
 ghost use Rattle.version_edits.specs.Edits.{IsChange};
 ghost use Rattle.version_edits.specs.Versions.{IsFit};
@@ -9,7 +9,7 @@ use manifest::{Manifest, ManifestError, StoreVersion, VersionEdit};
 use std::alloc::{AllocError, Global};
 use std::process::Abort;
 use test_items::acts::{Choice, arm, mend};
-use test_items::cases::{Case, all_hold, has_memory, holds_at, is_so};
+use test_items::cases::{has_memory, holds_at, is_so};
 use test_items::items::{config_of, copy_of, filled, is_same, origin};
 
 /// The slot of node 1 alone after its creation: a head of generation 1, a record, a closed gate.
@@ -202,83 +202,6 @@ fn what_was_recorded_is_opened(rt: HostRuntime) {
     let refused = refusal(&rt, alloc, &mut disk, &mut manifest);
     let is_opened = refused.is_none() && numbers(&rt, alloc, &mut disk) == RAISED;
     is_so(&rt, is_opened, "rewritten");
-}
-
-// What a slot is.
-#[derive(Clone, Copy)]
-enum Part {
-    Absent,
-    Bytes(&'static [u8]),
-    Slot(u8),
-}
-
-fn put_part(rt: &impl Abort, alloc: Global, disk: &mut MemDisk, file: u64, part: Part) {
-    match part {
-        Part::Absent => {}
-        Part::Bytes(bytes) => put_file(rt, disk, file, bytes),
-        Part::Slot(generation) => put_file(rt, disk, file, &slot_of(rt, alloc, generation)),
-    }
-}
-
-// Both slots, and the generation that is opened or the refusal.
-struct Pair(Part, Part, Result<u64, ManifestError>);
-
-impl Pair {
-    fn answer(
-        &self,
-        rt: &impl Abort,
-        alloc: Global,
-        (first, second): (u64, u64),
-    ) -> Result<u64, ManifestError> {
-        let mut disk = MemDisk::new(alloc);
-        put_part(rt, alloc, &mut disk, first, self.0);
-        put_part(rt, alloc, &mut disk, second, self.1);
-        answer(rt, alloc, &mut disk)
-    }
-}
-
-impl Case for Pair {
-    // Whether that is answered, in whatever order the slots stand.
-    fn holds(&self, rt: &impl Abort, alloc: Global) -> bool {
-        self.answer(rt, alloc, (1, 2)) == self.2 && self.answer(rt, alloc, (2, 1)) == self.2
-    }
-}
-
-// A head of generation 0, and one of generation 9, without a log.
-const LESSER: Part = Part::Bytes(&[1, 0, 0, 0, 0, 0, 0, 0, 0, 0, 1]);
-
-const GREATER: Part = Part::Bytes(&[1, 0, 0, 0, 0, 0, 0, 0, 9, 0, 1]);
-
-static PAIRS: [Pair; 12] = [
-    Pair(Part::Absent, Part::Absent, Err(ManifestError::NotCreated)),
-    Pair(
-        Part::Absent,
-        Part::Bytes(&[]),
-        Err(ManifestError::NotCreated),
-    ),
-    Pair(
-        Part::Absent,
-        Part::Bytes(&[0]),
-        Err(ManifestError::NotCreated),
-    ),
-    Pair(Part::Absent, Part::Slot(1), Err(ManifestError::Damaged)),
-    Pair(Part::Bytes(&[]), Part::Slot(1), Err(ManifestError::Damaged)),
-    Pair(Part::Bytes(&[0]), Part::Slot(1), Ok(1)),
-    Pair(
-        Part::Bytes(&[1]),
-        Part::Slot(1),
-        Err(ManifestError::Damaged),
-    ),
-    Pair(Part::Bytes(&[1]), Part::Absent, Err(ManifestError::Damaged)),
-    Pair(Part::Slot(1), Part::Slot(2), Ok(2)),
-    Pair(Part::Slot(1), Part::Slot(1), Err(ManifestError::Damaged)),
-    Pair(LESSER, Part::Slot(1), Ok(1)),
-    Pair(GREATER, Part::Slot(1), Err(ManifestError::Damaged)),
-];
-
-#[test]
-fn which_slot_counts(rt: HostRuntime) {
-    all_hold(&rt, rt.alloc(), &PAIRS);
 }
 
 // What becomes of a disk whose call was struck, and whether the new version is opened where the

@@ -38,7 +38,7 @@ pub fn try_key(rt: &impl Abort, alloc: Global, len: usize) -> Result<Key, KvErro
     Key::new(filled(rt, alloc, b'k', len))
 }
 
-pub fn long_key(rt: &impl Abort, alloc: Global, len: usize) -> Key {
+fn long_key(rt: &impl Abort, alloc: Global, len: usize) -> Key {
     try_key(rt, alloc, len).expect(rt, "a key")
 }
 
@@ -47,7 +47,7 @@ pub fn try_value(rt: &impl Abort, alloc: Global, len: usize) -> Result<Value, Kv
     Value::new(filled(rt, alloc, b'v', len))
 }
 
-pub fn long_value(rt: &impl Abort, alloc: Global, len: usize) -> Value {
+fn long_value(rt: &impl Abort, alloc: Global, len: usize) -> Value {
     try_value(rt, alloc, len).expect(rt, "a value")
 }
 
