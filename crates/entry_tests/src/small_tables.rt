@@ -6,7 +6,7 @@ use sorted_table::{CachedDisk, FileError, Table};
 use std::alloc::Global;
 use std::process::Abort;
 use test_entries::counts::is_count;
-use test_entries::entries::entry_of;
+use test_entries::entries::{entry_of, is_same_value};
 use test_entries::one_put::{BLOCK, FILTER, FOOTER, INDEX, joined, turned};
 use test_entries::tables::{FILE, build, bytes_of, table_in, with_cache, write};
 use test_items::cases::{holds_at, is_so};
@@ -119,7 +119,7 @@ fn has_value(
 ) -> bool {
     let key = LentKey::new(b"a");
     match table.get(alloc, files, key, 1).expect(rt, "a lookup") {
-        Some(found) => is_same(found.value.as_deref().unwrap_or_default(), value),
+        Some(found) => is_same_value(found.value.as_deref(), Some(value)),
         None => false,
     }
 }

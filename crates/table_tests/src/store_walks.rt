@@ -16,7 +16,8 @@ use test_entries::moves::{agreeing, meet_all};
 use test_entries::numbered::Numbered;
 use test_entries::plain::{PlainEntry, add_all, shown_at};
 use test_entries::tables::{FILE, build, cursor_in, with_cache};
-use test_items::items::{batch_of as batch, number, put};
+use test_items::items;
+use test_items::items::{number, put};
 use test_items::sequence::Sequence;
 
 const NUMBERS: u8 = 120;
@@ -172,7 +173,7 @@ fn the_rows_of_a_memtable_and_two_tables(rt: HostRuntime) {
 /// A memtable of the batch with number 2, which deletes 4 and puts 6.
 fn newer(rt: &impl Abort, alloc: Global) -> Numbered {
     let mut memtable = Numbered::new(alloc);
-    let batch = batch(rt, alloc, &[(b"4", None), (b"6", Some(b"new"))]);
+    let batch = items::batch_of(rt, alloc, &[(b"4", None), (b"6", Some(b"new"))]);
     memtable.add(rt, 2, &batch);
     memtable
 }

@@ -7,26 +7,19 @@ use sorted_table::{CachedDisk, FoundVersion, Table};
 use std::alloc::Global;
 use std::process::Abort;
 use test_entries::counts::is_count;
-use test_entries::entries::entry_of;
+use test_entries::entries::{entry_of, is_same_value};
 use test_entries::tables::{FILE, files_of, table_in};
 use test_items::cases::{holds_at, is_so};
-use test_items::items::{is_same, put};
+use test_items::items::put;
 
 // ---- lookups
-
-fn is_value(found: Option<&[u8]>, want: Option<&[u8]>) -> bool {
-    match (found, want) {
-        (Some(found), Some(want)) => is_same(found, want),
-        (None, None) => true,
-        _ => false,
-    }
-}
 
 /// Whether this entry was found, or none.
 fn is_found(found: &Option<FoundVersion>, want: Option<&OwnedEntry>) -> bool {
     match (found, want) {
         (Some(found), Some(want)) => {
-            found.number == want.number && is_value(found.value.as_deref(), want.value.as_deref())
+            found.number == want.number
+                && is_same_value(found.value.as_deref(), want.value.as_deref())
         }
         (None, None) => true,
         _ => false,

@@ -4,7 +4,16 @@ use crate::plain::PlainEntry;
 use merge_iter::OwnedEntry;
 use std::alloc::Global;
 use std::process::Abort;
-use test_items::items::{copy_of, key_of, put};
+use test_items::items::{copy_of, is_same, key_of, put};
+
+/// Whether these are the same bytes, or both none.
+pub fn is_same_value(found: Option<&[u8]>, want: Option<&[u8]>) -> bool {
+    match (found, want) {
+        (Some(found), Some(want)) => is_same(found, want),
+        (None, None) => true,
+        _ => false,
+    }
+}
 
 /// An entry with a copy of these bytes.
 pub fn entry_of(

@@ -1,5 +1,6 @@
 //! Moves of a cursor, and 2,000 of them beside a plain list.
 
+use crate::entries::is_same_value;
 use crate::plain::{Move, PlainEntry, PlainWalk, move_of};
 use kv_types::LentKey;
 use merge_iter::{Cursor, CursorError, OwnedEntry};
@@ -70,14 +71,6 @@ pub fn agreeing<C: Cursor>(
         count = count.wrapping_add(is_at(cursor, walk.entry()) as usize);
     }
     count
-}
-
-fn is_same_value(found: Option<&[u8]>, want: Option<&[u8]>) -> bool {
-    match (found, want) {
-        (Some(found), Some(want)) => is_same(found, want),
-        (None, None) => true,
-        _ => false,
-    }
 }
 
 /// Whether the cursor stands on the entry of this place.
