@@ -92,8 +92,10 @@ fn place_of(step: Move, met: usize, all: usize) -> usize {
     }
 }
 
-/// How many of the entries a walk forward or back meets in their places; 0 where it goes on behind
-/// them.
+/// What is no count of entries.
+const TOO_MANY: usize = usize::MAX;
+
+/// How many of the entries a walk forward or back meets in their places, where it ends behind them.
 fn met<C: Cursor>(
     rt: &impl Abort,
     cursor: &mut C,
@@ -108,7 +110,7 @@ fn met<C: Cursor>(
         count = count.wrapping_add(is_at_place(cursor, entries, place) as usize);
         apply(cursor, source, step).expect(rt, "a step");
     }
-    if cursor.valid() { 0 } else { count }
+    if cursor.valid() { TOO_MANY } else { count }
 }
 
 /// Fails the test where a walk forward, or one back, does not meet each entry in its place.
