@@ -3,7 +3,6 @@
 //! deletion.
 ghost use Rattle.merge_iter.specs.{IsOn};
 
-use crate::tables::{build, entry_of, table_in};
 use configurations::NodeId;
 use disk::{Disk, MemDisk};
 use kv_types::StoredKey;
@@ -12,6 +11,10 @@ use record_log::Log;
 use sorted_table::{CachedDisk, TableCursor};
 use std::alloc::Global;
 use std::process::Abort;
+use test_entries::entries::entry_of;
+use test_entries::tables::{build, cursor_in};
+use test_items::cases::is_so;
+use test_items::items::{is_same, put};
 use version_edits::{StoreVersion, TableLine, VersionEdit, replay};
 
 /// The next file as a merge begins.
@@ -24,6 +27,10 @@ pub const LEN: usize = 100;
 
 fn write(rt: &impl Abort, bytes: &mut Vec<u8>, more: &[u8]) {
     bytes.extend_from_slice(more).expect(rt, "memory");
+}
+
+fn spell(rt: &impl Abort, bytes: &mut Vec<u8>, key: &StoredKey) {
+    key.spell_into(bytes).expect(rt, "memory");
 }
 
 /// The entry of three letters, with a value of so many bytes, 5,000 at most.
@@ -46,8 +53,7 @@ fn entry_at(rt: &impl Abort, alloc: Global, letters: &[u8], len: usize) -> Owned
 pub fn entries_of(rt: &impl Abort, alloc: Global, letters: &[u8], len: usize) -> Vec<OwnedEntry> {
     let mut entries = Vec::new(alloc);
     for three in letters.chunks(3) {
-        let entry = entry_at(rt, alloc, three, len);
-        entries.push(entry).expect(rt, "memory");
+        put(rt, &mut entries, entry_at(rt, alloc, three, len));
     }
     entries
 }
@@ -86,10 +92,8 @@ impl Lines {
         let done = build(rt, alloc, disk, u64::from(file), entries);
         write(rt, &mut self.bytes, &[level, 0, 0, 0, 0, 0, 0, 0, file]);
         write(rt, &mut self.bytes, &done.length.to_be_bytes());
-        done.least.spell_into(&mut self.bytes).expect(rt, "memory");
-        done.greatest
-            .spell_into(&mut self.bytes)
-            .expect(rt, "memory");
+        spell(rt, &mut self.bytes, &done.least);
+        spell(rt, &mut self.bytes, &done.greatest);
         self.count = self.count.wrapping_add(1);
     }
 
@@ -116,24 +120,29 @@ fn version_of(rt: &impl Abort, alloc: Global, edit: &[u8]) -> StoreVersion {
 
 // ---- what an edit says, in letters
 
+fn digit_of(number: u64) -> u8 {
+    b'0'.wrapping_add((number % 10) as u8)
+}
+
+/// The letter that is a key.
+fn letter_of(key: &[u8]) -> u8 {
+    match key {
+        [letter] => *letter,
+        _ => b'?',
+    }
+}
+
 /// The entry that a cursor stands on.
 fn letters_at<C: Cursor>(cursor: &C) -> [u8; 3]
     requires { IsOn (C.position cursor.now) }
 {
-    let key = match cursor.key().as_bytes() {
-        [key] => *key,
-        _ => b'?',
-    };
-    let number = b'0'.wrapping_add((cursor.number() % 10) as u8);
+    let number = digit_of(cursor.number());
     let sign = match cursor.value() {
         None => b'-',
-        Some(value) => if value == [number; LEN].as_slice() {
-            b'+'
-        } else {
-            b'?'
-        },
+        Some(value) if is_same(value, &[number; LEN]) => b'+',
+        Some(_) => b'?',
     };
-    [key, number, sign]
+    [letter_of(cursor.key().as_bytes()), number, sign]
 }
 
 /// Writes the entries of a table.
@@ -152,13 +161,6 @@ fn write_entries(
     }
 }
 
-fn letter_of(key: &StoredKey) -> u8 {
-    match key.as_bytes() {
-        [letter] => *letter,
-        _ => b'?',
-    }
-}
-
 /// Writes the place of a file behind the first, the least and the greatest key by the line, and the
 /// entries.
 fn write_table(
@@ -169,12 +171,12 @@ fn write_table(
     line: &TableLine,
 ) {
     let len = files.length(line.file).expect(rt, "a file");
-    assert!(rt; line.level == 1 && line.length == len, "a line");
-    let place = b'0'.wrapping_add((line.file.wrapping_sub(FIRST) % 10) as u8);
-    let range = [letter_of(&line.least), letter_of(&line.greatest)];
-    write(rt, letters, &[b' ', place, range[0], range[1], b':']);
-    let table = table_in(rt, alloc, files, line.file);
-    let mut cursor = table.cursor(alloc).expect(rt, "memory");
+    is_so(rt, line.level == 1 && line.length == len, "a line");
+    let place = digit_of(line.file.wrapping_sub(FIRST));
+    let least = letter_of(line.least.as_bytes());
+    let greatest = letter_of(line.greatest.as_bytes());
+    write(rt, letters, &[b' ', place, least, greatest, b':']);
+    let mut cursor = cursor_in(rt, alloc, files, line.file);
     write_entries(rt, letters, files, &mut cursor);
 }
 
@@ -187,11 +189,11 @@ pub fn letters_of(
 ) -> Vec<u8> {
     let mut letters = Vec::new(alloc);
     for one in &edit.tables_gone {
-        let file = b'0'.wrapping_add((one.file % 10) as u8);
-        write(rt, &mut letters, &[b'0'.wrapping_add(one.level), file]);
+        let level = digit_of(u64::from(one.level));
+        write(rt, &mut letters, &[level, digit_of(one.file)]);
     }
     for line in &edit.tables_added {
-        assert!(rt; line.file < edit.next_file, "a file");
+        is_so(rt, line.file < edit.next_file, "a file");
         write_table(rt, alloc, &mut letters, files, line);
     }
     letters

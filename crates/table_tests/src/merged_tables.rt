@@ -2,11 +2,14 @@
 
 use crate::merges::{INPUTS, edit_of, open_in, tables_of};
 use disk::MemDisk;
-use kv_types::{Number, StoredKey};
+use kv_types::StoredKey;
 use sorted_table::CachedDisk;
 use std::alloc::Global;
 use std::process::Abort;
 use store_tables::{LevelTables, OpenTable};
+use test_entries::counts::is_count;
+use test_items::cases::is_so;
+use test_items::items::{number, put};
 use version_edits::{StoreVersion, VersionEdit, is_fit};
 
 /// The outputs of an edit, each opened by its line.
@@ -19,7 +22,7 @@ fn outputs_of(
     let mut outputs = Vec::new(alloc);
     for line in &edit.tables_added {
         let output = OpenTable::open(alloc, files, line).expect(rt, "an output");
-        outputs.push(output).expect(rt, "memory");
+        put(rt, &mut outputs, output);
     }
     outputs
 }
@@ -32,9 +35,13 @@ fn found_number(
     files: &mut CachedDisk<MemDisk>,
     (key, at): (&StoredKey, u64),
 ) -> Option<u64> {
-    let at = Number::new(at).expect(rt, "a number");
-    let found = tables.get(alloc, files, key, at).expect(rt, "a lookup");
-    found.map(|it| it.number)
+    match tables
+        .get(alloc, files, key, number(at))
+        .expect(rt, "a lookup")
+    {
+        Some(found) => Some(found.number),
+        None => None,
+    }
 }
 
 /// Whether the version may take the edit, and not with a floor below its own.
@@ -60,19 +67,16 @@ fn open_tables_behind_a_merge(rt: HostRuntime) {
     let (mut files, lines) = tables_of(&rt, alloc, &INPUTS, true);
     let version = lines.version(&rt, alloc, 16, 5);
     let mut tables = open_in(&rt, alloc, &mut files, &version);
-    assert!(rt; tables.counts() == [2, 2, 1, 0, 0, 0, 0]);
+    is_so(&rt, tables.counts() == [2, 2, 1, 0, 0, 0, 0], "tables");
     let mut edit = edit_of(&rt, alloc, &mut files, &version, 252);
-    assert!(rt;
-        is_taken(&rt, alloc, &version, &mut edit),
-        "an edit that is fit"
-    );
+    is_so(&rt, is_taken(&rt, alloc, &version, &mut edit), "it is fit");
     let outputs = outputs_of(&rt, alloc, &mut files, &edit);
     tables
         .replace(&edit.tables_gone, outputs)
         .expect(&rt, "memory");
-    assert!(rt; tables.counts() == [0, 4, 1, 0, 0, 0, 0]);
+    is_so(&rt, tables.counts() == [0, 4, 1, 0, 0, 0, 0], "outputs");
     for (line, want) in edit.tables_added.iter().zip([8, 9, 8]) {
         let newest = found_number(&rt, alloc, &tables, &mut files, (&line.least, 9));
-        assert!(rt; newest == Some(want), "{want}");
+        is_count(&rt, newest.unwrap_or_default() as usize, want);
     }
 }

@@ -1,11 +1,14 @@
-// Builders under way: refused entries, data sizes, and the blocks of a long table.
-use crate::tables::bytes_of;
+//! Builders under way: refused entries, data sizes, and the blocks of a long table.
+
 use disk::MemDisk;
 use kv_types::LentKey;
+use sorted_table::{Builder, Finished};
 use std::alloc::Global;
 use std::process::Abort;
-use table_builder::{Builder, Finished};
 use table_format::{IndexLine, LentEntry, TableError, entries_of, footer_of, lines_of};
+use test_entries::tables::bytes_of;
+use test_items::cases::is_so;
+use test_items::items::is_same;
 
 const FILE: u64 = 9;
 
@@ -29,23 +32,21 @@ fn has(builder: &Builder, len: u64, size: u64) -> bool {
     builder.len() == len && builder.data_size() == size
 }
 
-/// Adds `a` at 2, fails the test unless it is refused at 2 and at 3, and adds it at 1.
-fn refuse_and_go_on(rt: &impl Abort, alloc: Global, builder: &mut Builder, disk: &mut MemDisk) {
-    add_a(alloc, builder, disk, 2).expect(rt, "an entry");
-    for number in [2, 3] {
-        let refused = add_a(alloc, builder, disk, number);
-        assert!(rt; refused == Err(TableError::Order));
-    }
-    assert!(rt; has(builder, 1, 24));
-    add_a(alloc, builder, disk, 1).expect(rt, "an entry");
-    assert!(rt; has(builder, 2, 36));
-}
-
+// `a` is added at 2, refused at 2 and at 3, and added at 1.
 #[test]
 fn a_refused_entry_leaves_the_builder(rt: HostRuntime) {
-    let alloc = rt.alloc();
+    let (alloc, mut disk) = (rt.alloc(), MemDisk::new(rt.alloc()));
     let mut builder = Builder::new(alloc, FILE);
-    refuse_and_go_on(&rt, alloc, &mut builder, &mut MemDisk::new(alloc));
+    for (number, want) in [
+        (2, Ok(())),
+        (2, Err(TableError::Order)),
+        (3, Err(TableError::Order)),
+    ] {
+        let answer = add_a(alloc, &mut builder, &mut disk, number);
+        is_so(&rt, answer == want && has(&builder, 1, 24), "one entry");
+    }
+    let answer = add_a(alloc, &mut builder, &mut disk, 1);
+    is_so(&rt, answer.is_ok() && has(&builder, 2, 36), "two entries");
 }
 
 /// Adds 1,000 keys, each at number 1.
@@ -84,9 +85,7 @@ fn counts(rt: &impl Abort, alloc: Global, table: &[u8]) -> (usize, usize) {
     let lines = lines_of(alloc, index, filter).expect(rt, "lines");
     let mut good = 0usize;
     for line in &lines {
-        if is_good(table, line) {
-            good = good.saturating_add(1);
-        }
+        good = good.wrapping_add(is_good(table, line) as usize);
     }
     (lines.len(), good)
 }
@@ -96,24 +95,23 @@ fn counts(rt: &impl Abort, alloc: Global, table: &[u8]) -> (usize, usize) {
 fn finished(rt: &impl Abort, alloc: Global, disk: &mut MemDisk) -> Finished {
     let mut builder = Builder::new(alloc, FILE);
     fill(rt, alloc, &mut builder, disk);
-    assert!(rt; builder.data_size() == 115_000 + 28 * 12);
-    assert!(rt; builder.len() == 1000);
+    is_so(rt, builder.data_size() == 115_000 + 28 * 12, "the size");
+    assert!(rt; builder.len() == 1_000);
     builder.finish(alloc, disk).expect(rt, "a table")
 }
 
 /// Whether the builder reports the first key, the last, and this length.
 fn is_reported(finished: &Finished, len: usize) -> bool {
-    finished.least.as_bytes() == [0, 0].as_slice()
-        && finished.greatest.as_bytes() == [3, 231].as_slice()
+    is_same(finished.least.as_bytes(), &[0, 0])
+        && is_same(finished.greatest.as_bytes(), &[3, 231])
         && finished.length == len as u64
 }
 
 #[test]
 fn many_blocks(rt: HostRuntime) {
-    let alloc = rt.alloc();
-    let mut disk = MemDisk::new(alloc);
+    let (alloc, mut disk) = (rt.alloc(), MemDisk::new(rt.alloc()));
     let finished = finished(&rt, alloc, &mut disk);
     let table = bytes_of(&rt, alloc, &mut disk, FILE);
-    assert!(rt; is_reported(&finished, table.len()));
-    assert!(rt; counts(&rt, alloc, &table) == (28, 28));
+    is_so(&rt, is_reported(&finished, table.len()), "the report");
+    is_so(&rt, counts(&rt, alloc, &table) == (28, 28), "the blocks");
 }
