@@ -1,4 +1,5 @@
 //! The example of the README: a chain of three nodes, a batch, its frames, a read.
+use crate::cases::is_so;
 use crate::worlds::three_nodes;
 use configurations::Configs;
 use kv_types::{Batch, Edit, Key, KvError, Limits, Value};
@@ -6,7 +7,6 @@ use lab::{Direct, Event, EventKind, LabError, Line, MemDisk, Reply, ReplyForm, R
 use std::alloc::Global;
 use std::process::Abort;
 use std::test::Fail;
-use test_items::cases::is_so;
 
 fn name(alloc: Global) -> Result<Key, KvError> {
     Key::new(b"name".to_vec(alloc)?)

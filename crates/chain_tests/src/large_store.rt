@@ -1,12 +1,12 @@
 // A store of 200,000 puts that flushes, merges, stops and is opened again, beside a plain map.
+use crate::cases::is_so;
+use crate::items::{config_of, number};
+use crate::spelled::id_of;
 use disk::{Crash, Junk, JunkBytes, MemDisk};
 use engine::{Engine, Tended};
 use kv_types::{Batch, Edit, Key, Limits, Value};
 use std::alloc::Global;
 use std::process::Abort;
-use test_items::cases::is_so;
-use test_items::items::{config_of, number};
-use test_items::spelled::id_of;
 
 const BATCHES: u64 = 1000;
 

@@ -3,7 +3,11 @@
 #![tactic(auto)]
 
 #[cfg(test)]
+mod cases;
+#[cfg(test)]
 mod example;
+#[cfg(test)]
+mod items;
 #[cfg(test)]
 mod large_store;
 #[cfg(test)]
@@ -12,5 +16,7 @@ mod listeners;
 mod openings;
 #[cfg(test)]
 mod rewrites;
+#[cfg(test)]
+mod spelled;
 #[cfg(test)]
 mod worlds;

@@ -1,14 +1,14 @@
 // Rewrites of the manifest that are due: what they leave, and what is left where a call of the disk
 // fails in one, or the machine stops in it.
+use crate::cases::is_so;
+use crate::items::{config_of, number};
+use crate::spelled::id_of;
 use disk::{Crash, Disk, Fault, Junk, JunkBytes, MemDisk};
 use engine::{Engine, Tended};
 use kv_types::{Batch, Edit, Key, Limits, Value};
 use manifest::Manifest;
 use std::alloc::Global;
 use std::process::Abort;
-use test_items::cases::is_so;
-use test_items::items::{config_of, number};
-use test_items::spelled::id_of;
 
 // The keys that all batches put, each of the greatest length.
 const KEYS: u64 = 12;

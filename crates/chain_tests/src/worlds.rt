@@ -1,13 +1,13 @@
 // A world on its way: how many events it has had, and how many frames it has sent.
+use crate::cases::{holds_at, is_so};
+use crate::items::config_of;
+use crate::spelled::{ONE, batch_of, id_of};
 use configurations::{Configs, Epoch};
 use disk::MemDisk;
 use kv_types::Limits;
 use lab::{Direct, Event, EventKind, Line, World, names_nodes};
 use std::alloc::Global;
 use std::process::Abort;
-use test_items::cases::{holds_at, is_so};
-use test_items::items::config_of;
-use test_items::spelled::{ONE, batch_of, id_of};
 
 #[derive(Clone, Copy)]
 enum Step {

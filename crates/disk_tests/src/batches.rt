@@ -1,11 +1,11 @@
 // Batches written and read as bytes, and what is made at the edges.
+use crate::cases::{Case, all_hold, has_memory, is_so};
+use crate::items::{
+    batch_of, deletion, deletions, is_same, key_of, long_batch, try_key, try_value, value_of,
+};
 use kv_types::{Batch, KvError, LentKey, Number, Page, Range, Row, Value, value_at};
 use std::alloc::Global;
 use std::process::Abort;
-use test_items::cases::{Case, all_hold, has_memory, is_so};
-use test_items::items::{
-    batch_of, deletion, deletions, is_same, key_of, long_batch, try_key, try_value, value_of,
-};
 
 /// Whether this is the value, if there is one.
 fn is_value(found: Option<&Value>, want: Option<&[u8]>) -> bool {

@@ -1,9 +1,9 @@
 // The outcomes of a crash, and the refusals of a disk.
+use crate::acts::{Act, Choice, FILE, REMOVE, SYNC, arm, crash, is_content, refusal_of, run};
+use crate::cases::{Case, all_hold, holds_at, is_so};
 use disk::{Disk, DiskError, Fault, MemDisk};
 use std::alloc::Global;
 use std::process::Abort;
-use test_items::acts::{Act, Choice, FILE, REMOVE, SYNC, arm, crash, is_content, refusal_of, run};
-use test_items::cases::{Case, all_hold, holds_at, is_so};
 
 pub const ABC: Act = Act::Write(FILE, 0, b"abc");
 

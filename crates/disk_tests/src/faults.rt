@@ -1,12 +1,10 @@
 // A disk that is armed with a fault.
+use crate::acts::{Act, Choice, FILE, REMOVE, SYNC, arm, crash, is_content, mend, refusal_of, run};
+use crate::cases::{Case, all_hold};
 use crate::crashes::ABC;
 use disk::{Crash, DiskError, Fault, Junk, MemDisk};
 use std::alloc::Global;
 use std::process::Abort;
-use test_items::acts::{
-    Act, Choice, FILE, REMOVE, SYNC, arm, crash, is_content, mend, refusal_of, run,
-};
-use test_items::cases::{Case, all_hold};
 
 const LENGTH: Act = Act::Length(FILE);
 

@@ -1,12 +1,12 @@
 // A folder as a disk beside the disk in memory, which answers the same calls the same: rows of
 // calls with their answers, and random calls of 40 files.
+use crate::cases::{holds_at, is_so};
+use crate::items::is_same;
+use crate::scratch_folders::{are_same, disk_over, empty_folder, remove_folder, texts};
+use crate::sequence::Sequence;
 use disk::{Disk, DiskError, MemDisk};
 use std::alloc::Global;
 use std::process::Abort;
-use test_items::cases::{holds_at, is_so};
-use test_items::folders::{are_same, disk_over, empty_folder, remove_folder, texts};
-use test_items::items::is_same;
-use test_items::sequence::Sequence;
 
 /// A call of a disk, which is named by its file. A read says which bytes it is to give.
 #[derive(Clone, Copy)]

@@ -1,12 +1,12 @@
 // What only a folder has of all disks: other names, things that are no files, few open files, a
 // folder that is absent, files to read, and a lock.
+use crate::cases::{holds_at, is_so};
 use crate::folder_rows::{Answer, Call, FAILED, NO_FILE, rows_hold};
+use crate::scratch_folders::{disk_over, empty_folder, remove_folder};
 use dir_disk::{DirDisk, LockError};
 use disk::Disk;
 use std::fs;
 use std::process::Abort;
-use test_items::cases::{holds_at, is_so};
-use test_items::folders::{disk_over, empty_folder, remove_folder};
 
 // How many files this process has open.
 fn open_files(rt: &impl Abort, host: &HostRuntime) -> usize {

@@ -3,7 +3,11 @@
 #![tactic(auto)]
 
 #[cfg(test)]
+mod acts;
+#[cfg(test)]
 mod batches;
+#[cfg(test)]
+mod cases;
 #[cfg(test)]
 mod crashes;
 #[cfg(test)]
@@ -13,8 +17,14 @@ mod folder_rows;
 #[cfg(test)]
 mod folders;
 #[cfg(test)]
+mod items;
+#[cfg(test)]
 mod limits;
 #[cfg(test)]
 mod log_texts;
 #[cfg(test)]
 mod logs;
+#[cfg(test)]
+mod scratch_folders;
+#[cfg(test)]
+mod sequence;

@@ -1,8 +1,8 @@
 // Limits and numbers at their ends.
+use crate::cases::{Case, all_hold, is_so};
 use kv_types::{Limits, Number};
 use std::alloc::Global;
 use std::process::Abort;
-use test_items::cases::{Case, all_hold, is_so};
 
 const GIB: u64 = 1 << 30;
 

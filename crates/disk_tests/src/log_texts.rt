@@ -1,10 +1,10 @@
 // The texts of a log's refusals.
+use crate::cases::{Case, all_hold};
+use crate::items::is_same;
 use disk::DiskError;
 use record_log::LogError;
 use std::alloc::Global;
 use std::process::Abort;
-use test_items::cases::{Case, all_hold};
-use test_items::items::is_same;
 
 // A refusal, and its text.
 struct Text(LogError, &'static str);

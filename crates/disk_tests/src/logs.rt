@@ -1,11 +1,11 @@
 // The bytes of complete logs, openings, and failures that stay.
+use crate::acts::{Act, Choice, FILE, REMOVE, SYNC, crash, is_content, run};
+use crate::cases::{Case, all_hold, has_memory, is_so};
+use crate::items::{filled, is_same};
 use disk::{DiskError, MemDisk};
 use record_log::{Log, LogError};
 use std::alloc::Global;
 use std::process::Abort;
-use test_items::acts::{Act, Choice, FILE, REMOVE, SYNC, crash, is_content, run};
-use test_items::cases::{Case, all_hold, has_memory, is_so};
-use test_items::items::{filled, is_same};
 
 // The number 1 and the batch that puts 1 at a.
 const FIRST: &[u8] = &[0, 0, 0, 0, 0, 0, 0, 1, 0, 1, 1, 0, 1, b'a', 0, 1, b'1'];

@@ -1,13 +1,13 @@
 // A store that stands alone, beside a plain map: its history, snapshots, tends and stops, and what
 // a stop leaves of it at each call of its disk.
+use crate::cases::{holds_at, is_so};
+use crate::items::{is_same, key_of, number, value_of};
+use crate::scratch_folders::{empty_folder, remove_folder};
 use disk::{Crash, Disk, Fault, Junk, JunkBytes, MemDisk};
 use embedded_store::{EmbeddedStore, EngineError, Tended};
 use kv_types::{Batch, Edit, Key, Limits, Number, Range, Row, Value};
 use std::alloc::Global;
 use std::process::Abort;
-use test_items::cases::{holds_at, is_so};
-use test_items::folders::{empty_folder, remove_folder};
-use test_items::items::{is_same, key_of, number, value_of};
 
 pub type Store = EmbeddedStore<MemDisk>;
 

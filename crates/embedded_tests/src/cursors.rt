@@ -1,13 +1,13 @@
 // Cursors of a store that stands alone, beside a plain map: walks both ways, turns, seeks, and the
 // map of a snapshot behind later batches.
+use crate::cases::{holds_at, is_so};
 use crate::courses::{KEYS, fill, is_row, key_at, limits, opened, plain, refusal};
+use crate::items::number;
+use crate::scratch_folders::{empty_folder, remove_folder};
 use disk::{Disk, MemDisk};
 use embedded_store::{EmbeddedStore, EngineError, RowCursor};
 use std::alloc::Global;
 use std::process::Abort;
-use test_items::cases::{holds_at, is_so};
-use test_items::folders::{empty_folder, remove_folder};
-use test_items::items::number;
 
 // Whether the cursor stands on the row that the map of so many batches has of this key.
 fn is_on(cursor: &RowCursor, index: u64, count: u64) -> bool {

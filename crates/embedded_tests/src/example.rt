@@ -1,13 +1,13 @@
 //! The example of the README: a store in a folder, with puts, a get, a snapshot, a walk and a tend;
 //! and that a folder has one user at a time.
+use crate::cases::is_so;
+use crate::items::{batch_of, is_same, key_of};
+use crate::scratch_folders::{empty_folder, remove_folder};
 use disk::Disk;
 use embedded_store::{EmbeddedStore, EngineError, OpenError};
 use kv_types::{Batch, Key, Limits, Number, Row, Value};
 use std::alloc::Global;
 use std::process::Abort;
-use test_items::cases::is_so;
-use test_items::folders::{empty_folder, remove_folder};
-use test_items::items::{batch_of, is_same, key_of};
 
 // README begins
 /// The snapshot's first hundred rows, in the order of their keys.

@@ -2,10 +2,16 @@
 #![tactic(auto)]
 
 #[cfg(test)]
+mod cases;
+#[cfg(test)]
 mod courses;
 #[cfg(test)]
 mod cursors;
 #[cfg(test)]
 mod example;
 #[cfg(test)]
+mod items;
+#[cfg(test)]
 mod openings;
+#[cfg(test)]
+mod scratch_folders;

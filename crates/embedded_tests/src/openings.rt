@@ -1,5 +1,7 @@
 // What an opening of a store that stands alone creates, opens and refuses.
+use crate::cases::is_so;
 use crate::courses::{agrees, fill, junk_at, limits, opened};
+use crate::items::config_of;
 use configurations::NodeId;
 use disk::{Crash, Disk, DiskError, Fault, MemDisk};
 use embedded_store::{EmbeddedStore, EngineError, OpenError};
@@ -7,8 +9,6 @@ use engine::Engine;
 use kv_types::Number;
 use std::alloc::Global;
 use std::process::Abort;
-use test_items::cases::is_so;
-use test_items::items::config_of;
 
 // A store on the disk that a stopped creation left has no batches, and takes some.
 fn is_made_again(rt: &impl Abort, alloc: Global, disk: MemDisk) {

@@ -1,14 +1,14 @@
 //! Builders under way: refused entries, data sizes, and the blocks of a long table.
 
+use crate::cases::is_so;
+use crate::items::is_same;
+use crate::open_tables::bytes_of;
 use disk::MemDisk;
 use kv_types::LentKey;
 use sorted_table::{Builder, Finished};
 use std::alloc::Global;
 use std::process::Abort;
 use table_format::{IndexLine, LentEntry, TableError, entries_of, footer_of, lines_of};
-use test_entries::tables::bytes_of;
-use test_items::cases::is_so;
-use test_items::items::is_same;
 
 const FILE: u64 = 9;
 

@@ -2,16 +2,16 @@
 //! call of the device.
 ghost use Rattle.std.specs.Prelude.{◌≤◌, length};
 
+use crate::cases::is_so;
+use crate::counts::is_count;
+use crate::items::{copy_of, is_same};
+use crate::open_tables::{with_cache, write};
 use disk::{Crash, Disk, Fault, MemDisk};
 use kv_types::LentKey;
 use sorted_table::CachedDisk;
 use std::alloc::Global;
 use std::process::Abort;
 use table_format::{FileError, LentEntry, put_entry, seal};
-use test_entries::counts::is_count;
-use test_entries::tables::{with_cache, write};
-use test_items::cases::is_so;
-use test_items::items::{copy_of, is_same};
 
 /// The length of a block whose one entry has a key and a value of one byte.
 const BLOCK: usize = 27;

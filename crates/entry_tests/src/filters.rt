@@ -1,12 +1,12 @@
 //! The bytes of complete filters, and the keys that they deny.
 
+use crate::cases::{holds_at, is_so};
+use crate::counts::is_count;
+use crate::items::{is_same, key_of, put};
 use bloom::{KeyHashes, build, may_hold, may_hold_hashed};
 use kv_types::Key;
 use std::alloc::Global;
 use std::process::Abort;
-use test_entries::counts::is_count;
-use test_items::cases::{holds_at, is_so};
-use test_items::items::{is_same, key_of, put};
 
 /// Keys of one letter each, or one of several, and the bytes of their filter.
 static FILTERS: [(&[&[u8]], &[u8]); 3] = [

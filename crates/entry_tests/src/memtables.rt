@@ -1,16 +1,16 @@
 //! A memtable of many batches, against the map of so many first batches.
 
+use crate::cases::is_so;
+use crate::changes::{KeyChange, batch_of, change_of};
+use crate::counts::is_count;
+use crate::items::{is_same, key_of, number, put};
+use crate::numbered::Numbered;
+use crate::sequence::Sequence;
 use kv_types::{Batch, Key, LentKey, Value, value_at};
 use memtable::{Found, MemCursor, Memtable};
 use merge_iter::Cursor;
 use std::alloc::Global;
 use std::process::Abort;
-use test_entries::changes::{KeyChange, batch_of, change_of};
-use test_entries::counts::is_count;
-use test_entries::numbered::Numbered;
-use test_items::cases::is_so;
-use test_items::items::{is_same, key_of, number, put};
-use test_items::sequence::Sequence;
 
 const BATCHES: u16 = 10_000;
 

@@ -1,16 +1,16 @@
 //! Pages of rows, read through the view at a number of a list: bounds of each kind, both limits to
 //! the row and the byte, and page after page to the end, both ways.
 
+use crate::cases::{holds_at, is_so};
+use crate::counts::is_count;
+use crate::entries::{entry_of, owned};
+use crate::items::{filled, is_same, key_of, put};
+use crate::plain::PlainEntry;
 use kv_types::{Key, Page, Range, Row};
 use merge_iter::{AtNumber, ListCursor, OwnedEntry};
 use row_pages::read_page;
 use std::alloc::Global;
 use std::process::Abort;
-use test_entries::counts::is_count;
-use test_entries::entries::{entry_of, owned};
-use test_entries::plain::PlainEntry;
-use test_items::cases::{holds_at, is_so};
-use test_items::items::{filled, is_same, key_of, put};
 
 /// Seven keys with their numbers. At 5 the view shows rows of 20, 30, 50 and 65,535: the least key
 /// and the last but one are deleted, two have newer versions, and one has none yet.

@@ -1,5 +1,8 @@
 //! The parts of the table of one put, written and read, and each of their bytes damaged.
 
+use crate::cases::{holds_at, is_so};
+use crate::items::{copy_of, is_same};
+use crate::one_put::{BLOCK, FILTER, FOOTER, INDEX, index_with, turned};
 use kv_types::LentKey;
 use std::alloc::Global;
 use std::process::Abort;
@@ -7,9 +10,6 @@ use table_format::{
     Footer, LentEntry, entries_of, entry_of, filter_of, filter_part_of, footer_of, footer_part_of,
     lines_of, put_entry, seal,
 };
-use test_entries::one_put::{BLOCK, FILTER, FOOTER, INDEX, index_with, turned};
-use test_items::cases::{holds_at, is_so};
-use test_items::items::{copy_of, is_same};
 
 fn block(rt: &impl Abort, alloc: Global) -> Vec<u8> {
     let mut part = copy_of(rt, alloc, &[0, 0, 0, 1]);

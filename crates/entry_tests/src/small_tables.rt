@@ -1,16 +1,16 @@
 //! Tables of one entry in files: their bytes, what damage answers, and two of them side by side.
 
+use crate::cases::{holds_at, is_so};
+use crate::counts::is_count;
+use crate::entries::{entry_of, is_same_value};
+use crate::items::is_same;
+use crate::one_put::{BLOCK, FILTER, FOOTER, INDEX, joined, turned};
+use crate::open_tables::{FILE, build, bytes_of, table_in, with_cache, write};
 use disk::MemDisk;
 use kv_types::LentKey;
 use sorted_table::{CachedDisk, FileError, Table};
 use std::alloc::Global;
 use std::process::Abort;
-use test_entries::counts::is_count;
-use test_entries::entries::{entry_of, is_same_value};
-use test_entries::one_put::{BLOCK, FILTER, FOOTER, INDEX, joined, turned};
-use test_entries::tables::{FILE, build, bytes_of, table_in, with_cache, write};
-use test_items::cases::{holds_at, is_so};
-use test_items::items::is_same;
 
 // ---- bytes
 

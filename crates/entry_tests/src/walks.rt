@@ -1,18 +1,18 @@
 //! Walks of 2,000 moves over unions of five cursors, and over the view at every number, against
 //! plain lists.
 
+use crate::changes::{KeyChange, batch_of, changes_of};
+use crate::counts::is_count;
+use crate::entries::owned;
+use crate::items::put;
+use crate::moves::agreeing;
+use crate::numbered::Numbered;
+use crate::plain::{PlainEntry, add_all, shown_at};
+use crate::sequence::Sequence;
 use memtable::MemCursor;
 use merge_iter::{AtNumber, ListCursor, Merged};
 use std::alloc::Global;
 use std::process::Abort;
-use test_entries::changes::{KeyChange, batch_of, changes_of};
-use test_entries::counts::is_count;
-use test_entries::entries::owned;
-use test_entries::moves::agreeing;
-use test_entries::numbered::Numbered;
-use test_entries::plain::{PlainEntry, add_all, shown_at};
-use test_items::items::put;
-use test_items::sequence::Sequence;
 
 const CHILDREN: usize = 5;
 

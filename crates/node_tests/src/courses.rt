@@ -1,6 +1,6 @@
 // The frames and replies of a node, from its creation on.
 use crate::lines::{Course, Line, Lines, take_courses};
-use test_items::spelled::{NO_A, ONE, THREE, TWO};
+use crate::spelled::{NO_A, ONE, THREE, TWO};
 
 const B1: &[(&'static str, Option<&'static str>)] = &[("b", Some("1"))];
 

@@ -1,12 +1,12 @@
 // Disks on which a node starts, disks on which none does, and the bytes of both.
+use crate::cases::{holds_at, is_so};
+use crate::items::number;
 use crate::running::Running;
+use crate::spelled::{ONE, batch_of};
 use disk::{Disk, MemDisk};
 use node::{Input, Stop};
 use std::alloc::Global;
 use std::process::Abort;
-use test_items::cases::{holds_at, is_so};
-use test_items::items::number;
-use test_items::spelled::{ONE, batch_of};
 
 // The slot of a new node 1: an open gate, generation 1, the id; an open gate and the length of the
 // edit; next file 4, floor, flushed and epoch 0; the ids; no log given up, log 3 from batch 1

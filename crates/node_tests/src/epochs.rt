@@ -1,13 +1,13 @@
 // What a node drops and refuses that is new, or that adopted a later configuration. All that is
 // dropped leaves the node as one that never got it: its numbers, all outputs behind it, and each
 // byte of its disk.
+use crate::cases::{holds_at, is_so};
 use crate::lines::{Line, Lines, take, take_all};
 use crate::running::Running;
+use crate::spelled::{ONE, TWO};
 use disk::{Disk, MemDisk};
 use std::alloc::Global;
 use std::process::Abort;
-use test_items::cases::{holds_at, is_so};
-use test_items::spelled::{ONE, TWO};
 
 // What is printed for each of these lines, where a request has the number 20.
 type Dropped = (&'static str, &'static [Line]);

@@ -1,8 +1,8 @@
 //! The numbers of the kinds of frames, of the faults and of the refusals, which no stream shows.
+use crate::cases::{has_memory, holds_at, is_so};
 use link_messages::{Frame, FrameError, Refusal, read};
 use std::alloc::Global;
 use std::process::Abort;
-use test_items::cases::{has_memory, holds_at, is_so};
 
 /// The smallest frame of each kind, by docs/FORMATS.md.
 static FRAMES: [&'static [u8]; 14] = [

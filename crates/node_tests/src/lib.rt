@@ -3,11 +3,15 @@
 #![tactic(auto)]
 
 #[cfg(test)]
+mod cases;
+#[cfg(test)]
 mod courses;
 #[cfg(test)]
 mod disks;
 #[cfg(test)]
 mod epochs;
+#[cfg(test)]
+mod items;
 #[cfg(test)]
 mod kinds;
 #[cfg(test)]
@@ -20,5 +24,7 @@ mod lookups;
 mod replies;
 #[cfg(test)]
 mod running;
+#[cfg(test)]
+mod spelled;
 #[cfg(test)]
 mod steps;

@@ -1,7 +1,9 @@
 // Lines of one node, and what is printed for each. A line is an input or a stop of the node, which
 // is created at line 1, and a request has its line's number.
+use crate::items::{config_of, number};
 use crate::replies::put_reply;
 use crate::running::Running;
+use crate::spelled::{Change, ONE, batch_of, id_of, key_of, range_of};
 use configurations::{Epoch, NodeId};
 use disk::{Crash, Junk, JunkBytes};
 use kv_types::{Number, Range};
@@ -9,8 +11,6 @@ use link_messages::{BoxedRange, Frame};
 use node::{Input, Output, Sent};
 use std::alloc::{AllocError, Global};
 use std::process::Abort;
-use test_items::items::{config_of, number};
-use test_items::spelled::{Change, ONE, batch_of, id_of, key_of, range_of};
 
 /// An input or a stop of a node.
 pub enum Line {

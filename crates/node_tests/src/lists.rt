@@ -1,9 +1,9 @@
 // Lists that are configurations, lists of configurations, and the errors of other lists.
+use crate::cases::{Case, all_hold, has_memory, is_so};
+use crate::items::{config_of, put, try_config};
 use configurations::{Config, ConfigError, Configs, Epoch, NodeId};
 use std::alloc::Global;
 use std::process::Abort;
-use test_items::cases::{Case, all_hold, has_memory, is_so};
-use test_items::items::{config_of, put, try_config};
 
 const SIXTEEN: &[u16] = &[2, 3, 4, 5, 6, 7, 8, 9, 10, 11, 12, 13, 14, 15, 16, 17];
 

@@ -1,9 +1,9 @@
 // Each look-up once, and the causes of a stop by their numbers and texts.
+use crate::cases::{holds_at, is_so};
 use crate::running::Running;
 use configurations::NodeId;
 use disk::MemDisk;
 use node::{Node, Stop};
-use test_items::cases::{holds_at, is_so};
 
 fn is_new(node: &Node<MemDisk>) -> bool {
     (node.id().get(), node.epoch().get()) == (1, 0)

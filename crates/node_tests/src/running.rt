@@ -2,6 +2,8 @@
 ghost use Rattle.std.specs.Prelude.{IfSome};
 ghost use Rattle.node.specs.{IsReady};
 
+use crate::items::config_of;
+use crate::spelled::id_of;
 use configurations::{Config, NodeId};
 use disk::MemDisk;
 use kv_types::Limits;
@@ -9,8 +11,6 @@ use node::{Input, Node, Output, Stop};
 use std::alloc::Global;
 use std::marker::Model;
 use std::process::Abort;
-use test_items::items::config_of;
-use test_items::spelled::id_of;
 
 /// A node that no step has stopped, or none. Nothing else is known of it.
 #[derive(Drop)]

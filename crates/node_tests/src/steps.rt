@@ -1,11 +1,11 @@
 // The decisions, replies and frames of a node, by the rules of a step.
+use crate::cases::{Case, all_hold, holds_at, is_so};
+use crate::items::{config_of, deletion, key_of, number, origin};
 use chain_core::{CoreState, Decision, Done, DropReason, Input, Sent, decide};
 use kv_types::Batch;
 use link_messages::Refusal;
 use std::alloc::Global;
 use std::process::Abort;
-use test_items::cases::{Case, all_hold, holds_at, is_so};
-use test_items::items::{config_of, deletion, key_of, number, origin};
 
 // The inputs of a node.
 #[derive(Clone, Copy)]

@@ -1,13 +1,13 @@
 // A store in a folder: the bytes of its files, what an opening finds, and an opening that leaves
 // each byte as it was.
+use crate::cases::{holds_at, is_so};
+use crate::plain_store::{PlainStore, append, batch_at, created, get_agrees, opened, tends};
+use crate::scratch_folders::{Text, are_same, disk_over, empty_folder, remove_folder, texts};
 use dir_disk::{DirDisk, Unchanged};
 use disk::{Disk, DiskError, MemDisk};
 use engine::Engine;
 use std::alloc::Global;
 use std::process::Abort;
-use test_items::cases::{holds_at, is_so};
-use test_items::folders::{Text, are_same, disk_over, empty_folder, remove_folder, texts};
-use test_stores::plain_store::{PlainStore, append, batch_at, created, get_agrees, opened, tends};
 
 // With this limit each log that has a batch is due for a flush, and five tables for a merge.
 const LOG: u64 = 16;

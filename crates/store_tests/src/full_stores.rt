@@ -1,15 +1,13 @@
 // Stores with as many tables as there may be: `Full`, and the store as it was before.
+use crate::cases::{Case, all_hold, is_so};
+use crate::files::next_if_alone;
+use crate::items::{is_same, number, put};
+use crate::plain_store::{Change, append, batch_at, created_with, key_at, tend, tends, value_at};
 use disk::{Disk, MemDisk};
 use engine::{Engine, Tended};
 use kv_types::Limits;
 use std::alloc::Global;
 use std::process::Abort;
-use test_items::cases::{Case, all_hold, is_so};
-use test_items::items::{is_same, number, put};
-use test_stores::files::next_if_alone;
-use test_stores::plain_store::{
-    Change, append, batch_at, created_with, key_at, tend, tends, value_at,
-};
 
 // A level 0 of so many tables, and outputs of one key each.
 pub fn limits(rt: &impl Abort, l0: u64) -> Limits {

@@ -1,17 +1,17 @@
 // Stores with the last file numbers and generations, and with as many logs as there may be, which
 // an edit in bytes brings about: `Full`, and the store as it was before.
+use crate::cases::{Case, all_hold, is_so};
+use crate::files::next_if_alone;
 use crate::full_stores::{created, has, limits, put_one};
+use crate::items::{config_of, copy_of, origin, put};
 use crate::levels::write;
+use crate::plain_store::{Change, append, batch_at, opened_with, tend};
 use disk::{Disk, MemDisk};
 use engine::{Engine, Tended};
 use record_log::Log;
 use std::alloc::Global;
 use std::process::Abort;
 use store_files::StoreFiles;
-use test_items::cases::{Case, all_hold, is_so};
-use test_items::items::{config_of, copy_of, origin, put};
-use test_stores::files::next_if_alone;
-use test_stores::plain_store::{Change, append, batch_at, opened_with, tend};
 
 // The edit of node 1 alone at floor 0: this next file, so many flushed batches, and these logs with
 // the numbers of their first batches.

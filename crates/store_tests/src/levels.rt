@@ -1,17 +1,17 @@
 // Keys whose versions lie in memory, in level 0 and in deeper levels. Flushed tables are copied,
 // and an edit puts the copies in their place. Its bytes are those of the format.
+use crate::cases::{holds_at, is_so};
+use crate::items::{filled, is_same, put};
+use crate::plain_store::{
+    Change, PlainStore, Span, agreeing_pages, append, batch_at, created, get_agrees, key_at,
+    opened, tends,
+};
 use disk::{Disk, MemDisk};
 use engine::Engine;
 use kv_types::Batch;
 use record_log::Log;
 use std::alloc::Global;
 use std::process::Abort;
-use test_items::cases::{holds_at, is_so};
-use test_items::items::{filled, is_same, put};
-use test_stores::plain_store::{
-    Change, PlainStore, Span, agreeing_pages, append, batch_at, created, get_agrees, key_at,
-    opened, tends,
-};
 
 // With this limit each log that has a batch is due for a flush.
 const LOG: u64 = 16;

@@ -1,26 +1,46 @@
-//! Tests of manifests, logs and tables of a store, beyond the contracts: bytes from outside, limits
-//! at their edges, the calls of the device, and reads beside a plain store.
+//! Tests of stores that flush and merge, beyond the contracts: each rule at its edges, a fault at each
+//! call, reads and random courses beside a plain store.
 #![tactic(auto)]
 
 #[cfg(test)]
-mod adoptions;
+mod acts;
 #[cfg(test)]
-mod calls;
+mod cases;
 #[cfg(test)]
-mod damaged_logs;
-#[cfg(test)]
-mod damaged_slots;
+mod files;
 #[cfg(test)]
 mod folder_stores;
 #[cfg(test)]
 mod full_stores;
 #[cfg(test)]
+mod items;
+#[cfg(test)]
 mod last_numbers;
 #[cfg(test)]
 mod levels;
 #[cfg(test)]
-mod manifests;
+mod long_tends;
+#[cfg(test)]
+mod merge_courses;
+#[cfg(test)]
+mod merge_faults;
+#[cfg(test)]
+mod merge_rows;
+#[cfg(test)]
+mod merge_rules;
+#[cfg(test)]
+mod numbers;
+#[cfg(test)]
+mod plain_store;
+#[cfg(test)]
+mod random_merges;
 #[cfg(test)]
 mod random_rows;
 #[cfg(test)]
 mod row_reads;
+#[cfg(test)]
+mod scratch_folders;
+#[cfg(test)]
+mod sequence;
+#[cfg(test)]
+mod watched_disk;

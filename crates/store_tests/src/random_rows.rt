@@ -1,10 +1,10 @@
 // Random pages of a store that grows, flushes and merges, beside a plain one.
+use crate::cases::{holds_at, is_so};
+use crate::numbers::Numbers;
+use crate::plain_store::{PlainStore, agreeing_pages, append, batch_at, created, tends};
 use disk::MemDisk;
 use std::alloc::Global;
 use std::process::Abort;
-use test_items::cases::{holds_at, is_so};
-use test_stores::numbers::Numbers;
-use test_stores::plain_store::{PlainStore, agreeing_pages, append, batch_at, created, tends};
 
 const BATCHES: u64 = 20_000;
 

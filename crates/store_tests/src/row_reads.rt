@@ -1,13 +1,13 @@
 // What pages of two tables cost the device, and what a damaged block of one of them does to a walk.
+use crate::cases::{has_memory, holds_at, is_so};
+use crate::items::{is_same, number, put};
+use crate::plain_store::{Change, Span, append, batch_at, created, key_at, opened, tends};
+use crate::watched_disk::{Spot, WatchedDisk};
 use disk::MemDisk;
 use engine::{Engine, EngineError};
 use kv_types::Page;
 use std::alloc::Global;
 use std::process::Abort;
-use test_items::cases::{has_memory, holds_at, is_so};
-use test_items::items::{is_same, number, put};
-use test_stores::plain_store::{Change, Span, append, batch_at, created, key_at, opened, tends};
-use test_stores::watched_disk::{Spot, WatchedDisk};
 
 // With this limit each log that has a batch is due for a flush.
 const LOG: u64 = 16;

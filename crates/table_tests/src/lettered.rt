@@ -3,6 +3,10 @@
 //! deletion.
 ghost use Rattle.merge_iter.specs.{IsOn};
 
+use crate::cases::is_so;
+use crate::entries::entry_of;
+use crate::items::{is_same, put};
+use crate::open_tables::{build, cursor_in};
 use configurations::NodeId;
 use disk::{Disk, MemDisk};
 use kv_types::StoredKey;
@@ -11,10 +15,6 @@ use record_log::Log;
 use sorted_table::{CachedDisk, TableCursor};
 use std::alloc::Global;
 use std::process::Abort;
-use test_entries::entries::entry_of;
-use test_entries::tables::{build, cursor_in};
-use test_items::cases::is_so;
-use test_items::items::{is_same, put};
 use version_edits::{StoreVersion, TableLine, VersionEdit, replay};
 
 /// The next file as a merge begins.

@@ -3,11 +3,33 @@
 #![tactic(auto)]
 
 #[cfg(test)]
+mod cases;
+#[cfg(test)]
+mod changes;
+#[cfg(test)]
+mod counts;
+#[cfg(test)]
+mod entries;
+#[cfg(test)]
+mod items;
+#[cfg(test)]
 mod lettered;
 #[cfg(test)]
 mod merged_tables;
 #[cfg(test)]
 mod merges;
+#[cfg(test)]
+mod moves;
+#[cfg(test)]
+mod numbered;
+#[cfg(test)]
+mod one_put;
+#[cfg(test)]
+mod open_tables;
+#[cfg(test)]
+mod plain;
+#[cfg(test)]
+mod sequence;
 #[cfg(test)]
 mod store_walks;
 #[cfg(test)]

@@ -1,5 +1,8 @@
 //! The open tables of a store behind a merge: its outputs in the place of its inputs.
 
+use crate::cases::is_so;
+use crate::counts::is_count;
+use crate::items::{number, put};
 use crate::merges::{INPUTS, edit_of, open_in, tables_of};
 use disk::MemDisk;
 use kv_types::StoredKey;
@@ -7,9 +10,6 @@ use sorted_table::CachedDisk;
 use std::alloc::Global;
 use std::process::Abort;
 use store_tables::{LevelTables, OpenTable};
-use test_entries::counts::is_count;
-use test_items::cases::is_so;
-use test_items::items::{number, put};
 use version_edits::{StoreVersion, VersionEdit, is_fit};
 
 /// The outputs of an edit, each opened by its line.

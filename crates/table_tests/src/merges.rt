@@ -1,7 +1,11 @@
 //! Merges of two tables of level 0 and one of level 1, by steps: what their edits give up and add,
 //! and what stands in the tables that they write.
 
+use crate::cases::{holds_at, is_so};
+use crate::counts::is_count;
+use crate::items::is_same;
 use crate::lettered::{FIRST, LEN, Lines, entries_of, letters_of};
+use crate::open_tables::{with_cache, write};
 use compaction::{Merge, MergeError, Plan, Turn, pick};
 use disk::{Disk, MemDisk};
 use kv_types::Limits;
@@ -9,10 +13,6 @@ use sorted_table::CachedDisk;
 use std::alloc::Global;
 use std::process::Abort;
 use store_tables::LevelTables;
-use test_entries::counts::is_count;
-use test_entries::tables::{with_cache, write};
-use test_items::cases::{holds_at, is_so};
-use test_items::items::is_same;
 use version_edits::{MAX_LINES, StoreVersion, VersionEdit};
 
 // ---- the tables

@@ -1,6 +1,16 @@
 //! Walks over a memtable and two tables side by side, as a store has them, against plain lists, and
 //! a damaged block of one of the tables.
 
+use crate::changes::{batch_of, changes_of};
+use crate::counts::is_count;
+use crate::entries::{all_owned, owned};
+use crate::items;
+use crate::items::{number, put};
+use crate::moves::{agreeing, meet_all};
+use crate::numbered::Numbered;
+use crate::open_tables::{FILE, build, cursor_in, with_cache};
+use crate::plain::{PlainEntry, add_all, shown_at};
+use crate::sequence::Sequence;
 use crate::table_damage::{SOUND, damaged_files, is_stopped};
 use disk::MemDisk;
 use kv_types::Number;
@@ -9,16 +19,6 @@ use sorted_table::CachedDisk;
 use std::alloc::Global;
 use std::process::Abort;
 use store_cursors::{StoreCursor, StoreRows, rows_at};
-use test_entries::changes::{batch_of, changes_of};
-use test_entries::counts::is_count;
-use test_entries::entries::{all_owned, owned};
-use test_entries::moves::{agreeing, meet_all};
-use test_entries::numbered::Numbered;
-use test_entries::plain::{PlainEntry, add_all, shown_at};
-use test_entries::tables::{FILE, build, cursor_in, with_cache};
-use test_items::items;
-use test_items::items::{number, put};
-use test_items::sequence::Sequence;
 
 const NUMBERS: u8 = 120;
 

@@ -1,19 +1,19 @@
 //! Walks of 2,000 moves over a table of several blocks, against a plain list, and a walk over a
 //! disk that fails.
 
+use crate::cases::is_so;
+use crate::changes::changes_of;
+use crate::counts::is_count;
+use crate::entries::all_owned;
+use crate::moves::{agreeing, meet_all};
+use crate::open_tables::{FILE, cursor_in, files_of};
+use crate::plain::{PlainEntry, add_all};
+use crate::sequence::Sequence;
 use disk::{Crash, Fault, MemDisk};
 use merge_iter::{Cursor, CursorError, OwnedEntry};
 use sorted_table::{CachedDisk, TableCursor};
 use std::alloc::Global;
 use std::process::Abort;
-use test_entries::changes::changes_of;
-use test_entries::counts::is_count;
-use test_entries::entries::all_owned;
-use test_entries::moves::{agreeing, meet_all};
-use test_entries::plain::{PlainEntry, add_all};
-use test_entries::tables::{FILE, cursor_in, files_of};
-use test_items::cases::is_so;
-use test_items::sequence::Sequence;
 
 const NUMBERS: u8 = 250;
 

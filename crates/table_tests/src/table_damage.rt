@@ -1,19 +1,19 @@
 //! Walks over a table with a damaged block: alone, beside a sound table, and as the view at a
 //! number shows it.
 
+use crate::cases::is_so;
+use crate::entries::entry_of;
+use crate::items::put;
+use crate::moves::{apply, is_at_key};
+use crate::one_put::{BLOCK, FILTER, FOOTER, index_with, joined};
+use crate::open_tables::{FILE, build, cursor_in, table_in, with_cache, write};
+use crate::plain::Move;
 use disk::MemDisk;
 use kv_types::LentKey;
 use merge_iter::{AtNumber, Cursor, CursorError, Direction, Merged, OwnedEntry, step};
 use sorted_table::{CachedDisk, FileError, TableCursor};
 use std::alloc::Global;
 use std::process::Abort;
-use test_entries::entries::entry_of;
-use test_entries::moves::{apply, is_at_key};
-use test_entries::one_put::{BLOCK, FILTER, FOOTER, index_with, joined};
-use test_entries::plain::Move;
-use test_entries::tables::{FILE, build, cursor_in, table_in, with_cache, write};
-use test_items::cases::is_so;
-use test_items::items::put;
 
 /// The file of the sound table.
 pub const SOUND: u64 = 4;

@@ -1,17 +1,17 @@
 //! Walks through tables of many blocks, both ways.
 
+use crate::cases::is_so;
+use crate::counts::is_count;
+use crate::entries::entry_of;
+use crate::items::put;
+use crate::moves::meet_all;
+use crate::open_tables::{FILE, cursor_in, files_of};
 use crate::tables::{found_of, many};
 use disk::{Disk, MemDisk};
 use merge_iter::OwnedEntry;
 use sorted_table::CachedDisk;
 use std::alloc::Global;
 use std::process::Abort;
-use test_entries::counts::is_count;
-use test_entries::entries::entry_of;
-use test_entries::moves::meet_all;
-use test_entries::tables::{FILE, cursor_in, files_of};
-use test_items::cases::is_so;
-use test_items::items::put;
 
 /// The files of the table of these entries, so many, through which it walks both ways.
 fn walk(rt: &impl Abort, alloc: Global, entries: &[OwnedEntry], all: usize) -> CachedDisk<MemDisk> {

@@ -1,16 +1,16 @@
 //! Tables in files: lookups, and the calls of the device that these make.
 
+use crate::cases::{holds_at, is_so};
+use crate::counts::is_count;
+use crate::entries::{entry_of, is_same_value};
+use crate::items::put;
+use crate::open_tables::{FILE, files_of, table_in};
 use disk::{Crash, Fault, MemDisk};
 use kv_types::LentKey;
 use merge_iter::OwnedEntry;
 use sorted_table::{CachedDisk, FoundVersion, Table};
 use std::alloc::Global;
 use std::process::Abort;
-use test_entries::counts::is_count;
-use test_entries::entries::{entry_of, is_same_value};
-use test_entries::tables::{FILE, files_of, table_in};
-use test_items::cases::{holds_at, is_so};
-use test_items::items::put;
 
 // ---- lookups
 

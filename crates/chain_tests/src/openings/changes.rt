@@ -1,9 +1,9 @@
 // Each byte of each file of the small disk is each other byte in turn, and the disk is opened.
+use crate::cases::is_text;
 use crate::openings::small_disk::{DAMAGED, NOT_CREATED, SAME, length_of, shown, small_disk};
 use disk::{Disk, MemDisk};
 use std::alloc::{AllocError, Global};
 use std::process::Abort;
-use test_items::cases::is_text;
 
 // Places of a file from the first to the last, new bytes from the least to the greatest, and what
 // an opening shows then. There `#` is the new byte, and `@` is 256 times it and 1 more.

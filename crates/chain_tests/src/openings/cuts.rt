@@ -1,9 +1,9 @@
 // Each file of the small disk is shorter by each length in turn, or absent, and the disk is opened.
+use crate::cases::is_text;
 use crate::openings::small_disk::{DAMAGED, NOT_CREATED, length_of, shown, small_disk};
 use disk::{Disk, MemDisk};
 use std::alloc::Global;
 use std::process::Abort;
-use test_items::cases::is_text;
 
 // What an opening shows where the file has this length and no more, or none. Without slot 1 there
 // is no open slot. A log ends with its closed gate, and a table has the length of its line.

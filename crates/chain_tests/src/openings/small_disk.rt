@@ -1,12 +1,12 @@
 // A small disk that an engine left, and what an opening of a disk shows.
+use crate::cases::is_so;
+use crate::items::{config_of, number};
+use crate::spelled::{Change, batch_of, id_of, key_of};
 use disk::{Disk, MemDisk};
 use engine::{Engine, EngineError, Tended};
 use kv_types::{Limits, Number, Value};
 use std::alloc::{AllocError, Global};
 use std::process::Abort;
-use test_items::cases::is_so;
-use test_items::items::{config_of, number};
-use test_items::spelled::{Change, batch_of, id_of, key_of};
 
 /// What the small disk shows: the numbers of its node, the level of its table, and its map at each
 /// number, the last first. A map is its keys, each with the byte that its value is.

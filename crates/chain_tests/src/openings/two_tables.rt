@@ -1,14 +1,14 @@
 // A store with two tables of level 0, in which each byte of a block is another: a read that comes
 // to the block stops for damage, and answers neither an older value nor none.
+use crate::cases::{is_so, is_text};
+use crate::items::{config_of, number};
 use crate::openings::small_disk::{append, length_of, limits};
+use crate::spelled::{id_of, key_of};
 use disk::{Disk, MemDisk};
 use engine::{Engine, Tended};
 use kv_types::Value;
 use std::alloc::{AllocError, Global};
 use std::process::Abort;
-use test_items::cases::{is_so, is_text};
-use test_items::items::{config_of, number};
-use test_items::spelled::{id_of, key_of};
 
 // The table in whose block a byte is another; a key and a number at which it is read; and what the
 // read answers.
