@@ -1,5 +1,4 @@
-//! Tests of manifests, of adoptions, and of logs as an engine reads them, beyond the contracts: bytes
-//! from outside, numbers at their limits, the calls of the device.
+//! Tests of manifests, of adoptions, and of logs as an engine reads them, beyond the contracts.
 #![tactic(auto)]
 
 #[cfg(test)]

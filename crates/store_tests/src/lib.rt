@@ -1,5 +1,5 @@
-//! Tests of stores that flush and merge, beyond the contracts: each rule at its edges, a fault at each
-//! call, reads and random courses beside a plain store.
+//! Tests of stores that flush and merge, beyond the contracts: reads, faults and random courses
+//! beside a plain store.
 #![tactic(auto)]
 
 #[cfg(test)]
