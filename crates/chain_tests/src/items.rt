@@ -1,4 +1,4 @@
-//! Keys, values, edits and batches of given bytes or of given lengths, ids and configurations.
+//! Keys, batches, lists and the like, as tests make them.
 
 use configurations::{Config, ConfigError};
 use kv_types::Number;

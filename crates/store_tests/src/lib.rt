@@ -1,9 +1,7 @@
-//! Tests of stores that flush and merge, beyond the contracts: reads, faults and random courses
-//! beside a plain store.
+//! Tests of the reads of a store, of its limits and of its files, beyond the contracts, beside a
+//! plain store.
 #![tactic(auto)]
 
-#[cfg(test)]
-mod acts;
 #[cfg(test)]
 mod cases;
 #[cfg(test)]
@@ -19,21 +17,9 @@ mod last_numbers;
 #[cfg(test)]
 mod levels;
 #[cfg(test)]
-mod long_tends;
-#[cfg(test)]
-mod merge_courses;
-#[cfg(test)]
-mod merge_faults;
-#[cfg(test)]
-mod merge_rows;
-#[cfg(test)]
-mod merge_rules;
-#[cfg(test)]
 mod numbers;
 #[cfg(test)]
 mod plain_store;
-#[cfg(test)]
-mod random_merges;
 #[cfg(test)]
 mod random_rows;
 #[cfg(test)]

@@ -1,5 +1,5 @@
-//! Tests of tables in files, of cursors and merges over them, and of what damage answers, beyond
-//! the contracts: long walks against plain lists, and calls that succeed.
+//! Tests of tables in files, of cursors over them, and of what damage answers, beyond the
+//! contracts.
 #![tactic(auto)]
 
 #[cfg(test)]
@@ -12,12 +12,6 @@ mod counts;
 mod entries;
 #[cfg(test)]
 mod items;
-#[cfg(test)]
-mod lettered;
-#[cfg(test)]
-mod merged_tables;
-#[cfg(test)]
-mod merges;
 #[cfg(test)]
 mod moves;
 #[cfg(test)]
