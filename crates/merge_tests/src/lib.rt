@@ -1,5 +1,5 @@
-//! Tests of stores that merge, beyond the contracts: each rule at its edges, a fault at each call, and
-//! random courses beside a plain store.
+//! Tests of stores that merge, beyond the contracts: each rule at its edges, a fault at each call,
+//! and random courses beside a plain store.
 #![tactic(auto)]
 
 #[cfg(test)]
