@@ -9,8 +9,9 @@ Then each case has
   in the words; `also: LINE`, the case is tried once more with this line before its input, so that what
   is printed has greater numbers of lines;
 - the input;
-- `--- stdout` or `--- stdout ends`, and what is printed, or how it ends; or `--- stderr, status N`,
-  and what is reported. What a case does not name is empty, and the status is 0.
+- `--- stdout`, and what is printed; `--- stdout ends`, and how it ends; `--- stdout has`, and lines
+  that it has, in this order; or `--- stderr, status N`, and what is reported. What a case does not name
+  is empty, and the status is 0.
 
 An input or answer that ends without a line feed ends with a backslash and a line feed. In both
 `{TEXT*N}` stands for N times this text, `{TEXT*A..B}` for this text with each number from A to B in
@@ -22,12 +23,13 @@ import collections
 import re
 import shlex
 
-# One run: its title, the words of its program, its input, and what it has to end with. `is_end` says
-# that standard output only has to end so.
-Case = collections.namedtuple("Case", "title words given out is_end err status")
+# One run: its title, the words of its program, its input, and what it has to end with: standard output
+# and whether that is all of it (""), its end ("ends") or some of its lines ("has"), standard error, and
+# the status.
+Case = collections.namedtuple("Case", "title words given out part err status")
 TITLE = re.compile(r"(?m)^=== (.*)\n")
 OPTION = re.compile(r"(words|each|also):(?: (.*))?\n")
-ANSWER = re.compile(r"(?m)^--- (stdout|stdout ends|stderr, status (\d+))\n")
+ANSWER = re.compile(r"(?m)^--- (stdout|stdout ends|stdout has|stderr, status (\d+))\n")
 FORM = re.compile(r"\{(?:0x([0-9a-f]+)|([^{}]*)\*(\d+)(?:\.\.(\d+))?)\}")
 NUMBER = re.compile(rb"(?m)^(?:(line )?(\d+))(?=: )")
 
@@ -85,7 +87,8 @@ def runs_of(title, body, words):
             if line:
                 name, text, wanted = f"{name} [{line}]", f"{line}\n".encode() + text, shifted(wanted)
             out, err = (b"", wanted) if kind.startswith("stderr") else (wanted, b"")
-            yield Case(name, words + more, text, out, kind == "stdout ends", err, status)
+            part = kind[7:] if out else ""
+            yield Case(name, words + more, text, out, part, err, status)
 
 
 def cases_in(text):

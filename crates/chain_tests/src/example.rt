@@ -1,8 +1,9 @@
 //! The example of the README: a chain of three nodes, a batch, its frames, a read.
-use crate::courses::{configs_of, shows};
+use crate::cases::is_so;
+use crate::worlds::three_nodes;
 use configurations::Configs;
 use kv_types::{Batch, Edit, Key, KvError, Limits, Value};
-use lab::{Direct, Event, EventKind, LabError, MemDisk, Report, World};
+use lab::{Direct, Event, EventKind, LabError, Line, MemDisk, Reply, ReplyForm, Report, World};
 use std::alloc::Global;
 use std::process::Abort;
 use std::test::Fail;
@@ -45,23 +46,30 @@ fn write_and_read(alloc: Global, chain: &Configs, batch: Batch, key: Key) -> Res
 }
 // README ends
 
-// What each event shows: the third node commits the batch, since it is the tail.
-const SHOWN: &str = "\
-#1 1>2 forward 0 1
-#2 2>3 forward 0 1
-#3 3>2 ack 0 1 1
-#4 2>1 ack 0 1 1
-1: committed 1
-6: value Ada at 1
-node 1 epoch 0 count 1 committed 1 floor 0 kept 0 tables 0 0 0 0 0 0 0
-node 2 epoch 0 count 1 committed 1 floor 0 kept 0 tables 0 0 0 0 0 0 0
-node 3 epoch 0 count 1 committed 1 floor 0 kept 0 tables 0 0 0 0 0 0 0
-";
+// The value and the number of the reply to the last event.
+fn value_read(report: &Report) -> Option<(&[u8], u64)> {
+    let Line::Replied(reply) = report.steps.last()?.as_slice().last()? else {
+        return None;
+    };
+    let ReplyForm::Other(reply) = reply.form() else {
+        return None;
+    };
+    match reply.as_ref() {
+        Reply::Value { number, value, .. } => Some((value.as_ref()?.as_bytes(), number.get())),
+        _ => None,
+    }
+}
 
+// The third node commits the batch, since it is the tail, and has the value.
 fn shows_it(rt: &impl Abort, alloc: Global) -> Result<(), Fail> {
-    let chain = configs_of(rt, alloc, &[&[1, 2, 3]]);
+    let chain = three_nodes(rt, alloc);
     let report = write_and_read(alloc, &chain, put_name(alloc)?, name(alloc)?)?;
-    shows(rt, alloc, &report, SHOWN);
+    let is_read = value_read(&report) == Some((b"Ada".as_slice(), 1));
+    is_so(
+        rt,
+        is_read && report.steps.len() == 6,
+        "a value at the tail",
+    );
     Ok(())
 }
 

@@ -1,73 +1,24 @@
-// Keys, batches, ids and configurations, as the tests write them down.
-use configurations::{Config, NodeId};
-use kv_types::{Batch, Edit, Key, Number, Range, Value};
+//! Keys, batches, lists and the like, as tests make them.
+
+use configurations::{Config, ConfigError};
+use kv_types::Number;
 use std::alloc::Global;
 use std::process::Abort;
 
-/// A put of one key, or its deletion where there is no value.
-pub type Change = (&'static str, Option<&'static str>);
-
-pub const ONE: &[Change] = &[("a", Some("1"))];
-
-pub const TWO: &[Change] = &[("a", Some("2"))];
-
-pub const NO_A: &[Change] = &[("a", None)];
-
-/// A range: its least key, the key that all of its keys are below, whether its walk goes backward,
-/// and how many rows an answer has at most.
-pub type Walk = (&'static str, Option<&'static str>, bool, u32);
-
-pub const ABC: &[Change] = &[("a", Some("1")), ("b", Some("2")), ("c", Some("3"))];
-
-pub const THREE: &[Change] = &[("a", Some("1")), ("a", None), ("a", Some("2"))];
-
-fn bytes_of(rt: &impl Abort, alloc: Global, text: &str) -> Vec<u8> {
-    text.as_bytes().to_vec(alloc).expect(rt, "memory")
-}
-
-pub fn key_of(rt: &impl Abort, alloc: Global, text: &str) -> Key {
-    Key::new(bytes_of(rt, alloc, text)).expect(rt, "a key")
-}
-
-pub fn range_of(rt: &impl Abort, alloc: Global, walk: Walk) -> Range {
-    let to = match walk.1 {
-        Some(text) => Some(key_of(rt, alloc, text)),
-        None => None,
-    };
-    Range::new(key_of(rt, alloc, walk.0), to, walk.2, walk.3)
-        .ok()
-        .expect(rt, "a range")
-}
-
-fn value_of(rt: &impl Abort, alloc: Global, text: &str) -> Value {
-    Value::new(bytes_of(rt, alloc, text)).expect(rt, "a value")
-}
-
-fn edit_of(rt: &impl Abort, alloc: Global, change: &Change) -> Edit {
-    let key = key_of(rt, alloc, change.0);
-    match change.1 {
-        Some(text) => Edit::Put(key, value_of(rt, alloc, text)),
-        None => Edit::Delete(key),
-    }
-}
-
-pub fn batch_of(rt: &impl Abort, alloc: Global, changes: &[Change]) -> Batch {
-    let mut edits = Vec::new(alloc);
-    for change in changes {
-        edits.push(edit_of(rt, alloc, change)).expect(rt, "memory");
-    }
-    Batch::new(edits).expect(rt, "a batch")
+/// A copy of these bytes.
+pub fn copy_of(rt: &impl Abort, alloc: Global, bytes: &[u8]) -> Vec<u8> {
+    bytes.to_vec(alloc).expect(rt, "memory")
 }
 
 pub fn number(value: u64) -> Number {
     Number::new(value).unwrap_or(Number::ZERO)
 }
 
-pub fn id_of(rt: &impl Abort, id: u16) -> NodeId {
-    NodeId::new(id).expect(rt, "an id")
+/// The configuration of these ids, if that is one.
+pub fn try_config(rt: &impl Abort, alloc: Global, ids: &[u16]) -> Result<Config, ConfigError> {
+    Config::new(alloc, ids.to_vec(alloc).expect(rt, "memory"))
 }
 
 pub fn config_of(rt: &impl Abort, alloc: Global, ids: &[u16]) -> Config {
-    let ids = ids.to_vec(alloc).expect(rt, "memory");
-    Config::new(alloc, ids).expect(rt, "a configuration")
+    try_config(rt, alloc, ids).expect(rt, "a configuration")
 }

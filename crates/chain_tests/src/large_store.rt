@@ -1,6 +1,7 @@
 // A store of 200,000 puts that flushes, merges, stops and is opened again, beside a plain map.
-use crate::answers::is_so;
-use crate::items::{config_of, id_of, number};
+use crate::cases::is_so;
+use crate::items::{config_of, number};
+use crate::spelled::id_of;
 use disk::{Crash, Junk, JunkBytes, MemDisk};
 use engine::{Engine, Tended};
 use kv_types::{Batch, Edit, Key, Limits, Value};

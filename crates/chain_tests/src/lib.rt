@@ -1,25 +1,11 @@
-//! Tests of a store alone, of one node and of whole runs, with expected values from the rules of a
-//! step and from the formats.
+//! Tests of whole runs and of small and large disks of a node, with expected values from the rules
+//! of a step and from the formats.
 #![tactic(auto)]
 
 #[cfg(test)]
-mod adoption_faults;
-#[cfg(test)]
-mod adoptions;
-#[cfg(test)]
-mod alterations;
-#[cfg(test)]
-mod answers;
-#[cfg(test)]
-mod carried;
-#[cfg(test)]
-mod courses;
+mod cases;
 #[cfg(test)]
 mod example;
-#[cfg(test)]
-mod faults;
-#[cfg(test)]
-mod histories;
 #[cfg(test)]
 mod items;
 #[cfg(test)]
@@ -27,26 +13,10 @@ mod large_store;
 #[cfg(test)]
 mod listeners;
 #[cfg(test)]
-mod losses;
-#[cfg(test)]
-mod merge_sweep;
-#[cfg(test)]
-mod nodes;
-#[cfg(test)]
-mod one_node;
-#[cfg(test)]
 mod openings;
-#[cfg(test)]
-mod pages;
-#[cfg(test)]
-mod removals;
-#[cfg(test)]
-mod resends;
 #[cfg(test)]
 mod rewrites;
 #[cfg(test)]
-mod sweep;
+mod spelled;
 #[cfg(test)]
-mod tends;
-#[cfg(test)]
-mod three_nodes;
+mod worlds;

@@ -1,9 +1,7 @@
 // What a carrier over a connection to its own listener loses, where somebody else connects there.
-use crate::answers::is_text;
-use crate::carried::{Act, FLOW, text_of};
-use crate::courses::Step;
-use crate::items::ONE;
-use lab::{Carried, Carrier, Peer};
+use client::run_script;
+use lab::{Carried, Carrier, Peer, World};
+use scripts::read_script;
 use std::alloc::Global;
 use std::io::Write;
 use std::net::{SocketAddr, TcpListener, TcpStream};
@@ -127,27 +125,35 @@ fn a_full_queue_before_the_first_frame(rt: HostRuntime) {
 }
 
 // A batch is submitted to a chain of two, again, and read.
-const COURSE: &[Act] = &[
-    Act::Take(Step::Submit(1, ONE)),
-    Act::Take(Step::Submit(1, ONE)),
-    FLOW,
-    Act::Take(Step::Get(1, None)),
-];
+const SCRIPT: &[u8] = b"config 1 2\nsubmit 1 a=1\nsubmit 1 a=1\nflow\nget 1 a\nshow 1\nshow 2\n";
 
 // The first submit is lost.
-const COURSE_TEXT: &str = "\
-lost
-#1 1>2 forward 0 1
-#2 2>1 ack 0 1 1
-2: committed 1
+const TEXT: &[u8] = b"2: lost
+3: #1 1>2 forward 0 1
+4: #2 2>1 ack 0 1 1
+3: committed 1
 5: value 1 at 1
-1/1 1/1 lost 1
+6: node 1 epoch 0 count 1 committed 1 floor 0 kept 0 tables 0 0 0 0 0 0 0
+7: node 2 epoch 0 count 1 committed 1 floor 0 kept 0 tables 0 0 0 0 0 0 0
 ";
+
+// What is printed of the script over a carrier.
+fn text_over<C: Carrier + Drop>(rt: &impl Abort, alloc: Global, carrier: C) -> Vec<u8> {
+    let script = read_script(alloc, SCRIPT, true).ok().expect(rt, "a script");
+    let setup = &script.setup;
+    let made = World::created(alloc, &setup.configs, carrier, &setup.limits);
+    let mut world = made.expect(rt, "a world");
+    let mut text = Vec::new(alloc);
+    let ran = run_script(alloc, &script, &mut world, &mut text);
+    world.close();
+    ran.ok().expect(rt, "a run");
+    text
+}
 
 #[test]
 fn a_run_behind_a_closed_connection(rt: HostRuntime) {
     let (carrier, address) = carrier_at(&rt, rt);
     drop(connected(&rt, &rt, address));
-    let text = text_of(&rt, rt.alloc(), &[1, 2], carrier, COURSE);
-    is_text(&rt, &text, COURSE_TEXT);
+    let text = text_over(&rt, rt.alloc(), carrier);
+    assert!(rt; text.as_slice() == TEXT);
 }

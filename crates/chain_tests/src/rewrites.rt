@@ -1,9 +1,9 @@
 // Rewrites of the manifest that are due: what they leave, and what is left where a call of the disk
 // fails in one, or the machine stops in it.
-use crate::answers::is_so;
-use crate::items::{config_of, id_of, number};
-use crate::sweep::{ALL_WAYS, Way, fault_at};
-use disk::{Crash, Disk, Fault, MemDisk};
+use crate::cases::is_so;
+use crate::items::{config_of, number};
+use crate::spelled::id_of;
+use disk::{Crash, Disk, Fault, Junk, JunkBytes, MemDisk};
 use engine::{Engine, Tended};
 use kv_types::{Batch, Edit, Key, Limits, Value};
 use manifest::Manifest;
@@ -20,6 +20,36 @@ const FIRST: u64 = 31;
 // After so many more it has 11, 64,695, 62 times 2,129 and 1, which is more than twice 64,690 and
 // 65,536: the first edit then has 32 logs and 31 tables.
 const SECOND: u64 = 93;
+
+// How a fault strikes: the call fails, or the machine stops in it and leaves this junk.
+#[derive(Clone, Copy)]
+enum Way {
+    Fail,
+    Old,
+    New,
+    Bytes(&'static [u8]),
+}
+
+static ALL_WAYS: [Way; 6] = [
+    Way::Fail,
+    Way::Old,
+    Way::New,
+    Way::Bytes(b"\x00"),
+    Way::Bytes(b"\x01"),
+    Way::Bytes(b"\x01\x00"),
+];
+
+fn fault_at(rt: &impl Abort, alloc: Global, way: Way, call: u64) -> Fault {
+    let junk = match way {
+        Way::Fail => return Fault::Fail(call),
+        Way::Old => Junk::Old,
+        Way::New => Junk::New,
+        Way::Bytes(bytes) => {
+            Junk::Bytes(JunkBytes::new(bytes.to_vec(alloc).expect(rt, "memory")))
+        }
+    };
+    Fault::Stop(call, junk)
+}
 
 // The keys that a batch puts, which are two.
 fn indices(batch: u64) -> (u64, u64) {

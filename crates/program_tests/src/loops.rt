@@ -89,27 +89,6 @@ fn rows_are_as_in_memory(rt: HostRuntime) {
     }
 }
 
-// Scripts that have a fault, and what is told of it. No folder is made for them.
-const FAULTS: &[(&str, &str)] = &[
-    ("", "line 1: bad configuration\n"),
-    ("config 1\nsubmit 1 a=1 !fail 1\n", "line 2: bad fault\n"),
-    ("config 1\ntend 1 !stop 1 old\n", "line 2: bad fault\n"),
-    ("config 1\nstop 1 old\n", "line 2: bad fault\n"),
-    ("config 1\nget 2 a\n", "line 2: unknown node\n"),
-];
-
-#[test]
-fn a_faulty_script_makes_no_folder(rt: HostRuntime) {
-    let place = empty_place(&rt, &rt, "faulty");
-    for (script, line) in FAULTS {
-        assert!(rt; refuses(&rt, place.as_str(), script, line), "{line}");
-        assert!(rt;
-            !fs::exists(&rt, place.as_str()).expect(&rt, "a path"),
-            "{line}"
-        );
-    }
-}
-
 // A folder of a node that was created, where this is done to it first: a file is written there.
 fn refused_after(
     rt: &impl Abort,

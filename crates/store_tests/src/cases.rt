@@ -1,4 +1,5 @@
-// Rows of a table, each tried by itself, and what ends a test.
+//! Rows of a table, each tried by itself, and what ends a test.
+
 use std::alloc::Global;
 use std::process::Abort;
 

@@ -1,8 +1,8 @@
 // A store in a folder: the bytes of its files, what an opening finds, and an opening that leaves
 // each byte as it was.
 use crate::cases::{holds_at, is_so};
-use crate::folder_rows::{Text, are_same, disk_over, empty_folder, remove_folder, texts};
 use crate::plain_store::{PlainStore, append, batch_at, created, get_agrees, opened, tends};
+use crate::scratch_folders::{Text, are_same, disk_over, empty_folder, remove_folder, texts};
 use dir_disk::{DirDisk, Unchanged};
 use disk::{Disk, DiskError, MemDisk};
 use engine::Engine;

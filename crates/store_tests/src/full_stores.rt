@@ -1,11 +1,11 @@
 // Stores with as many tables as there may be: `Full`, and the store as it was before.
 use crate::cases::{Case, all_hold, is_so};
+use crate::files::next_if_alone;
 use crate::items::{is_same, number, put};
 use crate::plain_store::{Change, append, batch_at, created_with, key_at, tend, tends, value_at};
 use disk::{Disk, MemDisk};
 use engine::{Engine, Tended};
 use kv_types::Limits;
-use manifest::Manifest;
 use std::alloc::Global;
 use std::process::Abort;
 
@@ -42,19 +42,6 @@ pub fn has(rt: &impl Abort, alloc: Global, engine: &mut Engine<MemDisk>, change:
         }
         (None, None) => true,
         _ => false,
-    }
-}
-
-// The next file of the manifest, if the disk has the files that it names and no others.
-pub fn next_if_alone(rt: &impl Abort, alloc: Global, disk: &mut MemDisk) -> Option<u64> {
-    let manifest = Manifest::open(alloc, disk).expect(rt, "a manifest");
-    let version = manifest.state();
-    let named = version.logs.len().saturating_add(version.tables.len());
-    let files = disk.files().expect(rt, "the files");
-    if files.len() == named.saturating_add(2) {
-        Some(version.next_file)
-    } else {
-        None
     }
 }
 

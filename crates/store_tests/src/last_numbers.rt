@@ -1,7 +1,8 @@
 // Stores with the last file numbers and generations, and with as many logs as there may be, which
 // an edit in bytes brings about: `Full`, and the store as it was before.
 use crate::cases::{Case, all_hold, is_so};
-use crate::full_stores::{created, has, limits, next_if_alone, put_one};
+use crate::files::next_if_alone;
+use crate::full_stores::{created, has, limits, put_one};
 use crate::items::{config_of, copy_of, origin, put};
 use crate::levels::write;
 use crate::plain_store::{Change, append, batch_at, opened_with, tend};

@@ -1,5 +1,6 @@
 // A store as a plain list: of each key the values that batches gave it. What pages of an engine are
 // compared with, and the calls of an engine that tests make.
+
 use crate::cases::is_so;
 use crate::items::{config_of, filled, is_same, key_of, number, origin, put};
 use disk::Disk;

@@ -1,4 +1,5 @@
 // A disk in memory that counts the calls for each file, and reads one place as damaged.
+
 ghost use Rattle.std.specs.Prelude.{None};
 ghost use Rattle.disk.specs.{Absent, IsReliable, past_states};
 

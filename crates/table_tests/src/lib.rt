@@ -1,36 +1,29 @@
-//! Tests of entries in memory and in tables, of cursors over them, of filters and of merges, beyond
-//! the contracts: long walks against plain lists, bytes of filters and tables, damage, and calls
-//! that succeed.
+//! Tests of tables in files, of cursors over them, and of what damage answers, beyond the
+//! contracts.
 #![tactic(auto)]
 
 #[cfg(test)]
-mod builders;
+mod cases;
+#[cfg(test)]
+mod changes;
 #[cfg(test)]
 mod counts;
 #[cfg(test)]
-mod files;
+mod entries;
 #[cfg(test)]
-mod filters;
+mod items;
 #[cfg(test)]
-mod lettered;
-#[cfg(test)]
-mod memtables;
-#[cfg(test)]
-mod merged_tables;
-#[cfg(test)]
-mod merges;
+mod moves;
 #[cfg(test)]
 mod numbered;
 #[cfg(test)]
-mod pages;
+mod one_put;
 #[cfg(test)]
-mod parts;
+mod open_tables;
 #[cfg(test)]
 mod plain;
 #[cfg(test)]
 mod sequence;
-#[cfg(test)]
-mod small_tables;
 #[cfg(test)]
 mod store_walks;
 #[cfg(test)]
@@ -41,5 +34,3 @@ mod table_damage;
 mod table_walks;
 #[cfg(test)]
 mod tables;
-#[cfg(test)]
-mod walks;

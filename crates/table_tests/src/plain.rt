@@ -1,6 +1,8 @@
 //! Entries as a plain sorted list, and a walk over it: what cursors are compared with.
 
-use crate::sequence::{Change, Sequence};
+use crate::changes::KeyChange;
+use crate::items::put;
+use crate::sequence::Sequence;
 use std::alloc::Global;
 use std::process::Abort;
 
@@ -33,7 +35,7 @@ fn place_of(entries: &[PlainEntry], key: u16, number: u64) -> usize {
 fn add(rt: &impl Abort, entries: &mut Vec<PlainEntry>, entry: PlainEntry) {
     let place = place_of(entries, entry.key, entry.number);
     if place >= entries.len() {
-        entries.push(entry).expect(rt, "memory");
+        put(rt, entries, entry);
     } else if entries[place].key == entry.key && entries[place].number == entry.number {
         entries[place] = entry;
     } else {
@@ -42,9 +44,9 @@ fn add(rt: &impl Abort, entries: &mut Vec<PlainEntry>, entry: PlainEntry) {
 }
 
 /// Adds the entries of a numbered batch: the last change of each key.
-pub fn add_all(rt: &impl Abort, entries: &mut Vec<PlainEntry>, number: u64, changes: &[Change]) {
+pub fn add_all(rt: &impl Abort, entries: &mut Vec<PlainEntry>, number: u64, changes: &[KeyChange]) {
     for change in changes {
-        let Change { key, value } = *change;
+        let KeyChange { key, value } = *change;
         add(rt, entries, PlainEntry { key, number, value });
     }
 }
@@ -62,7 +64,7 @@ pub fn shown_at(
         if entry.number <= at && last != Some(entry.key) {
             last = Some(entry.key);
             if entry.value.is_some() {
-                shown.push(*entry).expect(rt, "memory");
+                put(rt, &mut shown, *entry);
             }
         }
     }

@@ -1,17 +1,19 @@
 //! Walks over a memtable and two tables side by side, as a store has them, against plain lists, and
 //! a damaged block of one of the tables.
 
+use crate::changes::{batch_of, changes_of};
 use crate::counts::is_count;
+use crate::entries::{all_owned, owned};
+use crate::items;
+use crate::items::{number, put};
+use crate::moves::{agreeing, meet_all};
 use crate::numbered::Numbered;
+use crate::open_tables::{FILE, build, cursor_in, with_cache};
 use crate::plain::{PlainEntry, add_all, shown_at};
-use crate::sequence::{Sequence, batch_of, copy_of, key_of};
-use crate::table_cursors::all_owned;
+use crate::sequence::Sequence;
 use crate::table_damage::{SOUND, damaged_files, is_stopped};
-use crate::table_walks::meet_all;
-use crate::tables::{FILE, build, table_in, with_cache};
-use crate::walks::{agreeing, changes_of};
 use disk::MemDisk;
-use kv_types::{Batch, Edit, Number, Value};
+use kv_types::Number;
 use merge_iter::{Merged, OwnedEntry};
 use sorted_table::CachedDisk;
 use std::alloc::Global;
@@ -35,11 +37,11 @@ fn entries_and_memtable(rt: &impl Abort, alloc: Global) -> (Vec<PlainEntry>, Num
 }
 
 /// The entries whose numbers leave this when they are divided by three.
-fn part_of(rt: &impl Abort, alloc: Global, entries: &[PlainEntry], which: u64) -> Vec<PlainEntry> {
+fn part_of(rt: &impl Abort, alloc: Global, entries: &[PlainEntry], which: u64) -> Vec<OwnedEntry> {
     let mut part = Vec::new(alloc);
     for entry in entries {
         if entry.number % 3 == which {
-            part.push(*entry).expect(rt, "memory");
+            put(rt, &mut part, owned(rt, alloc, *entry));
         }
     }
     part
@@ -49,7 +51,7 @@ fn part_of(rt: &impl Abort, alloc: Global, entries: &[PlainEntry], which: u64) -
 fn files_of(rt: &impl Abort, alloc: Global, entries: &[PlainEntry]) -> CachedDisk<MemDisk> {
     let mut disk = MemDisk::new(alloc);
     for (file, which) in [(FILE, 1), (SOUND, 2)] {
-        let part = all_owned(rt, alloc, &part_of(rt, alloc, entries, which));
+        let part = part_of(rt, alloc, entries, which);
         build(rt, alloc, &mut disk, file, &part);
     }
     with_cache(rt, alloc, disk, 2)
@@ -64,9 +66,7 @@ fn over<'a>(
 ) -> StoreCursor<'a, MemDisk> {
     let mut tables = Vec::new(alloc);
     for file in of {
-        let table = table_in(rt, alloc, files, *file);
-        let cursor = table.cursor(alloc).expect(rt, "memory");
-        tables.push(cursor).expect(rt, "memory");
+        put(rt, &mut tables, cursor_in(rt, alloc, files, *file));
     }
     StoreCursor::of_tables(tables)
 }
@@ -80,10 +80,9 @@ fn cursors_of<'a>(
 ) -> Vec<StoreCursor<'a, MemDisk>> {
     let mut cursors = Vec::new(alloc);
     let newest = StoreCursor::of_memtable(memtable.table()).expect(rt, "a memtable");
-    cursors.push(newest).expect(rt, "memory");
+    put(rt, &mut cursors, newest);
     for file in [FILE, SOUND] {
-        let older = over(rt, alloc, files, &[file]);
-        cursors.push(older).expect(rt, "memory");
+        put(rt, &mut cursors, over(rt, alloc, files, &[file]));
     }
     cursors
 }
@@ -96,20 +95,16 @@ fn rows_of<'a>(
     files: &mut CachedDisk<MemDisk>,
     at: u64,
 ) -> StoreRows<'a, MemDisk> {
-    let at = Number::new(at).expect(rt, "a number");
-    rows_at(alloc, cursors_of(rt, alloc, memtable, files), at)
-}
-
-fn agreeing_in_a_union(rt: &impl Abort, alloc: Global) -> usize {
-    let (entries, memtable) = entries_and_memtable(rt, alloc);
-    let mut files = files_of(rt, alloc, &entries);
-    let mut union = Merged::new(cursors_of(rt, alloc, &memtable, &mut files));
-    agreeing(rt, &mut union, &mut files, &entries, NUMBERS)
+    rows_at(alloc, cursors_of(rt, alloc, memtable, files), number(at))
 }
 
 #[test]
 fn a_memtable_beside_two_tables(rt: HostRuntime) {
-    is_count(&rt, agreeing_in_a_union(&rt, rt.alloc()), 2_000);
+    let (entries, memtable) = entries_and_memtable(&rt, rt.alloc());
+    let mut files = files_of(&rt, rt.alloc(), &entries);
+    let mut union = Merged::new(cursors_of(&rt, rt.alloc(), &memtable, &mut files));
+    let count = agreeing(&rt, &mut union, &mut files, &entries, NUMBERS);
+    is_count(&rt, count, 2_000);
 }
 
 /// A disk with tables in these files, each of the next third of the entries, and a cache of two
@@ -145,11 +140,12 @@ fn meet_rows(
     alloc: Global,
     memtable: &Numbered,
     files: &mut CachedDisk<MemDisk>,
-    shown: &[PlainEntry],
+    entries: &[PlainEntry],
     at: u64,
 ) {
+    let shown = shown_at(rt, alloc, entries, at);
+    let owned = all_owned(rt, alloc, &shown);
     let mut rows = rows_of(rt, alloc, memtable, files, at);
-    let owned = all_owned(rt, alloc, shown);
     meet_all(rt, &mut rows, files, &owned, shown.len());
 }
 
@@ -159,58 +155,41 @@ fn rows_at_several_numbers(rt: HostRuntime) {
     let (entries, memtable) = entries_and_memtable(&rt, alloc);
     let mut files = files_of(&rt, alloc, &entries);
     for at in [0, 1, 2, 3, 40, 119, 120] {
-        let shown = shown_at(&rt, alloc, &entries, at);
-        meet_rows(&rt, alloc, &memtable, &mut files, &shown, at);
+        meet_rows(&rt, alloc, &memtable, &mut files, &entries, at);
     }
 }
 
-/// How many of the moves over the rows at 61 led where they lead in the plain list.
-fn agreeing_rows(rt: &impl Abort, alloc: Global) -> usize {
-    let (entries, memtable) = entries_and_memtable(rt, alloc);
-    let mut files = files_of(rt, alloc, &entries);
-    let mut rows = rows_of(rt, alloc, &memtable, &mut files, 61);
-    let shown = shown_at(rt, alloc, &entries, 61);
-    agreeing(rt, &mut rows, &mut files, &shown, NUMBERS)
-}
-
+// Of the moves over the rows at 61.
 #[test]
 fn the_rows_of_a_memtable_and_two_tables(rt: HostRuntime) {
-    is_count(&rt, agreeing_rows(&rt, rt.alloc()), 2_000);
+    let (entries, memtable) = entries_and_memtable(&rt, rt.alloc());
+    let mut files = files_of(&rt, rt.alloc(), &entries);
+    let mut rows = rows_of(&rt, rt.alloc(), &memtable, &mut files, 61);
+    let shown = shown_at(&rt, rt.alloc(), &entries, 61);
+    let count = agreeing(&rt, &mut rows, &mut files, &shown, NUMBERS);
+    is_count(&rt, count, 2_000);
 }
 
-/// The batch that deletes 4, and puts 6.
-fn newer_batch(rt: &impl Abort, alloc: Global) -> Batch {
-    let value = Value::new(copy_of(rt, alloc, b"new")).expect(rt, "a value");
-    let mut edits = Vec::new(alloc);
-    edits
-        .push(Edit::Delete(key_of(rt, alloc, b"4")))
-        .expect(rt, "memory");
-    edits
-        .push(Edit::Put(key_of(rt, alloc, b"6"), value))
-        .expect(rt, "memory");
-    Batch::new(edits).expect(rt, "a batch")
-}
-
-/// A memtable of that batch, with number 2.
+/// A memtable of the batch with number 2, which deletes 4 and puts 6.
 fn newer(rt: &impl Abort, alloc: Global) -> Numbered {
     let mut memtable = Numbered::new(alloc);
-    memtable.add(rt, 2, &newer_batch(rt, alloc));
+    let batch = items::batch_of(rt, alloc, &[(b"4", None), (b"6", Some(b"new"))]);
+    memtable.add(rt, 2, &batch);
     memtable
 }
 
+// The keys 4 and 6 stand in the union twice, behind the damage of 5 and before it.
 #[test]
 fn a_damaged_block_stops_a_union_with_a_memtable(rt: HostRuntime) {
-    let alloc = rt.alloc();
-    let (memtable, mut files) = (newer(&rt, alloc), damaged_files(&rt, alloc));
-    let mut union = Merged::new(cursors_of(&rt, alloc, &memtable, &mut files));
-    is_stopped(&rt, &mut union, &mut files, b"12344566789", (3, 3));
+    let (memtable, mut files) = (newer(&rt, rt.alloc()), damaged_files(&rt, rt.alloc()));
+    let mut union = Merged::new(cursors_of(&rt, rt.alloc(), &memtable, &mut files));
+    is_stopped(&rt, &mut union, &mut files, (b"123", b"987"));
 }
 
 // At 2 the key 4 is deleted. A walk back is one entry ahead.
 #[test]
 fn a_damaged_block_stops_rows(rt: HostRuntime) {
-    let alloc = rt.alloc();
-    let (memtable, mut files) = (newer(&rt, alloc), damaged_files(&rt, alloc));
-    let mut rows = rows_of(&rt, alloc, &memtable, &mut files, 2);
-    is_stopped(&rt, &mut rows, &mut files, b"12356789", (3, 2));
+    let (memtable, mut files) = (newer(&rt, rt.alloc()), damaged_files(&rt, rt.alloc()));
+    let mut rows = rows_of(&rt, rt.alloc(), &memtable, &mut files, 2);
+    is_stopped(&rt, &mut rows, &mut files, (b"123", b"98"));
 }

@@ -1,121 +1,30 @@
 //! Tables in files: lookups, and the calls of the device that these make.
-ghost use Rattle.table_format.specs.{IsTableEntry, lent_entry};
 
+use crate::cases::{holds_at, is_so};
 use crate::counts::is_count;
-use crate::sequence::{copy_of, key_of};
-use disk::{Crash, Disk, Fault, MemDisk};
+use crate::entries::{entry_of, is_same_value};
+use crate::items::put;
+use crate::open_tables::{FILE, files_of, table_in};
+use disk::{Crash, Fault, MemDisk};
 use kv_types::LentKey;
 use merge_iter::OwnedEntry;
-use sorted_table::Table;
+use sorted_table::{CachedDisk, FoundVersion, Table};
 use std::alloc::Global;
 use std::process::Abort;
-use table_builder::{Builder, Finished};
-use table_files::CachedDisk;
-use table_format::LentEntry;
-
-/// The file of the table.
-pub const FILE: u64 = 3;
-
-/// The entry, lent.
-fn lent(entry: &OwnedEntry) -> LentEntry<'_>
-    ensures { IsTableEntry (lent_entry result) }
-{
-    LentEntry {
-        key: entry.key.lent(),
-        number: entry.number,
-        value: entry.value.as_deref(),
-    }
-}
-
-/// Adds these entries.
-fn add_all<D: Disk>(
-    rt: &impl Abort,
-    alloc: Global,
-    builder: &mut Builder,
-    disk: &mut D,
-    entries: &[OwnedEntry],
-) {
-    for entry in entries {
-        builder.add(alloc, disk, lent(entry)).expect(rt, "an entry");
-    }
-}
-
-/// Builds the table of these entries in a file.
-pub fn build<D: Disk>(
-    rt: &impl Abort,
-    alloc: Global,
-    disk: &mut D,
-    file: u64,
-    entries: &[OwnedEntry],
-) -> Finished {
-    let mut builder = Builder::new(alloc, file);
-    add_all(rt, alloc, &mut builder, disk, entries);
-    assert!(rt; builder.len() > 0, "no entries");
-    builder.finish(alloc, disk).expect(rt, "a table")
-}
-
-/// A copy of the bytes, if there are any.
-fn copy_of_some(rt: &impl Abort, alloc: Global, bytes: Option<&[u8]>) -> Option<Vec<u8>> {
-    match bytes {
-        Some(bytes) => Some(copy_of(rt, alloc, bytes)),
-        None => None,
-    }
-}
-
-/// An entry with a copy of these bytes.
-pub fn entry_of(
-    rt: &impl Abort,
-    alloc: Global,
-    key: &[u8],
-    number: u64,
-    value: Option<&[u8]>,
-) -> OwnedEntry {
-    let key = key_of(rt, alloc, key);
-    let value = copy_of_some(rt, alloc, value);
-    OwnedEntry::new(key, number, value).expect(rt, "an entry within the limits")
-}
-
-/// The disk with a cache of so many blocks.
-pub fn with_cache(
-    rt: &impl Abort,
-    alloc: Global,
-    disk: MemDisk,
-    blocks: usize,
-) -> CachedDisk<MemDisk> {
-    CachedDisk::new(alloc, disk, blocks.clamp(1, 65_536)).expect(rt, "memory for the cache")
-}
-
-/// A disk with the table of these entries, and a cache of so many blocks.
-pub fn files_of(
-    rt: &impl Abort,
-    alloc: Global,
-    entries: &[OwnedEntry],
-    blocks: usize,
-) -> CachedDisk<MemDisk> {
-    let mut disk = MemDisk::new(alloc);
-    build(rt, alloc, &mut disk, FILE, entries);
-    with_cache(rt, alloc, disk, blocks)
-}
-
-/// The table of the file.
-pub fn table_in(
-    rt: &impl Abort,
-    alloc: Global,
-    files: &mut CachedDisk<MemDisk>,
-    file: u64,
-) -> Table {
-    Table::open(alloc, files, file).expect(rt, "a table")
-}
-
-/// All bytes of the file.
-pub fn bytes_of<D: Disk>(rt: &impl Abort, alloc: Global, disk: &mut D, file: u64) -> Vec<u8> {
-    let len = disk.length(file).expect(rt, "a file");
-    let mut bytes = vec![in alloc; 0u8; len as usize].expect(rt, "memory");
-    disk.read(file, 0, &mut bytes).expect(rt, "the bytes");
-    bytes
-}
 
 // ---- lookups
+
+/// Whether this entry was found, or none.
+fn is_found(found: &Option<FoundVersion>, want: Option<&OwnedEntry>) -> bool {
+    match (found, want) {
+        (Some(found), Some(want)) => {
+            found.number == want.number
+                && is_same_value(found.value.as_deref(), want.value.as_deref())
+        }
+        (None, None) => true,
+        _ => false,
+    }
+}
 
 /// Whether a lookup of the key finds this entry, or none.
 fn finds(
@@ -127,11 +36,7 @@ fn finds(
     want: Option<&OwnedEntry>,
 ) -> bool {
     let found = table.get(alloc, files, key, at).expect(rt, "a lookup");
-    match (&found, want) {
-        (Some(found), Some(want)) => found.number == want.number && found.value == want.value,
-        (None, None) => true,
-        _ => false,
-    }
+    is_found(&found, want)
 }
 
 /// The entries of a key of one byte, and of the longest key with three numbers.
@@ -145,8 +50,8 @@ fn few(rt: &impl Abort, alloc: Global) -> [OwnedEntry; 4] {
     ]
 }
 
-/// A number at which a lookup is made, and the place of the entry that it finds for the key of the
-/// entry at another place.
+/// A number at which a lookup is made, the place of the entry of whose key it is, and the place of
+/// the entry that it finds.
 type Lookup = (u64, usize, Option<usize>);
 
 static LOOKUPS: [Lookup; 10] = [
@@ -163,7 +68,7 @@ static LOOKUPS: [Lookup; 10] = [
 ];
 
 /// Whether the lookup finds what it is to find.
-fn is_found(
+fn finds_place(
     rt: &impl Abort,
     alloc: Global,
     table: &Table,
@@ -181,24 +86,16 @@ fn is_found(
     finds(rt, alloc, table, files, (entry.key.lent(), at), want)
 }
 
-fn all_are_found(
-    rt: &impl Abort,
-    alloc: Global,
-    files: &mut CachedDisk<MemDisk>,
-    entries: &[OwnedEntry],
-) {
-    let table = table_in(rt, alloc, files, FILE);
-    for row in &LOOKUPS {
-        let is_so = is_found(rt, alloc, &table, files, entries, *row);
-        assert!(rt; is_so, "key {} at {}", row.1, row.0);
-    }
-}
-
 #[test]
 fn lookups_at_each_number(rt: HostRuntime) {
     let alloc = rt.alloc();
     let entries = few(&rt, alloc);
-    all_are_found(&rt, alloc, &mut files_of(&rt, alloc, &entries, 1), &entries);
+    let mut files = files_of(&rt, alloc, &entries, 1);
+    let table = table_in(&rt, alloc, &mut files, FILE);
+    for (index, row) in LOOKUPS.iter().enumerate() {
+        let is_so = finds_place(&rt, alloc, &table, &mut files, &entries, *row);
+        holds_at(&rt, index, is_so);
+    }
 }
 
 // ---- calls of the device
@@ -213,15 +110,12 @@ fn opening_reaches(rt: &impl Abort, alloc: Global, call: u64) -> bool {
     let mut files = files_of_few(rt, alloc);
     files.arm(&Fault::Fail(call));
     let is_open = Table::open(alloc, &mut files, FILE).is_ok();
-    assert!(rt; is_open != files.has_struck(), "an opening hides a failure");
+    is_so(rt, is_open != files.has_struck(), "it hides a failure");
     !is_open
 }
 
-/// Whether two lookups of one key both answer.
-fn both_answer(alloc: Global, table: &Table, files: &mut CachedDisk<MemDisk>) -> bool {
-    let first = table.get(alloc, files, LentKey::new(b"@"), 5).is_ok();
-    let second = table.get(alloc, files, LentKey::new(b"@"), 5).is_ok();
-    first && second
+fn answers(alloc: Global, table: &Table, files: &mut CachedDisk<MemDisk>) -> bool {
+    table.get(alloc, files, LentKey::new(b"@"), 5).is_ok()
 }
 
 /// Whether such a call is made by two lookups of one key.
@@ -229,33 +123,19 @@ fn lookups_reach(rt: &impl Abort, alloc: Global, call: u64) -> bool {
     let mut files = files_of_few(rt, alloc);
     let table = table_in(rt, alloc, &mut files, FILE);
     files.arm(&Fault::Fail(call));
-    let both_answer = both_answer(alloc, &table, &mut files);
-    assert!(rt;
-        both_answer != files.has_struck(),
-        "a lookup hides a failure"
-    );
-    !both_answer
-}
-
-/// Fails the test unless the first of two calls is made, and the second is not.
-fn is_last(rt: &impl Abort, made: (bool, bool)) {
-    assert!(rt; made == (true, false), "{made:?}");
+    let first = answers(alloc, &table, &mut files);
+    let both = answers(alloc, &table, &mut files) && first;
+    is_so(rt, both != files.has_struck(), "it hides a failure");
+    !both
 }
 
 #[test]
 fn an_opening_makes_three_calls_and_a_lookup_one(rt: HostRuntime) {
     let alloc = rt.alloc();
-    is_last(
-        &rt,
-        (
-            opening_reaches(&rt, alloc, 3),
-            opening_reaches(&rt, alloc, 4),
-        ),
-    );
-    is_last(
-        &rt,
-        (lookups_reach(&rt, alloc, 1), lookups_reach(&rt, alloc, 2)),
-    );
+    is_so(&rt, opening_reaches(&rt, alloc, 3), "three calls");
+    is_so(&rt, !opening_reaches(&rt, alloc, 4), "and no more");
+    is_so(&rt, lookups_reach(&rt, alloc, 1), "one call");
+    is_so(&rt, !lookups_reach(&rt, alloc, 2), "and no second");
 }
 
 // ---- many blocks
@@ -274,8 +154,7 @@ fn one_of_many(rt: &impl Abort, alloc: Global, i: u16, len: usize) -> OwnedEntry
 pub fn many(rt: &impl Abort, alloc: Global, count: u16, len: usize) -> Vec<OwnedEntry> {
     let mut entries = Vec::new(alloc);
     for i in 0..count {
-        let entry = one_of_many(rt, alloc, i, len);
-        entries.push(entry).expect(rt, "memory");
+        put(rt, &mut entries, one_of_many(rt, alloc, i, len));
     }
     entries
 }
@@ -290,16 +169,9 @@ pub fn found_of(
     let table = table_in(rt, alloc, files, FILE);
     let mut count = 0usize;
     for entry in entries {
-        if finds(
-            rt,
-            alloc,
-            &table,
-            files,
-            (entry.key.lent(), entry.number),
-            Some(entry),
-        ) {
-            count = count.wrapping_add(1);
-        }
+        let asked = (entry.key.lent(), entry.number);
+        let is_found = finds(rt, alloc, &table, files, asked, Some(entry));
+        count = count.wrapping_add(is_found as usize);
     }
     count
 }

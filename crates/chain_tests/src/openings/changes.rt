@@ -1,5 +1,5 @@
 // Each byte of each file of the small disk is each other byte in turn, and the disk is opened.
-use crate::answers::is_text;
+use crate::cases::is_text;
 use crate::openings::small_disk::{DAMAGED, NOT_CREATED, SAME, length_of, shown, small_disk};
 use disk::{Disk, MemDisk};
 use std::alloc::{AllocError, Global};

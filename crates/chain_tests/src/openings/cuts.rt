@@ -1,5 +1,5 @@
 // Each file of the small disk is shorter by each length in turn, or absent, and the disk is opened.
-use crate::answers::is_text;
+use crate::cases::is_text;
 use crate::openings::small_disk::{DAMAGED, NOT_CREATED, length_of, shown, small_disk};
 use disk::{Disk, MemDisk};
 use std::alloc::Global;

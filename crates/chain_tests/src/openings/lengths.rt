@@ -1,7 +1,7 @@
 // Lengths, counts and places of the small disk that say far more than the files have, each behind
 // the digest that it then needs. None is taken at its word: the tests also pass where each request
 // for more than 64 KiB of memory is refused (tools/memory).
-use crate::answers::holds_at;
+use crate::cases::holds_at;
 use crate::openings::small_disk::{DAMAGED, SAME, shown, small_disk};
 use disk::{Disk, MemDisk};
 use std::alloc::Global;

@@ -1,6 +1,7 @@
 // A small disk that an engine left, and what an opening of a disk shows.
-use crate::answers::is_so;
-use crate::items::{Change, batch_of, config_of, id_of, key_of, number};
+use crate::cases::is_so;
+use crate::items::{config_of, number};
+use crate::spelled::{Change, batch_of, id_of, key_of};
 use disk::{Disk, MemDisk};
 use engine::{Engine, EngineError, Tended};
 use kv_types::{Limits, Number, Value};

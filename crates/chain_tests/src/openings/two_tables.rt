@@ -1,8 +1,9 @@
 // A store with two tables of level 0, in which each byte of a block is another: a read that comes
 // to the block stops for damage, and answers neither an older value nor none.
-use crate::answers::{is_so, is_text};
-use crate::items::{config_of, id_of, key_of, number};
+use crate::cases::{is_so, is_text};
+use crate::items::{config_of, number};
 use crate::openings::small_disk::{append, length_of, limits};
+use crate::spelled::{id_of, key_of};
 use disk::{Disk, MemDisk};
 use engine::{Engine, Tended};
 use kv_types::Value;

@@ -1,4 +1,5 @@
 use Rattle.std.proofs.Common.{◌≡◌, ◌∙◌, ◌↔◌, IsTrue, Some, arith, length, refl, subst, sym, ap}
+use Rattle.std.proofs.lemmas.Grind.{common_steps}
 use Rattle.std.specs.Vec.{vec_len}
 use Rattle.std.proofs.lemmas.Option.{slice_get_read}
 use Rattle.merge_iter.specs.Order.{EntryPrecedes}
@@ -78,3 +79,48 @@ returns-else-valid-clause-unbroken g c =
     (search (arith, c.if-other_place-len.false, c.len.ensures)) c.index-other.ensures in
     unbroken_at g.C.Cursor.position xs c.in-Some.other_place c.index-other.result.now there
     (c.valid.ensures.0 c.if-not-valid.false)
+
+pub returns-then-not-is_same-clause-settles : goal.returns-then-not-is_same-clause-settles
+returns-then-not-is_same-clause-settles g c =
+    λ meant start at next first. c.settle.ensures.settles meant start at first
+
+pub returns-then-not-is_same-clause-left : goal.returns-then-not-is_same-clause-left
+returns-then-not-is_same-clause-left g c = c.settle.ensures.left
+
+pub returns-then-not-is_same-clause-unbroken : goal.returns-then-not-is_same-clause-unbroken
+returns-then-not-is_same-clause-unbroken g c = c.settle.ensures.unbroken
+
+pub returns-in_default-clause-settles : goal.returns-in_default-clause-settles
+returns-in_default-clause-settles g c = grind (arith, common_steps)
+
+pub returns-in_default-clause-left : goal.returns-in_default-clause-left
+returns-in_default-clause-left g c = c.alone.ensures.left
+
+pub returns-in_default-clause-unbroken : goal.returns-in_default-clause-unbroken
+returns-in_default-clause-unbroken g c = c.alone.ensures.unbroken
+
+pub returns-then-other_place-len-clause-settles : goal.returns-then-other_place-len-clause-settles
+returns-then-other_place-len-clause-settles g c =
+    λ meant start at next first. c.settle-then-other_place-len.ensures.settles meant start at first
+
+pub returns-then-other_place-len-clause-left : goal.returns-then-other_place-len-clause-left
+returns-then-other_place-len-clause-left g c = c.settle-then-other_place-len.ensures.left
+
+pub returns-then-other_place-len-clause-unbroken : goal.returns-then-other_place-len-clause-unbroken
+returns-then-other_place-len-clause-unbroken g c = c.settle-then-other_place-len.ensures.unbroken
+
+pub returns-then-not-valid-clause-settles : goal.returns-then-not-valid-clause-settles
+returns-then-not-valid-clause-settles g c =
+    λ meant start at next first. c.settle-then-not-valid.ensures.settles meant start at first
+
+pub returns-then-not-valid-clause-left : goal.returns-then-not-valid-clause-left
+returns-then-not-valid-clause-left g c = c.settle-then-not-valid.ensures.left
+
+pub returns-then-not-valid-clause-unbroken : goal.returns-then-not-valid-clause-unbroken
+returns-then-not-valid-clause-unbroken g c = c.settle-then-not-valid.ensures.unbroken
+
+pub returns-then-precedes-clause-left : goal.returns-then-precedes-clause-left
+returns-then-precedes-clause-left g c = grind (arith, common_steps)
+
+pub returns-else-valid-clause-left : goal.returns-else-valid-clause-left
+returns-else-valid-clause-left g c = grind (arith, common_steps)

@@ -1,4 +1,5 @@
 use Rattle.std.proofs.Common.{arith, map}
+use Rattle.std.proofs.lemmas.Grind.{common_steps}
 use Rattle.scripts.proofs.LimitLines.{two_words}
 use Rattle.scripts.proofs.Notices.{notices, read_notice}
 use Rattle.scripts.proofs.reader.notice.Goals as goal
@@ -18,3 +19,21 @@ returns c =
     (two_words c.split_fault.result.0.now _ _ _
     (omega (arith, c.in-len2.len_at_least, c.in-len2.len_below)) node.2 epoch.2)
     c.in_ok-fault.ensures) known.1 placed.1)
+
+pub returns-in_default : goal.returns-in_default
+returns-in_default c = grind (arith, common_steps)
+
+pub returns-in_default-2 : goal.returns-in_default-2
+returns-in_default-2 c = grind (arith, common_steps)
+
+pub returns-in_err-fault : goal.returns-in_err-fault
+returns-in_err-fault c = grind (arith, common_steps)
+
+pub returns-in_err-epoch : goal.returns-in_err-epoch
+returns-in_err-epoch c = grind (arith, common_steps)
+
+pub returns-in_err-node : goal.returns-in_err-node
+returns-in_err-node c = grind (arith, common_steps)
+
+pub returns-in_err-new : goal.returns-in_err-new
+returns-in_err-new c = grind (arith, common_steps)

@@ -1,0 +1,18 @@
+//! Rows of a table, each tried by itself, and what ends a test.
+
+use std::process::Abort;
+
+/// Fails the test unless this holds at the index, as a row does.
+pub fn holds_at(rt: &impl Abort, index: usize, holds: bool) {
+    assert!(rt; holds, "{index} does not hold");
+}
+
+/// Fails the test unless this is so.
+pub fn is_so(rt: &impl Abort, holds: bool, what: &str) {
+    assert!(rt; holds, "{what}");
+}
+
+/// Fails the test where a text is another one than is wanted.
+pub fn is_text(rt: &impl Abort, text: &str, want: &str) {
+    assert!(rt; text == want, "{text}");
+}

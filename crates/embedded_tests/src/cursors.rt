@@ -1,0 +1,158 @@
+// Cursors of a store that stands alone, beside a plain map: walks both ways, turns, seeks, and the
+// map of a snapshot behind later batches.
+use crate::cases::{holds_at, is_so};
+use crate::courses::{KEYS, fill, is_row, key_at, limits, opened, plain, refusal};
+use crate::items::number;
+use crate::scratch_folders::{empty_folder, remove_folder};
+use disk::{Disk, MemDisk};
+use embedded_store::{EmbeddedStore, EngineError, RowCursor};
+use std::alloc::Global;
+use std::process::Abort;
+
+// Whether the cursor stands on the row that the map of so many batches has of this key.
+fn is_on(cursor: &RowCursor, index: u64, count: u64) -> bool {
+    cursor.row().is_some_and(|row| is_row(row, index, count))
+}
+
+// Walks from the first row to the last, with one look back at each.
+fn walk_on<D: Disk + Drop>(
+    rt: &impl Abort,
+    alloc: Global,
+    store: &mut EmbeddedStore<D>,
+    cursor: &mut RowCursor,
+) {
+    let count = cursor.number().get();
+    cursor.first(alloc, store).expect(rt, "the first");
+    for index in 0..KEYS {
+        if plain(index, count).is_some() {
+            holds_at(rt, index as usize, is_on(cursor, index, count));
+            cursor.next(alloc, store).expect(rt, "a step");
+        }
+    }
+    is_so(rt, cursor.row().is_none(), "behind the last row");
+}
+
+// Walks from the last row to the first.
+fn walk_back<D: Disk + Drop>(
+    rt: &impl Abort,
+    alloc: Global,
+    store: &mut EmbeddedStore<D>,
+    cursor: &mut RowCursor,
+) {
+    let count = cursor.number().get();
+    cursor.last(alloc, store).expect(rt, "the last");
+    for index in (0..KEYS).rev() {
+        if plain(index, count).is_some() {
+            holds_at(rt, index as usize, is_on(cursor, index, count));
+            cursor.prev(alloc, store).expect(rt, "a step");
+        }
+    }
+    is_so(rt, cursor.row().is_none(), "before the first row");
+}
+
+// The first key from this one on that the map of so many batches has; else none of the keys.
+fn next_key(from: u64, count: u64) -> u64 {
+    for index in from..KEYS {
+        if plain(index, count).is_some() {
+            return index;
+        }
+    }
+    KEYS
+}
+
+// Moves to a key, steps on, and back.
+fn seek_and_turn<D: Disk + Drop>(
+    rt: &impl Abort,
+    alloc: Global,
+    store: &mut EmbeddedStore<D>,
+    cursor: &mut RowCursor,
+    index: u64,
+) {
+    let count = cursor.number().get();
+    let key = key_at(rt, alloc, index);
+    cursor.seek(alloc, store, &key).expect(rt, "a seek");
+    let first = next_key(index, count);
+    if first == KEYS {
+        is_so(rt, cursor.row().is_none(), "no row from there on");
+        return;
+    }
+    holds_at(rt, index as usize, is_on(cursor, first, count));
+    cursor.next(alloc, store).expect(rt, "a step");
+    let second = next_key(first.wrapping_add(1), count);
+    if second < KEYS {
+        holds_at(rt, index as usize, is_on(cursor, second, count));
+        cursor.prev(alloc, store).expect(rt, "a step back");
+        holds_at(rt, index as usize, is_on(cursor, first, count));
+    }
+}
+
+fn seek_all<D: Disk + Drop>(
+    rt: &impl Abort,
+    alloc: Global,
+    store: &mut EmbeddedStore<D>,
+    cursor: &mut RowCursor,
+) {
+    for index in 0..=KEYS {
+        seek_and_turn(rt, alloc, store, cursor, index);
+    }
+}
+
+// All walks through the map of the cursor.
+fn walk_all<D: Disk + Drop>(
+    rt: &impl Abort,
+    alloc: Global,
+    store: &mut EmbeddedStore<D>,
+    cursor: &mut RowCursor,
+) {
+    is_so(rt, cursor.row().is_none(), "on no row at first");
+    walk_on(rt, alloc, store, cursor);
+    walk_back(rt, alloc, store, cursor);
+    seek_all(rt, alloc, store, cursor);
+}
+
+// Cursors at a snapshot, while batches are written behind it, and at the newest number.
+fn run_cursors<D: Disk + Drop>(rt: &impl Abort, alloc: Global, store: &mut EmbeddedStore<D>) {
+    fill(rt, alloc, store, 1, 20);
+    let snapshot = store.snapshot().expect(rt, "a snapshot");
+    let mut before = store.cursor(alloc, Some(snapshot));
+    walk_all(rt, alloc, store, &mut before);
+    fill(rt, alloc, store, 21, 40);
+    walk_on(rt, alloc, store, &mut before);
+    let mut newest = store.cursor(alloc, None);
+    is_so(rt, newest.number() == number(40), "the newest number");
+    walk_all(rt, alloc, store, &mut newest);
+}
+
+#[test]
+fn cursors_walk_as_a_plain_map(rt: HostRuntime) {
+    let mut store = opened(&rt, rt.alloc(), MemDisk::new(rt.alloc()));
+    run_cursors(&rt, rt.alloc(), &mut store);
+    store.close();
+}
+
+#[test]
+fn cursors_walk_so_in_a_folder(rt: HostRuntime) {
+    let folder = empty_folder(&rt, &rt, "embedded_cursors");
+    let made = EmbeddedStore::open(&rt, folder.as_str(), &limits(&rt));
+    let mut store = made.ok().expect(&rt, "a store");
+    run_cursors(&rt, rt.alloc(), &mut store);
+    store.close();
+    remove_folder(&rt, &rt, folder.as_str());
+}
+
+// A cursor whose number is too old is refused, and stands where it stood.
+#[test]
+fn a_refused_move_leaves_the_cursor(rt: HostRuntime) {
+    let (rt, alloc) = (&rt, rt.alloc());
+    let mut store = opened(rt, alloc, MemDisk::new(alloc));
+    fill(rt, alloc, &mut store, 1, 20);
+    let mut cursor = store.cursor(alloc, None);
+    cursor.first(alloc, &mut store).expect(rt, "the first");
+    let first = next_key(0, 20);
+    fill(rt, alloc, &mut store, 21, 60);
+    is_so(rt, refusal(rt, alloc, &mut store, 20).is_some(), "too old");
+    let moved = cursor.last(alloc, &mut store).err();
+    is_so(rt, moved == Some(EngineError::TooOld), "a move");
+    is_so(rt, is_on(&cursor, first, 20), "where it stood");
+    store.close();
+}

@@ -1,0 +1,112 @@
+// What an opening of a store that stands alone creates, opens and refuses.
+use crate::cases::is_so;
+use crate::courses::{agrees, fill, junk_at, limits, opened};
+use crate::items::config_of;
+use configurations::NodeId;
+use disk::{Crash, Disk, DiskError, Fault, MemDisk};
+use embedded_store::{EmbeddedStore, EngineError, OpenError};
+use engine::Engine;
+use kv_types::Number;
+use std::alloc::Global;
+use std::process::Abort;
+
+// A store on the disk that a stopped creation left has no batches, and takes some.
+fn is_made_again(rt: &impl Abort, alloc: Global, disk: MemDisk) {
+    let mut store = opened(rt, alloc, disk);
+    is_so(rt, store.count() == Number::ZERO, "no batches");
+    fill(rt, alloc, &mut store, 1, 3);
+    is_so(rt, agrees(rt, alloc, &mut store, &None, 3), "its map");
+    store.close();
+}
+
+// Whether a creation stops in this call. Then it is made again.
+fn stops_at(rt: &impl Abort, alloc: Global, call: u64, place: u64) -> bool {
+    let mut disk = MemDisk::new(alloc);
+    disk.arm(&Fault::Fail(call));
+    match EmbeddedStore::over(alloc, disk, &limits(rt)) {
+        Ok(store) => {
+            store.close();
+            false
+        }
+        Err((error, mut disk)) => {
+            let failed = error == OpenError::Store(EngineError::Disk);
+            is_so(rt, failed, "the device");
+            disk.crash(junk_at(rt, alloc, place));
+            is_made_again(rt, alloc, disk);
+            true
+        }
+    }
+}
+
+// How many calls of a creation stop it.
+fn stops(rt: &impl Abort, alloc: Global, place: u64) -> u64 {
+    for call in 1..50u64 {
+        if !stops_at(rt, alloc, call, place) {
+            return call.saturating_sub(1);
+        }
+    }
+    0
+}
+
+// A crash may leave any bytes of a file that was never synced. Ones would open the gate of a slot.
+#[test]
+fn a_creation_that_stops_is_made_again(rt: HostRuntime) {
+    let (rt, alloc) = (&rt, rt.alloc());
+    for place in 0..3u64 {
+        is_so(rt, stops(rt, alloc, place) > 7, "the calls of a creation");
+    }
+}
+
+// Why a disk has no store for those who embed it, if it has none; then its files are left.
+fn refused(rt: &impl Abort, alloc: Global, disk: MemDisk, files: &[u64]) -> Option<OpenError> {
+    match EmbeddedStore::over(alloc, disk, &limits(rt)) {
+        Ok(store) => {
+            store.close();
+            None
+        }
+        Err((error, mut disk)) => {
+            let left = disk.files().expect(rt, "files");
+            is_so(rt, left.as_slice() == files, "its files");
+            Some(error)
+        }
+    }
+}
+
+fn disk_with(rt: &impl Abort, alloc: Global, file: u64, bytes: &[u8]) -> MemDisk {
+    let mut disk = MemDisk::new(alloc);
+    disk.write_at(file, 0, bytes).expect(rt, "a write");
+    disk
+}
+
+// The disk of a node of a chain of two.
+fn node_disk(rt: &impl Abort, alloc: Global) -> MemDisk {
+    let config = config_of(rt, alloc, &[1, 2]);
+    let id = NodeId::new(1).expect(rt, "an id");
+    let made = Engine::create(alloc, MemDisk::new(alloc), id, &config, &limits(rt));
+    made.ok().expect(rt, "an engine").into_disk()
+}
+
+// The disk of a store whose first log is gone.
+fn disk_without_log(rt: &impl Abort, alloc: Global) -> MemDisk {
+    let mut disk = opened(rt, alloc, MemDisk::new(alloc)).into_disk();
+    let gone: Result<(), DiskError> = disk.remove(3);
+    is_so(rt, gone.is_ok(), "a removal");
+    disk
+}
+
+#[test]
+fn an_opening_creates_over_nothing_that_is_there(rt: HostRuntime) {
+    let (rt, alloc) = (&rt, rt.alloc());
+    let taken = Some(OpenError::Store(EngineError::NotCreated));
+    let found = refused(rt, alloc, disk_with(rt, alloc, 7, b""), &[7]);
+    is_so(rt, found == taken, "a fourth file");
+    let found = refused(rt, alloc, disk_with(rt, alloc, 3, b"\x01\x00"), &[3]);
+    is_so(rt, found == taken, "a record");
+    let found = refused(rt, alloc, disk_with(rt, alloc, 3, b"\x01"), &[]);
+    is_so(rt, found.is_none(), "a log without one");
+    let found = refused(rt, alloc, node_disk(rt, alloc), &[1, 2, 3]);
+    is_so(rt, found == Some(OpenError::OfChain), "a node of a chain");
+    let found = refused(rt, alloc, disk_without_log(rt, alloc), &[1, 2]);
+    let damaged = Some(OpenError::Store(EngineError::Damaged));
+    is_so(rt, found == damaged, "a store without its log");
+}

@@ -1,0 +1,138 @@
+//! The parts of the table of one put, written and read, and each of their bytes damaged.
+
+use crate::cases::{holds_at, is_so};
+use crate::items::{copy_of, is_same};
+use crate::one_put::{BLOCK, FILTER, FOOTER, INDEX, index_with, turned};
+use kv_types::LentKey;
+use std::alloc::Global;
+use std::process::Abort;
+use table_format::{
+    Footer, LentEntry, entries_of, entry_of, filter_of, filter_part_of, footer_of, footer_part_of,
+    lines_of, put_entry, seal,
+};
+
+fn block(rt: &impl Abort, alloc: Global) -> Vec<u8> {
+    let mut part = copy_of(rt, alloc, &[0, 0, 0, 1]);
+    let entry = LentEntry {
+        key: LentKey::new(b"a"),
+        number: 1,
+        value: Some(b"1"),
+    };
+    put_entry(&mut part, entry).expect(rt, "memory");
+    seal(&mut part).expect(rt, "memory");
+    part
+}
+
+fn footer(rt: &impl Abort, alloc: Global) -> Vec<u8> {
+    let footer = Footer {
+        index: 47,
+        index_len: 35,
+        filter: 27,
+        filter_len: 20,
+        entries: 1,
+    };
+    footer_part_of(alloc, footer).expect(rt, "memory")
+}
+
+/// The content of the filter of the key `a`.
+const BITS: [u8; 8] = [0, 12, 128, 1, 16, 0, 2, 64];
+
+#[test]
+fn parts_are_written(rt: HostRuntime) {
+    let alloc = rt.alloc();
+    is_so(&rt, is_same(&block(&rt, alloc), BLOCK), "the block");
+    let filter = filter_part_of(alloc, &BITS).expect(&rt, "memory");
+    is_so(&rt, is_same(&filter, FILTER), "the filter");
+    is_so(
+        &rt,
+        is_same(&index_with(&rt, alloc, b"a"), INDEX),
+        "the index",
+    );
+    is_so(&rt, is_same(&footer(&rt, alloc), FOOTER), "the footer");
+}
+
+/// Whether the block has that one entry.
+fn is_block(part: &[u8]) -> bool {
+    let Some(text) = entries_of(part) else {
+        return false;
+    };
+    let Some((entry, rest)) = entry_of(text) else {
+        return false;
+    };
+    rest.is_empty()
+        && is_same(entry.key.as_bytes(), b"a")
+        && entry.number == 1
+        && is_same(entry.value.unwrap_or_default(), b"1")
+}
+
+fn is_filter(part: &[u8]) -> bool {
+    match filter_of(part) {
+        Some(filter) => is_same(filter, &BITS),
+        None => false,
+    }
+}
+
+/// Whether it is the index of one block of 27 bytes that ends with `a` at 1.
+fn is_index(alloc: Global, part: &[u8]) -> bool {
+    let Ok(lines) = lines_of(alloc, part, 27) else {
+        return false;
+    };
+    match lines.first() {
+        Some(line) => is_same(line.key.as_bytes(), b"a") && line.number == 1,
+        None => false,
+    }
+}
+
+fn is_footer(part: &[u8]) -> bool {
+    match footer_of(part) {
+        Some(footer) => footer.index == 47 && footer.filter == 27 && footer.entries == 1,
+        None => false,
+    }
+}
+
+#[test]
+fn parts_are_read(rt: HostRuntime) {
+    is_so(&rt, is_block(BLOCK), "the block");
+    is_so(&rt, is_filter(FILTER), "the filter");
+    is_so(&rt, is_index(rt.alloc(), INDEX), "the index");
+    is_so(&rt, is_footer(FOOTER), "the footer");
+}
+
+/// The kinds of a part.
+#[derive(Clone, Copy)]
+enum Kind {
+    Block,
+    Filter,
+    Index,
+    Footer,
+}
+
+impl Kind {
+    /// Whether the bytes are no part of this kind.
+    fn refuses(self, alloc: Global, bytes: &[u8]) -> bool {
+        match self {
+            Kind::Block => entries_of(bytes).is_none(),
+            Kind::Filter => filter_of(bytes).is_none(),
+            Kind::Index => lines_of(alloc, bytes, 27).is_err(),
+            Kind::Footer => footer_of(bytes).is_none(),
+        }
+    }
+}
+
+/// Fails the test unless damage of each byte of the part is found. The failure names its place in
+/// the table, in which the part stands from a place on.
+fn all_is_found(rt: &impl Abort, alloc: Global, kind: Kind, part: &[u8], place: usize) {
+    for at in 0..part.len() {
+        let is_found = kind.refuses(alloc, &turned(rt, alloc, part, at));
+        holds_at(rt, place.wrapping_add(at), is_found);
+    }
+}
+
+#[test]
+fn damage_of_each_byte_is_found(rt: HostRuntime) {
+    let alloc = rt.alloc();
+    all_is_found(&rt, alloc, Kind::Block, BLOCK, 0);
+    all_is_found(&rt, alloc, Kind::Filter, FILTER, 27);
+    all_is_found(&rt, alloc, Kind::Index, INDEX, 47);
+    all_is_found(&rt, alloc, Kind::Footer, FOOTER, 82);
+}
