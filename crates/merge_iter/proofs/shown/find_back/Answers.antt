@@ -1,3 +1,4 @@
+use Rattle.std.proofs.lemmas.Grind.{common_steps}
 use Rattle.std.proofs.Common.{◌≡◌, refl, ◌∙◌, subst, arith, rules, true, false, Ok}
 use Rattle.merge_iter.specs.Positions.{IsOn, IfOn}
 use Rattle.merge_iter.specs.ShownEntries.{IsJudgedBack}
@@ -111,3 +112,33 @@ returns-else-found-clause-finds g c meant start s a =
           off ((c.loop-inner.invariant.way meant) start s a)).1 c.if-found.false,
       tt,
     )
+
+pub returns-in_err-is_left-clause-moved : goal.returns-in_err-is_left-clause-moved
+returns-in_err-is_left-clause-moved g c = grind (arith, common_steps)
+
+pub returns-in_err-is_left-clause-left : goal.returns-in_err-is_left-clause-left
+returns-in_err-is_left-clause-left g c = grind (arith, common_steps)
+
+pub returns-in_err-is_left-clause-finds : goal.returns-in_err-is_left-clause-finds
+returns-in_err-is_left-clause-finds g c = grind (arith, common_steps)
+
+pub returns-then-branch-clause-left : goal.returns-then-branch-clause-left
+returns-then-branch-clause-left g c = grind (arith, common_steps)
+
+pub returns-in_err-prev-clause-left : goal.returns-in_err-prev-clause-left
+returns-in_err-prev-clause-left g c = grind (arith, common_steps)
+
+pub returns-in_err-prev-clause-finds : goal.returns-in_err-prev-clause-finds
+returns-in_err-prev-clause-finds g c = grind (arith, common_steps)
+
+pub returns-then-found-clause-moved : goal.returns-then-found-clause-moved
+returns-then-found-clause-moved g c = grind (arith, common_steps)
+
+pub returns-then-found-clause-left : goal.returns-then-found-clause-left
+returns-then-found-clause-left g c = grind (arith, common_steps)
+
+pub returns-else-found-clause-moved : goal.returns-else-found-clause-moved
+returns-else-found-clause-moved g c = grind (arith, common_steps)
+
+pub returns-else-found-clause-left : goal.returns-else-found-clause-left
+returns-else-found-clause-left g c = grind (arith, common_steps)

@@ -1,3 +1,4 @@
+use Rattle.std.proofs.lemmas.Grind.{common_steps}
 use Rattle.std.proofs.Common.{false, ◌≡◌, refl, ◌∙◌, subst, arith, Ok}
 use Rattle.merge_iter.specs.Positions.{IsOn, IfOn}
 use Rattle.merge_iter.specs.ShownEntries.{IsJudged, IsHidden}
@@ -72,3 +73,54 @@ returns-clause-finds g c meant start kept s a =
           ((c.loop-inner.invariant.ahead meant) start s a),
       tt,
     )
+
+pub returns-in_err-is_shown-clause-moved : goal.returns-in_err-is_shown-clause-moved
+returns-in_err-is_shown-clause-moved g c = grind (arith, common_steps)
+
+pub returns-in_err-is_shown-clause-unbroken : goal.returns-in_err-is_shown-clause-unbroken
+returns-in_err-is_shown-clause-unbroken g c = grind (arith, common_steps)
+
+pub returns-in_err-is_shown-clause-forward : goal.returns-in_err-is_shown-clause-forward
+returns-in_err-is_shown-clause-forward g c = grind (arith, common_steps)
+
+pub returns-in_err-is_shown-clause-left : goal.returns-in_err-is_shown-clause-left
+returns-in_err-is_shown-clause-left g c = grind (arith, common_steps)
+
+pub returns-in_err-is_shown-clause-finds : goal.returns-in_err-is_shown-clause-finds
+returns-in_err-is_shown-clause-finds g c = grind (arith, common_steps)
+
+pub returns-then-branch-clause-moved : goal.returns-then-branch-clause-moved
+returns-then-branch-clause-moved g c = grind (arith, common_steps)
+
+pub returns-then-branch-clause-unbroken : goal.returns-then-branch-clause-unbroken
+returns-then-branch-clause-unbroken g c = grind (arith, common_steps)
+
+pub returns-then-branch-clause-forward : goal.returns-then-branch-clause-forward
+returns-then-branch-clause-forward g c = grind (arith, common_steps)
+
+pub returns-then-branch-clause-left : goal.returns-then-branch-clause-left
+returns-then-branch-clause-left g c = grind (arith, common_steps)
+
+pub returns-in_err-next-clause-unbroken : goal.returns-in_err-next-clause-unbroken
+returns-in_err-next-clause-unbroken g c = grind (arith, common_steps)
+
+pub returns-in_err-next-clause-forward : goal.returns-in_err-next-clause-forward
+returns-in_err-next-clause-forward g c = grind (arith, common_steps)
+
+pub returns-in_err-next-clause-left : goal.returns-in_err-next-clause-left
+returns-in_err-next-clause-left g c = grind (arith, common_steps)
+
+pub returns-in_err-next-clause-finds : goal.returns-in_err-next-clause-finds
+returns-in_err-next-clause-finds g c = grind (arith, common_steps)
+
+pub returns-clause-moved : goal.returns-clause-moved
+returns-clause-moved g c = grind (arith, common_steps)
+
+pub returns-clause-unbroken : goal.returns-clause-unbroken
+returns-clause-unbroken g c = grind (arith, common_steps)
+
+pub returns-clause-forward : goal.returns-clause-forward
+returns-clause-forward g c = grind (arith, common_steps)
+
+pub returns-clause-left : goal.returns-clause-left
+returns-clause-left g c = grind (arith, common_steps)

@@ -1,3 +1,4 @@
+use Rattle.std.proofs.lemmas.Grind.{common_steps}
 use Rattle.std.proofs.Common.{◌<◌, inl, inr, arith}
 use Rattle.merge_iter.specs.declared.direction.Direction.TheVariants.{Forward}
 use Rattle.merge_iter.specs.Positions.{After}
@@ -67,3 +68,6 @@ returns g c = record {
       (After entry) _
       _ _ found);
 }
+
+pub returns-in_err-return_to : goal.returns-in_err-return_to
+returns-in_err-return_to g c = grind (arith, common_steps)

@@ -1,3 +1,5 @@
+use Rattle.std.proofs.Common.{arith}
+use Rattle.std.proofs.lemmas.Grind.{common_steps}
 use Rattle.std.proofs.Common.{◌≡◌, sym, subst, ◌∙◌, true, false, IsTrue, Ok}
 use Rattle.merge_iter.specs.declared.direction.Direction.TheVariants.{Forward}
 use Rattle.merge_iter.specs.Order.{spot}
@@ -142,3 +144,6 @@ returns-then-is_early g c = record {
       ((g.C.Cursor.holds meant) c.find_forward.new.inner c.find_forward.new.source) m3.1) Forward
       (After r.0) _ _ _ next)));
 }
+
+pub returns-in_err-seek : goal.returns-in_err-seek
+returns-in_err-seek g c = grind (arith, common_steps)

@@ -1,3 +1,5 @@
+use Rattle.std.proofs.Common.{arith}
+use Rattle.std.proofs.lemmas.Grind.{common_steps}
 use Rattle.std.proofs.Common.{◌+◌, Ok, ap, rules, subst, sym}
 use Rattle.merge_iter.specs.KeptEntries.{kept_entry}
 use Rattle.merge_iter.specs.Positions.{After, IfOn}
@@ -42,3 +44,9 @@ returns g c = record {
       (Ok tt) (view_position c.in_ok-self.field-0 (g.C.Cursor.position c.next_shown.new.inner)
       (kept_entry c.next_shown.new.kept)))) (sym on.1) found.0;
 }
+
+pub returns-then-not-valid : goal.returns-then-not-valid
+returns-then-not-valid g c = grind (arith, common_steps)
+
+pub returns-in_err-self : goal.returns-in_err-self
+returns-in_err-self g c = grind (arith, common_steps)

@@ -1,3 +1,4 @@
+use Rattle.std.proofs.lemmas.Grind.{common_steps}
 use Rattle.std.proofs.Common.{◌≡◌, subst, sym, Ok, Err, rules, arith}
 use Rattle.std.proofs.lemmas.Option.{slice_get_within}
 use Rattle.std.proofs.lemmas.Result.{err_from_is_err_and}
@@ -133,3 +134,6 @@ resettle-self-requires g c =
     let w = slice_get_within c.args.self.now.children.items c.in-On.k c.index.result.now here.0 in
     let l = (c.advance.ensures.steps.moved.moves (g.C.Cursor.as_is c.args.source.now)).len in
     search (arith, w, l)
+
+pub returns-in_default : goal.returns-in_default
+returns-in_default g c = grind (arith, common_steps)
