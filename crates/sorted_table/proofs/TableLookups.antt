@@ -1,8 +1,10 @@
 -- A lookup in a table by the one block where a key and number would stand.
 use Rattle.std.proofs.Common.{◌≡◌, inr, ℕ, ◌+◌, ◌≤◌, List, ◌++◌, length, map, take, drop}
+use Rattle.bloom.specs.{CoversHashed}
+use Rattle.disk.specs.declared.Disk.{Ghosts}
 use Rattle.disk.specs.{IsEnvironmental}
 use Rattle.std.proofs.Common.{All, Option, Contains, sym, subst, ◌∙◌, Result, Ok, Err, MatchResult}
-use Rattle.std.specs.Prelude.{IsErrOf}
+use Rattle.std.specs.Prelude.{◌↔◌, IsErrAnd, IsErrOf}
 use Rattle.std.specs.List.{AllByRecursion}
 use Rattle.std.proofs.lemmas.List.Elements.{recursion_from_All}
 use Rattle.kv_types.specs.OrderLemmas.{All-among, Among, Rises, rises_from_AllPairs}
@@ -17,7 +19,9 @@ use Rattle.table_format.specs.declared.IndexLine.{IndexLine}
 use Rattle.table_format.specs.declared.FileError.{FileError}
 use Rattle.table_format.specs.declared.FileError.TheVariants.{Disk, Memory}
 use Rattle.sorted_table.specs.declared.found.FoundVersion.{FoundVersion}
-use Rattle.sorted_table.specs.Open.{LookupFinds}
+use Rattle.sorted_table.specs.declared.table.Table.{Table}
+use Rattle.sorted_table.specs.Open.{LookupFinds, table_filter}
+use Rattle.sorted_table.specs.TableReads.{AnswersLookup}
 use Rattle.sorted_table.specs.Searches.{EndsEarlier, IsEarlier, IsFirstWithout}
 use Rattle.sorted_table.proofs.LineBlocks.{early_entries, last_there, line_block, rising_parts}
 use Rattle.sorted_table.proofs.LookupsLemmas.{lookup_up, unseen_all}
@@ -98,3 +102,18 @@ pub not_device : {T : Type 0} (P : T → Type 0) (result : Result T FileError)
     → MatchResult result P (λ e. e ≡ Memory) → IsErrOf result Disk → ⊥
 not_device P (Ok x) found e = cc
 not_device P (Err why) memory e = cc
+
+-- a refusal that is passed on tells of a failure of the device as before
+pub told_alike : {T U : Type 0} (e : FileError) (result : Result U FileError)
+    → IsErrAnd result (λ s. s ≡ e) → IsErrOf {T = T} (Err e) Disk ↔ IsErrOf result Disk
+told_alike e (Ok x) told = absurd told
+told_alike e (Err s) told = (λ fails. cc, λ fails. cc)
+
+-- a lookup by the hashes of a key is one of the key
+pub by_hashes : {D : Type 0} (d : Ghosts D) (table : Table) (key : StoredKey) (at : ℕ)
+    (h k : ℕ × ℕ) (a b : D) (result : Result (Option FoundVersion) FileError) → h ≡ k
+    → AnswersLookup d table key at (CoversHashed (table_filter table) h) a b result
+    → AnswersLookup d table key at (CoversHashed (table_filter table) k) a b result
+by_hashes d table key at h k a b result same lookup =
+    subst (λ (p : ℕ × ℕ). AnswersLookup d table key at (CoversHashed (table_filter table) p) a b
+    result) same lookup

@@ -1,4 +1,4 @@
-use Rattle.std.proofs.Common.{List, ℕ, arith, Err, Ok, None, inl, refl, sym, subst, ◌∙◌, rules}
+use Rattle.std.proofs.Common.{List, ℕ, arith, Err, Ok, None, inl, refl, sym, subst, ◌∙◌}
 use Rattle.std.proofs.lemmas.Result.{err_from_is_err_and}
 use Rattle.std.specs.Rc.{rc_slice_items}
 use Rattle.bloom.specs.{CoversHashed, hashes_of}
@@ -10,6 +10,7 @@ use Rattle.table_format.specs.declared.FileError.TheVariants as reading
 use Rattle.sorted_table.specs.Meant.{IsBlockAtLine}
 use Rattle.sorted_table.specs.Open.{LookupFinds}
 use Rattle.sorted_table.proofs.BlockNumbers.{some_of}
+use Rattle.sorted_table.proofs.CursorMoves.{when_false}
 use Rattle.sorted_table.proofs.FilterLemmas.{denied_unseen}
 use Rattle.sorted_table.proofs.FirstBlocks.{ok_part}
 use Rattle.sorted_table.proofs.KeptDisk.{kept_alike, kept_uncalled}
@@ -17,7 +18,7 @@ use Rattle.sorted_table.proofs.LinesLemmas.{lines_early}
 use Rattle.sorted_table.proofs.MeantLemmas.{environmental, never_damaged}
 use Rattle.sorted_table.proofs.OpenLookups.{block_at, by_line, found_as, line_answers, lines_of}
 use Rattle.sorted_table.proofs.OpenLookups.{none_behind, not_denied}
-use Rattle.sorted_table.proofs.TableLookups.{no_block, not_device}
+use Rattle.sorted_table.proofs.TableLookups.{no_block, not_device, told_alike}
 use Rattle.sorted_table.proofs.table.Table.get_hashed.Goals as goal
 
 -- the filter denies the key
@@ -44,7 +45,7 @@ returns-then-denies g c = record {
       (subst (λ (f : List ℕ). CoversHashed f (hashes_of (lent_key c.args.key)) → ⊥) s.filter
       (subst (λ (h : ℕ × ℕ). CoversHashed c.args.self.now.filter.items h → ⊥) c.requires
       (c.denies.ensures.denied.0 c.if-denies.true)));
-  unread = search rules;
+  unread = λ denied. refl;
   calls = λ honest. omega arith;
   still = λ honest. still _ _;
 }
@@ -75,7 +76,7 @@ returns-then-number-lines g c = record {
       (c.deref-lines.ensures.value ∙ s.lines)
       (λ rising. lines_early lines (spot (lent_key c.args.key) c.args.at) c.line_place-number.result
       (omega (arith, c.if-number-lines.true)) (c.line_place-number.ensures.place rising));
-  unread = search rules;
+  unread = λ denied. refl;
   calls = λ honest. omega arith;
   still = λ honest. still _ _;
 }
@@ -83,7 +84,10 @@ returns-then-number-lines g c = record {
 -- the block was not read
 pub returns-in_err-block : goal.returns-in_err-block
 returns-in_err-block g c = record {
-  kept = search rules;
+  kept =
+      let same = told_alike c.in_err-block.field-0.0 c.from_residual.result
+      c.from_residual.ensures.1 in
+      kept_alike _ _ same.0 same.1 c.in_err-block.ensures.device.kept;
   found = λ entries honest s.
       let lines = c.deref-lines.result.now in
       let n = c.line_place-number.result in
@@ -110,10 +114,13 @@ returns-in_err-block g c = record {
       ) in
       let p = err_from_is_err_and c.from_residual.result c.from_residual.ensures.1 in
       rw (p.1, p.2) why;
-  meant = search rules;
-  unread = search rules;
-  calls = search rules;
-  still = search rules;
+  meant = λ honest meant entries s agree.
+      let p = err_from_is_err_and c.from_residual.result c.from_residual.ensures.1 in
+      rw p.1 tt;
+  unread = λ denied.
+      absurd (denied (when_false c.denies.result _ c.if-denies.false c.denies.ensures.covered));
+  calls = c.in_err-block.ensures.calls;
+  still = c.in_err-block.ensures.device.still;
 }
 
 -- what the block has of the key
@@ -162,7 +169,8 @@ returns g c = record {
       (omega (arith, c.if-number-lines.false)) c.line_place-number.ensures.place
       here
       c.find_in.ensures);
-  unread = search rules;
-  calls = search rules;
-  still = search rules;
+  unread = λ denied.
+      absurd (denied (when_false c.denies.result _ c.if-denies.false c.denies.ensures.covered));
+  calls = c.in_ok-block.ensures.calls;
+  still = c.in_ok-block.ensures.device.still;
 }

@@ -1,3 +1,5 @@
+use Rattle.std.proofs.Common.{arith}
+use Rattle.std.proofs.lemmas.Grind.{common_steps}
 use Rattle.std.proofs.Common.{◌≡◌, ℕ, List, ap, sym, subst, take, drop, ◌∙◌, Option, Some, None}
 use Rattle.std.proofs.Common.{refl, inr}
 use Rattle.std.specs.Rc.{rc_slice_items}
@@ -98,3 +100,39 @@ returns-in_err-lines-clause-checked g c = λ honest.
     c.in_err-lines.ensures.checked
     (subst (λ (b : List ℕ). IsFilterPart (take tail.filter_len b) it.2.1) (sym is) both.0)
     (subst (λ (b : List ℕ). IsIndex (drop tail.filter_len b) tail.place it.2.0) (sym is) both.1)))
+
+pub returns-in_err-bytes-clause-kept : goal.returns-in_err-bytes-clause-kept
+returns-in_err-bytes-clause-kept g c = grind (arith, common_steps)
+
+pub returns-in_err-bytes-clause-at : goal.returns-in_err-bytes-clause-at
+returns-in_err-bytes-clause-at g c = grind (arith, common_steps)
+
+pub returns-in_err-bytes-clause-still : goal.returns-in_err-bytes-clause-still
+returns-in_err-bytes-clause-still g c = grind (arith, common_steps)
+
+pub returns-in_err-bytes-clause-calls : goal.returns-in_err-bytes-clause-calls
+returns-in_err-bytes-clause-calls g c = grind (arith, common_steps)
+
+pub returns-in_err-lines-clause-kept : goal.returns-in_err-lines-clause-kept
+returns-in_err-lines-clause-kept g c = grind (arith, common_steps)
+
+pub returns-in_err-lines-clause-at : goal.returns-in_err-lines-clause-at
+returns-in_err-lines-clause-at g c = grind (arith, common_steps)
+
+pub returns-in_err-lines-clause-still : goal.returns-in_err-lines-clause-still
+returns-in_err-lines-clause-still g c = grind (arith, common_steps)
+
+pub returns-in_err-lines-clause-calls : goal.returns-in_err-lines-clause-calls
+returns-in_err-lines-clause-calls g c = grind (arith, common_steps)
+
+pub returns-clause-kept : goal.returns-clause-kept
+returns-clause-kept g c = grind (arith, common_steps)
+
+pub returns-clause-at : goal.returns-clause-at
+returns-clause-at g c = grind (arith, common_steps)
+
+pub returns-clause-still : goal.returns-clause-still
+returns-clause-still g c = grind (arith, common_steps)
+
+pub returns-clause-calls : goal.returns-clause-calls
+returns-clause-calls g c = grind (arith, common_steps)

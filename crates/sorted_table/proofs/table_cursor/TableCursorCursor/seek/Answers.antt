@@ -1,9 +1,13 @@
-use Rattle.std.proofs.Common.{◌≡◌, ap, sym, subst, arith, IfSome, rules}
+use Rattle.std.proofs.Common.{◌≡◌, ap, sym, subst, arith, IfSome}
+use Rattle.std.specs.Prelude.{is_err}
+use Rattle.std.proofs.lemmas.Result.{err_from_is_err_and}
 use Rattle.std.specs.Rc.{rc_slice_items}
 use Rattle.kv_types.specs.{lent_key}
 use Rattle.table_format.specs.{block_entries}
+use Rattle.sorted_table.specs.BlockPlaces.{place_entry}
 use Rattle.sorted_table.specs.TableCursors.{HasReached, IsPlaceIn}
-use Rattle.sorted_table.proofs.CursorMoves.{cursor_moves}
+use Rattle.sorted_table.proofs.CursorMoves.{causes_of_ok, cursor_moves, entry_unbroken}
+use Rattle.sorted_table.proofs.CursorMoves.{move_causes, off_unbroken, refused_broken}
 use Rattle.sorted_table.proofs.TableFinds.{here_of}
 use Rattle.sorted_table.proofs.TablePlaces.{moved_in}
 use Rattle.sorted_table.proofs.TableSeeks.{finds_none_sought, finds_sought, line_place_in}
@@ -18,10 +22,20 @@ returns-in_err-reach g c = record {
       (ap rc_slice_items c.reach.ensures.table.1) (λ m honest agree t here.
       subst (λ o. IfSome o (IsPlaceIn t.represents.blocks))
       (sym c.in_err-reach.ensures.moved.refused.0) tt);
-  device = search rules;
-  causes = search rules;
-  broken = search rules;
-  finds = search rules;
+  device =
+      let p = err_from_is_err_and c.from_residual.result c.from_residual.ensures.1 in
+      rw (p.1, p.2) c.in_err-reach.ensures.moved.device;
+  causes =
+      let p = err_from_is_err_and c.from_residual.result c.from_residual.ensures.1 in
+      rw (p.1, p.2) (move_causes _ (λ d. d.file) (λ d. rc_slice_items d.lines) (λ d. d.place)
+      c.args.self.now c.args.files.now c.reach.new.files _ _ _ c.in_err-reach.ensures.moved);
+  broken =
+      let p = err_from_is_err_and c.from_residual.result c.from_residual.ensures.1 in
+      refused_broken c.from_residual.result _ _ (ap is_err p.1)
+      c.in_err-reach.ensures.moved.refused;
+  finds = λ m s.
+      let p = err_from_is_err_and c.from_residual.result c.from_residual.ensures.1 in
+      rw p.1 tt;
 }
 
 pub returns-in_default : goal.returns-in_default
@@ -31,9 +45,14 @@ returns-in_default g c = record {
       c.args.files.now c.reach.new.files c.reach.ensures.moved.keeps c.reach.ensures.table.0
       (ap rc_slice_items c.reach.ensures.table.1) (λ m honest agree t here.
       subst (λ o. IfSome o (IsPlaceIn t.represents.blocks)) (sym c.in_default.is) tt);
-  device = search rules;
-  causes = search rules;
-  broken = search rules;
+  device = c.in_ok-reach.ensures.moved.device;
+  causes =
+      causes_of_ok _ tt (move_causes _ (λ d. d.file) (λ d. rc_slice_items d.lines) (λ d. d.place)
+      c.args.self.now c.args.files.now c.reach.new.files _ _ _ c.in_ok-reach.ensures.moved);
+  broken =
+      let off = subst (HasReached (rc_slice_items c.args.self.now.lines) c.line_place-line.result
+      c.reach.new.self.has_failed) c.in_default.is c.in_ok-reach.ensures.reached in
+      (λ fails. absurd cc, λ is. absurd (off_unbroken _ _ off.0 c.in_default.is is));
   finds = λ m s.
       let lines = rc_slice_items c.args.self.now.lines in
       let n = c.line_place-line.result in
@@ -58,9 +77,14 @@ returns g c = record {
       (here_of (IsPlaceIn t.represents.blocks) c.reach.new.self.place p
       c.in-Some.is
       (c.in_ok-reach.ensures.reads m honest agree t here)));
-  device = search rules;
-  causes = search rules;
-  broken = search rules;
+  device = c.in_ok-reach.ensures.moved.device;
+  causes =
+      causes_of_ok _ tt (move_causes _ (λ d. d.file) (λ d. rc_slice_items d.lines) (λ d. d.place)
+      c.args.self.now c.args.files.now c.reach.new.files _ _ _ c.in_ok-reach.ensures.moved);
+  broken = (
+    λ fails. absurd cc,
+    λ is. absurd (entry_unbroken (place_entry c.seek.new.self) is),
+  );
   finds = λ m s.
       let lines = rc_slice_items c.args.self.now.lines in
       let n = c.line_place-line.result in
