@@ -1,3 +1,5 @@
+use Rattle.std.proofs.Common.{arith}
+use Rattle.std.proofs.lemmas.Grind.{common_steps}
 use Rattle.std.proofs.Common.{◌≡◌, ℕ, List, rules, subst, sym}
 use Rattle.std.specs.Prelude.{filter}
 use Rattle.std.proofs.lemmas.Fn.{filter_same}
@@ -17,3 +19,42 @@ returns-clause-files g c = λ honest.
     c.retain.ensures.filtered in
     subst (λ (list : List ℕ). ListsFiles (shown_state removed state) list) (sym left)
     (lists_shown removed state numbers (c.in_ok-numbers.ensures.files honest))
+
+pub returns-in_err-works-clause-counts : goal.returns-in_err-works-clause-counts
+returns-in_err-works-clause-counts g c = grind (arith, common_steps)
+
+pub returns-in_err-works-clause-same : goal.returns-in_err-works-clause-same
+returns-in_err-works-clause-same g c = grind (arith, common_steps)
+
+pub returns-in_err-works-clause-left_out : goal.returns-in_err-works-clause-left_out
+returns-in_err-works-clause-left_out g c = grind (arith, common_steps)
+
+pub returns-in_err-works-clause-files : goal.returns-in_err-works-clause-files
+returns-in_err-works-clause-files g c = grind (arith, common_steps)
+
+pub returns-in_err-numbers-clause-counts : goal.returns-in_err-numbers-clause-counts
+returns-in_err-numbers-clause-counts g c = grind (arith, common_steps)
+
+pub returns-in_err-numbers-clause-same : goal.returns-in_err-numbers-clause-same
+returns-in_err-numbers-clause-same g c = grind (arith, common_steps)
+
+pub returns-in_err-numbers-clause-once : goal.returns-in_err-numbers-clause-once
+returns-in_err-numbers-clause-once g c = grind (arith, common_steps)
+
+pub returns-in_err-numbers-clause-left_out : goal.returns-in_err-numbers-clause-left_out
+returns-in_err-numbers-clause-left_out g c = grind (arith, common_steps)
+
+pub returns-in_err-numbers-clause-files : goal.returns-in_err-numbers-clause-files
+returns-in_err-numbers-clause-files g c = grind (arith, common_steps)
+
+pub returns-clause-counts : goal.returns-clause-counts
+returns-clause-counts g c = grind (arith, common_steps)
+
+pub returns-clause-same : goal.returns-clause-same
+returns-clause-same g c = grind (arith, common_steps)
+
+pub returns-clause-once : goal.returns-clause-once
+returns-clause-once g c = grind (arith, common_steps)
+
+pub returns-clause-left_out : goal.returns-clause-left_out
+returns-clause-left_out g c = grind (arith, common_steps)
