@@ -1,3 +1,4 @@
+use Rattle.std.proofs.lemmas.Grind.{common_steps}
 use Rattle.std.proofs.Common.{◌≡◌, refl, sym, subst, ap, ◌∙◌, arith}
 use Rattle.compaction.proofs.Calls.{memory_told, refused, writes_nothing}
 use Rattle.compaction.proofs.Steps.{cursor_failed, cursor_works, writes_read}
@@ -129,3 +130,36 @@ returns-clause-first g c = (
 
 pub returns-clause-aims : goal.returns-clause-aims
 returns-clause-aims g c = c.new-writer.ensures.rules.1
+
+pub returns-in_default-clause-first : goal.returns-in_default-clause-first
+returns-in_default-clause-first g c = grind (arith, common_steps)
+
+pub returns-in_default-clause-aims : goal.returns-in_default-clause-aims
+returns-in_default-clause-aims g c = grind (arith, common_steps)
+
+pub returns-in_default-clause-begun : goal.returns-in_default-clause-begun
+returns-in_default-clause-begun g c = grind (arith, common_steps)
+
+pub returns-in_err-gone-clause-first : goal.returns-in_err-gone-clause-first
+returns-in_err-gone-clause-first g c = grind (arith, common_steps)
+
+pub returns-in_err-gone-clause-aims : goal.returns-in_err-gone-clause-aims
+returns-in_err-gone-clause-aims g c = grind (arith, common_steps)
+
+pub returns-in_err-gone-clause-begun : goal.returns-in_err-gone-clause-begun
+returns-in_err-gone-clause-begun g c = grind (arith, common_steps)
+
+pub returns-in_err-deeper-clause-first : goal.returns-in_err-deeper-clause-first
+returns-in_err-deeper-clause-first g c = grind (arith, common_steps)
+
+pub returns-in_err-deeper-clause-aims : goal.returns-in_err-deeper-clause-aims
+returns-in_err-deeper-clause-aims g c = grind (arith, common_steps)
+
+pub returns-in_err-deeper-clause-begun : goal.returns-in_err-deeper-clause-begun
+returns-in_err-deeper-clause-begun g c = grind (arith, common_steps)
+
+pub returns-in_err-first-clause-first : goal.returns-in_err-first-clause-first
+returns-in_err-first-clause-first g c = grind (arith, common_steps)
+
+pub returns-in_err-first-clause-aims : goal.returns-in_err-first-clause-aims
+returns-in_err-first-clause-aims g c = grind (arith, common_steps)

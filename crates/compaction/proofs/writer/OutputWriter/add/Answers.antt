@@ -1,3 +1,5 @@
+use Rattle.std.proofs.Common.{arith}
+use Rattle.std.proofs.lemmas.Grind.{common_steps}
 use Rattle.std.proofs.Common.{ℕ, [], ◌∷◌, ◌++◌, subst, sym}
 use Rattle.table_builder.specs.{Builds}
 use Rattle.table_format.specs.{lent_entry}
@@ -53,3 +55,36 @@ returns-clause-added g c = λ next_file it honest w some follows.
         current = open_numbered writer next_file output is w.numbered;
       };
     }
+
+pub returns-in_default-clause-rules : goal.returns-in_default-clause-rules
+returns-in_default-clause-rules g c = grind (arith, common_steps)
+
+pub returns-in_default-clause-open : goal.returns-in_default-clause-open
+returns-in_default-clause-open g c = grind (arith, common_steps)
+
+pub returns-in_default-clause-outputs : goal.returns-in_default-clause-outputs
+returns-in_default-clause-outputs g c = grind (arith, common_steps)
+
+pub returns-in_default-clause-added : goal.returns-in_default-clause-added
+returns-in_default-clause-added g c = grind (arith, common_steps)
+
+pub returns-in_err-add-clause-rules : goal.returns-in_err-add-clause-rules
+returns-in_err-add-clause-rules g c = grind (arith, common_steps)
+
+pub returns-in_err-add-clause-open : goal.returns-in_err-add-clause-open
+returns-in_err-add-clause-open g c = grind (arith, common_steps)
+
+pub returns-in_err-add-clause-outputs : goal.returns-in_err-add-clause-outputs
+returns-in_err-add-clause-outputs g c = grind (arith, common_steps)
+
+pub returns-in_err-add-clause-added : goal.returns-in_err-add-clause-added
+returns-in_err-add-clause-added g c = grind (arith, common_steps)
+
+pub returns-clause-rules : goal.returns-clause-rules
+returns-clause-rules g c = grind (arith, common_steps)
+
+pub returns-clause-open : goal.returns-clause-open
+returns-clause-open g c = grind (arith, common_steps)
+
+pub returns-clause-outputs : goal.returns-clause-outputs
+returns-clause-outputs g c = grind (arith, common_steps)

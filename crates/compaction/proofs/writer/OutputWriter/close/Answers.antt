@@ -1,3 +1,4 @@
+use Rattle.std.proofs.lemmas.Grind.{common_steps}
 use Rattle.std.proofs.Common.{◌≡◌, ◌≢◌, ◌<◌, ◌++◌, ◌∷◌, [], List, All, refl, sym, subst, ◌∙◌}
 use Rattle.std.proofs.Common.{Option, None, Some, IfSome, ap, inl, inr, ℕ}
 use Rattle.std.specs.List.{AllZip}
@@ -170,3 +171,54 @@ pub returns-clause-empty : goal.returns-clause-empty
 returns-clause-empty g c = λ slots next_file it w none.
     absurd (c.if-len-eq0.false (none_added c.args.self.now c.in-Some.output slots next_file it
     c.len.result (sym c.in-Some.ensures.value) w c.len.ensures.added none))
+
+pub returns-in_default-clause-rules : goal.returns-in_default-clause-rules
+returns-in_default-clause-rules g c = grind (arith, common_steps)
+
+pub returns-in_default-clause-none : goal.returns-in_default-clause-none
+returns-in_default-clause-none g c = grind (arith, common_steps)
+
+pub returns-in_default-clause-outputs : goal.returns-in_default-clause-outputs
+returns-in_default-clause-outputs g c = grind (arith, common_steps)
+
+pub returns-in_default-clause-closed : goal.returns-in_default-clause-closed
+returns-in_default-clause-closed g c = grind (arith, common_steps)
+
+pub returns-then-len-eq0-clause-rules : goal.returns-then-len-eq0-clause-rules
+returns-then-len-eq0-clause-rules g c = grind (arith, common_steps)
+
+pub returns-then-len-eq0-clause-none : goal.returns-then-len-eq0-clause-none
+returns-then-len-eq0-clause-none g c = grind (arith, common_steps)
+
+pub returns-then-len-eq0-clause-outputs : goal.returns-then-len-eq0-clause-outputs
+returns-then-len-eq0-clause-outputs g c = grind (arith, common_steps)
+
+pub returns-in_err-line-clause-rules : goal.returns-in_err-line-clause-rules
+returns-in_err-line-clause-rules g c = grind (arith, common_steps)
+
+pub returns-in_err-line-clause-none : goal.returns-in_err-line-clause-none
+returns-in_err-line-clause-none g c = grind (arith, common_steps)
+
+pub returns-in_err-line-clause-outputs : goal.returns-in_err-line-clause-outputs
+returns-in_err-line-clause-outputs g c = grind (arith, common_steps)
+
+pub returns-in_err-line-clause-closed : goal.returns-in_err-line-clause-closed
+returns-in_err-line-clause-closed g c = grind (arith, common_steps)
+
+pub returns-in_err-push-clause-rules : goal.returns-in_err-push-clause-rules
+returns-in_err-push-clause-rules g c = grind (arith, common_steps)
+
+pub returns-in_err-push-clause-none : goal.returns-in_err-push-clause-none
+returns-in_err-push-clause-none g c = grind (arith, common_steps)
+
+pub returns-in_err-push-clause-outputs : goal.returns-in_err-push-clause-outputs
+returns-in_err-push-clause-outputs g c = grind (arith, common_steps)
+
+pub returns-in_err-push-clause-closed : goal.returns-in_err-push-clause-closed
+returns-in_err-push-clause-closed g c = grind (arith, common_steps)
+
+pub returns-clause-rules : goal.returns-clause-rules
+returns-clause-rules g c = grind (arith, common_steps)
+
+pub returns-clause-none : goal.returns-clause-none
+returns-clause-none g c = grind (arith, common_steps)
