@@ -1,14 +1,18 @@
-use Rattle.std.proofs.Common.{◌∙◌, ℕ, suc, drop, inl, subst, sym, Ok, rules}
+use Rattle.std.proofs.Common.{◌∙◌, ℕ, suc, drop, inl, subst, sym, Ok}
 use Rattle.disk.specs.{IsEnvironmental, contents}
+use Rattle.disk.specs.KeepingLemmas.{kept_as, kept_behind, neither}
 use Rattle.disk.specs.StillLemmas.{still_more}
 use Rattle.manifest.specs.{NodeVersion, version_of}
+use Rattle.store_files.specs.Files.{IsOwned}
 use Rattle.store_files.specs.OpenFiles.{AreUsableFiles, FilesAreRead, FilesOpenAs, OpeningRefusal}
 use Rattle.store_files.specs.OpenFiles.{IsOpeningError, OpensFor, WereMeantToRead}
 use Rattle.store_files.specs.Openings.{AreParts, HasParts, PartsHold, PartsWereMeant, WereParts}
 use Rattle.store_files.specs.StoreFiles.{durably}
-use Rattle.store_files.proofs.BegunFiles.{manifest_is_external, manifest_refuses}
+use Rattle.store_files.proofs.BegunFiles.{manifest_failed, manifest_is_external}
+use Rattle.store_files.proofs.BegunFiles.{manifest_refuses}
 use Rattle.store_tables.specs.declared.error.EngineError.TheVariants as engine
-use Rattle.store_tables.specs.RefusalLemmas.{answers_nothing, if_refuses, refuses}
+use Rattle.store_tables.specs.RefusalLemmas.{answers_nothing, done, if_refuses, passed_on}
+use Rattle.store_tables.specs.RefusalLemmas.{refuses}
 use Rattle.store_files.proofs.MeantOpenings.{asked_as_meant, read_as_meant, slots_are_meant}
 use Rattle.store_files.proofs.ReadFiles.{files_with}
 use Rattle.store_files.proofs.ReadAnswers.{asked, end_explained, opens_as, parts_then}
@@ -20,7 +24,10 @@ use Rattle.store_files.proofs.opening.read_files.Goals as goal
 -- slots that represent a version are opened
 pub returns-in_err-manifest-clause-opens : goal.returns-in_err-manifest-clause-opens
 returns-in_err-manifest-clause-opens g c = record {
-  kept = search rules;
+  kept =
+      kept_as g.D.Disk (manifest_failed c.open.result c.in_err-manifest.field-0.0
+      c.from_residual.result c.in_err-manifest.was c.from_residual.ensures.1) (λ a b it. tt)
+      c.open.ensures.reads.kept;
   causes = if_refuses c.from_residual.result IsOpeningError c.from_residual.ensures.1
       (manifest_refuses c.in_err-manifest.field-0.0 c.in_err-manifest.ensures.reads.causes);
   opened = λ facts list honest. record {
@@ -35,13 +42,17 @@ returns-in_err-manifest-clause-opens g c = record {
       refuses c.from_residual.result (FilesOpenAs left) (λ e. OpeningRefusal e left)
       c.from_residual.ensures.1 (slots_explained c.in_err-manifest.field-0.0 left
       (c.in_err-manifest.ensures.told honest));
-  usable = search rules;
+  usable = answers_nothing c.from_residual.result _ AreUsableFiles c.from_residual.ensures.1;
 }
 
 -- and so are the files that the version names
 pub returns-in_err-parts-clause-opens : goal.returns-in_err-parts-clause-opens
 returns-in_err-parts-clause-opens g c = record {
-  kept = search rules;
+  kept =
+      kept_behind g.D.Disk (λ a b d before after. tt) c.in_ok-manifest.ensures.reads.kept
+      (λ fails. cc) (kept_as g.D.Disk {Q = IsOwned} (passed_on c.read_parts.result
+      c.in_err-parts.field-0.0 c.from_residual-in_err-parts.result c.in_err-parts.was
+      c.from_residual-in_err-parts.ensures.1) (λ a b it. tt) c.read_parts.ensures.reads.kept);
   causes = if_refuses c.from_residual-in_err-parts.result IsOpeningError
       c.from_residual-in_err-parts.ensures.1 (inl c.in_err-parts.ensures.reads.causes);
   opened = λ facts list honest. record {
@@ -78,7 +89,8 @@ returns-in_err-parts-clause-opens g c = record {
       (subst (λ (n : NodeVersion). HasParts (contents s1) n.version)
       (sym (c.state.ensures ∙ held.knows))
       (parts_then s0 s1 (c.open.ensures.reads.kept.files honest) facts count opens is))));
-  usable = search rules;
+  usable = answers_nothing c.from_residual-in_err-parts.result _ AreUsableFiles
+      c.from_residual-in_err-parts.ensures.1;
 }
 
 pub returns-in_err-parts-clause-still : goal.returns-in_err-parts-clause-still
@@ -94,7 +106,10 @@ returns-clause-still g c = λ honest.
 -- the slots represented the version, and the files were those that it names
 pub returns-clause-opens : goal.returns-clause-opens
 returns-clause-opens g c = record {
-  kept = search rules;
+  kept =
+      kept_behind g.D.Disk (λ a b d before after. tt) c.in_ok-manifest.ensures.reads.kept
+      (λ fails. cc) (kept_as g.D.Disk {Q = IsOwned} (neither done done) (λ a b it. tt)
+      c.in_ok-parts.ensures.reads.kept);
   causes = tt;
   -- and hold the list that they represented, or were meant to represent
   opened = λ facts list honest.

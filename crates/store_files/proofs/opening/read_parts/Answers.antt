@@ -1,15 +1,19 @@
-use Rattle.std.proofs.Common.{◌≡◌, ◌-◌, ◌+◌, ℕ, List, length, sym, ap, arith, subst, ◌∙◌, rules}
+use Rattle.std.proofs.lemmas.Grind.{common_steps}
+use Rattle.std.proofs.Common.{◌≡◌, ◌-◌, ◌+◌, ℕ, List, length, sym, ap, arith, subst, ◌∙◌}
 use Rattle.disk.specs.{IsEnvironmental, Slot, contents}
+use Rattle.disk.specs.KeepingLemmas.{kept_as, kept_behind, neither}
 use Rattle.disk.specs.StillLemmas.{still_more}
 use Rattle.manifest.specs.declared.TableLine.{TableLine}
 use Rattle.manifest.specs.{IsVersion, NodeVersion}
 use Rattle.store_tables.specs.declared.error.EngineError.TheVariants as engine
 use Rattle.store_tables.specs.LevelTables.{AreTablesOf, FileFits, IsTableAsMeant}
+use Rattle.store_files.specs.Files.{IsOwned}
 use Rattle.store_files.specs.StoreFiles.{AreOrderedNumbers, durably}
 use Rattle.store_files.specs.Settling.{AreSynced, AreThere}
 use Rattle.std.specs.Prelude.{All, Contains}
 use Rattle.std.proofs.lemmas.List.Elements.{All-contains, All-contains_itself, All-weaker}
-use Rattle.store_tables.specs.RefusalLemmas.{refuses}
+use Rattle.store_tables.specs.Errors.{IsEnd}
+use Rattle.store_tables.specs.RefusalLemmas.{done, if_refuses, passed_on, refuses}
 use Rattle.batch_logs.specs.PartsLemmas.{held_count, logs_in}
 use Rattle.store_files.proofs.ReadParts.{batches_same, begins_at, fitting_are_there, parts_settle}
 use Rattle.store_files.proofs.ReadParts.{replayed_same, tables_are_there, tables_durable}
@@ -45,8 +49,14 @@ returns-in_err-logs-clause-opened g c = λ first batches tables honest had read 
 
 pub returns-in_err-logs-clause-reads : goal.returns-in_err-logs-clause-reads
 returns-in_err-logs-clause-reads g c = record {
-  kept = search rules;
-  causes = search rules;
+  kept =
+      kept_behind g.D.Disk (λ a b d before after. tt)
+      c.in_ok-sync_tables.ensures.reads.kept done
+      (kept_as g.D.Disk {Q = IsOwned} (passed_on c.open_logs.result c.in_err-logs.field-0.0
+      c.from_residual-in_err-logs.result c.in_err-logs.was c.from_residual-in_err-logs.ensures.1)
+      (λ a b it. tt) c.open_logs.ensures.reads.kept);
+  causes = if_refuses c.from_residual-in_err-logs.result IsEnd
+      c.from_residual-in_err-logs.ensures.1 c.in_err-logs.ensures.reads.causes;
   still = λ honest.
       still_more (c.sync_tables.ensures.reads.still honest)
       (c.open_logs.ensures.reads.still (c.sync_tables.ensures.reads.kept.honest.1 honest));
@@ -54,8 +64,16 @@ returns-in_err-logs-clause-reads g c = record {
 
 pub returns-in_err-tables-clause-reads : goal.returns-in_err-tables-clause-reads
 returns-in_err-tables-clause-reads g c = record {
-  kept = search rules;
-  causes = search rules;
+  kept =
+      kept_behind g.D.Disk (λ a b d before after. tt)
+      c.in_ok-sync_tables.ensures.reads.kept done
+      (kept_behind g.D.Disk {Q = IsOwned} (λ a b d before after. tt)
+      c.in_ok-logs.ensures.reads.kept done
+      (kept_as g.D.Disk {Q = IsOwned} (passed_on c.open.result c.in_err-tables.field-0.0
+      c.from_residual-in_err-tables.result c.in_err-tables.was
+      c.from_residual-in_err-tables.ensures.1) (λ a b it. tt) c.open.ensures.reads.kept));
+  causes = if_refuses c.from_residual-in_err-tables.result IsEnd
+      c.from_residual-in_err-tables.ensures.1 c.in_err-tables.ensures.reads.causes;
   still = λ honest.
       let honest2 = c.sync_tables.ensures.reads.kept.honest.1 honest in
       still_more (still_more (c.sync_tables.ensures.reads.still honest)
@@ -65,8 +83,14 @@ returns-in_err-tables-clause-reads g c = record {
 
 pub returns-then-not-are_ordered-clause-reads : goal.returns-then-not-are_ordered-clause-reads
 returns-then-not-are_ordered-clause-reads g c = record {
-  kept = search rules;
-  causes = search rules;
+  kept =
+      kept_behind g.D.Disk (λ a b d before after. tt)
+      c.in_ok-sync_tables.ensures.reads.kept done
+      (kept_behind g.D.Disk {Q = IsOwned} (λ a b d before after. tt)
+      c.in_ok-logs.ensures.reads.kept done
+      (kept_as g.D.Disk {Q = IsOwned} (neither done (λ fails. cc)) (λ a b it. tt)
+      c.in_ok-tables.ensures.reads.kept));
+  causes = tt;
   still = λ honest.
       let honest2 = c.sync_tables.ensures.reads.kept.honest.1 honest in
       still_more (still_more (c.sync_tables.ensures.reads.still honest)
@@ -76,8 +100,14 @@ returns-then-not-are_ordered-clause-reads g c = record {
 
 pub returns-clause-reads : goal.returns-clause-reads
 returns-clause-reads g c = record {
-  kept = search rules;
-  causes = search rules;
+  kept =
+      kept_behind g.D.Disk (λ a b d before after. tt)
+      c.in_ok-sync_tables.ensures.reads.kept done
+      (kept_behind g.D.Disk {Q = IsOwned} (λ a b d before after. tt)
+      c.in_ok-logs.ensures.reads.kept done
+      (kept_as g.D.Disk {Q = IsOwned} (neither done done) (λ a b it. tt)
+      c.in_ok-tables.ensures.reads.kept));
+  causes = tt;
   still = λ honest.
       let honest2 = c.sync_tables.ensures.reads.kept.honest.1 honest in
       still_more (still_more (c.sync_tables.ensures.reads.still honest)
@@ -298,3 +328,33 @@ returns-then-not-are_ordered-clause-told g c = λ honest has.
     absurd (not_true (sym c.if-not-are_ordered.true ∙ c.are_ordered.ensures.1
     (subst (λ (t : ℕ). AreOrderedNumbers version t c.last_number.result) (sym trimmed)
     (subst (AreOrderedNumbers version (first - 1)) (sym count) has.ordered))))
+
+pub returns-in_err-sync_tables-clause-reads : goal.returns-in_err-sync_tables-clause-reads
+returns-in_err-sync_tables-clause-reads g c = grind (arith, common_steps)
+
+pub returns-in_err-sync_tables-clause-meant : goal.returns-in_err-sync_tables-clause-meant
+returns-in_err-sync_tables-clause-meant g c = grind (arith, common_steps)
+
+pub returns-in_err-sync_tables-clause-usable : goal.returns-in_err-sync_tables-clause-usable
+returns-in_err-sync_tables-clause-usable g c = grind (arith, common_steps)
+
+pub returns-in_err-logs-clause-meant : goal.returns-in_err-logs-clause-meant
+returns-in_err-logs-clause-meant g c = grind (arith, common_steps)
+
+pub returns-in_err-logs-clause-usable : goal.returns-in_err-logs-clause-usable
+returns-in_err-logs-clause-usable g c = grind (arith, common_steps)
+
+pub returns-in_err-tables-clause-meant : goal.returns-in_err-tables-clause-meant
+returns-in_err-tables-clause-meant g c = grind (arith, common_steps)
+
+pub returns-in_err-tables-clause-usable : goal.returns-in_err-tables-clause-usable
+returns-in_err-tables-clause-usable g c = grind (arith, common_steps)
+
+pub returns-then-not-are_ordered-clause-meant : goal.returns-then-not-are_ordered-clause-meant
+returns-then-not-are_ordered-clause-meant g c = grind (arith, common_steps)
+
+pub returns-then-not-are_ordered-clause-usable : goal.returns-then-not-are_ordered-clause-usable
+returns-then-not-are_ordered-clause-usable g c = grind (arith, common_steps)
+
+pub returns-clause-usable : goal.returns-clause-usable
+returns-clause-usable g c = grind (arith, common_steps)

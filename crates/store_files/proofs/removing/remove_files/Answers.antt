@@ -1,3 +1,5 @@
+use Rattle.std.proofs.Common.{arith}
+use Rattle.std.proofs.lemmas.Grind.{common_steps}
 use Rattle.std.proofs.Common.{refl}
 use Rattle.std.proofs.lemmas.List.Elements.{Contains-get_or}
 use Rattle.store_tables.specs.RefusalLemmas.{done}
@@ -26,3 +28,21 @@ loop-file-preserved g c =
           c.in_ok-remove_file.ensures.writes.kept c.remove_file.ensures.writes.any_moment done
           c.in_ok-remove_file.ensures.removed i c.loop-file-test.true refl refl;
     }
+
+pub returns-in_err-remove_file-clause-gone : goal.returns-in_err-remove_file-clause-gone
+returns-in_err-remove_file-clause-gone g c = grind (arith, common_steps)
+
+pub returns-in_err-remove_file-clause-causes : goal.returns-in_err-remove_file-clause-causes
+returns-in_err-remove_file-clause-causes g c = grind (arith, common_steps)
+
+pub returns-clause-kept : goal.returns-clause-kept
+returns-clause-kept g c = grind (arith, common_steps)
+
+pub returns-clause-gone : goal.returns-clause-gone
+returns-clause-gone g c = grind (arith, common_steps)
+
+pub returns-clause-any_moment : goal.returns-clause-any_moment
+returns-clause-any_moment g c = grind (arith, common_steps)
+
+pub returns-clause-causes : goal.returns-clause-causes
+returns-clause-causes g c = grind (arith, common_steps)

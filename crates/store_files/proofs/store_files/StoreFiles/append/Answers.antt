@@ -1,3 +1,4 @@
+use Rattle.std.proofs.lemmas.Grind.{common_steps}
 use Rattle.std.proofs.Common.{◌<◌, suc, arith, drop, length, rules}
 use Rattle.kv_types.specs.declared.bounds.TheConstants.{MAX_NUMBER}
 use Rattle.store_files.specs.OpenFiles.{known_store, trimmed_count}
@@ -163,3 +164,18 @@ returns-clause-plans g c =
           c.in_ok-add.ensures.adds) _ c.append.result told (c.append.ensures.appended (suc trimmed)
           (drop trimmed list) honest (logs_are_held disk files list w)).list plan it.can_end;
     }
+
+pub returns-in_err-add-clause-kept : goal.returns-in_err-add-clause-kept
+returns-in_err-add-clause-kept g c = grind (arith, common_steps)
+
+pub returns-in_err-add-clause-counts : goal.returns-in_err-add-clause-counts
+returns-in_err-add-clause-counts g c = grind (arith, common_steps)
+
+pub returns-in_err-add-clause-facts : goal.returns-in_err-add-clause-facts
+returns-in_err-add-clause-facts g c = grind (arith, common_steps)
+
+pub returns-clause-kept : goal.returns-clause-kept
+returns-clause-kept g c = grind (arith, common_steps)
+
+pub returns-clause-facts : goal.returns-clause-facts
+returns-clause-facts g c = grind (arith, common_steps)

@@ -1,3 +1,5 @@
+use Rattle.std.proofs.Common.{arith}
+use Rattle.std.proofs.lemmas.Grind.{common_steps}
 use Rattle.std.proofs.Common.{◌≡◌, ℕ, List, [], ◌∙◌, ap, refl, subst, sym, rules}
 use Rattle.disk.specs.{IsEnvironmental, contents}
 use Rattle.record_log.specs.{LogHolds}
@@ -127,3 +129,60 @@ returns-clause-first g c = λ honest.
           ∙ first_log s0 s1 alone (c.in_ok-log.ensures.spelled honest1);
       alone = only_first s0 s1 s2 s3 alone log_kept slots_kept same;
     }
+
+pub returns-in_err-remove_others-clause-kept : goal.returns-in_err-remove_others-clause-kept
+returns-in_err-remove_others-clause-kept g c = grind (arith, common_steps)
+
+pub returns-in_err-remove_others-clause-created : goal.returns-in_err-remove_others-clause-created
+returns-in_err-remove_others-clause-created g c = grind (arith, common_steps)
+
+pub returns-in_err-remove_others-clause-begun : goal.returns-in_err-remove_others-clause-begun
+returns-in_err-remove_others-clause-begun g c = grind (arith, common_steps)
+
+pub returns-in_err-remove_others-clause-counter : goal.returns-in_err-remove_others-clause-counter
+returns-in_err-remove_others-clause-counter g c = grind (arith, common_steps)
+
+pub returns-in_err-remove_others-clause-first : goal.returns-in_err-remove_others-clause-first
+returns-in_err-remove_others-clause-first g c = grind (arith, common_steps)
+
+pub returns-in_err-log-clause-kept : goal.returns-in_err-log-clause-kept
+returns-in_err-log-clause-kept g c = grind (arith, common_steps)
+
+pub returns-in_err-log-clause-created : goal.returns-in_err-log-clause-created
+returns-in_err-log-clause-created g c = grind (arith, common_steps)
+
+pub returns-in_err-log-clause-counter : goal.returns-in_err-log-clause-counter
+returns-in_err-log-clause-counter g c = grind (arith, common_steps)
+
+pub returns-in_err-log-clause-first : goal.returns-in_err-log-clause-first
+returns-in_err-log-clause-first g c = grind (arith, common_steps)
+
+pub returns-in_err-manifest-clause-kept : goal.returns-in_err-manifest-clause-kept
+returns-in_err-manifest-clause-kept g c = grind (arith, common_steps)
+
+pub returns-in_err-manifest-clause-created : goal.returns-in_err-manifest-clause-created
+returns-in_err-manifest-clause-created g c = grind (arith, common_steps)
+
+pub returns-in_err-manifest-clause-counter : goal.returns-in_err-manifest-clause-counter
+returns-in_err-manifest-clause-counter g c = grind (arith, common_steps)
+
+pub returns-in_err-manifest-clause-first : goal.returns-in_err-manifest-clause-first
+returns-in_err-manifest-clause-first g c = grind (arith, common_steps)
+
+pub returns-in_err-tables-clause-kept : goal.returns-in_err-tables-clause-kept
+returns-in_err-tables-clause-kept g c = grind (arith, common_steps)
+
+pub returns-in_err-tables-clause-begun : goal.returns-in_err-tables-clause-begun
+returns-in_err-tables-clause-begun g c = grind (arith, common_steps)
+
+pub returns-in_err-tables-clause-counter : goal.returns-in_err-tables-clause-counter
+returns-in_err-tables-clause-counter g c = grind (arith, common_steps)
+
+pub returns-in_err-tables-clause-first : goal.returns-in_err-tables-clause-first
+returns-in_err-tables-clause-first g c = grind (arith, common_steps)
+
+pub returns-clause-kept : goal.returns-clause-kept
+returns-clause-kept g c = grind (arith, common_steps)
+
+pub returns-clause-counter : goal.returns-clause-counter
+returns-clause-counter g c = grind (arith, common_steps)

@@ -1,3 +1,5 @@
+use Rattle.std.proofs.Common.{arith}
+use Rattle.std.proofs.lemmas.Grind.{common_steps}
 use Rattle.std.proofs.Common.{◌≡◌, ◌≤◌, ℕ, List, Option, refl, subst, rules}
 use Rattle.disk.specs.{IsEnvironmental, contents}
 use Rattle.disk.specs.StillLemmas.{still}
@@ -145,3 +147,27 @@ returns-in_err-get-clause-intact g c = λ list honest h.
     if_refuses c.from_residual-in_err-get.result (IsEnvironmental engine.Disk engine.Memory)
     c.from_residual-in_err-get.ensures.1
     (c.in_err-get.ensures.intact h.known.tables honest h.known.served)
+
+pub returns-in_err-value-clause-found : goal.returns-in_err-value-clause-found
+returns-in_err-value-clause-found g c = grind (arith, common_steps)
+
+pub returns-in_err-value-clause-intact : goal.returns-in_err-value-clause-intact
+returns-in_err-value-clause-intact g c = grind (arith, common_steps)
+
+pub returns-in_err-value-clause-damaged : goal.returns-in_err-value-clause-damaged
+returns-in_err-value-clause-damaged g c = grind (arith, common_steps)
+
+pub returns-in-Some-clause-intact : goal.returns-in-Some-clause-intact
+returns-in-Some-clause-intact g c = grind (arith, common_steps)
+
+pub returns-in-Some-clause-damaged : goal.returns-in-Some-clause-damaged
+returns-in-Some-clause-damaged g c = grind (arith, common_steps)
+
+pub returns-in_err-get-clause-reads : goal.returns-in_err-get-clause-reads
+returns-in_err-get-clause-reads g c = grind (arith, common_steps)
+
+pub returns-in_err-get-clause-found : goal.returns-in_err-get-clause-found
+returns-in_err-get-clause-found g c = grind (arith, common_steps)
+
+pub returns-clause-reads : goal.returns-clause-reads
+returns-clause-reads g c = grind (arith, common_steps)

@@ -1,3 +1,4 @@
+use Rattle.std.proofs.lemmas.Grind.{common_steps}
 use Rattle.std.proofs.Common.{◌≡◌, ◌∙◌, ℕ, List, ap, arith, drop, inl, inr, length, refl, subst}
 use Rattle.std.proofs.Common.{sym}
 use Rattle.std.specs.Prelude.{MatchResult}
@@ -239,3 +240,9 @@ returns-clause-gone g c = λ honest.
     MatchResult c.remove_files.result (λ _. AreAbsent l s3)
     (IsEnvironmental engine.Disk engine.Memory)) removed_is
     (c.remove_files.ensures.gone (c.record.ensures.changes.kept.honest.1 honest)))
+
+pub returns-in_err-edit-clause-gone : goal.returns-in_err-edit-clause-gone
+returns-in_err-edit-clause-gone g c = grind (arith, common_steps)
+
+pub returns-in-Err-clause-gone : goal.returns-in-Err-clause-gone
+returns-in-Err-clause-gone g c = grind (arith, common_steps)

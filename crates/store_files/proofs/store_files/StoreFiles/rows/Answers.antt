@@ -1,3 +1,5 @@
+use Rattle.std.proofs.Common.{arith}
+use Rattle.std.proofs.lemmas.Grind.{common_steps}
 use Rattle.std.proofs.Common.{refl, subst, sym, take, rules}
 use Rattle.disk.specs.{IsEnvironmental}
 use Rattle.disk.specs.StillLemmas.{still}
@@ -61,3 +63,21 @@ returns-clause-damaged g c = λ list honest w refused. record {
       (sym c.from.ensures) (refusal_external c.read_page.result c.in-Err.e c.in-Err.is
       c.read_page.ensures.moved.causes (disk, sound, λ honest file. refl))) refused;
 }
+
+pub returns-in_err-rows-clause-found : goal.returns-in_err-rows-clause-found
+returns-in_err-rows-clause-found g c = grind (arith, common_steps)
+
+pub returns-in_err-rows-clause-intact : goal.returns-in_err-rows-clause-intact
+returns-in_err-rows-clause-intact g c = grind (arith, common_steps)
+
+pub returns-in_err-rows-clause-damaged : goal.returns-in_err-rows-clause-damaged
+returns-in_err-rows-clause-damaged g c = grind (arith, common_steps)
+
+pub returns-in-Ok-clause-intact : goal.returns-in-Ok-clause-intact
+returns-in-Ok-clause-intact g c = grind (arith, common_steps)
+
+pub returns-in-Ok-clause-damaged : goal.returns-in-Ok-clause-damaged
+returns-in-Ok-clause-damaged g c = grind (arith, common_steps)
+
+pub returns-clause-found : goal.returns-clause-found
+returns-clause-found g c = grind (arith, common_steps)

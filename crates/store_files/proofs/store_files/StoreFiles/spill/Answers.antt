@@ -1,3 +1,4 @@
+use Rattle.std.proofs.lemmas.Grind.{common_steps}
 use Rattle.std.proofs.Common.{◌<◌, ◌+◌, Option, arith, inr, refl, subst}
 use Rattle.std.specs.Prelude.{IsNone, MatchOption}
 use Rattle.disk.specs.{IsEnvironmental, seen}
@@ -211,3 +212,9 @@ returns-clause-meant g c = λ list honest w.
           (g.D.Disk.past c.open.new.disk) mid new (c.write_table.ensures.writes.any_moment honest)
           (c.open.ensures.reads.still between);
     }
+
+pub returns-in_default-clause-kept : goal.returns-in_default-clause-kept
+returns-in_default-clause-kept g c = grind (arith, common_steps)
+
+pub returns-clause-kept : goal.returns-clause-kept
+returns-clause-kept g c = grind (arith, common_steps)
