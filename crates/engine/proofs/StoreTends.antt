@@ -1,6 +1,6 @@
 -- A tend of an engine's store, which leaves a merge under way.
 use Rattle.std.proofs.Common.{◌≡◌, ◌≢◌, ◌+◌, ◌≤◌, ℕ, List, [], ◌∷◌, Option, Result, Ok, Err, arith}
-use Rattle.std.proofs.Common.{inl, inr, refl, subst, sym}
+use Rattle.std.proofs.Common.{Bool, false, true, not, inl, inr, ap, refl, subst, sym, ◌∙◌}
 use Rattle.std.specs.Prelude.{Contains, IfOk, MatchResult}
 use Rattle.kv_types.specs.{BatchContent}
 use Rattle.kv_types.specs.declared.Limits.{Limits}
@@ -37,6 +37,28 @@ use Rattle.engine.specs.UnderWay.{MergesOfEngineLast, MergesOfEngineStayBeside}
 use Rattle.engine.proofs.Results.{answers_with, of_refusal, on_answer, refused_outside}
 use Rattle.engine.proofs.Merges.{goes_with_merge, meant_with_merge, tend_leaves_ok, unused_held}
 use Rattle.engine.proofs.Merges.{unused_meant}
+
+-- ---- whether a tend did something
+
+-- by a test that tells it from rest
+pub not_idle : (same : Tended → Tended → Bool) → same answer.Idle answer.Idle ≡ true
+    → (did : Tended) (differs : Bool) → differs ≡ not (same did answer.Idle) → differs ≡ true
+    → did ≢ answer.Idle
+not_idle same itself did differs is told idle =
+    let now : differs ≡ not (same answer.Idle answer.Idle) =
+    subst (λ (d : Tended). differs ≡ not (same d answer.Idle)) idle is in
+    let e : true ≡ false = sym told ∙ (now ∙ ap not itself) in absurd cc
+
+pub only_idle : (same : Tended → Tended → Bool) → same answer.Worked answer.Idle ≡ false
+    → same answer.Full answer.Idle ≡ false → (did : Tended) (differs : Bool)
+    → differs ≡ not (same did answer.Idle) → differs ≡ false → did ≡ answer.Idle
+only_idle same worked full answer.Idle differs is none = refl
+only_idle same worked full answer.Worked differs is none =
+    let e : false ≡ true = sym none ∙ (is ∙ ap not worked) in absurd cc
+only_idle same worked full answer.Full differs is none =
+    let e : false ≡ true = sym none ∙ (is ∙ ap not full) in absurd cc
+
+-- ---- what a tend of the store leaves
 
 -- a number or the one behind it
 free_within : (n file : ℕ) → Contains (n ∷ (n + 1) ∷ []) file → n ≤ file

@@ -1,3 +1,5 @@
+use Rattle.std.proofs.Common.{arith}
+use Rattle.std.proofs.lemmas.Grind.{common_steps}
 use Rattle.std.proofs.Common.{◌≡◌, length, rules}
 use Rattle.store_files.specs.OpenFiles.{known_version}
 use Rattle.engine.proofs.Advances.{keeps_told, none_told, planned_told}
@@ -30,3 +32,6 @@ returns-clause-done g c =
     c.free_file-next.result c.free_file-next.ensures c.step-step.new.next_file c.step-step.result
     c.step-step.ensures c.set_free_file.new.self c.set_free_file.ensures c.progress_of.result
     c.progress_of.ensures
+
+pub returns-clause-goes_on : goal.returns-clause-goes_on
+returns-clause-goes_on g c = grind (arith, common_steps)

@@ -1,3 +1,5 @@
+use Rattle.std.proofs.Common.{arith}
+use Rattle.std.proofs.lemmas.Grind.{common_steps}
 use Rattle.std.proofs.Common.{◌≡◌, ap, refl, subst, sym}
 use Rattle.disk.specs.MomentsLemmas.{none_yet}
 use Rattle.manifest.specs.{NodeVersion}
@@ -42,3 +44,24 @@ returns-clause-begins g c =
     lines c.in_ok-cursors.ensures.over
     (λ honest file. c.begin-begun.ensures.reads.kept.files honest file (λ no. no))
     c.begin-begun.result c.begin-begun.ensures.begun c.begin-begun.ensures.first)
+
+pub returns-in_err-cursors-clause-refused : goal.returns-in_err-cursors-clause-refused
+returns-in_err-cursors-clause-refused g c = grind (arith, common_steps)
+
+pub returns-in_err-cursors-clause-first : goal.returns-in_err-cursors-clause-first
+returns-in_err-cursors-clause-first g c = grind (arith, common_steps)
+
+pub returns-in_err-cursors-clause-aims : goal.returns-in_err-cursors-clause-aims
+returns-in_err-cursors-clause-aims g c = grind (arith, common_steps)
+
+pub returns-in_err-cursors-clause-begins : goal.returns-in_err-cursors-clause-begins
+returns-in_err-cursors-clause-begins g c = grind (arith, common_steps)
+
+pub returns-clause-refused : goal.returns-clause-refused
+returns-clause-refused g c = grind (arith, common_steps)
+
+pub returns-clause-first : goal.returns-clause-first
+returns-clause-first g c = grind (arith, common_steps)
+
+pub returns-clause-aims : goal.returns-clause-aims
+returns-clause-aims g c = grind (arith, common_steps)

@@ -1,3 +1,5 @@
+use Rattle.std.proofs.Common.{arith}
+use Rattle.std.proofs.lemmas.Grind.{common_steps}
 use Rattle.std.proofs.Common.{◌≡◌, Err, None, Ok, Some, inl, refl, rules, subst, sym}
 use Rattle.std.specs.Prelude.{IfOk, IfSome}
 use Rattle.store_files.specs.declared.tended.Tended.TheVariants as tended
@@ -81,3 +83,6 @@ pub returns-in-Err-clause-kept : goal.returns-in-Err-clause-kept
 returns-in-Err-clause-kept g c =
     part_refused g.D.Disk c.args.files.now c.complete.new.files c.args.store.now c.args.store.now
     c.complete.result c.in-Err.e (Err c.in-Err.e) c.in-Err.is refl c.complete.ensures.kept
+
+pub returns-in-Err-clause-did : goal.returns-in-Err-clause-did
+returns-in-Err-clause-did g c = grind (arith, common_steps)

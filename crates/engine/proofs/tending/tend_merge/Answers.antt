@@ -1,3 +1,5 @@
+use Rattle.std.proofs.Common.{arith}
+use Rattle.std.proofs.lemmas.Grind.{common_steps}
 use Rattle.std.proofs.Common.{◌≡◌, ◌∙◌, None, Ok, Some, inl, inr, refl, rules, subst, sym}
 use Rattle.compaction.specs.{picked, turn_key}
 use Rattle.disk.specs.{IsEnvironmental}
@@ -152,3 +154,21 @@ returns-clause-did g c =
     c.in_ok-begun.was c.begin.ensures.did c.begin.ensures.aims none c.replace.ensures.after due
     (turn_over c.in-Some-pick.plan c.deref.result.now _ lines c.args.turn.now c.end_turn.new.turn
     c.in_ok-key.key c.in_ok-key.ensures c.end_turn.ensures)
+
+pub returns-in_default-pick-clause-rests : goal.returns-in_default-pick-clause-rests
+returns-in_default-pick-clause-rests g c = grind (arith, common_steps)
+
+pub returns-in_err-key-clause-did : goal.returns-in_err-key-clause-did
+returns-in_err-key-clause-did g c = grind (arith, common_steps)
+
+pub returns-in_err-key-clause-rests : goal.returns-in_err-key-clause-rests
+returns-in_err-key-clause-rests g c = grind (arith, common_steps)
+
+pub returns-in_err-begun-clause-did : goal.returns-in_err-begun-clause-did
+returns-in_err-begun-clause-did g c = grind (arith, common_steps)
+
+pub returns-in_err-begun-clause-rests : goal.returns-in_err-begun-clause-rests
+returns-in_err-begun-clause-rests g c = grind (arith, common_steps)
+
+pub returns-clause-rests : goal.returns-clause-rests
+returns-clause-rests g c = grind (arith, common_steps)

@@ -1,17 +1,20 @@
-use Rattle.std.proofs.Common.{◌≡◌, ◌≢◌, ◌∙◌, Ok, ap, rules, subst}
+use Rattle.std.proofs.Common.{arith}
+use Rattle.std.proofs.lemmas.Grind.{common_steps}
+use Rattle.std.proofs.Common.{◌≡◌, ◌∙◌, Ok, ap, refl, subst}
 use Rattle.std.specs.Prelude.{IfOk}
 use Rattle.disk.specs.{IsEnvironmental}
 use Rattle.disk.specs.declared.Disk.{Ghosts}
 use Rattle.store_tables.specs.declared.error.EngineError.TheVariants as error
 use Rattle.store_files.specs.declared.store_files.StoreFiles.{StoreFiles}
 use Rattle.store_files.specs.declared.tended.Tended.TheVariants as tended
+use Rattle.store_files.specs.contracts.tended.TendedPartialEq.TheImpl as compared
 use Rattle.table_files.specs.declared.cached_disk.CachedDisk.{CachedDisk}
 use Rattle.engine.specs.Tends.{KeepsTended, MergesByPlan, tended_store}
 use Rattle.engine.proofs.Parts.{part_answers, part_refused}
 use Rattle.store_tables.specs.RefusalLemmas.{if_refuses}
 use Rattle.engine.proofs.Results.{damage_apart}
 use Rattle.engine.proofs.StoreTends.{behind_rest, merge_did, merge_refused, part_of_tend}
-use Rattle.engine.proofs.StoreTends.{store_did}
+use Rattle.engine.proofs.StoreTends.{not_idle, only_idle, store_did}
 use Rattle.engine.proofs.tending.tend_store.Goals as goal
 
 -- ---- it is refused
@@ -39,7 +42,8 @@ returns-then-ne-clause-kept g c =
 
 pub returns-then-ne-clause-did : goal.returns-then-ne-clause-did
 returns-then-ne-clause-did g c =
-    let some : c.in_ok-done.done ≢ tended.Idle = search rules in
+    let some = not_idle compared.ghosts.eq refl c.in_ok-done.done c.ne.result c.ne.ensures
+    c.if-ne.true in
     store_did g.D.Disk c.args.limits.now c.args.floor c.args.files.now c.tend.new.disk
     c.args.store.now c.tend.new.self c.args.merge.now c.args.turn.now c.tend.result
     c.in_ok-done.done c.in_ok-done.was some c.tend.ensures.tends.did c.tend.ensures.work
@@ -53,7 +57,8 @@ Rests a b old new = (b ≡ a) × (new ≡ old)
 
 pub returns-clause-kept : goal.returns-clause-kept
 returns-clause-kept g c =
-    let idle : c.in_ok-done.done ≡ tended.Idle = search rules in
+    let idle = only_idle compared.ghosts.eq refl refl c.in_ok-done.done c.ne.result c.ne.ensures
+    c.if-ne.false in
     let rests = subst (λ r. IfOk r (λ d. d ≡ tended.Idle →
     Rests c.args.files.now c.tend.new.disk c.args.store.now c.tend.new.self)) c.in_ok-done.was
     c.tend.ensures.rests idle in
@@ -65,7 +70,8 @@ returns-clause-kept g c =
 
 pub returns-clause-did : goal.returns-clause-did
 returns-clause-did g c =
-    let idle : c.in_ok-done.done ≡ tended.Idle = search rules in
+    let idle = only_idle compared.ghosts.eq refl refl c.in_ok-done.done c.ne.result c.ne.ensures
+    c.if-ne.false in
     let rests = subst (λ r. IfOk r (λ d. d ≡ tended.Idle →
     Rests c.args.files.now c.tend.new.disk c.args.store.now c.tend.new.self)) c.in_ok-done.was
     c.tend.ensures.rests idle in
@@ -88,7 +94,8 @@ returns-in_err-done-clause-refused g c = λ list honest w.
 
 pub returns-clause-refused : goal.returns-clause-refused
 returns-clause-refused g c =
-    let idle : c.in_ok-done.done ≡ tended.Idle = search rules in
+    let idle = only_idle compared.ghosts.eq refl refl c.in_ok-done.done c.ne.result c.ne.ensures
+    c.if-ne.false in
     λ list honest w damaged. merge_refused g.D.Disk c.args.limits.now c.args.floor c.args.files.now
     c.tend.new.disk c.args.store.now c.tend.new.self c.args.merge.now c.args.turn.now c.tend.result
     (c.in_ok-done.was ∙ ap (λ d. Ok d) idle) (c.tend.ensures.work list honest w)
@@ -97,13 +104,24 @@ returns-clause-refused g c =
 
 pub returns-then-ne-clause-rests : goal.returns-then-ne-clause-rests
 returns-then-ne-clause-rests g c = λ idle.
-    let some : c.in_ok-done.done ≢ tended.Idle = search rules in absurd (some idle)
+    absurd (not_idle compared.ghosts.eq refl c.in_ok-done.done c.ne.result c.ne.ensures c.if-ne.true
+    idle)
 
 pub returns-clause-rests : goal.returns-clause-rests
 returns-clause-rests g c =
-    let idle : c.in_ok-done.done ≡ tended.Idle = search rules in
+    let idle = only_idle compared.ghosts.eq refl refl c.in_ok-done.done c.ne.result c.ne.ensures
+    c.if-ne.false in
     let rests = subst (λ r. IfOk r (λ d. d ≡ tended.Idle →
     Rests c.args.files.now c.tend.new.disk c.args.store.now c.tend.new.self)) c.in_ok-done.was
     c.tend.ensures.rests idle in
     subst (λ f. IfOk c.tend_merge.result (λ d. d ≡ tended.Idle → c.tend_merge.new.files ≡ f))
     rests.0 c.tend_merge.ensures.rests
+
+pub returns-in_err-done-clause-did : goal.returns-in_err-done-clause-did
+returns-in_err-done-clause-did g c = grind (arith, common_steps)
+
+pub returns-in_err-done-clause-rests : goal.returns-in_err-done-clause-rests
+returns-in_err-done-clause-rests g c = grind (arith, common_steps)
+
+pub returns-then-ne-clause-refused : goal.returns-then-ne-clause-refused
+returns-then-ne-clause-refused g c = grind (arith, common_steps)

@@ -1,3 +1,5 @@
+use Rattle.std.proofs.Common.{arith}
+use Rattle.std.proofs.lemmas.Grind.{common_steps}
 use Rattle.std.proofs.Common.{Err, List, Ok, inl, refl}
 use Rattle.kv_types.specs.{BatchContent}
 use Rattle.store_tables.specs.declared.error.EngineError.TheVariants as error
@@ -111,3 +113,36 @@ returns-clause-changes g c =
 pub returns-clause-told : goal.returns-clause-told
 returns-clause-told g c =
     told_alike c.in_ok-adopt.ensures.adopts.did.facts c.adopt.ensures.adopts.numbers.0
+
+pub returns-then-self-clause-told : goal.returns-then-self-clause-told
+returns-then-self-clause-told g c = grind (arith, common_steps)
+
+pub returns-then-self-clause-merging : goal.returns-then-self-clause-merging
+returns-then-self-clause-merging g c = grind (arith, common_steps)
+
+pub returns-then-self-clause-causes : goal.returns-then-self-clause-causes
+returns-then-self-clause-causes g c = grind (arith, common_steps)
+
+pub returns-then-self-clause-calls : goal.returns-then-self-clause-calls
+returns-then-self-clause-calls g c = grind (arith, common_steps)
+
+pub returns-in_err-adopt-clause-told : goal.returns-in_err-adopt-clause-told
+returns-in_err-adopt-clause-told g c = grind (arith, common_steps)
+
+pub returns-in_err-adopt-clause-merging : goal.returns-in_err-adopt-clause-merging
+returns-in_err-adopt-clause-merging g c = grind (arith, common_steps)
+
+pub returns-in_err-adopt-clause-calls : goal.returns-in_err-adopt-clause-calls
+returns-in_err-adopt-clause-calls g c = grind (arith, common_steps)
+
+pub returns-clause-merging : goal.returns-clause-merging
+returns-clause-merging g c = grind (arith, common_steps)
+
+pub returns-clause-causes : goal.returns-clause-causes
+returns-clause-causes g c = grind (arith, common_steps)
+
+pub returns-clause-met : goal.returns-clause-met
+returns-clause-met g c = grind (arith, common_steps)
+
+pub returns-clause-calls : goal.returns-clause-calls
+returns-clause-calls g c = grind (arith, common_steps)

@@ -1,3 +1,5 @@
+use Rattle.std.proofs.Common.{arith}
+use Rattle.std.proofs.lemmas.Grind.{common_steps}
 use Rattle.std.proofs.Common.{◌∷◌, [], ◌++◌, Err, List, Ok, inl, refl, rules}
 use Rattle.kv_types.specs.{BatchContent}
 use Rattle.store_tables.specs.declared.error.EngineError.TheVariants as error
@@ -117,3 +119,54 @@ returns-clause-changes g c =
           (c.append.ensures.meant list m.honest
           (were_meant g.D.Disk c.args.self.now list m)).any_moment;
     }
+
+pub returns-then-self-clause-told : goal.returns-then-self-clause-told
+returns-then-self-clause-told g c = grind (arith, common_steps)
+
+pub returns-then-self-clause-merging : goal.returns-then-self-clause-merging
+returns-then-self-clause-merging g c = grind (arith, common_steps)
+
+pub returns-then-self-clause-causes : goal.returns-then-self-clause-causes
+returns-then-self-clause-causes g c = grind (arith, common_steps)
+
+pub returns-then-self-clause-calls : goal.returns-then-self-clause-calls
+returns-then-self-clause-calls g c = grind (arith, common_steps)
+
+pub returns-in_default-clause-told : goal.returns-in_default-clause-told
+returns-in_default-clause-told g c = grind (arith, common_steps)
+
+pub returns-in_default-clause-merging : goal.returns-in_default-clause-merging
+returns-in_default-clause-merging g c = grind (arith, common_steps)
+
+pub returns-in_default-clause-causes : goal.returns-in_default-clause-causes
+returns-in_default-clause-causes g c = grind (arith, common_steps)
+
+pub returns-in_default-clause-met : goal.returns-in_default-clause-met
+returns-in_default-clause-met g c = grind (arith, common_steps)
+
+pub returns-in_default-clause-calls : goal.returns-in_default-clause-calls
+returns-in_default-clause-calls g c = grind (arith, common_steps)
+
+pub returns-in_err-append-clause-told : goal.returns-in_err-append-clause-told
+returns-in_err-append-clause-told g c = grind (arith, common_steps)
+
+pub returns-in_err-append-clause-merging : goal.returns-in_err-append-clause-merging
+returns-in_err-append-clause-merging g c = grind (arith, common_steps)
+
+pub returns-in_err-append-clause-calls : goal.returns-in_err-append-clause-calls
+returns-in_err-append-clause-calls g c = grind (arith, common_steps)
+
+pub returns-clause-told : goal.returns-clause-told
+returns-clause-told g c = grind (arith, common_steps)
+
+pub returns-clause-merging : goal.returns-clause-merging
+returns-clause-merging g c = grind (arith, common_steps)
+
+pub returns-clause-causes : goal.returns-clause-causes
+returns-clause-causes g c = grind (arith, common_steps)
+
+pub returns-clause-met : goal.returns-clause-met
+returns-clause-met g c = grind (arith, common_steps)
+
+pub returns-clause-calls : goal.returns-clause-calls
+returns-clause-calls g c = grind (arith, common_steps)

@@ -1,3 +1,5 @@
+use Rattle.std.proofs.Common.{arith}
+use Rattle.std.proofs.lemmas.Grind.{common_steps}
 use Rattle.std.proofs.Common.{◌∙◌, [], Err, ap, refl, subst, sym}
 use Rattle.disk.specs.KeepingLemmas.{answered, neither}
 use Rattle.engine.proofs.Engines.{holds_of, reads_of, told_of}
@@ -36,3 +38,15 @@ returns-in-Err-clause-kept g c =
       λ fails. let is = sym c.in-Err.is ∙ fails in cc,
       λ is. c.in-Err.is ∙ ap (λ e. Err e) is,
     ) c.create.ensures.kept
+
+pub returns-in_err-files-clause-created : goal.returns-in_err-files-clause-created
+returns-in_err-files-clause-created g c = grind (arith, common_steps)
+
+pub returns-in_err-files-clause-begun : goal.returns-in_err-files-clause-begun
+returns-in_err-files-clause-begun g c = grind (arith, common_steps)
+
+pub returns-in-Err-clause-created : goal.returns-in-Err-clause-created
+returns-in-Err-clause-created g c = grind (arith, common_steps)
+
+pub returns-in-Err-clause-begun : goal.returns-in-Err-clause-begun
+returns-in-Err-clause-begun g c = grind (arith, common_steps)

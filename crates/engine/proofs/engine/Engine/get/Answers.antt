@@ -1,3 +1,4 @@
+use Rattle.std.proofs.lemmas.Grind.{common_steps}
 use Rattle.std.proofs.Common.{◌≤◌, arith, refl}
 use Rattle.disk.specs.KeepingLemmas.{same_files}
 use Rattle.store_files.specs.OpenFiles.{batch_count}
@@ -82,3 +83,12 @@ returns-clause-reads g c =
     reads_so g.D.Disk c.held_files_are_left.ensures c.merges_outlive_calls.ensures c.args.self.now _
     c.get-answer.result (λ h. let failed = c.in_ok-may_read.ensures.closed.1 h in cc)
     c.get-answer.ensures.reads refl refl c.is_err-self.ensures.value
+
+pub returns-in_err-may_read-clause-readable : goal.returns-in_err-may_read-clause-readable
+returns-in_err-may_read-clause-readable g c = grind (arith, common_steps)
+
+pub returns-in_err-may_read-clause-intact : goal.returns-in_err-may_read-clause-intact
+returns-in_err-may_read-clause-intact g c = grind (arith, common_steps)
+
+pub returns-clause-readable : goal.returns-clause-readable
+returns-clause-readable g c = grind (arith, common_steps)

@@ -1,3 +1,5 @@
+use Rattle.std.proofs.Common.{arith}
+use Rattle.std.proofs.lemmas.Grind.{common_steps}
 use Rattle.std.proofs.Common.{◌∙◌, Err, ap, refl, subst, sym}
 use Rattle.std.proofs.lemmas.Result.{err_from_is_err_and}
 use Rattle.disk.specs.{contents, seen}
@@ -146,3 +148,21 @@ returns-in-Err-clause-kept g c =
       λ fails. let is = sym c.in-Err.is ∙ fails in cc,
       λ is. c.in-Err.is ∙ ap (λ e. Err e) is,
     ) c.open.ensures.opens.kept
+
+pub returns-in_err-files-clause-opened : goal.returns-in_err-files-clause-opened
+returns-in_err-files-clause-opened g c = grind (arith, common_steps)
+
+pub returns-in_err-files-clause-told : goal.returns-in_err-files-clause-told
+returns-in_err-files-clause-told g c = grind (arith, common_steps)
+
+pub returns-in_err-files-clause-fresh : goal.returns-in_err-files-clause-fresh
+returns-in_err-files-clause-fresh g c = grind (arith, common_steps)
+
+pub returns-in_err-files-clause-alike : goal.returns-in_err-files-clause-alike
+returns-in_err-files-clause-alike g c = grind (arith, common_steps)
+
+pub returns-in-Err-clause-fresh : goal.returns-in-Err-clause-fresh
+returns-in-Err-clause-fresh g c = grind (arith, common_steps)
+
+pub returns-in-Err-clause-alike : goal.returns-in-Err-clause-alike
+returns-in-Err-clause-alike g c = grind (arith, common_steps)

@@ -1,3 +1,5 @@
+use Rattle.std.proofs.Common.{arith}
+use Rattle.std.proofs.lemmas.Grind.{common_steps}
 use Rattle.std.proofs.Common.{Err, refl, rules}
 use Rattle.store_tables.specs.declared.error.EngineError.TheVariants as error
 use Rattle.disk.specs.KeepingLemmas.{same_files}
@@ -45,3 +47,18 @@ returns-in-Ok-clause-changes g c =
           }) works;
       disk = refl;
     }
+
+pub returns-in_err-may_read-clause-opened : goal.returns-in_err-may_read-clause-opened
+returns-in_err-may_read-clause-opened g c = grind (arith, common_steps)
+
+pub returns-then-is_full-clause-opened : goal.returns-then-is_full-clause-opened
+returns-then-is_full-clause-opened g c = grind (arith, common_steps)
+
+pub returns-in-Ok-clause-opened : goal.returns-in-Ok-clause-opened
+returns-in-Ok-clause-opened g c = grind (arith, common_steps)
+
+pub returns-in-Err-clause-changes : goal.returns-in-Err-clause-changes
+returns-in-Err-clause-changes g c = grind (arith, common_steps)
+
+pub returns-in-Err-clause-opened : goal.returns-in-Err-clause-opened
+returns-in-Err-clause-opened g c = grind (arith, common_steps)
