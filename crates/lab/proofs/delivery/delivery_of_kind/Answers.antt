@@ -1,3 +1,5 @@
+use Rattle.std.proofs.Common.{arith}
+use Rattle.std.proofs.lemmas.Grind.{common_steps}
 use Rattle.std.proofs.Common.{[], ap, refl, subst, sym, ◌∙◌}
 use Rattle.std.specs.Prelude.{IfOk}
 use Rattle.std.proofs.lemmas.Result.{IfOk-weaker}
@@ -73,3 +75,66 @@ returns-in-Close-clause-brought g c =
     c.args.posted.now c.args.request (Close c.in-Close.node c.in-Close.number) c.in-Close.node
     (frame.Close c.args.request c.in-Close.number) _ refl (λ arrives. refl)
     (λ got it is. is) c.send_request-in-Close.result c.send_request-in-Close.ensures.arrives)
+
+pub returns-in_err-clone-in-Rows-clause-faithful : goal.returns-in_err-clone-in-Rows-clause-faithful
+returns-in_err-clone-in-Rows-clause-faithful g c = grind (arith, common_steps)
+
+pub returns-in_err-clone-in-Rows-clause-brought : goal.returns-in_err-clone-in-Rows-clause-brought
+returns-in_err-clone-in-Rows-clause-brought g c = grind (arith, common_steps)
+
+pub returns-in_err-range-in-Rows-clause-faithful : goal.returns-in_err-range-in-Rows-clause-faithful
+returns-in_err-range-in-Rows-clause-faithful g c = grind (arith, common_steps)
+
+pub returns-in_err-range-in-Rows-clause-brought : goal.returns-in_err-range-in-Rows-clause-brought
+returns-in_err-range-in-Rows-clause-brought g c = grind (arith, common_steps)
+
+pub returns-in_err-clone-in-Stop-clause-faithful : goal.returns-in_err-clone-in-Stop-clause-faithful
+returns-in_err-clone-in-Stop-clause-faithful g c = grind (arith, common_steps)
+
+pub returns-in_err-clone-in-Stop-clause-brought : goal.returns-in_err-clone-in-Stop-clause-brought
+returns-in_err-clone-in-Stop-clause-brought g c = grind (arith, common_steps)
+
+pub returns-in-Submit-clause-faithful : goal.returns-in-Submit-clause-faithful
+returns-in-Submit-clause-faithful g c = grind (arith, common_steps)
+
+pub returns-in-Get-clause-faithful : goal.returns-in-Get-clause-faithful
+returns-in-Get-clause-faithful g c = grind (arith, common_steps)
+
+pub returns-in_ok-range-in-Rows-clause-faithful : goal.returns-in_ok-range-in-Rows-clause-faithful
+returns-in_ok-range-in-Rows-clause-faithful g c = grind (arith, common_steps)
+
+pub returns-in-Open-clause-faithful : goal.returns-in-Open-clause-faithful
+returns-in-Open-clause-faithful g c = grind (arith, common_steps)
+
+pub returns-in-Close-clause-faithful : goal.returns-in-Close-clause-faithful
+returns-in-Close-clause-faithful g c = grind (arith, common_steps)
+
+pub returns-in-Deliver-clause-faithful : goal.returns-in-Deliver-clause-faithful
+returns-in-Deliver-clause-faithful g c = grind (arith, common_steps)
+
+pub returns-in-Notice-clause-faithful : goal.returns-in-Notice-clause-faithful
+returns-in-Notice-clause-faithful g c = grind (arith, common_steps)
+
+pub returns-in-Tick-clause-faithful : goal.returns-in-Tick-clause-faithful
+returns-in-Tick-clause-faithful g c = grind (arith, common_steps)
+
+pub returns-in-Tick-clause-brought : goal.returns-in-Tick-clause-brought
+returns-in-Tick-clause-brought g c = grind (arith, common_steps)
+
+pub returns-in-Tend-clause-faithful : goal.returns-in-Tend-clause-faithful
+returns-in-Tend-clause-faithful g c = grind (arith, common_steps)
+
+pub returns-in-Tend-clause-brought : goal.returns-in-Tend-clause-brought
+returns-in-Tend-clause-brought g c = grind (arith, common_steps)
+
+pub returns-in-Start-clause-faithful : goal.returns-in-Start-clause-faithful
+returns-in-Start-clause-faithful g c = grind (arith, common_steps)
+
+pub returns-in-Start-clause-brought : goal.returns-in-Start-clause-brought
+returns-in-Start-clause-brought g c = grind (arith, common_steps)
+
+pub returns-in_ok-clone-in-Stop-clause-faithful : goal.returns-in_ok-clone-in-Stop-clause-faithful
+returns-in_ok-clone-in-Stop-clause-faithful g c = grind (arith, common_steps)
+
+pub returns-in_ok-clone-in-Stop-clause-brought : goal.returns-in_ok-clone-in-Stop-clause-brought
+returns-in_ok-clone-in-Stop-clause-brought g c = grind (arith, common_steps)

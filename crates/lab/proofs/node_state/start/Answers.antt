@@ -1,6 +1,6 @@
-use Rattle.std.proofs.Common.{false, refl, inl, inr, subst, sym, rules}
+use Rattle.std.proofs.Common.{◌∙◌, ap, false, refl, inl, inr, subst, sym}
 use Rattle.chain_model.specs.{started, stopped, silent}
-use Rattle.disk.specs.{State, contents}
+use Rattle.disk.specs.{State, contents, fault_of}
 use Rattle.disk.specs.StepsLemmas.{read_is_outcome}
 use Rattle.node.specs.Starts.{StartRefusal}
 use Rattle.node.specs.{DiskAlwaysRefines}
@@ -9,7 +9,7 @@ use Rattle.lab.specs.declared.node_state.NodeState.TheVariants.{Down}
 use Rattle.lab.specs.SimNodes.{StateRefines}
 use Rattle.lab.specs.Outcomes.{Starts, Fails}
 use Rattle.lab.proofs.Dispatches.{counts_same}
-use Rattle.lab.proofs.Dispatching.{each_answer, halted, halts_so, holding, honest_left}
+use Rattle.lab.proofs.Dispatching.{each_answer, halted, halts_so, holding, honest_left, ready_up}
 use Rattle.lab.proofs.Dispatching.{in_disk_box, into_box}
 use Rattle.lab.proofs.Faults.{grown_since, marked_so, same_state, stays_so}
 use Rattle.lab.proofs.node_state.start.Goals as goal
@@ -23,7 +23,8 @@ returns-in_ok-new-in-Ok g c =
     c.into_inner-disk.ensures
     (into_box g.D.Disk c.args.limits.now c.args.fault to_node.Start (Down was) boxed.field-0
     c.arm-in-Ok.new.self _ boxed.ensures.ok (record {
-      ready = search rules;
+      ready = ready_up (holding boxed.field-0 c.arm-in-Ok.new.self)
+          (c.arm-in-Ok.ensures.ready c.in-Ok.ensures.works);
       outcome = tt;
       stands = (
         c.epoch-epoch.ensures.own,
@@ -46,7 +47,7 @@ returns-in_ok-new-in-Ok g c =
           let stays = stays_so g.D.Disk c.args.fault own c.arm.new.self _ _ _ _ _ c.arm.ensures
           c.in-Ok.ensures.kept (λ never. never) c.arm-in-Ok.ensures.armed honest in
           record { spared = stays.0; count = stays.1; same = λ down. absurd down };
-      only = search rules;
+      only = λ sound reliable stops. absurd cc;
       follows = tt;
       tells = λ own stops. absurd cc;
       counts = counts_same g.D.Disk own c.arm.new.self _ _ c.arm.ensures c.in-Ok.ensures.kept
@@ -65,8 +66,9 @@ returns-in_ok-new-in-Ok g c =
           inr (marked_so g.D.Disk c.args.fault own false c.arm.new.self _ _ _ _ _
           c.arm.ensures
           c.in-Ok.ensures.kept c.arm-in-Ok.ensures.armed honest);
-      forgets = search rules;
-      limits = search rules;
+      forgets = λ honest unarmed. ap fault_of (c.arm-in-Ok.ensures.armed.marks
+          (c.in-Ok.ensures.kept.honest.1 (c.arm.ensures.honest.1 honest)));
+      limits = λ has. c.arm-in-Ok.ensures.limits ∙ c.in-Ok.ensures.begins.limits;
     }))
 
 pub returns-in-Err : goal.returns-in-Err

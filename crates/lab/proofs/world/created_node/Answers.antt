@@ -1,3 +1,5 @@
+use Rattle.std.proofs.Common.{arith}
+use Rattle.std.proofs.lemmas.Grind.{common_steps}
 use Rattle.std.proofs.Common.{◌≡◌, None, ◌∷◌, ◌∙◌, ℕ, ap, ap₂, length, subst, sym}
 use Rattle.chain_model.specs.{created}
 use Rattle.disk.specs.declared.Mark.TheVariants.{Armed}
@@ -36,3 +38,18 @@ returns-in_ok-new-in-Ok-clause-created c =
         last = armed.last tt;
       });
     }
+
+pub returns-in_ok-new-in-Ok-clause-id : goal.returns-in_ok-new-in-Ok-clause-id
+returns-in_ok-new-in-Ok-clause-id c = grind (arith, common_steps)
+
+pub returns-in_ok-new-in-Ok-clause-limits : goal.returns-in_ok-new-in-Ok-clause-limits
+returns-in_ok-new-in-Ok-clause-limits c = grind (arith, common_steps)
+
+pub returns-in-Err-clause-id : goal.returns-in-Err-clause-id
+returns-in-Err-clause-id c = grind (arith, common_steps)
+
+pub returns-in-Err-clause-created : goal.returns-in-Err-clause-created
+returns-in-Err-clause-created c = grind (arith, common_steps)
+
+pub returns-in-Err-clause-limits : goal.returns-in-Err-clause-limits
+returns-in-Err-clause-limits c = grind (arith, common_steps)

@@ -1,3 +1,5 @@
+use Rattle.std.proofs.Common.{arith}
+use Rattle.std.proofs.lemmas.Grind.{common_steps}
 mod Steps
 use Rattle.std.proofs.Common.{List, ◌∷◌, [], length, false, true, refl, ap, subst, sym}
 use Rattle.std.proofs.Common.{◌≡◌, ◌∙◌, Err, MatchOption, Option, inl, ℕ}
@@ -269,3 +271,45 @@ returns-in_err-lines-clause-ends g c =
 pub returns-clause-ends : goal.returns-clause-ends
 returns-clause-ends g c = ends_kept c.keep-2.result _ _ _ _ c.if-self.false
     c.in_ok-begin.ensures.begun c.keep-2.ensures.kept c.keep-2.ensures.ends refl
+
+pub returns-then-self-clause-ran : goal.returns-then-self-clause-ran
+returns-then-self-clause-ran g c = grind (arith, common_steps)
+
+pub returns-then-self-clause-steps : goal.returns-then-self-clause-steps
+returns-then-self-clause-steps g c = grind (arith, common_steps)
+
+pub returns-then-not-names_node-clause-ran : goal.returns-then-not-names_node-clause-ran
+returns-then-not-names_node-clause-ran g c = grind (arith, common_steps)
+
+pub returns-then-not-names_node-clause-refused : goal.returns-then-not-names_node-clause-refused
+returns-then-not-names_node-clause-refused g c = grind (arith, common_steps)
+
+pub returns-in_err-begin-clause-ran : goal.returns-in_err-begin-clause-ran
+returns-in_err-begin-clause-ran g c = grind (arith, common_steps)
+
+pub returns-in_err-begin-clause-steps : goal.returns-in_err-begin-clause-steps
+returns-in_err-begin-clause-steps g c = grind (arith, common_steps)
+
+pub returns-in_default-clause-ran : goal.returns-in_default-clause-ran
+returns-in_default-clause-ran g c = grind (arith, common_steps)
+
+pub returns-in_default-clause-steps : goal.returns-in_default-clause-steps
+returns-in_default-clause-steps g c = grind (arith, common_steps)
+
+pub returns-in_err-delivery_of-clause-ran : goal.returns-in_err-delivery_of-clause-ran
+returns-in_err-delivery_of-clause-ran g c = grind (arith, common_steps)
+
+pub returns-in_err-delivery_of-clause-steps : goal.returns-in_err-delivery_of-clause-steps
+returns-in_err-delivery_of-clause-steps g c = grind (arith, common_steps)
+
+pub returns-in_err-outcome-clause-ran : goal.returns-in_err-outcome-clause-ran
+returns-in_err-outcome-clause-ran g c = grind (arith, common_steps)
+
+pub returns-in_err-outcome-clause-steps : goal.returns-in_err-outcome-clause-steps
+returns-in_err-outcome-clause-steps g c = grind (arith, common_steps)
+
+pub returns-in_err-lines-clause-ran : goal.returns-in_err-lines-clause-ran
+returns-in_err-lines-clause-ran g c = grind (arith, common_steps)
+
+pub returns-in_err-lines-clause-steps : goal.returns-in_err-lines-clause-steps
+returns-in_err-lines-clause-steps g c = grind (arith, common_steps)
