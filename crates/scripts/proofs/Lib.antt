@@ -2,6 +2,7 @@ pub mod FirstWords
 pub mod Places
 pub mod OneEvent
 pub mod ReadBack
+pub mod WalkWords
 pub mod Placing
 pub mod Notices
 pub mod Submits

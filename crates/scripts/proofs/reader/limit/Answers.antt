@@ -1,3 +1,4 @@
+use Rattle.std.proofs.lemmas.Grind.{common_steps}
 use Rattle.std.proofs.Common.{◌≡◌, ◌∙◌, arith, false, map, refl, rules, sym}
 use Rattle.std.proofs.lemmas.Bool.Decides.{nat_tests}
 use Rattle.script_words.specs.Words.{has_fault}
@@ -19,3 +20,21 @@ returns-in-Some-limit_of c =
     (omega (arith, c.in-len2.len_at_least, c.in-len2.len_below)) refl word.2)
     front none word.1 (sym c.limit_of.ensures ∙ c.in-Some-limit_of.is)
     (sym c.allows.ensures ∙ c.if-allows.true) (search rules)
+
+pub returns-in_default-2 : goal.returns-in_default-2
+returns-in_default-2 c = grind (arith, common_steps)
+
+pub returns-in_default-number : goal.returns-in_default-number
+returns-in_default-number c = grind (arith, common_steps)
+
+pub returns-then-not-is_empty : goal.returns-then-not-is_empty
+returns-then-not-is_empty c = grind (arith, common_steps)
+
+pub returns-then-is_some : goal.returns-then-is_some
+returns-then-is_some c = grind (arith, common_steps)
+
+pub returns-in_default-limit_of : goal.returns-in_default-limit_of
+returns-in_default-limit_of c = grind (arith, common_steps)
+
+pub returns-in_default-limit_of-2 : goal.returns-in_default-limit_of-2
+returns-in_default-limit_of-2 c = grind (arith, common_steps)

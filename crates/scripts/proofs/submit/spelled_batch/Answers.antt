@@ -34,3 +34,21 @@ loop-word-preserved c =
             (sym w.or-error.ensures ∙ sym w.error-is ∙ none))
       ];
     }
+
+pub returns-in_err-edits : goal.returns-in_err-edits
+returns-in_err-edits c = grind (arith, common_steps)
+
+pub returns-in_err-change : goal.returns-in_err-change
+returns-in_err-change c = grind (arith, common_steps)
+
+pub returns-in_default : goal.returns-in_default
+returns-in_default c = grind (arith, common_steps)
+
+pub returns-in_err-push-in-Ok : goal.returns-in_err-push-in-Ok
+returns-in_err-push-in-Ok c = grind (arith, common_steps)
+
+pub returns-in-None : goal.returns-in-None
+returns-in-None c = grind (arith, common_steps)
+
+pub returns-in-Some-error : goal.returns-in-Some-error
+returns-in-Some-error c = grind (arith, common_steps)
