@@ -1,4 +1,4 @@
-//! Rows of a table, each tried by itself, and what ends a test.
+//! What ends a test, and comparisons.
 
 use std::process::Abort;
 
@@ -12,7 +12,7 @@ pub fn is_so(rt: &impl Abort, holds: bool, what: &str) {
     assert!(rt; holds, "{what}");
 }
 
-/// Fails the test where a text is another one than is wanted.
-pub fn is_text(rt: &impl Abort, text: &str, want: &str) {
-    assert!(rt; text == want, "{text}");
+/// Whether these are the same bytes. A comparison is dear to prove, so it stands here alone.
+pub fn is_same(found: &[u8], want: &[u8]) -> bool {
+    found == want
 }

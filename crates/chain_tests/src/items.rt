@@ -1,24 +1,28 @@
-//! Keys, batches, lists and the like, as tests make them.
+//! What tests of runs put together: ids, a configuration, a batch.
 
-use configurations::{Config, ConfigError};
-use kv_types::Number;
+use configurations::{Config, NodeId};
+use kv_types::{Batch, Edit, Key, Value};
 use std::alloc::Global;
 use std::process::Abort;
 
 /// A copy of these bytes.
-pub fn copy_of(rt: &impl Abort, alloc: Global, bytes: &[u8]) -> Vec<u8> {
+fn copy_of(rt: &impl Abort, alloc: Global, bytes: &[u8]) -> Vec<u8> {
     bytes.to_vec(alloc).expect(rt, "memory")
 }
 
-pub fn number(value: u64) -> Number {
-    Number::new(value).unwrap_or(Number::ZERO)
-}
-
-/// The configuration of these ids, if that is one.
-pub fn try_config(rt: &impl Abort, alloc: Global, ids: &[u16]) -> Result<Config, ConfigError> {
-    Config::new(alloc, ids.to_vec(alloc).expect(rt, "memory"))
+pub fn id_of(rt: &impl Abort, id: u16) -> NodeId {
+    NodeId::new(id).expect(rt, "an id")
 }
 
 pub fn config_of(rt: &impl Abort, alloc: Global, ids: &[u16]) -> Config {
-    try_config(rt, alloc, ids).expect(rt, "a configuration")
+    let ids = ids.to_vec(alloc).expect(rt, "memory");
+    Config::new(alloc, ids).expect(rt, "a configuration")
+}
+
+/// The batch that puts `1` to `a`.
+pub fn small_batch(rt: &impl Abort, alloc: Global) -> Batch {
+    let key = Key::new(copy_of(rt, alloc, b"a")).expect(rt, "a key");
+    let value = Value::new(copy_of(rt, alloc, b"1")).expect(rt, "a value");
+    let edits = vec![in alloc; Edit::Put(key, value)].expect(rt, "memory");
+    Batch::new(edits).expect(rt, "a batch")
 }

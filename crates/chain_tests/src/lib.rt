@@ -1,5 +1,4 @@
-//! Tests of whole runs and of small and large disks of a node, with expected values from the rules
-//! of a step and from the formats.
+//! Tests of whole runs, of a carrier over a connection, and of the program's streams.
 #![tactic(auto)]
 
 #[cfg(test)]
@@ -9,14 +8,10 @@ mod example;
 #[cfg(test)]
 mod items;
 #[cfg(test)]
-mod large_store;
-#[cfg(test)]
 mod listeners;
 #[cfg(test)]
-mod openings;
+mod program_streams;
 #[cfg(test)]
-mod rewrites;
-#[cfg(test)]
-mod spelled;
+mod streams;
 #[cfg(test)]
 mod worlds;

@@ -1,4 +1,5 @@
 // What a carrier over a connection to its own listener loses, where somebody else connects there.
+use crate::cases::{is_same, is_so};
 use client::run_script;
 use lab::{Carried, Carrier, Peer, World};
 use scripts::read_script;
@@ -26,7 +27,7 @@ fn arrives<C: Carrier>(rt: &impl Abort, alloc: Global, carrier: &mut C, bytes: &
     let carried = carrier.carry(alloc, Peer::Client, Peer::Client, bytes);
     match carried.expect(rt, "memory") {
         Carried::Same => true,
-        Carried::Bytes(got) => got.as_slice() == bytes,
+        Carried::Bytes(got) => is_same(&got, bytes),
         Carried::Lost => false,
     }
 }
@@ -37,17 +38,20 @@ const FIRST: &[u8] = b"a frame";
 // How long the others are: one of 33 pieces, none, one of exactly a piece, one with a byte more.
 static LENGTHS: [usize; 5] = [131_076, 0, 4_096, 4_097, 150];
 
-// Fails the test unless frames of all these lengths arrive. No two pieces of one are alike.
+// A frame of so many bytes. No two pieces of it are alike.
+fn frame_of(rt: &impl Abort, alloc: Global, len: usize) -> Vec<u8> {
+    let mut bytes = Vec::new(alloc);
+    for i in 0..len {
+        bytes.push((i % 251) as u8).expect(rt, "memory");
+    }
+    bytes
+}
+
+// Fails the test unless frames of all these lengths arrive.
 fn all_arrive<C: Carrier>(rt: &impl Abort, alloc: Global, carrier: &mut C) {
     for len in LENGTHS {
-        let mut bytes = Vec::new(alloc);
-        for i in 0..len {
-            bytes.push((i % 251) as u8).expect(rt, "memory");
-        }
-        assert!(rt;
-            arrives(rt, alloc, carrier, &bytes),
-            "a frame of {len} bytes"
-        );
+        let bytes = frame_of(rt, alloc, len);
+        is_so(rt, arrives(rt, alloc, carrier, &bytes), "a frame");
     }
 }
 
@@ -55,7 +59,8 @@ fn all_arrive<C: Carrier>(rt: &impl Abort, alloc: Global, carrier: &mut C) {
 fn a_connection_that_was_closed_before_the_first_frame(rt: HostRuntime) {
     let (mut carrier, address) = carrier_at(&rt, rt);
     drop(connected(&rt, &rt, address));
-    assert!(rt; !arrives(&rt, rt.alloc(), &mut carrier, FIRST), "lost");
+    let is_lost = !arrives(&rt, rt.alloc(), &mut carrier, FIRST);
+    is_so(&rt, is_lost, "the first frame is lost");
     all_arrive(&rt, rt.alloc(), &mut carrier);
 }
 
@@ -76,7 +81,8 @@ fn is_as_listed(rt: &impl Abort, host: HostRuntime, other: &(&[u8], bool, bool))
     stream.write_all(other.0).expect(rt, "bytes of its own");
     let first = arrives(rt, alloc, &mut carrier, FIRST);
     let second = arrives(rt, alloc, &mut carrier, FIRST);
-    assert!(rt; first == other.1 && second == other.2, "{first}, {second}");
+    let is_listed = first == other.1 && second == other.2;
+    is_so(rt, is_listed, "the first two frames");
     all_arrive(rt, alloc, &mut carrier);
 }
 
@@ -90,10 +96,8 @@ fn connections_that_stay_open(rt: HostRuntime) {
 #[test]
 fn a_connection_behind_the_first_frame(rt: HostRuntime) {
     let (mut carrier, address) = carrier_at(&rt, rt);
-    assert!(rt;
-        arrives(&rt, rt.alloc(), &mut carrier, FIRST),
-        "no other is there"
-    );
+    let is_carried = arrives(&rt, rt.alloc(), &mut carrier, FIRST);
+    is_so(&rt, is_carried, "no other is there");
     let mut stream = connected(&rt, &rt, address);
     stream.write_all(FIRST).expect(&rt, "bytes of its own");
     all_arrive(&rt, rt.alloc(), &mut carrier);
@@ -118,8 +122,9 @@ fn crowd(rt: &impl Abort, host: &HostRuntime, address: SocketAddr) -> Vec<TcpStr
 fn a_full_queue_before_the_first_frame(rt: HostRuntime) {
     let (mut carrier, address) = carrier_at(&rt, rt);
     let streams = crowd(&rt, &rt, address);
-    assert!(rt; streams.len() < MANY, "a full queue");
-    assert!(rt; !arrives(&rt, rt.alloc(), &mut carrier, FIRST), "lost");
+    is_so(&rt, streams.len() < MANY, "a full queue");
+    let is_lost = !arrives(&rt, rt.alloc(), &mut carrier, FIRST);
+    is_so(&rt, is_lost, "the first frame is lost");
     all_arrive(&rt, rt.alloc(), &mut carrier);
     drop(streams);
 }
@@ -155,5 +160,5 @@ fn a_run_behind_a_closed_connection(rt: HostRuntime) {
     let (carrier, address) = carrier_at(&rt, rt);
     drop(connected(&rt, &rt, address));
     let text = text_over(&rt, rt.alloc(), carrier);
-    assert!(rt; text.as_slice() == TEXT);
+    is_so(&rt, is_same(&text, TEXT), "the lines");
 }

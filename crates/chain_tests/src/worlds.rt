@@ -1,7 +1,6 @@
 // A world on its way: how many events it has had, and how many frames it has sent.
 use crate::cases::{holds_at, is_so};
-use crate::items::config_of;
-use crate::spelled::{ONE, batch_of, id_of};
+use crate::items::{config_of, id_of, small_batch};
 use configurations::{Configs, Epoch};
 use disk::MemDisk;
 use kv_types::Limits;
@@ -24,7 +23,7 @@ fn event_of(rt: &impl Abort, alloc: Global, step: Step) -> Event {
     let kind = match step {
         Step::Submit => EventKind::Submit {
             node: first,
-            batch: batch_of(rt, alloc, ONE),
+            batch: small_batch(rt, alloc),
         },
         Step::Tick(node) => EventKind::Tick {
             node: id_of(rt, node),

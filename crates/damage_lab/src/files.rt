@@ -21,6 +21,14 @@ fn put_word(alloc: Global, disk: &mut MemDisk, word: &str) -> Result<()> {
     Ok(put?)
 }
 
+/// Writes the files that the words are, each with its bytes.
+pub fn put_words(alloc: Global, disk: &mut MemDisk, words: Split<'_, char>) -> Result<()> {
+    for word in words {
+        put_word(alloc, disk, word)?;
+    }
+    Ok(())
+}
+
 // Puts what the store answers whose files these words are, on a disk without files.
 fn put_over(
     alloc: Global,
@@ -28,9 +36,7 @@ fn put_over(
     disk: &mut MemDisk,
     words: Split<'_, char>,
 ) -> Result<()> {
-    for word in words {
-        put_word(alloc, disk, word)?;
-    }
+    put_words(alloc, disk, words)?;
     put_answers(alloc, text, disk)?;
     Ok(())
 }

@@ -72,8 +72,12 @@ fn agrees_at<D: Disk + Drop>(
     (index, count): (u64, u64),
 ) -> bool {
     let key = key_at(rt, alloc, index);
-    let found = store.get(alloc, &key, *at).expect(rt, "a read");
-    is_value(&found, plain(index, count))
+    let found = store.get(alloc, &key, *at);
+    drop(key);
+    let found = found.expect(rt, "a read");
+    let is_so = is_value(&found, plain(index, count));
+    drop(found);
+    is_so
 }
 
 /// Whether the store has, at this number or at the newest, what the map has after so many batches.
@@ -120,8 +124,12 @@ pub fn shows_all<D: Disk + Drop>(
     at: u64,
 ) -> bool {
     let all = Range::new(key_at(rt, alloc, 0), None, false, 100).expect(rt, "a range");
-    let page = store.rows(alloc, &all, Some(number(at))).expect(rt, "rows");
-    !page.has_more() && are_rows(page.rows(), at)
+    let found = store.rows(alloc, &all, Some(number(at)));
+    drop(all);
+    let page = found.expect(rt, "rows");
+    let is_so = !page.has_more() && are_rows(page.rows(), at);
+    drop(page);
+    is_so
 }
 
 // Tends until nothing is due.
@@ -149,10 +157,22 @@ pub fn junk_at(rt: &impl Abort, alloc: Global, place: u64) -> Junk {
     }
 }
 
+// What a write of the batch of a number answers, if it is written.
+fn try_write<D: Disk + Drop>(
+    rt: &impl Abort,
+    alloc: Global,
+    store: &mut EmbeddedStore<D>,
+    batch: u64,
+) -> Option<Number> {
+    let batch = batch_at(rt, alloc, batch);
+    let written = store.write(&batch).ok();
+    drop(batch);
+    written
+}
+
 fn write<D: Disk + Drop>(rt: &impl Abort, alloc: Global, store: &mut EmbeddedStore<D>, batch: u64) {
-    let written = store.write(&batch_at(rt, alloc, batch));
-    let is_next = written.ok().is_some_and(|n| n == number(batch));
-    is_so(rt, is_next, "the next number");
+    let written = try_write(rt, alloc, store, batch);
+    is_so(rt, written == Some(number(batch)), "the next number");
 }
 
 /// Writes the batches of these numbers, and tends behind each.
@@ -213,7 +233,9 @@ pub fn refusal<D: Disk + Drop>(
     at: u64,
 ) -> Option<EngineError> {
     let key = key_at(rt, alloc, 0);
-    store.get(alloc, &key, Some(number(at))).err()
+    let found = store.get(alloc, &key, Some(number(at)));
+    drop(key);
+    found.err()
 }
 
 // A snapshot at 20, while 40 batches more are written.
@@ -275,6 +297,13 @@ fn a_store_in_a_folder_is_opened_again(rt: HostRuntime) {
 
 // ---- a stop at each call of the disk
 
+/// Arms the disk with a fault at a call, without its contract.
+pub fn arm(disk: &mut MemDisk, call: u64) {
+    let fault = Fault::Fail(call);
+    disk.arm(&fault);
+    drop(fault);
+}
+
 // A disk with the store of three batches.
 fn filled_disk(rt: &impl Abort, alloc: Global) -> MemDisk {
     let mut store = opened(rt, alloc, MemDisk::new(alloc));
@@ -285,7 +314,7 @@ fn filled_disk(rt: &impl Abort, alloc: Global) -> MemDisk {
 // Writes and tends until a call is refused, at most five batches. Answers how many were written.
 fn write_some(rt: &impl Abort, alloc: Global, store: &mut Store) -> u64 {
     for batch in 4..=8u64 {
-        if store.write(&batch_at(rt, alloc, batch)).is_err() {
+        if try_write(rt, alloc, store, batch).is_none() {
             return batch.saturating_sub(1);
         }
         if store.tend(alloc).is_err() {
@@ -297,7 +326,7 @@ fn write_some(rt: &impl Abort, alloc: Global, store: &mut Store) -> u64 {
 
 // The disk of a course that was struck, and how many batches were written.
 fn struck(rt: &impl Abort, alloc: Global, mut disk: MemDisk, call: u64) -> (MemDisk, u64) {
-    disk.arm(&Fault::Fail(call));
+    arm(&mut disk, call);
     match EmbeddedStore::over(alloc, disk, &limits(rt)) {
         Ok(mut store) => {
             let written = write_some(rt, alloc, &mut store);
@@ -343,7 +372,7 @@ fn a_stop_at_each_call_leaves_what_was_written(rt: HostRuntime) {
 fn a_store_that_was_refused_for_its_device_has_ended(rt: HostRuntime) {
     let (rt, alloc) = (&rt, rt.alloc());
     let mut disk = filled_disk(rt, alloc);
-    disk.arm(&Fault::Fail(30));
+    arm(&mut disk, 30);
     let mut store = opened(rt, alloc, disk);
     let written = write_some(rt, alloc, &mut store);
     is_so(rt, written < 8, "a call was struck");

@@ -22,11 +22,11 @@ fn walk_on<D: Disk + Drop>(
     cursor: &mut RowCursor,
 ) {
     let count = cursor.number().get();
-    cursor.first(alloc, store).expect(rt, "the first");
+    is_so(rt, cursor.first(alloc, store).is_ok(), "the first");
     for index in 0..KEYS {
         if plain(index, count).is_some() {
             holds_at(rt, index as usize, is_on(cursor, index, count));
-            cursor.next(alloc, store).expect(rt, "a step");
+            is_so(rt, cursor.next(alloc, store).is_ok(), "a step");
         }
     }
     is_so(rt, cursor.row().is_none(), "behind the last row");
@@ -40,11 +40,11 @@ fn walk_back<D: Disk + Drop>(
     cursor: &mut RowCursor,
 ) {
     let count = cursor.number().get();
-    cursor.last(alloc, store).expect(rt, "the last");
+    is_so(rt, cursor.last(alloc, store).is_ok(), "the last");
     for index in (0..KEYS).rev() {
         if plain(index, count).is_some() {
             holds_at(rt, index as usize, is_on(cursor, index, count));
-            cursor.prev(alloc, store).expect(rt, "a step");
+            is_so(rt, cursor.prev(alloc, store).is_ok(), "a step");
         }
     }
     is_so(rt, cursor.row().is_none(), "before the first row");
@@ -70,18 +70,20 @@ fn seek_and_turn<D: Disk + Drop>(
 ) {
     let count = cursor.number().get();
     let key = key_at(rt, alloc, index);
-    cursor.seek(alloc, store, &key).expect(rt, "a seek");
+    let is_found = cursor.seek(alloc, store, &key).is_ok();
+    drop(key);
+    is_so(rt, is_found, "a seek");
     let first = next_key(index, count);
     if first == KEYS {
         is_so(rt, cursor.row().is_none(), "no row from there on");
         return;
     }
     holds_at(rt, index as usize, is_on(cursor, first, count));
-    cursor.next(alloc, store).expect(rt, "a step");
+    is_so(rt, cursor.next(alloc, store).is_ok(), "a step");
     let second = next_key(first.wrapping_add(1), count);
     if second < KEYS {
         holds_at(rt, index as usize, is_on(cursor, second, count));
-        cursor.prev(alloc, store).expect(rt, "a step back");
+        is_so(rt, cursor.prev(alloc, store).is_ok(), "a step back");
         holds_at(rt, index as usize, is_on(cursor, first, count));
     }
 }
@@ -118,9 +120,11 @@ fn run_cursors<D: Disk + Drop>(rt: &impl Abort, alloc: Global, store: &mut Embed
     walk_all(rt, alloc, store, &mut before);
     fill(rt, alloc, store, 21, 40);
     walk_on(rt, alloc, store, &mut before);
+    drop(before);
     let mut newest = store.cursor(alloc, None);
     is_so(rt, newest.number() == number(40), "the newest number");
     walk_all(rt, alloc, store, &mut newest);
+    drop(newest);
 }
 
 #[test]
@@ -140,19 +144,30 @@ fn cursors_walk_so_in_a_folder(rt: HostRuntime) {
     remove_folder(&rt, &rt, folder.as_str());
 }
 
-// A cursor whose number is too old is refused, and stands where it stood.
+// A cursor at number 20, while 40 batches more are written: it is refused, and stands where it
+// stood.
+fn refuse_move<D: Disk + Drop>(
+    rt: &impl Abort,
+    alloc: Global,
+    store: &mut EmbeddedStore<D>,
+    cursor: &mut RowCursor,
+) {
+    is_so(rt, cursor.first(alloc, store).is_ok(), "the first");
+    let first = next_key(0, 20);
+    fill(rt, alloc, store, 21, 60);
+    is_so(rt, refusal(rt, alloc, store, 20).is_some(), "too old");
+    let moved = cursor.last(alloc, store).err();
+    is_so(rt, moved == Some(EngineError::TooOld), "a move");
+    is_so(rt, is_on(cursor, first, 20), "where it stood");
+}
+
 #[test]
 fn a_refused_move_leaves_the_cursor(rt: HostRuntime) {
     let (rt, alloc) = (&rt, rt.alloc());
     let mut store = opened(rt, alloc, MemDisk::new(alloc));
     fill(rt, alloc, &mut store, 1, 20);
     let mut cursor = store.cursor(alloc, None);
-    cursor.first(alloc, &mut store).expect(rt, "the first");
-    let first = next_key(0, 20);
-    fill(rt, alloc, &mut store, 21, 60);
-    is_so(rt, refusal(rt, alloc, &mut store, 20).is_some(), "too old");
-    let moved = cursor.last(alloc, &mut store).err();
-    is_so(rt, moved == Some(EngineError::TooOld), "a move");
-    is_so(rt, is_on(&cursor, first, 20), "where it stood");
+    refuse_move(rt, alloc, &mut store, &mut cursor);
+    drop(cursor);
     store.close();
 }

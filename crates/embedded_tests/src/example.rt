@@ -68,16 +68,29 @@ fn is_one(rows: &[Row], want: &[u8]) -> bool {
     }
 }
 
+// Whether the newest value is this.
+fn is_newest(value: &Option<Value>, want: &[u8]) -> bool {
+    match value {
+        Some(value) => is_same(value.as_bytes(), want),
+        None => false,
+    }
+}
+
 fn run_example(rt: &impl Abort, host: &HostRuntime, folder: &str) {
     let alloc = host.alloc();
     let key = key_of(rt, alloc, b"name");
     let first = batch_of(rt, alloc, &[(b"name", Some(b"Ada"))]);
     let second = batch_of(rt, alloc, &[(b"name", Some(b"Grace"))]);
     let found = in_folder(host, folder, (&first, &second), &key);
+    drop(key);
+    drop(first);
+    drop(second);
     let (now, before) = found.ok().expect(rt, "an answer");
-    let is_new = now.is_some_and(|it| is_same(it.as_bytes(), b"Grace"));
+    let (is_new, is_old) = (is_newest(&now, b"Grace"), is_one(&before, b"Ada"));
+    drop(now);
+    drop(before);
     is_so(rt, is_new, "the newest value");
-    is_so(rt, is_one(&before, b"Ada"), "the rows of the snapshot");
+    is_so(rt, is_old, "the rows of the snapshot");
 }
 
 #[test]

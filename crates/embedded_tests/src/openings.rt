@@ -1,9 +1,9 @@
 // What an opening of a store that stands alone creates, opens and refuses.
 use crate::cases::is_so;
-use crate::courses::{agrees, fill, junk_at, limits, opened};
+use crate::courses::{agrees, arm, fill, junk_at, limits, opened};
 use crate::items::config_of;
 use configurations::NodeId;
-use disk::{Crash, Disk, DiskError, Fault, MemDisk};
+use disk::{Crash, Disk, MemDisk};
 use embedded_store::{EmbeddedStore, EngineError, OpenError};
 use engine::Engine;
 use kv_types::Number;
@@ -22,7 +22,7 @@ fn is_made_again(rt: &impl Abort, alloc: Global, disk: MemDisk) {
 // Whether a creation stops in this call. Then it is made again.
 fn stops_at(rt: &impl Abort, alloc: Global, call: u64, place: u64) -> bool {
     let mut disk = MemDisk::new(alloc);
-    disk.arm(&Fault::Fail(call));
+    arm(&mut disk, call);
     match EmbeddedStore::over(alloc, disk, &limits(rt)) {
         Ok(store) => {
             store.close();
@@ -57,6 +57,14 @@ fn a_creation_that_stops_is_made_again(rt: HostRuntime) {
     }
 }
 
+// Whether the disk has these files, and no others.
+fn has_files(disk: &mut MemDisk, files: &[u64]) -> bool {
+    match disk.files() {
+        Ok(found) => found.as_slice() == files,
+        Err(_) => false,
+    }
+}
+
 // Why a disk has no store for those who embed it, if it has none; then its files are left.
 fn refused(rt: &impl Abort, alloc: Global, disk: MemDisk, files: &[u64]) -> Option<OpenError> {
     match EmbeddedStore::over(alloc, disk, &limits(rt)) {
@@ -65,8 +73,9 @@ fn refused(rt: &impl Abort, alloc: Global, disk: MemDisk, files: &[u64]) -> Opti
             None
         }
         Err((error, mut disk)) => {
-            let left = disk.files().expect(rt, "files");
-            is_so(rt, left.as_slice() == files, "its files");
+            let is_left = has_files(&mut disk, files);
+            drop(disk);
+            is_so(rt, is_left, "its files");
             Some(error)
         }
     }
@@ -74,7 +83,8 @@ fn refused(rt: &impl Abort, alloc: Global, disk: MemDisk, files: &[u64]) -> Opti
 
 fn disk_with(rt: &impl Abort, alloc: Global, file: u64, bytes: &[u8]) -> MemDisk {
     let mut disk = MemDisk::new(alloc);
-    disk.write_at(file, 0, bytes).expect(rt, "a write");
+    let is_put = disk.write_at(file, 0, bytes).is_ok();
+    is_so(rt, is_put, "a write");
     disk
 }
 
@@ -83,14 +93,15 @@ fn node_disk(rt: &impl Abort, alloc: Global) -> MemDisk {
     let config = config_of(rt, alloc, &[1, 2]);
     let id = NodeId::new(1).expect(rt, "an id");
     let made = Engine::create(alloc, MemDisk::new(alloc), id, &config, &limits(rt));
+    drop(config);
     made.ok().expect(rt, "an engine").into_disk()
 }
 
 // The disk of a store whose first log is gone.
 fn disk_without_log(rt: &impl Abort, alloc: Global) -> MemDisk {
     let mut disk = opened(rt, alloc, MemDisk::new(alloc)).into_disk();
-    let gone: Result<(), DiskError> = disk.remove(3);
-    is_so(rt, gone.is_ok(), "a removal");
+    let is_gone = disk.remove(3).is_ok();
+    is_so(rt, is_gone, "a removal");
     disk
 }
 

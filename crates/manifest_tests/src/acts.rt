@@ -13,12 +13,17 @@ pub enum Choice {
     Bytes(&'static [u8]),
 }
 
-pub fn crash(rt: &impl Abort, alloc: Global, disk: &mut MemDisk, choice: Choice) {
-    disk.crash(match choice {
+/// What a crash leaves in unsynced places.
+pub fn junk_of(rt: &impl Abort, alloc: Global, choice: Choice) -> Junk {
+    match choice {
         Choice::Old => Junk::Old,
         Choice::New => Junk::New,
         Choice::Bytes(bytes) => Junk::Bytes(JunkBytes::new(copy_of(rt, alloc, bytes))),
-    });
+    }
+}
+
+pub fn crash(rt: &impl Abort, alloc: Global, disk: &mut MemDisk, choice: Choice) {
+    disk.crash(junk_of(rt, alloc, choice));
 }
 
 /// Arms the disk with a fault, without its contract.

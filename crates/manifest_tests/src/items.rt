@@ -1,7 +1,7 @@
 //! Keys, batches, lists and the like, as tests make them.
 
-use configurations::{Config, ConfigError, Epoch, NodeId};
-use kv_types::{Batch, Edit, Key, KvError, Number, Value};
+use configurations::{Config, Epoch, NodeId};
+use kv_types::{Batch, Edit, Key, Number, Value};
 use std::alloc::Global;
 use std::process::Abort;
 
@@ -52,25 +52,6 @@ pub fn batch_of(rt: &impl Abort, alloc: Global, edits: Edits) -> Batch {
     Batch::new(list).expect(rt, "a batch")
 }
 
-/// The batch of this many deletions of this key, if that is one.
-pub fn deletions(
-    rt: &impl Abort,
-    alloc: Global,
-    key: &[u8],
-    count: usize,
-) -> Result<Batch, KvError> {
-    let mut edits = Vec::new(alloc);
-    for _ in 0..count {
-        put(rt, &mut edits, Edit::Delete(key_of(rt, alloc, key)));
-    }
-    Batch::new(edits)
-}
-
-/// The batch of one deletion of this key.
-pub fn deletion(rt: &impl Abort, alloc: Global, key: &[u8]) -> Batch {
-    deletions(rt, alloc, key, 1).expect(rt, "a batch")
-}
-
 pub fn number(value: u64) -> Number {
     Number::new(value).unwrap_or(Number::ZERO)
 }
@@ -81,11 +62,7 @@ pub fn origin(rt: &impl Abort, epoch: u32, from: u16) -> (Epoch, NodeId) {
     (epoch, NodeId::new(from).expect(rt, "an id"))
 }
 
-/// The configuration of these ids, if that is one.
-pub fn try_config(rt: &impl Abort, alloc: Global, ids: &[u16]) -> Result<Config, ConfigError> {
-    Config::new(alloc, ids.to_vec(alloc).expect(rt, "memory"))
-}
-
 pub fn config_of(rt: &impl Abort, alloc: Global, ids: &[u16]) -> Config {
-    try_config(rt, alloc, ids).expect(rt, "a configuration")
+    let ids = ids.to_vec(alloc).expect(rt, "memory");
+    Config::new(alloc, ids).expect(rt, "a configuration")
 }

@@ -17,3 +17,5 @@ mod damaged_slots;
 mod items;
 #[cfg(test)]
 mod manifests;
+#[cfg(test)]
+mod rewrites;

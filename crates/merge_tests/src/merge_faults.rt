@@ -1,12 +1,12 @@
 // A fault at each device call of each tend of stores that merge: what is found behind an opening.
 use crate::acts::{Choice, mend};
 use crate::cases::{has_memory, holds_at, is_so};
-use crate::files::next_if_alone;
+use crate::files::next_behind;
 use crate::merge_courses::{Course, Run, before_tend};
 use crate::merge_rows::STRUCK;
 use crate::plain_store::{PlainStore, opened_with, tend};
 use disk::{Crash, Disk, Fault, MemDisk};
-use engine::{EngineError, Tended};
+use engine::{Engine, EngineError, Tended};
 use std::alloc::Global;
 use std::process::Abort;
 
@@ -30,9 +30,9 @@ pub fn settles<D: Disk + Drop>(rt: &impl Abort, alloc: Global, run: &mut Run<D>)
     false
 }
 
-/// Whether the disk has the files that its manifest names, and no others.
-pub fn is_alone(rt: &impl Abort, alloc: Global, disk: &mut MemDisk) -> bool {
-    next_if_alone(rt, alloc, disk).is_some()
+/// Whether the store leaves the files that its manifest names, and no others.
+pub fn is_alone(rt: &impl Abort, alloc: Global, engine: Engine<MemDisk>) -> bool {
+    next_behind(rt, alloc, engine).is_some()
 }
 
 // What is to be found: so many batches, and a floor of two.
@@ -82,8 +82,8 @@ fn is_recovered(
     let is_first = is_found(rt, alloc, &mut run, found, numbers);
     let is_last = settles(rt, alloc, &mut run) && run.agrees(rt, alloc);
     let Run { engine, plain, .. } = run;
-    let mut disk = engine.into_disk();
-    (is_first && is_last && is_alone(rt, alloc, &mut disk), plain)
+    let is_alone = is_alone(rt, alloc, engine);
+    (is_first && is_last && is_alone, plain)
 }
 
 // Whether a store is recovered from this disk in each way.

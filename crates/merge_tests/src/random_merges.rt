@@ -186,8 +186,8 @@ impl Case for Mixed {
         }
         let is_settled = settles(rt, alloc, &mut run) && run.has_all(rt, alloc);
         let [_, first, second, third, ..] = run.engine.tables();
-        let mut disk = run.engine.into_disk();
-        is_settled && first > 0 && second > 0 && third > 0 && is_alone(rt, alloc, &mut disk)
+        let is_alone = is_alone(rt, alloc, run.engine);
+        is_settled && first > 0 && second > 0 && third > 0 && is_alone
     }
 }
 

@@ -72,7 +72,9 @@ fn has_all<D: Disk + Drop>(rt: &impl Abort, alloc: Global, engine: &mut Engine<D
 // The facts of a store in this folder, after its creation.
 fn store_in(rt: &impl Abort, host: &HostRuntime, folder: &str) -> Facts {
     let engine = filled_store(rt, host.alloc(), disk_over(rt, host, folder));
-    facts_of(&engine)
+    let facts = facts_of(&engine);
+    drop(engine.into_disk());
+    facts
 }
 
 // Whether the files of the folder are those of the same store in memory.
@@ -105,7 +107,7 @@ fn a_store_in_a_folder_is_opened_again(rt: HostRuntime) {
         has_all(&rt, rt.alloc(), &mut engine),
         "the value of each key",
     );
-    drop(engine);
+    drop(engine.into_disk());
     remove_folder(&rt, &rt, folder.as_str());
 }
 
@@ -115,7 +117,9 @@ fn look_at(rt: &impl Abort, host: &HostRuntime, folder: &str) -> Facts {
     let disk = DirDisk::to_read(*host, folder).expect(rt, "memory");
     let mut engine = opened(rt, alloc, Unchanged::new(alloc, disk), LOG);
     is_so(rt, has_all(rt, alloc, &mut engine), "the value of each key");
-    facts_of(&engine)
+    let facts = facts_of(&engine);
+    drop(engine.into_disk());
+    facts
 }
 
 // The files of the folder with their bytes.
@@ -123,33 +127,44 @@ fn folder_texts(rt: &impl Abort, host: &HostRuntime, folder: &str) -> Vec<Text> 
     texts(rt, host.alloc(), &mut disk_over(rt, host, folder))
 }
 
+// Gives the folder a file that no version names.
+fn put_unnamed(rt: &impl Abort, host: &HostRuntime, folder: &str) {
+    let written = disk_over(rt, host, folder).write_at(UNNAMED, 0, b"no version names it");
+    is_so(rt, written.is_ok(), "a write");
+}
+
+// Fails the test unless an opening that changes nothing finds these facts, and leaves each byte.
+fn is_left(rt: &impl Abort, host: &HostRuntime, folder: &str, facts: Facts) {
+    let before = folder_texts(rt, host, folder);
+    is_so(rt, look_at(rt, host, folder) == facts, "the same numbers");
+    let after = folder_texts(rt, host, folder);
+    is_so(rt, are_same(&after, &before), "each byte");
+}
+
+// How many files a folder has.
+fn file_count(rt: &impl Abort, host: &HostRuntime, folder: &str) -> usize {
+    disk_over(rt, host, folder)
+        .files()
+        .expect(rt, "files")
+        .len()
+}
+
+// Fails the test unless an opening removes one file.
+fn removes_one(rt: &impl Abort, host: &HostRuntime, folder: &str) {
+    let before = file_count(rt, host, folder);
+    let engine = opened(rt, host.alloc(), disk_over(rt, host, folder), LOG);
+    drop(engine.into_disk());
+    let after = file_count(rt, host, folder).saturating_add(1);
+    is_so(rt, after == before, "the file without a name is gone");
+}
+
 #[test]
 fn an_unchanged_store_keeps_each_byte(rt: HostRuntime) {
     let folder = empty_folder(&rt, &rt, "unchanged");
     let facts = store_in(&rt, &rt, folder.as_str());
-    let mut disk = disk_over(&rt, &rt, folder.as_str());
-    disk.write_at(UNNAMED, 0, b"no version names it")
-        .expect(&rt, "a write");
-    drop(disk);
-    let before = folder_texts(&rt, &rt, folder.as_str());
-    is_so(
-        &rt,
-        look_at(&rt, &rt, folder.as_str()) == facts,
-        "the same numbers",
-    );
-    is_so(
-        &rt,
-        are_same(&folder_texts(&rt, &rt, folder.as_str()), &before),
-        "each byte",
-    );
-    // Any other opening removes the file.
-    drop(opened(&rt, rt.alloc(), disk_over(&rt, &rt, folder.as_str()), LOG));
-    let after = folder_texts(&rt, &rt, folder.as_str());
-    is_so(
-        &rt,
-        after.len() + 1 == before.len(),
-        "the file without a name is gone",
-    );
+    put_unnamed(&rt, &rt, folder.as_str());
+    is_left(&rt, &rt, folder.as_str(), facts);
+    removes_one(&rt, &rt, folder.as_str());
     remove_folder(&rt, &rt, folder.as_str());
 }
 

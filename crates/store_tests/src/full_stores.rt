@@ -1,9 +1,9 @@
 // Stores with as many tables as there may be: `Full`, and the store as it was before.
 use crate::cases::{Case, all_hold, is_so};
-use crate::files::next_if_alone;
-use crate::items::{is_same, number, put};
-use crate::plain_store::{Change, append, batch_at, created_with, key_at, tend, tends, value_at};
-use disk::{Disk, MemDisk};
+use crate::files::next_behind;
+use crate::items::{number, put};
+use crate::plain_store::{Change, append, batch_at, created_with, has_at, tend, tends};
+use disk::MemDisk;
 use engine::{Engine, Tended};
 use kv_types::Limits;
 use std::alloc::Global;
@@ -34,15 +34,13 @@ fn all_work(rt: &impl Abort, alloc: Global, engine: &mut Engine<MemDisk>, count:
 
 // Whether the key has this value now.
 pub fn has(rt: &impl Abort, alloc: Global, engine: &mut Engine<MemDisk>, change: Change) -> bool {
-    let (at, key) = (engine.committed(), key_at(rt, alloc, change.0));
-    match (engine.get(alloc, at, &key).expect(rt, "a read"), change.1) {
-        (Some(found), Some(want)) => {
-            let want = value_at(rt, alloc, change.0, want);
-            is_same(found.as_bytes(), want.as_bytes())
-        }
-        (None, None) => true,
-        _ => false,
-    }
+    let at = engine.committed().get();
+    has_at(rt, alloc, engine, change, at)
+}
+
+// Whether levels 0 and 1 have so many tables, and the others none.
+pub fn has_tables(engine: &Engine<MemDisk>, (flushed, merged): (u64, u64)) -> bool {
+    engine.tables() == [flushed, merged, 0, 0, 0, 0, 0]
 }
 
 // The first of the keys of wide stores.
@@ -93,17 +91,34 @@ impl Wide {
         all
     }
 
-    fn has_tables(&self, engine: &Engine<MemDisk>) -> bool {
-        let (flushed, merged) = self.tables;
-        engine.tables() == [flushed, merged, 0, 0, 0, 0, 0]
-    }
-
     // Whether the first and the last of the keys are found, and one behind it is not.
     fn reads(&self, rt: &impl Abort, alloc: Global, engine: &mut Engine<MemDisk>) -> bool {
         let behind = LOW.saturating_add(self.keys);
         has(rt, alloc, engine, (LOW, Some(1)))
             && has(rt, alloc, engine, (behind.saturating_sub(1), Some(1)))
             && has(rt, alloc, engine, (behind, None))
+    }
+
+    // Whether the last tend of the merge answers as it should, and leaves what it should.
+    fn ends(&self, rt: &impl Abort, alloc: Global, engine: &mut Engine<MemDisk>) -> bool {
+        let is_answer = tend(rt, alloc, engine) == self.want;
+        is_answer && has_tables(engine, self.tables) && self.reads(rt, alloc, engine)
+    }
+
+    // Whether a table more has place but for the last row. Behind a long edit a rewrite comes
+    // first.
+    fn goes_on(&self, rt: &impl Abort, alloc: Global, engine: &mut Engine<MemDisk>) -> bool {
+        put_one(rt, alloc, engine, (90, Some(1)));
+        let first = tend(rt, alloc, engine);
+        let second = if self.want == Tended::Full {
+            first
+        } else {
+            tend(rt, alloc, engine)
+        };
+        let is_full = self.tables.0.saturating_add(self.tables.1) >= 4_096;
+        first == Tended::Worked
+            && (second == Tended::Full) == is_full
+            && self.reads(rt, alloc, engine)
     }
 }
 
@@ -113,23 +128,10 @@ impl Case for Wide {
         let opened = engine.open_snapshot(number(0));
         is_so(rt, opened.is_ok(), "a snapshot");
         self.fill(rt, alloc, &mut engine);
-        let has_begun = self.has_begun(rt, alloc, &mut engine);
-        let is_answer = tend(rt, alloc, &mut engine) == self.want;
-        let is_left = self.has_tables(&engine) && self.reads(rt, alloc, &mut engine);
-        // Behind a long edit a rewrite comes first. A table more has place but for the last row.
-        put_one(rt, alloc, &mut engine, (90, Some(1)));
-        let first = tend(rt, alloc, &mut engine);
-        let second = if self.want == Tended::Full {
-            first
-        } else {
-            tend(rt, alloc, &mut engine)
-        };
-        let (flushed, merged) = self.tables;
-        let is_full = flushed.saturating_add(merged) >= 4_096;
-        let is_second = (second == Tended::Full) == is_full && self.reads(rt, alloc, &mut engine);
-        let mut disk = engine.into_disk();
-        let is_next = next_if_alone(rt, alloc, &mut disk) == Some(self.next);
-        has_begun && is_answer && is_left && first == Tended::Worked && is_second && is_next
+        let all = self.has_begun(rt, alloc, &mut engine)
+            && self.ends(rt, alloc, &mut engine)
+            && self.goes_on(rt, alloc, &mut engine);
+        next_behind(rt, alloc, engine) == Some(self.next) && all
     }
 }
 

@@ -1,8 +1,8 @@
 // Stores with the last file numbers and generations, and with as many logs as there may be, which
 // an edit in bytes brings about: `Full`, and the store as it was before.
 use crate::cases::{Case, all_hold, is_so};
-use crate::files::next_if_alone;
-use crate::full_stores::{created, has, limits, put_one};
+use crate::files::next_behind;
+use crate::full_stores::{created, has, has_tables, limits};
 use crate::items::{config_of, copy_of, origin, put};
 use crate::levels::write;
 use crate::plain_store::{Change, append, batch_at, opened_with, tend};
@@ -10,6 +10,7 @@ use disk::{Disk, MemDisk};
 use engine::{Engine, Tended};
 use record_log::Log;
 use std::alloc::Global;
+use std::mem::forget;
 use std::process::Abort;
 use store_files::StoreFiles;
 
@@ -34,97 +35,217 @@ fn edit_of(
     edit
 }
 
-// Records the edit so often in the first slot.
-fn record(rt: &impl Abort, alloc: Global, disk: &mut MemDisk, edit: &[u8], times: usize) {
+// Records such an edit so often in the first slot.
+fn record(
+    rt: &impl Abort,
+    alloc: Global,
+    disk: &mut MemDisk,
+    (numbers, logs): ((u64, u64), &[(u64, u64)]),
+    times: usize,
+) {
+    let edit = edit_of(rt, alloc, numbers, logs);
     let opened = Log::open(alloc, disk, 1, 11).expect(rt, "the slot");
     let mut log = opened.log;
     for _ in 0..times {
-        log.append(disk, edit).expect(rt, "a record");
+        log.append(disk, &edit).expect(rt, "a record");
+    }
+}
+
+// ---- stores at their last numbers
+
+// Appends the batch of this number to a log that has none.
+fn put_batch(rt: &impl Abort, alloc: Global, disk: &mut MemDisk, log: Log, at: u64) {
+    let mut log = log;
+    let mut bytes = copy_of(rt, alloc, &at.to_be_bytes());
+    let batch = batch_at(rt, alloc, &[(20, Some((at % 65_536) as u16))]);
+    write(rt, &mut bytes, &batch.to_bytes(alloc).expect(rt, "memory"));
+    log.append(disk, &bytes).expect(rt, "a batch");
+}
+
+// Gives the disk of a new store so many logs, each of one batch, the last of which is in no table.
+// It has no tables, and only the key of the last batch is looked up.
+fn add_logs(rt: &impl Abort, alloc: Global, disk: &mut MemDisk, count: u64) {
+    let log = Log::open(alloc, disk, 3, 0).expect(rt, "a log").log;
+    put_batch(rt, alloc, disk, log, 1);
+    let mut logs = Vec::new(alloc);
+    for at in 2..count.saturating_add(1) {
+        let file = at.saturating_add(2);
+        let log = Log::create(alloc, disk, file).expect(rt, "a log");
+        put_batch(rt, alloc, disk, log, at);
+        put(rt, &mut logs, (file, at));
+    }
+    let numbers = (count.saturating_add(3), count.saturating_sub(1));
+    record(rt, alloc, disk, (numbers, &logs), 1);
+}
+
+// Makes the first slot so long that a rewrite is due, and its generation this one.
+fn lengthen(rt: &impl Abort, alloc: Global, disk: &mut MemDisk, generation: u64) {
+    record(rt, alloc, disk, ((4, 0), &[]), 1_600);
+    let written = disk.write_at(1, 1, &generation.to_be_bytes());
+    is_so(rt, written.is_ok() && disk.sync(1).is_ok(), "a generation");
+}
+
+// What is near its end in a store: the next file or the generation of the slot, by how far it is
+// below 2^63, or the logs, by their number.
+#[derive(Clone, Copy)]
+enum Last {
+    File(u64),
+    Logs(u64),
+    Generation(u64),
+}
+
+const END: u64 = 1 << 63;
+
+impl Last {
+    fn fill(self, rt: &impl Abort, alloc: Global, disk: &mut MemDisk) {
+        match self {
+            Last::File(below) => {
+                let numbers = (END.saturating_sub(below), 0);
+                record(rt, alloc, disk, (numbers, &[]), 1);
+            }
+            Last::Logs(count) => add_logs(rt, alloc, disk, count),
+            Last::Generation(below) => lengthen(rt, alloc, disk, END.saturating_sub(below)),
+        }
+    }
+
+    // With more tables of level 0 a merge is due.
+    fn flushed(self) -> u64 {
+        if matches!(self, Last::Logs(_)) { 64 } else { 0 }
+    }
+
+    // How many batches the store has, of which the last put its own number.
+    fn batches(self) -> u64 {
+        if let Last::Logs(count) = self {
+            count
+        } else {
+            0
+        }
+    }
+}
+
+// A store, what tends answer in turn, the changes of a batch, what tends answer behind it, and how
+// many tables levels 0 and 1 then have.
+struct Ended(
+    Last,
+    &'static [Tended],
+    &'static [Change],
+    &'static [Tended],
+    (u64, u64),
+);
+
+// Whether tends answer this in turn.
+fn answers(
+    rt: &impl Abort,
+    alloc: Global,
+    engine: &mut Engine<MemDisk>,
+    answers: &[Tended],
+) -> bool {
+    let mut all = true;
+    for want in answers {
+        all = tend(rt, alloc, engine) == *want && all;
+    }
+    all
+}
+
+// Whether each of these keys has its value.
+fn has_each(
+    rt: &impl Abort,
+    alloc: Global,
+    engine: &mut Engine<MemDisk>,
+    changes: &[Change],
+) -> bool {
+    let mut all = true;
+    for change in changes {
+        all = has(rt, alloc, engine, *change) && all;
+    }
+    all
+}
+
+impl Ended {
+    fn is_met(&self, rt: &impl Abort, alloc: Global, engine: &mut Engine<MemDisk>) -> bool {
+        let Ended(last, before, changes, behind, tables) = *self;
+        let is_before = answers(rt, alloc, engine, before);
+        append(rt, engine, &batch_at(rt, alloc, changes));
+        let is_behind = answers(rt, alloc, engine, behind);
+        let count = last.batches();
+        let has_last = count == 0 || has(rt, alloc, engine, (20, Some((count % 65_536) as u16)));
+        is_before
+            && is_behind
+            && has_last
+            && has_each(rt, alloc, engine, changes)
+            && engine.count().get() == count.saturating_add(1)
+            && has_tables(engine, tables)
+    }
+}
+
+impl Case for Ended {
+    fn holds(&self, rt: &impl Abort, alloc: Global) -> bool {
+        let mut disk = created(rt, alloc).into_disk();
+        self.0.fill(rt, alloc, &mut disk);
+        let limits = limits(rt, self.0.flushed());
+        let mut engine = opened_with(rt, alloc, disk, &limits);
+        let is_met = self.is_met(rt, alloc, &mut engine);
+        next_behind(rt, alloc, engine).is_some() && is_met
     }
 }
 
 // ---- file numbers
 
-// How far the next file is below 2^63, the changes of a batch, what tends then answer in turn, and
-// how many tables levels 0 and 1 have.
-struct Numbered(u64, &'static [Change], &'static [Tended], (u64, u64));
+const IDLE: Tended = Tended::Idle;
 
-impl Case for Numbered {
-    fn holds(&self, rt: &impl Abort, alloc: Global) -> bool {
-        let Numbered(below, changes, answers, (flushed, merged)) = *self;
-        let mut disk = created(rt, alloc).into_disk();
-        let next = (1u64 << 63).saturating_sub(below);
-        record(rt, alloc, &mut disk, &edit_of(rt, alloc, (next, 0), &[]), 1);
-        let mut engine = opened_with(rt, alloc, disk, &limits(rt, 0));
-        append(rt, &mut engine, &batch_at(rt, alloc, changes));
-        let mut all = true;
-        for want in answers {
-            all = tend(rt, alloc, &mut engine) == *want && all;
-        }
-        for change in changes {
-            all = has(rt, alloc, &mut engine, *change) && all;
-        }
-        let is_left = engine.tables() == [flushed, merged, 0, 0, 0, 0, 0];
-        let mut disk = engine.into_disk();
-        is_left && all && next_if_alone(rt, alloc, &mut disk).is_some()
-    }
-}
+const WORKED: Tended = Tended::Worked;
 
-static NUMBERED: [Numbered; 8] = [
+const FULL: Tended = Tended::Full;
+
+static FILES: [Ended; 8] = [
     // No number for the log of a flush, and none for its table.
-    Numbered(1, &[(20, Some(1))], &[Tended::Full, Tended::Full], (0, 0)),
-    Numbered(0, &[(20, Some(1))], &[Tended::Full, Tended::Full], (0, 0)),
+    Ended(Last::File(1), &[], &[(20, Some(1))], &[FULL, FULL], (0, 0)),
+    Ended(Last::File(0), &[], &[(20, Some(1))], &[FULL, FULL], (0, 0)),
     // Both have one, and the output of a merge has none.
-    Numbered(
-        2,
+    Ended(
+        Last::File(2),
+        &[],
         &[(20, Some(1))],
-        &[
-            Tended::Worked,
-            Tended::Worked,
-            Tended::Full,
-            Tended::Worked,
-            Tended::Full,
-        ],
+        &[WORKED, WORKED, FULL, WORKED, FULL],
         (1, 0),
     ),
     // A merge that leaves nothing wants none.
-    Numbered(
-        2,
+    Ended(
+        Last::File(2),
+        &[],
         &[(20, None)],
-        &[Tended::Worked, Tended::Worked, Tended::Worked, Tended::Idle],
+        &[WORKED, WORKED, WORKED, IDLE],
         (0, 0),
     ),
     // One output has one.
-    Numbered(
-        4,
+    Ended(
+        Last::File(4),
+        &[],
         &[(20, Some(1))],
-        &[Tended::Worked, Tended::Worked, Tended::Worked, Tended::Idle],
+        &[WORKED, WORKED, WORKED, IDLE],
         (0, 1),
     ),
     // A second one has none.
-    Numbered(
-        3,
+    Ended(
+        Last::File(3),
+        &[],
         &[(20, Some(1)), (22, Some(1))],
-        &[
-            Tended::Worked,
-            Tended::Worked,
-            Tended::Full,
-            Tended::Worked,
-            Tended::Full,
-        ],
+        &[WORKED, WORKED, FULL, WORKED, FULL],
         (1, 0),
     ),
     // An output has the last number.
-    Numbered(
-        3,
+    Ended(
+        Last::File(3),
+        &[],
         &[(20, Some(1))],
-        &[Tended::Worked, Tended::Worked, Tended::Worked, Tended::Idle],
+        &[WORKED, WORKED, WORKED, IDLE],
         (0, 1),
     ),
-    Numbered(
-        4,
+    Ended(
+        Last::File(4),
+        &[],
         &[(20, Some(1)), (22, Some(1))],
-        &[Tended::Worked, Tended::Worked, Tended::Worked, Tended::Idle],
+        &[WORKED, WORKED, WORKED, IDLE],
         (0, 2),
     ),
 ];
@@ -138,108 +259,61 @@ fn has_free_files(rt: &impl Abort, alloc: Global) -> bool {
     let mut store = created.expect(rt, "a store");
     let first = store.free_file();
     store.set_free_file(9);
-    first == 4 && store.free_file() == 9
+    let second = store.free_file();
+    // A drop would be proved here.
+    forget(store);
+    first == 4 && second == 9
 }
 
 #[test]
 fn the_last_file_numbers(rt: HostRuntime) {
     is_so(&rt, has_free_files(&rt, rt.alloc()), "a free file");
-    all_hold(&rt, rt.alloc(), &NUMBERED);
+    all_hold(&rt, rt.alloc(), &FILES);
 }
 
 // ---- logs and generations
 
-// Appends the batch of this number to a log that has none.
-fn put_batch(rt: &impl Abort, alloc: Global, disk: &mut MemDisk, log: Log, at: u64) {
-    let mut log = log;
-    let mut bytes = copy_of(rt, alloc, &at.to_be_bytes());
-    let batch = batch_at(rt, alloc, &[(20, Some((at % 65_536) as u16))]);
-    write(rt, &mut bytes, &batch.to_bytes(alloc).expect(rt, "memory"));
-    log.append(disk, &bytes).expect(rt, "a batch");
-}
-
-// A store of so many logs, each of one batch, the last of which is in no table. It has no tables,
-// and only the key of the last batch is looked up.
-fn store_of(rt: &impl Abort, alloc: Global, count: u64) -> Engine<MemDisk> {
-    let mut disk = created(rt, alloc).into_disk();
-    let log = Log::open(alloc, &mut disk, 3, 0).expect(rt, "a log").log;
-    put_batch(rt, alloc, &mut disk, log, 1);
-    let mut logs = Vec::new(alloc);
-    for at in 2..count.saturating_add(1) {
-        let file = at.saturating_add(2);
-        let log = Log::create(alloc, &mut disk, file).expect(rt, "a log");
-        put_batch(rt, alloc, &mut disk, log, at);
-        put(rt, &mut logs, (file, at));
-    }
-    let numbers = (count.saturating_add(3), count.saturating_sub(1));
-    let edit = edit_of(rt, alloc, numbers, &logs);
-    record(rt, alloc, &mut disk, &edit, 1);
-    opened_with(rt, alloc, disk, &limits(rt, 64))
-}
-
-// How many logs there are, what a tend then answers, and what the next ones do, behind a batch.
-struct Logged(u64, Tended, &'static [Tended]);
-
-impl Case for Logged {
-    fn holds(&self, rt: &impl Abort, alloc: Global) -> bool {
-        let Logged(logs, first, answers) = *self;
-        let mut engine = store_of(rt, alloc, logs);
-        let mut all = tend(rt, alloc, &mut engine) == first;
-        put_one(rt, alloc, &mut engine, (22, Some(1)));
-        for want in answers {
-            all = tend(rt, alloc, &mut engine) == *want && all;
-        }
-        let is_count = engine.count().get() == logs.saturating_add(1);
-        let is_found = has(rt, alloc, &mut engine, (20, Some((logs % 65_536) as u16)));
-        let mut disk = engine.into_disk();
-        all && is_count && is_found && next_if_alone(rt, alloc, &mut disk).is_some()
-    }
-}
-
-static LOGGED: [Logged; 2] = [
+static LOGS: [Ended; 2] = [
     // A flush makes the slot so long that a rewrite is due.
-    Logged(
-        4_095,
-        Tended::Worked,
-        &[Tended::Worked, Tended::Full, Tended::Full],
+    Ended(
+        Last::Logs(4_095),
+        &[WORKED],
+        &[(22, Some(1))],
+        &[WORKED, FULL, FULL],
+        (1, 0),
     ),
-    Logged(4_096, Tended::Full, &[Tended::Full]),
+    Ended(
+        Last::Logs(4_096),
+        &[FULL],
+        &[(22, Some(1))],
+        &[FULL],
+        (0, 0),
+    ),
 ];
 
 #[test]
 fn as_many_logs_as_there_may_be(rt: HostRuntime) {
-    all_hold(&rt, rt.alloc(), &LOGGED);
+    all_hold(&rt, rt.alloc(), &LOGS);
 }
 
-// How far the generation of the slot is below 2^63, what a tend answers that has to rewrite it, and
-// the next one, behind a batch.
-struct Rewritten(u64, Tended, Tended);
-
-impl Case for Rewritten {
-    fn holds(&self, rt: &impl Abort, alloc: Global) -> bool {
-        let mut disk = created(rt, alloc).into_disk();
-        let edit = edit_of(rt, alloc, (4, 0), &[]);
-        record(rt, alloc, &mut disk, &edit, 1_600);
-        let generation = (1u64 << 63).saturating_sub(self.0);
-        disk.write_at(1, 1, &generation.to_be_bytes())
-            .expect(rt, "a write");
-        disk.sync(1).expect(rt, "a sync");
-        let mut engine = opened_with(rt, alloc, disk, &limits(rt, 0));
-        put_one(rt, alloc, &mut engine, (20, Some(1)));
-        let is_first = tend(rt, alloc, &mut engine) == self.1;
-        let is_second = tend(rt, alloc, &mut engine) == self.2;
-        let flushed = engine.tables()[0];
-        let is_flushed = (self.2 == Tended::Worked) == (flushed == 1);
-        is_first && is_second && is_flushed && has(rt, alloc, &mut engine, (20, Some(1)))
-    }
-}
-
-static REWRITTEN: [Rewritten; 2] = [
-    Rewritten(2, Tended::Worked, Tended::Worked),
-    Rewritten(1, Tended::Full, Tended::Full),
+static GENERATIONS: [Ended; 2] = [
+    Ended(
+        Last::Generation(2),
+        &[],
+        &[(20, Some(1))],
+        &[WORKED, WORKED],
+        (1, 0),
+    ),
+    Ended(
+        Last::Generation(1),
+        &[],
+        &[(20, Some(1))],
+        &[FULL, FULL],
+        (0, 0),
+    ),
 ];
 
 #[test]
 fn the_last_generations(rt: HostRuntime) {
-    all_hold(&rt, rt.alloc(), &REWRITTEN);
+    all_hold(&rt, rt.alloc(), &GENERATIONS);
 }

@@ -124,27 +124,35 @@ fn move_tables(rt: &impl Abort, alloc: Global, disk: &mut MemDisk) {
     log.append(disk, &edit).expect(rt, "a record");
 }
 
+// Appends these batches.
+fn append_all(rt: &impl Abort, alloc: Global, engine: &mut Engine<MemDisk>, batches: &[&[Change]]) {
+    for changes in batches {
+        append(rt, engine, &batch_at(rt, alloc, *changes));
+    }
+}
+
 // Appends these batches, and flushes each two of them.
 fn grow(rt: &impl Abort, alloc: Global, engine: &mut Engine<MemDisk>, batches: &[&[Change]]) {
     for pair in batches.chunks(2) {
-        for changes in pair {
-            append(rt, engine, &batch_at(rt, alloc, *changes));
-        }
+        append_all(rt, alloc, engine, pair);
         is_so(rt, tends(rt, alloc, engine), "a flush");
     }
 }
 
-// The store, and the same batches beside it.
-fn store(rt: &impl Abort, alloc: Global) -> Engine<MemDisk> {
+// The disk of the first batches, whose flushed tables have gone to their places.
+fn moved_disk(rt: &impl Abort, alloc: Global) -> MemDisk {
     let mut engine = created(rt, alloc, MemDisk::new(alloc), LOG);
     grow(rt, alloc, &mut engine, &BATCHES[..6]);
     let mut disk = engine.into_disk();
     move_tables(rt, alloc, &mut disk);
-    let mut engine = opened(rt, alloc, disk, LOG);
+    disk
+}
+
+// The store, and the same batches beside it.
+fn store(rt: &impl Abort, alloc: Global) -> Engine<MemDisk> {
+    let mut engine = opened(rt, alloc, moved_disk(rt, alloc), LOG);
     grow(rt, alloc, &mut engine, &BATCHES[6..10]);
-    for changes in &BATCHES[10..] {
-        append(rt, &mut engine, &batch_at(rt, alloc, *changes));
-    }
+    append_all(rt, alloc, &mut engine, &BATCHES[10..]);
     engine
 }
 
@@ -156,45 +164,64 @@ fn plain(rt: &impl Abort, alloc: Global) -> PlainStore {
     plain
 }
 
-// How many look-ups and walks at this number have what the plain store has.
-fn agreeing(
+// Ranges that are read both ways.
+static RANGES: [(u16, Option<u16>); 4] = [
+    (19, None),
+    (20, Some(30)),
+    (21, Some(25)),
+    (24, Some(29)),
+];
+
+// Whether a range at this number has the rows of the plain store, in this direction.
+fn walk_agrees(
+    rt: &impl Abort,
+    alloc: Global,
+    engine: &mut Engine<MemDisk>,
+    plain: &PlainStore,
+    (at, (low, bound), backward): (u64, (u16, Option<u16>), bool),
+) -> bool {
+    let limit = 2;
+    let span = Span {
+        low,
+        bound,
+        backward,
+        limit,
+    };
+    agreeing_pages(rt, alloc, engine, plain, (at, span)).is_some()
+}
+
+// Whether all look-ups and walks at this number have what the plain store has.
+fn agrees(
     rt: &impl Abort,
     alloc: Global,
     engine: &mut Engine<MemDisk>,
     plain: &PlainStore,
     at: u64,
-) -> usize {
-    let mut count = 0usize;
+) -> bool {
+    let mut all = true;
     for place in 19..32 {
-        if get_agrees(rt, alloc, engine, plain, (place, at)) {
-            count = count.wrapping_add(1);
-        }
+        all = get_agrees(rt, alloc, engine, plain, (place, at)) && all;
     }
-    for (low, bound) in [(19, None), (20, Some(30)), (21, Some(25)), (24, Some(29))] {
-        for backward in [false, true] {
-            let limit = 2;
-            let span = Span {
-                low,
-                bound,
-                backward,
-                limit,
-            };
-            if agreeing_pages(rt, alloc, engine, plain, (at, span)).is_some() {
-                count = count.wrapping_add(1);
-            }
-        }
+    for range in &RANGES {
+        all = walk_agrees(rt, alloc, engine, plain, (at, *range, false))
+            && walk_agrees(rt, alloc, engine, plain, (at, *range, true))
+            && all;
     }
-    count
+    all
+}
+
+// Fails the test unless the store has these tables, and agrees with the plain one at each number.
+fn agrees_at_each(rt: &impl Abort, alloc: Global, engine: &mut Engine<MemDisk>) {
+    let plain = plain(rt, alloc);
+    is_so(rt, engine.tables() == [2, 2, 1, 0, 0, 0, 0], "the tables");
+    for at in 0..13u64 {
+        holds_at(rt, at as usize, agrees(rt, alloc, engine, &plain, at));
+    }
 }
 
 #[test]
 fn versions_in_memory_and_in_each_level(rt: HostRuntime) {
-    let (rt, alloc) = (&rt, rt.alloc());
-    let plain = plain(rt, alloc);
-    let mut engine = store(rt, alloc);
-    is_so(rt, engine.tables() == [2, 2, 1, 0, 0, 0, 0], "the tables");
-    for at in 0..13u64 {
-        let count = agreeing(rt, alloc, &mut engine, &plain, at);
-        holds_at(rt, at as usize, count == 21);
-    }
+    let mut engine = store(&rt, rt.alloc());
+    agrees_at_each(&rt, rt.alloc(), &mut engine);
+    drop(engine.into_disk());
 }

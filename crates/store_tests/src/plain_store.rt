@@ -269,15 +269,32 @@ pub fn tends<D: Disk + Drop>(rt: &impl Abort, alloc: Global, engine: &mut Engine
     tend(rt, alloc, engine) == Tended::Worked
 }
 
-fn page<D: Disk + Drop>(
+// Whether this is the value of a place, or none.
+fn is_value(
+    rt: &impl Abort,
+    alloc: Global,
+    found: Option<&Value>,
+    place: u16,
+    want: Option<u16>,
+) -> bool {
+    let (Some(found), Some(want)) = (found, want) else {
+        return found.is_none() && want.is_none();
+    };
+    let want = value_at(rt, alloc, place, want);
+    is_same(found.as_bytes(), want.as_bytes())
+}
+
+/// Whether the key has this value after so many batches.
+pub fn has_at<D: Disk + Drop>(
     rt: &impl Abort,
     alloc: Global,
     engine: &mut Engine<D>,
+    (place, want): Change,
     at: u64,
-    span: Span,
-) -> Page {
-    let range = span.range(rt, alloc);
-    engine.rows(alloc, number(at), &range).expect(rt, "a page")
+) -> bool {
+    let key = key_at(rt, alloc, place);
+    let found = engine.get(alloc, number(at), &key).expect(rt, "a read");
+    is_value(rt, alloc, found.as_ref(), place, want)
 }
 
 /// Whether the key has, after so many batches, the value that the plain store has.
@@ -288,18 +305,45 @@ pub fn get_agrees<D: Disk + Drop>(
     plain: &PlainStore,
     (place, at): (u16, u64),
 ) -> bool {
-    let key = key_at(rt, alloc, place);
-    let found = engine.get(alloc, number(at), &key).expect(rt, "a read");
-    match (&found, plain.get(place, at)) {
-        (Some(found), Some(want)) => {
-            is_same(
-                found.as_bytes(),
-                value_at(rt, alloc, place, want).as_bytes(),
-            )
+    has_at(rt, alloc, engine, (place, plain.get(place, at)), at)
+}
+
+// Whether the page of a range has these rows, and whether it says so that more are left.
+fn page_agrees<D: Disk + Drop>(
+    rt: &impl Abort,
+    alloc: Global,
+    engine: &mut Engine<D>,
+    (at, span): (u64, Span),
+    (want, more): (&[(u16, u16)], bool),
+) -> bool {
+    let range = span.range(rt, alloc);
+    let page = engine.rows(alloc, number(at), &range).expect(rt, "a page");
+    is_page(rt, alloc, &page, want, more)
+}
+
+// How many pages these rows have page after page, if each is one of the engine.
+fn pages_of<D: Disk + Drop>(
+    rt: &impl Abort,
+    alloc: Global,
+    engine: &mut Engine<D>,
+    rows: &[(u16, u16)],
+    (at, span): (u64, Span),
+) -> Option<u64> {
+    let (mut rest, mut span) = (rows, span);
+    for pages in 1..u64::from(KEYS) + 1 {
+        let count = page_len(rest, span.limit).min(rest.len());
+        let (want, behind) = rest.split_at(count);
+        let more = !behind.is_empty();
+        if !page_agrees(rt, alloc, engine, (at, span), (want, more)) {
+            return None;
         }
-        (None, None) => true,
-        _ => false,
+        if !more {
+            return Some(pages);
+        }
+        span = span.behind(want.last()?.0);
+        rest = behind;
     }
+    None
 }
 
 /// How many pages a range has page after page to its end, if each is the one of the plain store.
@@ -311,20 +355,5 @@ pub fn agreeing_pages<D: Disk + Drop>(
     (at, span): (u64, Span),
 ) -> Option<u64> {
     let rows = plain.walk(rt, alloc, at, span);
-    let mut rest = rows.as_slice();
-    let mut span = span;
-    for pages in 1..u64::from(KEYS) + 1 {
-        let count = page_len(rest, span.limit).min(rest.len());
-        let (want, behind) = rest.split_at(count);
-        let page = page(rt, alloc, engine, at, span);
-        if !is_page(rt, alloc, &page, want, !behind.is_empty()) {
-            return None;
-        }
-        if behind.is_empty() {
-            return Some(pages);
-        }
-        span = span.behind(want.last()?.0);
-        rest = behind;
-    }
-    None
+    pages_of(rt, alloc, engine, &rows, (at, span))
 }

@@ -1,11 +1,11 @@
 // What pages of two tables cost the device, and what a damaged block of one of them does to a walk.
 use crate::cases::{has_memory, holds_at, is_so};
-use crate::items::{is_same, number, put};
+use crate::items::{is_same, put};
 use crate::plain_store::{Change, Span, append, batch_at, created, key_at, opened, tends};
 use crate::watched_disk::{Spot, WatchedDisk};
 use disk::MemDisk;
 use engine::{Engine, EngineError};
-use kv_types::Page;
+use kv_types::{Page, Row};
 use std::alloc::Global;
 use std::process::Abort;
 
@@ -55,20 +55,10 @@ fn mixed(rt: &impl Abort, alloc: Global) -> WatchedDisk {
     tables(rt, alloc, (100, 2, 50), (101, 2, 50))
 }
 
-fn page(
-    rt: &impl Abort,
-    alloc: Global,
-    engine: &mut Engine<WatchedDisk>,
-    span: Span,
-) -> Result<Page, EngineError> {
-    let at = engine.count();
-    let page = engine.rows(alloc, at, &span.range(rt, alloc));
-    has_memory(rt, is_memory(&page));
-    page
-}
-
-fn is_memory(page: &Result<Page, EngineError>) -> bool {
-    matches!(page, Err(EngineError::Memory))
+// Whether the row has the key of a place.
+fn is_at(rt: &impl Abort, alloc: Global, row: &Row, place: u16) -> bool {
+    let key = key_at(rt, alloc, place);
+    is_same(row.key().as_bytes(), key.as_bytes())
 }
 
 // Whether the page has the rows of so many keys, from this place on or down from it, and whether
@@ -82,8 +72,7 @@ fn has_rows(
 ) -> bool {
     let mut place = first;
     for row in page.rows() {
-        let key = key_at(rt, alloc, place);
-        if !is_same(row.key().as_bytes(), key.as_bytes()) {
+        if !is_at(rt, alloc, row, place) {
             return false;
         }
         place = if backward {
@@ -112,70 +101,100 @@ fn start_of((low, bound, backward, _): Walk) -> u16 {
     if backward { bound.wrapping_sub(1) } else { low }
 }
 
-// The store of a disk whose calls are counted from an opening on, less those of the opening.
+// A walk, how many rows its page has, and whether more are left.
+type Read = (Walk, usize, bool);
+
+// Whether the page of a walk is this one.
+fn reads(
+    rt: &impl Abort,
+    alloc: Global,
+    engine: &mut Engine<WatchedDisk>,
+    (walk, count, more): Read,
+) -> Result<bool, EngineError> {
+    let at = engine.count();
+    match engine.rows(alloc, at, &span_of(walk).range(rt, alloc)) {
+        Ok(page) => {
+            let first = (start_of(walk), walk.2);
+            Ok(has_rows(rt, alloc, &page, first, (count, more)))
+        }
+        Err(e) => {
+            has_memory(rt, e == EngineError::Memory);
+            Err(e)
+        }
+    }
+}
+
+// The calls of an opening of this store for the two tables, and of a page, if there is one to read.
 fn calls_of(
     rt: &impl Abort,
     alloc: Global,
     disk: WatchedDisk,
-    walk: Walk,
-    want: (usize, bool),
-) -> (WatchedDisk, (u64, u64)) {
-    let mut disk = opened(rt, alloc, disk, LOG).into_disk();
-    disk.calls = [0; 16];
-    let mut disk = opened(rt, alloc, disk, LOG).into_disk();
-    let opening = disk.calls;
-    disk.calls = [0; 16];
+    read: Option<Read>,
+) -> (WatchedDisk, [u64; 2]) {
     let mut engine = opened(rt, alloc, disk, LOG);
-    let page = page(rt, alloc, &mut engine, span_of(walk))
-        .ok()
-        .expect(rt, "a page");
-    let is_page = has_rows(rt, alloc, &page, (start_of(walk), walk.2), want);
-    is_so(rt, is_page, "the rows");
-    let disk = engine.into_disk();
-    let calls = disk.calls;
-    let first = calls[FIRST as usize].saturating_sub(opening[FIRST as usize]);
-    let second = calls[SECOND as usize].saturating_sub(opening[SECOND as usize]);
-    (disk, (first, second))
+    if let Some(read) = read {
+        let is_read = reads(rt, alloc, &mut engine, read);
+        is_so(rt, matches!(is_read, Ok(true)), "the rows");
+    }
+    let mut disk = engine.into_disk();
+    let calls = [disk.calls[FIRST as usize], disk.calls[SECOND as usize]];
+    disk.calls = [0; 16];
+    (disk, calls)
+}
+
+// Whether a page costs so many calls for each table, beyond those of an opening.
+fn costs(
+    rt: &impl Abort,
+    alloc: Global,
+    disk: WatchedDisk,
+    read: Read,
+    want: [u64; 2],
+) -> (WatchedDisk, bool) {
+    let (disk, _first) = calls_of(rt, alloc, disk, None);
+    let (disk, opening) = calls_of(rt, alloc, disk, None);
+    let (disk, calls) = calls_of(rt, alloc, disk, Some(read));
+    let is_first = calls[0].saturating_sub(opening[0]) == want[0];
+    let is_second = calls[1].saturating_sub(opening[1]) == want[1];
+    (disk, is_first && is_second)
+}
+
+// Pages that a store of this disk has, and their calls for each table.
+fn all_cost(rt: &impl Abort, alloc: Global, disk: WatchedDisk, rows: &[(Read, [u64; 2])]) {
+    let mut disk = disk;
+    for (index, (read, want)) in rows.iter().enumerate() {
+        let (left, holds) = costs(rt, alloc, disk, *read, *want);
+        holds_at(rt, index, holds);
+        disk = left;
+    }
+    drop(disk);
 }
 
 // Pages of ten rows, of a hundred keys and of all.
-static TENS: [Walk; 4] = [
-    (100, 200, false, 10),
-    (100, 10_100, false, 10),
-    (10_000, 10_100, true, 10),
-    (100, 10_100, true, 10),
+static TENS: [(Read, [u64; 2]); 4] = [
+    (((100, 200, false, 10), 10, true), [1, 1]),
+    (((100, 10_100, false, 10), 10, true), [1, 1]),
+    (((10_000, 10_100, true, 10), 10, true), [1, 1]),
+    (((100, 10_100, true, 10), 10, true), [1, 1]),
 ];
 
 #[test]
 fn ten_rows_cost_one_block_of_each_table(rt: HostRuntime) {
-    let (rt, alloc) = (&rt, rt.alloc());
-    let mut disk = mixed(rt, alloc);
-    for (index, walk) in TENS.iter().enumerate() {
-        let (left, calls) = calls_of(rt, alloc, disk, *walk, (10, true));
-        holds_at(rt, index, calls == (1, 1));
-        disk = left;
-    }
+    all_cost(&rt, rt.alloc(), mixed(&rt, rt.alloc()), &TENS);
 }
 
 // Pages of ranges in which one of two tables has all rows: 100 to 399, and 500 to 799. Each has
-// eight blocks; the second column is whether the first table has them.
-static APART: [(Walk, bool); 4] = [
-    ((100, 400, false, 1_024), true),
-    ((100, 400, true, 1_024), true),
-    ((500, 800, false, 1_024), false),
-    ((500, 800, true, 1_024), false),
+// eight blocks.
+static APART: [(Read, [u64; 2]); 4] = [
+    (((100, 400, false, 1_024), 300, false), [8, 0]),
+    (((100, 400, true, 1_024), 300, false), [8, 0]),
+    (((500, 800, false, 1_024), 300, false), [0, 8]),
+    (((500, 800, true, 1_024), 300, false), [0, 8]),
 ];
 
 #[test]
 fn a_table_without_keys_of_the_range_is_not_read(rt: HostRuntime) {
-    let (rt, alloc) = (&rt, rt.alloc());
-    let mut disk = tables(rt, alloc, (100, 1, 3), (500, 1, 3));
-    for (index, (walk, is_first)) in APART.iter().enumerate() {
-        let (left, calls) = calls_of(rt, alloc, disk, *walk, (300, false));
-        let want = if *is_first { (8, 0) } else { (0, 8) };
-        holds_at(rt, index, calls == want);
-        disk = left;
-    }
+    let disk = tables(&rt, rt.alloc(), (100, 1, 3), (500, 1, 3));
+    all_cost(&rt, rt.alloc(), disk, &APART);
 }
 
 // How many rows a walk meets in full pages until one is refused, and the refusal.
@@ -187,14 +206,11 @@ fn rows_before(
 ) -> (u16, Option<EngineError>) {
     let (mut walk, mut met) = (walk, 0u16);
     for _ in 0..1_000 {
-        let page = match page(rt, alloc, engine, span_of(walk)) {
-            Ok(page) => page,
+        match reads(rt, alloc, engine, (walk, 10, true)) {
+            Ok(true) => met = met.wrapping_add(10),
+            Ok(false) => return (met, None),
             Err(e) => return (met, Some(e)),
-        };
-        if !has_rows(rt, alloc, &page, (start_of(walk), walk.2), (10, true)) {
-            return (met, None);
         }
-        met = met.wrapping_add(10);
         if walk.2 {
             walk.1 = walk.1.wrapping_sub(10);
         } else {
@@ -217,17 +233,30 @@ static DAMAGED: [(Walk, u16); 2] = [
     ((100, 10_100, true, 10), 5_160),
 ];
 
+// Whether a walk of the store of this disk meets so many rows and ends as damaged, and whether a
+// read then fails.
+fn ends_damaged(
+    rt: &impl Abort,
+    alloc: Global,
+    disk: WatchedDisk,
+    (walk, met): (Walk, u16),
+) -> (WatchedDisk, bool) {
+    let mut engine = opened(rt, alloc, disk, LOG);
+    let found = rows_before(rt, alloc, &mut engine, walk);
+    let later = reads(rt, alloc, &mut engine, (walk, 10, true));
+    let holds = found == (met, Some(EngineError::Damaged))
+        && matches!(later, Err(EngineError::Failed));
+    (engine.into_disk(), holds)
+}
+
 #[test]
 fn a_damaged_block_ends_a_walk(rt: HostRuntime) {
-    let (rt, alloc) = (&rt, rt.alloc());
-    let mut disk = mixed(rt, alloc);
+    let mut disk = mixed(&rt, rt.alloc());
     disk.damage = Some(DAMAGE);
-    for (index, (walk, met)) in DAMAGED.iter().enumerate() {
-        let mut engine = opened(rt, alloc, disk, LOG);
-        let found = rows_before(rt, alloc, &mut engine, *walk);
-        holds_at(rt, index, found == (*met, Some(EngineError::Damaged)));
-        let later = page(rt, alloc, &mut engine, span_of(*walk)).err();
-        is_so(rt, later == Some(EngineError::Failed), "another refusal");
-        disk = engine.into_disk();
+    for (index, row) in DAMAGED.iter().enumerate() {
+        let (left, holds) = ends_damaged(&rt, rt.alloc(), disk, *row);
+        holds_at(&rt, index, holds);
+        disk = left;
     }
+    drop(disk);
 }

@@ -1,0 +1,268 @@
+// The program where a script can't be read to its end, or has none, where an output takes no more,
+// and where streams are slow or keep what they get.
+use crate::cases::{is_same, is_so};
+use crate::streams::{Broken, Endless, Flushed, Full, SlowReader, SlowWriter};
+use program::serve;
+use std::alloc::Global;
+use std::io::{BufWriter, ErrorKind, Read, Write};
+use std::process::Abort;
+use std::{env, fs};
+
+const WORDS: &[&str] = &["chainstore", "lab", "-"];
+
+const SCRIPT: &[u8] = b"config 1\nsubmit 1 a=1\nget 1 a\n";
+
+const TEXT: &[u8] = b"2: committed 1\n3: value 1 at 1\n";
+
+// A script of statements of several lines, of one and of none, and a reply at an earlier line.
+const CHAIN: &[u8] = b"config 1 2\nsubmit 1 a=1\nflow\nget 2 a\nflow\nrows 2 @ * 9\n";
+
+const CHAIN_TEXT: &[u8] = b"2: #1 1>2 forward 0 1
+3: #2 2>1 ack 0 1 1
+2: committed 1
+4: value 1 at 1
+6: row a=1
+6: rows 1 at 1
+";
+
+// How much of it has been written at the end of each statement.
+const CHAIN_ENDS: &[usize] = &[22, 57, 73, 73, 99];
+
+const UNWRITTEN: &[u8] = b"output: write\n";
+
+// Whether the program ends with this status, and reports this.
+fn ends<R: Read, O: Write>(
+    host: &HostRuntime,
+    words: &[&str],
+    (input, out): (&mut R, &mut O),
+    (status, told): (u8, &[u8]),
+) -> bool {
+    let mut err = Vec::new(host.alloc());
+    let answer = serve(host, words, input, out, &mut err);
+    let is_told = is_same(&err, told);
+    drop(err);
+    answer == status && is_told
+}
+
+// Beginnings of a script before the error, its kind, and what is told of it. The half of a line
+// that was read would be a statement of its own.
+static UNREADABLE: [(&[u8], ErrorKind, &[u8]); 4] = [
+    (b"", ErrorKind::Other, b"script: unreadable\n"),
+    (
+        b"config 1\nget 1 a",
+        ErrorKind::Other,
+        b"script: unreadable\n",
+    ),
+    (
+        b"config 1\nget 1 a\n",
+        ErrorKind::PermissionDenied,
+        b"script: unreadable\n",
+    ),
+    (
+        b"config 1\nget 1 a",
+        ErrorKind::OutOfMemory,
+        b"run: memory\n",
+    ),
+];
+
+#[test]
+fn a_script_that_breaks_off_is_not_run(rt: HostRuntime) {
+    for (bytes, kind, told) in &UNREADABLE {
+        let mut out = Vec::new(rt.alloc());
+        let mut input = Broken {
+            bytes: *bytes,
+            kind: *kind,
+        };
+        let has_ended = ends(&rt, WORDS, (&mut input, &mut out), (1, *told));
+        is_so(&rt, has_ended && out.is_empty(), "a script without its end");
+    }
+}
+
+// Bytes that come for ever, the most of them that are read, and what is told.
+static ENDLESS: [(u8, usize, &[u8]); 2] = [
+    (b'a', 300000, b"line 1: line too long\n"),
+    (b'\n', 150000, b"line 100001: too many lines\n"),
+];
+
+#[test]
+fn a_script_without_an_end_is_read_as_far_as_its_fault(rt: HostRuntime) {
+    for (byte, most, told) in &ENDLESS {
+        let mut out = Vec::new(rt.alloc());
+        let mut input = Endless {
+            byte: *byte,
+            given: 0,
+        };
+        let has_ended = ends(&rt, WORDS, (&mut input, &mut out), (1, *told));
+        let is_read = has_ended && out.is_empty() && input.given <= *most;
+        is_so(&rt, is_read, "a script without an end");
+    }
+}
+
+// Whether an output that takes so many bytes gets a beginning of the text, and the failure is told.
+fn accepts(host: &HostRuntime, words: &[&str], script: &[u8], text: &[u8], room: usize) -> bool {
+    let taken = Vec::new(host.alloc());
+    let (mut input, mut out) = (script, Full { taken, room });
+    let has_ended = ends(host, words, (&mut input, &mut out), (1, UNWRITTEN));
+    let is_beginning = out.taken.len() == room && text.starts_with(&out.taken);
+    drop(out);
+    has_ended && is_beginning
+}
+
+#[test]
+fn an_output_accepts_a_beginning(rt: HostRuntime) {
+    for room in 0..CHAIN_TEXT.len() {
+        let is_accepted = accepts(&rt, WORDS, CHAIN, CHAIN_TEXT, room);
+        is_so(&rt, is_accepted, "a beginning of the lines");
+    }
+}
+
+// Whether the output is flushed with so many bytes, and at no other place.
+fn is_flushed(host: &HostRuntime, words: &[&str], script: &[u8], places: &[usize]) -> bool {
+    let (taken, at) = (Vec::new(host.alloc()), Vec::new(host.alloc()));
+    let (mut input, mut out) = (script, Flushed { taken, at });
+    let has_ended = ends(host, words, (&mut input, &mut out), (0, b""));
+    let is_there = out.at.as_slice() == places;
+    drop(out);
+    has_ended && is_there
+}
+
+// The text of each statement is flushed before the next begins: there is one flush for each, with
+// exactly its text behind those before it.
+#[test]
+fn each_statement_is_flushed(rt: HostRuntime) {
+    let is_so_flushed = is_flushed(&rt, WORDS, CHAIN, CHAIN_ENDS);
+    is_so(&rt, is_so_flushed, "a flush behind each statement");
+}
+
+// A writer that keeps the bytes until it is flushed fails only then.
+#[test]
+fn an_output_is_flushed(rt: HostRuntime) {
+    for (room, status, told) in [(8, 1, UNWRITTEN), (TEXT.len(), 0, b"".as_slice())] {
+        let taken = Vec::new(rt.alloc());
+        let made = BufWriter::new(rt.alloc(), Full { taken, room });
+        let (mut input, mut out) = (SCRIPT, made.expect(&rt, "memory"));
+        let has_ended = ends(&rt, WORDS, (&mut input, &mut out), (status, told));
+        let taken = &out.get_ref().taken;
+        let is_beginning = taken.len() == room && TEXT.starts_with(taken);
+        is_so(&rt, has_ended && is_beginning, "a flush");
+    }
+}
+
+// A call that is interrupted is made again, and less than was asked for is no end.
+#[test]
+fn a_slow_reader_is_read_to_its_end(rt: HostRuntime) {
+    let mut out = Vec::new(rt.alloc());
+    let (bytes, is_ready) = (SCRIPT, false);
+    let mut input = SlowReader { bytes, is_ready };
+    let has_ended = ends(&rt, WORDS, (&mut input, &mut out), (0, b""));
+    is_so(&rt, has_ended && is_same(&out, TEXT), "all of the script");
+}
+
+// Scripts, and what slow writers get of them: the status, and what stands on either output.
+static SLOW: [(&[u8], u8, &[u8], &[u8]); 2] = [
+    (SCRIPT, 0, TEXT, b""),
+    (b"fly", 1, b"", b"line 1: unknown statement\n"),
+];
+
+// Whether a slow writer has got this.
+fn has_got(writer: &SlowWriter, want: &[u8]) -> bool {
+    is_same(&writer.taken, want)
+}
+
+fn slow_writer(host: &HostRuntime) -> SlowWriter {
+    let (taken, is_ready) = (Vec::new(host.alloc()), false);
+    SlowWriter { taken, is_ready }
+}
+
+#[test]
+fn a_slow_writer_gets_all(rt: HostRuntime) {
+    for (script, status, text, told) in &SLOW {
+        let (mut out, mut err) = (slow_writer(&rt), slow_writer(&rt));
+        let mut input = *script;
+        let answer = serve(&rt, WORDS, &mut input, &mut out, &mut err);
+        let is_all = answer == *status && has_got(&out, *text) && has_got(&err, *told);
+        is_so(&rt, is_all, "all that is written");
+    }
+}
+
+// ---- what is written of a store
+
+// A path below this one.
+fn below(rt: &impl Abort, host: &HostRuntime, place: &str, name: &str) -> String {
+    format!(in host.alloc(); "{place}/{name}").expect(rt, "memory")
+}
+
+// Removes a folder with all that is in it.
+fn clear(rt: &impl Abort, host: &HostRuntime, place: &str) {
+    if fs::exists(host, place).expect(rt, "a path") {
+        fs::remove_dir_all(host, place).expect(rt, "a removal");
+    }
+}
+
+// Runs the script at nodes in the folders below one of this name, which it answers.
+fn run_in_folders(rt: &impl Abort, host: &HostRuntime, name: &str, script: &[u8]) -> String {
+    let room = env::temp_dir(host).expect(rt, "a folder for files of tests");
+    let place = below(rt, host, room.as_str(), name);
+    clear(rt, host, place.as_str());
+    let words = ["chainstore", "loop", "-", "--dir", place.as_str()];
+    let (mut input, mut out) = (script, Vec::new(host.alloc()));
+    let is_run = ends(host, &words, (&mut input, &mut out), (0, b""));
+    is_so(rt, is_run, "a run");
+    place
+}
+
+const STORE: &[u8] = b"node 7 epoch 0 count 1 floor 0 kept 0 tables 0 0 0 0 0 0 0
+row a=1
+row b=%20
+rows 2 at 1
+";
+
+// Whether an output gets a beginning of what the store has, however much it takes.
+fn accepts_store(host: &HostRuntime, folder: &str) -> bool {
+    let words = ["chainstore", "dump", folder];
+    for room in 0..STORE.len() {
+        if !accepts(host, &words, b"", STORE, room) {
+            return false;
+        }
+    }
+    true
+}
+
+#[test]
+fn an_output_accepts_a_beginning_of_a_store(rt: HostRuntime) {
+    let script = b"config 7\nsubmit 7 a=1 b=%20\n";
+    let place = run_in_folders(&rt, &rt, "mudtwill_short_dump", script);
+    let folder = below(&rt, &rt, place.as_str(), "7");
+    let is_accepted = accepts_store(&rt, folder.as_str());
+    is_so(&rt, is_accepted, "a beginning of the store");
+    clear(&rt, &rt, place.as_str());
+}
+
+// How the keys of a store of eleven rows of 17,414 bytes end: only five go into a page.
+static LONG_KEYS: [&str; 11] = ["0", "1", "2", "3", "4", "5", "6", "7", "8", "9", "a"];
+
+// How many bytes are there at each flush of a dump of them: after the line of the numbers, after
+// each page, with five new rows, four and two, and after the last line.
+const LONG_ENDS: &[usize] = &[60, 87_130, 156_786, 191_614, 191_628];
+
+fn long_script(rt: &impl Abort, alloc: Global) -> String {
+    let mut script = String::from_str(alloc, "config 1\n").expect(rt, "memory");
+    let key = "z".repeat(alloc, 1023).expect(rt, "memory");
+    let value = "v".repeat(alloc, 16384).expect(rt, "memory");
+    for end in &LONG_KEYS {
+        for part in ["submit 1 ", key.as_str(), *end, "=", value.as_str(), "\n"] {
+            script.push_str(part).expect(rt, "memory");
+        }
+    }
+    script
+}
+
+#[test]
+fn each_page_of_a_store_is_flushed(rt: HostRuntime) {
+    let script = long_script(&rt, rt.alloc());
+    let place = run_in_folders(&rt, &rt, "mudtwill_long_dump", script.as_bytes());
+    let folder = below(&rt, &rt, place.as_str(), "1");
+    let words = ["chainstore", "dump", folder.as_str()];
+    is_so(&rt, is_flushed(&rt, &words, b"", LONG_ENDS), "the pages");
+    clear(&rt, &rt, place.as_str());
+}
