@@ -238,21 +238,18 @@ fn an_output_accepts_a_beginning_of_a_store(rt: HostRuntime) {
     clear(&rt, &rt, place.as_str());
 }
 
-// How the keys of a store of eleven rows of 17,414 bytes end: only five go into a page.
-static LONG_KEYS: [&str; 11] = ["0", "1", "2", "3", "4", "5", "6", "7", "8", "9", "a"];
-
-// How many bytes are there at each flush of a dump of them: after the line of the numbers, after
-// each page, with five new rows, four and two, and after the last line.
+// How many bytes are there at each flush of a dump of eleven rows of 17,414 bytes: after the line
+// of the numbers, after each page, with five new rows, four and two, and after the last line.
 const LONG_ENDS: &[usize] = &[60, 87_130, 156_786, 191_614, 191_628];
 
 fn long_script(rt: &impl Abort, alloc: Global) -> String {
     let mut script = String::from_str(alloc, "config 1\n").expect(rt, "memory");
     let key = "z".repeat(alloc, 1023).expect(rt, "memory");
     let value = "v".repeat(alloc, 16384).expect(rt, "memory");
-    for end in &LONG_KEYS {
-        for part in ["submit 1 ", key.as_str(), *end, "=", value.as_str(), "\n"] {
-            script.push_str(part).expect(rt, "memory");
-        }
+    for end in ["0", "1", "2", "3", "4", "5", "6", "7", "8", "9", "a"] {
+        let (key, value) = (key.as_str(), value.as_str());
+        let line = format!(in alloc; "submit 1 {key}{end}={value}\n").expect(rt, "memory");
+        script.push_str(line.as_str()).expect(rt, "memory");
     }
     script
 }
