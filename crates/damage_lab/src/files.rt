@@ -21,8 +21,8 @@ fn put_word(alloc: Global, disk: &mut MemDisk, word: &str) -> Result<()> {
     Ok(put?)
 }
 
-/// Writes the files that the words are, each with its bytes.
-pub fn put_words(alloc: Global, disk: &mut MemDisk, words: Split<'_, char>) -> Result<()> {
+// Writes the files that the words are, each with its bytes.
+fn put_words(alloc: Global, disk: &mut MemDisk, words: Split<'_, char>) -> Result<()> {
     for word in words {
         put_word(alloc, disk, word)?;
     }

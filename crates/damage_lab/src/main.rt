@@ -4,15 +4,11 @@
 
 mod asking;
 mod files;
-mod node_inputs;
-mod node_lines;
-mod nodes;
 mod runs;
 mod shown;
 mod streams;
 
 use anyhow::{Result, bail};
-use nodes::run_node;
 use runs::{alter, carry_once, lose};
 use std::alloc::Global;
 use std::env;
@@ -62,7 +58,6 @@ fn main(rt: HostRuntime) -> Result<()> {
         "lose" => lose(&rt, rest),
         "alter" => alter(&rt, rest),
         "carry-once" => carry_once(&rt),
-        "node" => run_node(&rt),
         _ => bail!("an unknown mode"),
     }
 }

@@ -1,6 +1,6 @@
 // A store that stands alone, beside a plain map: its history, snapshots, tends and stops, and what
 // a stop leaves of it at each call of its disk.
-use crate::cases::{holds_at, is_so};
+use crate::cases::{done, fails, holds_at, is_so};
 use crate::items::{is_same, key_of, number, value_of};
 use crate::scratch_folders::{empty_folder, remove_folder};
 use disk::{Crash, Disk, Fault, Junk, JunkBytes, MemDisk};
@@ -16,7 +16,7 @@ pub const KEYS: u64 = 24;
 
 /// A store whose log is longer than its limit flushes, so its tends have much to do.
 pub fn limits(rt: &impl Abort) -> Limits {
-    Limits::new(200, 1, 256, 512, 16).ok().expect(rt, "limits")
+    done(rt, Limits::new(200, 1, 256, 512, 16))
 }
 
 pub fn key_at(rt: &impl Abort, alloc: Global, index: u64) -> Key {
@@ -36,8 +36,8 @@ fn batch_at(rt: &impl Abort, alloc: Global, batch: u64) -> Batch {
     let value = value_of(rt, alloc, &batch.to_be_bytes());
     let put = Edit::Put(key_at(rt, alloc, put_by(batch)), value);
     let deletion = Edit::Delete(key_at(rt, alloc, deleted_by(batch)));
-    let edits = vec![in alloc; put, deletion].expect(rt, "memory");
-    Batch::new(edits).expect(rt, "a batch")
+    let edits = done(rt, vec![in alloc; put, deletion]);
+    done(rt, Batch::new(edits))
 }
 
 /// What a plain map has of a key after so many batches.
@@ -74,7 +74,7 @@ fn agrees_at<D: Disk + Drop>(
     let key = key_at(rt, alloc, index);
     let found = store.get(alloc, &key, *at);
     drop(key);
-    let found = found.expect(rt, "a read");
+    let found = done(rt, found);
     let is_so = is_value(&found, plain(index, count));
     drop(found);
     is_so
@@ -123,10 +123,10 @@ pub fn shows_all<D: Disk + Drop>(
     store: &mut EmbeddedStore<D>,
     at: u64,
 ) -> bool {
-    let all = Range::new(key_at(rt, alloc, 0), None, false, 100).expect(rt, "a range");
+    let all = done(rt, Range::new(key_at(rt, alloc, 0), None, false, 100));
     let found = store.rows(alloc, &all, Some(number(at)));
     drop(all);
-    let page = found.expect(rt, "rows");
+    let page = done(rt, found);
     let is_so = !page.has_more() && are_rows(page.rows(), at);
     drop(page);
     is_so
@@ -135,7 +135,7 @@ pub fn shows_all<D: Disk + Drop>(
 // Tends until nothing is due.
 fn settle<D: Disk + Drop>(rt: &impl Abort, alloc: Global, store: &mut EmbeddedStore<D>) {
     for _ in 0..100 {
-        if store.tend(alloc).expect(rt, "a tend") == Tended::Idle {
+        if done(rt, store.tend(alloc)) == Tended::Idle {
             return;
         }
     }
@@ -143,8 +143,7 @@ fn settle<D: Disk + Drop>(rt: &impl Abort, alloc: Global, store: &mut EmbeddedSt
 }
 
 pub fn opened<D: Disk + Drop>(rt: &impl Abort, alloc: Global, disk: D) -> EmbeddedStore<D> {
-    let found = EmbeddedStore::over(alloc, disk, &limits(rt));
-    found.ok().expect(rt, "a store")
+    done(rt, EmbeddedStore::over(alloc, disk, &limits(rt)))
 }
 
 /// The junk of a crash, by its place.
@@ -152,8 +151,8 @@ pub fn junk_at(rt: &impl Abort, alloc: Global, place: u64) -> Junk {
     match place % 4 {
         0 => Junk::Old,
         1 => Junk::New,
-        2 => Junk::Bytes(JunkBytes::new(vec![in alloc; 0u8; 1].expect(rt, "memory"))),
-        _ => Junk::Bytes(JunkBytes::new(vec![in alloc; 1u8; 2].expect(rt, "memory"))),
+        2 => Junk::Bytes(JunkBytes::new(done(rt, vec![in alloc; 0u8; 1]))),
+        _ => Junk::Bytes(JunkBytes::new(done(rt, vec![in alloc; 1u8; 2]))),
     }
 }
 
@@ -225,33 +224,34 @@ fn each_number_has_its_map(rt: HostRuntime) {
     store.close();
 }
 
-/// What a read of a number answers.
-pub fn refusal<D: Disk + Drop>(
+/// Whether a read at a number is refused with this error.
+pub fn is_refused<D: Disk + Drop>(
     rt: &impl Abort,
     alloc: Global,
     store: &mut EmbeddedStore<D>,
     at: u64,
-) -> Option<EngineError> {
+    want: EngineError,
+) -> bool {
     let key = key_at(rt, alloc, 0);
     let found = store.get(alloc, &key, Some(number(at)));
     drop(key);
-    found.err()
+    fails(found, want)
 }
 
 // A snapshot at 20, while 40 batches more are written.
 fn read_snapshot<D: Disk + Drop>(rt: &impl Abort, alloc: Global, store: &mut EmbeddedStore<D>) {
-    let snapshot = store.snapshot().expect(rt, "a snapshot");
+    let snapshot = done(rt, store.snapshot());
     is_so(rt, snapshot == number(20), "at the newest number");
     fill(rt, alloc, store, 21, 60);
     is_so(rt, store.floor() == snapshot, "the floor rises to it alone");
     is_so(rt, agrees(rt, alloc, store, &Some(snapshot), 20), "its map");
     is_so(rt, shows_all(rt, alloc, store, 20), "its rows");
-    let early = refusal(rt, alloc, store, 19) == Some(EngineError::TooOld);
+    let early = is_refused(rt, alloc, store, 19, EngineError::TooOld);
     is_so(rt, early, "a number below the floor");
-    let late = refusal(rt, alloc, store, 61) == Some(EngineError::NotCommitted);
+    let late = is_refused(rt, alloc, store, 61, EngineError::NotCommitted);
     is_so(rt, late, "a number that is not there");
     is_so(rt, store.release(snapshot).is_ok(), "it is released");
-    let gone = store.release(snapshot).err() == Some(EngineError::NoSuchSnapshot);
+    let gone = fails(store.release(snapshot), EngineError::NoSuchSnapshot);
     is_so(rt, gone, "once");
 }
 
@@ -260,7 +260,7 @@ fn run_course<D: Disk + Drop>(rt: &impl Abort, alloc: Global, store: &mut Embedd
     fill(rt, alloc, store, 1, 20);
     read_snapshot(rt, alloc, store);
     fill(rt, alloc, store, 61, 90);
-    let old = refusal(rt, alloc, store, 20) == Some(EngineError::TooOld);
+    let old = is_refused(rt, alloc, store, 20, EngineError::TooOld);
     is_so(rt, old, "its number is too old");
     is_so(rt, agrees(rt, alloc, store, &None, 90), "the newest map");
 }
@@ -274,18 +274,13 @@ fn a_snapshot_is_read_until_it_is_released(rt: HostRuntime) {
 
 // Runs the course in a folder, closes the store and opens it again.
 fn run_in_folder(rt: &impl Abort, host: &HostRuntime, folder: &str) {
-    let made = EmbeddedStore::open(host, folder, &limits(rt));
-    let mut store = made.ok().expect(rt, "a store");
+    let mut store = done(rt, EmbeddedStore::open(host, folder, &limits(rt)));
     run_course(rt, host.alloc(), &mut store);
     store.close();
-    let found = EmbeddedStore::open(host, folder, &limits(rt));
-    let mut store = found.ok().expect(rt, "the store again");
-    is_so(
-        rt,
-        agrees(rt, host.alloc(), &mut store, &None, 90),
-        "as it was",
-    );
+    let mut store = done(rt, EmbeddedStore::open(host, folder, &limits(rt)));
+    let is_left = agrees(rt, host.alloc(), &mut store, &None, 90);
     store.close();
+    is_so(rt, is_left, "as it was");
 }
 
 #[test]
@@ -376,9 +371,9 @@ fn a_store_that_was_refused_for_its_device_has_ended(rt: HostRuntime) {
     let mut store = opened(rt, alloc, disk);
     let written = write_some(rt, alloc, &mut store);
     is_so(rt, written < 8, "a call was struck");
-    let failed = refusal(rt, alloc, &mut store, 3) == Some(EngineError::Failed);
+    let failed = is_refused(rt, alloc, &mut store, 3, EngineError::Failed);
     is_so(rt, failed, "a read");
-    let shut = store.snapshot().err() == Some(EngineError::Failed);
+    let shut = fails(store.snapshot(), EngineError::Failed);
     is_so(rt, shut, "a snapshot");
     store.close();
 }

@@ -1,7 +1,7 @@
 // Cursors of a store that stands alone, beside a plain map: walks both ways, turns, seeks, and the
 // map of a snapshot behind later batches.
-use crate::cases::{holds_at, is_so};
-use crate::courses::{KEYS, fill, is_row, key_at, limits, opened, plain, refusal};
+use crate::cases::{done, fails, holds_at, is_so};
+use crate::courses::{KEYS, fill, is_refused, is_row, key_at, limits, opened, plain};
 use crate::items::number;
 use crate::scratch_folders::{empty_folder, remove_folder};
 use disk::{Disk, MemDisk};
@@ -14,6 +14,39 @@ fn is_on(cursor: &RowCursor, index: u64, count: u64) -> bool {
     cursor.row().is_some_and(|row| is_row(row, index, count))
 }
 
+// A move of a cursor; `Seek` goes to the key of an index.
+#[derive(Clone, Copy)]
+enum Move {
+    First,
+    Last,
+    Next,
+    Prev,
+    Seek(u64),
+}
+
+// Moves the cursor. The test ends where that is refused.
+fn move_cursor<D: Disk + Drop>(
+    rt: &impl Abort,
+    alloc: Global,
+    store: &mut EmbeddedStore<D>,
+    cursor: &mut RowCursor,
+    to: Move,
+) {
+    let moved = match to {
+        Move::First => cursor.first(alloc, store),
+        Move::Last => cursor.last(alloc, store),
+        Move::Next => cursor.next(alloc, store),
+        Move::Prev => cursor.prev(alloc, store),
+        Move::Seek(index) => {
+            let key = key_at(rt, alloc, index);
+            let moved = cursor.seek(alloc, store, &key);
+            drop(key);
+            moved
+        }
+    };
+    done(rt, moved);
+}
+
 // Walks from the first row to the last, with one look back at each.
 fn walk_on<D: Disk + Drop>(
     rt: &impl Abort,
@@ -22,11 +55,11 @@ fn walk_on<D: Disk + Drop>(
     cursor: &mut RowCursor,
 ) {
     let count = cursor.number().get();
-    is_so(rt, cursor.first(alloc, store).is_ok(), "the first");
+    move_cursor(rt, alloc, store, cursor, Move::First);
     for index in 0..KEYS {
         if plain(index, count).is_some() {
             holds_at(rt, index as usize, is_on(cursor, index, count));
-            is_so(rt, cursor.next(alloc, store).is_ok(), "a step");
+            move_cursor(rt, alloc, store, cursor, Move::Next);
         }
     }
     is_so(rt, cursor.row().is_none(), "behind the last row");
@@ -40,11 +73,11 @@ fn walk_back<D: Disk + Drop>(
     cursor: &mut RowCursor,
 ) {
     let count = cursor.number().get();
-    is_so(rt, cursor.last(alloc, store).is_ok(), "the last");
+    move_cursor(rt, alloc, store, cursor, Move::Last);
     for index in (0..KEYS).rev() {
         if plain(index, count).is_some() {
             holds_at(rt, index as usize, is_on(cursor, index, count));
-            is_so(rt, cursor.prev(alloc, store).is_ok(), "a step");
+            move_cursor(rt, alloc, store, cursor, Move::Prev);
         }
     }
     is_so(rt, cursor.row().is_none(), "before the first row");
@@ -69,21 +102,18 @@ fn seek_and_turn<D: Disk + Drop>(
     index: u64,
 ) {
     let count = cursor.number().get();
-    let key = key_at(rt, alloc, index);
-    let is_found = cursor.seek(alloc, store, &key).is_ok();
-    drop(key);
-    is_so(rt, is_found, "a seek");
+    move_cursor(rt, alloc, store, cursor, Move::Seek(index));
     let first = next_key(index, count);
     if first == KEYS {
         is_so(rt, cursor.row().is_none(), "no row from there on");
         return;
     }
     holds_at(rt, index as usize, is_on(cursor, first, count));
-    is_so(rt, cursor.next(alloc, store).is_ok(), "a step");
+    move_cursor(rt, alloc, store, cursor, Move::Next);
     let second = next_key(first.wrapping_add(1), count);
     if second < KEYS {
         holds_at(rt, index as usize, is_on(cursor, second, count));
-        is_so(rt, cursor.prev(alloc, store).is_ok(), "a step back");
+        move_cursor(rt, alloc, store, cursor, Move::Prev);
         holds_at(rt, index as usize, is_on(cursor, first, count));
     }
 }
@@ -115,7 +145,7 @@ fn walk_all<D: Disk + Drop>(
 // Cursors at a snapshot, while batches are written behind it, and at the newest number.
 fn run_cursors<D: Disk + Drop>(rt: &impl Abort, alloc: Global, store: &mut EmbeddedStore<D>) {
     fill(rt, alloc, store, 1, 20);
-    let snapshot = store.snapshot().expect(rt, "a snapshot");
+    let snapshot = done(rt, store.snapshot());
     let mut before = store.cursor(alloc, Some(snapshot));
     walk_all(rt, alloc, store, &mut before);
     fill(rt, alloc, store, 21, 40);
@@ -137,8 +167,7 @@ fn cursors_walk_as_a_plain_map(rt: HostRuntime) {
 #[test]
 fn cursors_walk_so_in_a_folder(rt: HostRuntime) {
     let folder = empty_folder(&rt, &rt, "embedded_cursors");
-    let made = EmbeddedStore::open(&rt, folder.as_str(), &limits(&rt));
-    let mut store = made.ok().expect(&rt, "a store");
+    let mut store = done(&rt, EmbeddedStore::open(&rt, folder.as_str(), &limits(&rt)));
     run_cursors(&rt, rt.alloc(), &mut store);
     store.close();
     remove_folder(&rt, &rt, folder.as_str());
@@ -152,12 +181,13 @@ fn refuse_move<D: Disk + Drop>(
     store: &mut EmbeddedStore<D>,
     cursor: &mut RowCursor,
 ) {
-    is_so(rt, cursor.first(alloc, store).is_ok(), "the first");
+    move_cursor(rt, alloc, store, cursor, Move::First);
     let first = next_key(0, 20);
     fill(rt, alloc, store, 21, 60);
-    is_so(rt, refusal(rt, alloc, store, 20).is_some(), "too old");
-    let moved = cursor.last(alloc, store).err();
-    is_so(rt, moved == Some(EngineError::TooOld), "a move");
+    let is_old = is_refused(rt, alloc, store, 20, EngineError::TooOld);
+    is_so(rt, is_old, "too old");
+    let move_fails = fails(cursor.last(alloc, store), EngineError::TooOld);
+    is_so(rt, move_fails, "a move");
     is_so(rt, is_on(cursor, first, 20), "where it stood");
 }
 

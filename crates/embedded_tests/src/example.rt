@@ -1,6 +1,6 @@
 //! The example of the README: a store in a folder, with puts, a get, a snapshot, a walk and a tend;
 //! and that a folder has one user at a time.
-use crate::cases::is_so;
+use crate::cases::{done, is_so};
 use crate::items::{batch_of, is_same, key_of};
 use crate::scratch_folders::{empty_folder, remove_folder};
 use disk::Disk;
@@ -85,7 +85,7 @@ fn run_example(rt: &impl Abort, host: &HostRuntime, folder: &str) {
     drop(key);
     drop(first);
     drop(second);
-    let (now, before) = found.ok().expect(rt, "an answer");
+    let (now, before) = done(rt, found);
     let (is_new, is_old) = (is_newest(&now, b"Grace"), is_one(&before, b"Ada"));
     drop(now);
     drop(before);
@@ -115,12 +115,12 @@ fn refusal(host: &HostRuntime, folder: &str) -> Option<OpenError> {
 fn a_folder_has_one_user(rt: HostRuntime) {
     let folder = empty_folder(&rt, &rt, "embedded_lock");
     let path = folder.as_str();
-    let first = EmbeddedStore::open(&rt, path, &Limits::default());
-    let store = first.ok().expect(&rt, "a store");
-    is_so(&rt, store.count() == Number::ZERO, "no batches");
-    let second = refusal(&rt, path) == Some(OpenError::InUse);
-    is_so(&rt, second, "it is in use");
+    let store = done(&rt, EmbeddedStore::open(&rt, path, &Limits::default()));
+    let is_new = store.count() == Number::ZERO;
+    let second = refusal(&rt, path);
     store.close();
+    is_so(&rt, is_new, "no batches");
+    is_so(&rt, second == Some(OpenError::InUse), "it is in use");
     is_so(&rt, refusal(&rt, path).is_none(), "it is free again");
     remove_folder(&rt, &rt, path);
 }

@@ -1,5 +1,6 @@
 //! Keys, batches, lists and the like, as tests make them.
 
+use crate::cases::done;
 use configurations::Config;
 use kv_types::{Batch, Edit, Key, Number, Value};
 use std::alloc::Global;
@@ -7,7 +8,7 @@ use std::process::Abort;
 
 /// A copy of these bytes.
 pub fn copy_of(rt: &impl Abort, alloc: Global, bytes: &[u8]) -> Vec<u8> {
-    bytes.to_vec(alloc).expect(rt, "memory")
+    done(rt, bytes.to_vec(alloc))
 }
 
 /// Whether these are the same bytes. A comparison is dear to prove, so it stands here alone.
@@ -17,15 +18,15 @@ pub fn is_same(found: &[u8], want: &[u8]) -> bool {
 
 /// Appends the item.
 pub fn put<T: Drop>(rt: &impl Abort, list: &mut Vec<T>, item: T) {
-    list.push(item).expect(rt, "memory");
+    done(rt, list.push(item));
 }
 
 pub fn key_of(rt: &impl Abort, alloc: Global, bytes: &[u8]) -> Key {
-    Key::new(copy_of(rt, alloc, bytes)).expect(rt, "a key")
+    done(rt, Key::new(copy_of(rt, alloc, bytes)))
 }
 
 pub fn value_of(rt: &impl Abort, alloc: Global, bytes: &[u8]) -> Value {
-    Value::new(copy_of(rt, alloc, bytes)).expect(rt, "a value")
+    done(rt, Value::new(copy_of(rt, alloc, bytes)))
 }
 
 /// A put, or a deletion where there is no value.
@@ -44,7 +45,7 @@ pub fn batch_of(rt: &impl Abort, alloc: Global, edits: Edits) -> Batch {
     for (key, value) in edits {
         put(rt, &mut list, edit_of(rt, alloc, *key, *value));
     }
-    Batch::new(list).expect(rt, "a batch")
+    done(rt, Batch::new(list))
 }
 
 pub fn number(value: u64) -> Number {
@@ -52,6 +53,6 @@ pub fn number(value: u64) -> Number {
 }
 
 pub fn config_of(rt: &impl Abort, alloc: Global, ids: &[u16]) -> Config {
-    let ids = ids.to_vec(alloc).expect(rt, "memory");
-    Config::new(alloc, ids).expect(rt, "a configuration")
+    let ids = done(rt, ids.to_vec(alloc));
+    done(rt, Config::new(alloc, ids))
 }

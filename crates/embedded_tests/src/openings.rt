@@ -1,5 +1,5 @@
 // What an opening of a store that stands alone creates, opens and refuses.
-use crate::cases::is_so;
+use crate::cases::{done, is_so};
 use crate::courses::{agrees, arm, fill, junk_at, limits, opened};
 use crate::items::config_of;
 use configurations::NodeId;
@@ -65,18 +65,23 @@ fn has_files(disk: &mut MemDisk, files: &[u64]) -> bool {
     }
 }
 
-// Why a disk has no store for those who embed it, if it has none; then its files are left.
-fn refused(rt: &impl Abort, alloc: Global, disk: MemDisk, files: &[u64]) -> Option<OpenError> {
+// Whether an opening answers this error, and leaves these files, or a store where there is none.
+fn answers(
+    rt: &impl Abort,
+    alloc: Global,
+    disk: MemDisk,
+    files: &[u64],
+    want: Option<OpenError>,
+) -> bool {
     match EmbeddedStore::over(alloc, disk, &limits(rt)) {
         Ok(store) => {
             store.close();
-            None
+            want.is_none()
         }
         Err((error, mut disk)) => {
             let is_left = has_files(&mut disk, files);
             drop(disk);
-            is_so(rt, is_left, "its files");
-            Some(error)
+            is_left && want == Some(error)
         }
     }
 }
@@ -94,7 +99,7 @@ fn node_disk(rt: &impl Abort, alloc: Global) -> MemDisk {
     let id = NodeId::new(1).expect(rt, "an id");
     let made = Engine::create(alloc, MemDisk::new(alloc), id, &config, &limits(rt));
     drop(config);
-    made.ok().expect(rt, "an engine").into_disk()
+    done(rt, made).into_disk()
 }
 
 // The disk of a store whose first log is gone.
@@ -105,19 +110,26 @@ fn disk_without_log(rt: &impl Abort, alloc: Global) -> MemDisk {
     disk
 }
 
+const NOT_CREATED: Option<OpenError> = Some(OpenError::Store(EngineError::NotCreated));
+
+const DAMAGED: Option<OpenError> = Some(OpenError::Store(EngineError::Damaged));
+
 #[test]
 fn an_opening_creates_over_nothing_that_is_there(rt: HostRuntime) {
     let (rt, alloc) = (&rt, rt.alloc());
-    let taken = Some(OpenError::Store(EngineError::NotCreated));
-    let found = refused(rt, alloc, disk_with(rt, alloc, 7, b""), &[7]);
-    is_so(rt, found == taken, "a fourth file");
-    let found = refused(rt, alloc, disk_with(rt, alloc, 3, b"\x01\x00"), &[3]);
-    is_so(rt, found == taken, "a record");
-    let found = refused(rt, alloc, disk_with(rt, alloc, 3, b"\x01"), &[]);
-    is_so(rt, found.is_none(), "a log without one");
-    let found = refused(rt, alloc, node_disk(rt, alloc), &[1, 2, 3]);
-    is_so(rt, found == Some(OpenError::OfChain), "a node of a chain");
-    let found = refused(rt, alloc, disk_without_log(rt, alloc), &[1, 2]);
-    let damaged = Some(OpenError::Store(EngineError::Damaged));
-    is_so(rt, found == damaged, "a store without its log");
+    let disk = disk_with(rt, alloc, 7, b"");
+    let holds = answers(rt, alloc, disk, &[7], NOT_CREATED);
+    is_so(rt, holds, "a fourth file");
+    let disk = disk_with(rt, alloc, 3, b"\x01\x00");
+    let holds = answers(rt, alloc, disk, &[3], NOT_CREATED);
+    is_so(rt, holds, "a record");
+    let disk = disk_with(rt, alloc, 3, b"\x01");
+    let holds = answers(rt, alloc, disk, &[], None);
+    is_so(rt, holds, "a log without one");
+    let disk = node_disk(rt, alloc);
+    let holds = answers(rt, alloc, disk, &[1, 2, 3], Some(OpenError::OfChain));
+    is_so(rt, holds, "a node of a chain");
+    let disk = disk_without_log(rt, alloc);
+    let holds = answers(rt, alloc, disk, &[1, 2], DAMAGED);
+    is_so(rt, holds, "a store without its log");
 }

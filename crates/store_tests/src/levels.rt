@@ -79,7 +79,7 @@ fn bytes_of(rt: &impl Abort, alloc: Global, disk: &mut MemDisk, file: u64) -> Ve
     bytes
 }
 
-pub fn write(rt: &impl Abort, bytes: &mut Vec<u8>, more: &[u8]) {
+fn write(rt: &impl Abort, bytes: &mut Vec<u8>, more: &[u8]) {
     bytes.extend_from_slice(more).expect(rt, "memory");
 }
 

@@ -2,7 +2,7 @@
 // compared with, and the calls of an engine that tests make.
 
 use crate::cases::is_so;
-use crate::items::{config_of, filled, is_same, key_of, number, origin, put};
+use crate::items::{config_of, filled, is_same, key_of, node, number, put};
 use disk::Disk;
 use engine::{Engine, Tended};
 use kv_types::{Batch, Edit, Key, Limits, Page, Range, Row, Value};
@@ -31,7 +31,7 @@ fn value_len(place: u16) -> usize {
     if place < 16 { 8_000 } else { 90 }
 }
 
-pub fn value_at(rt: &impl Abort, alloc: Global, place: u16, value: u16) -> Value {
+fn value_at(rt: &impl Abort, alloc: Global, place: u16, value: u16) -> Value {
     let [high, low] = value.to_be_bytes();
     let mut bytes = filled(rt, alloc, low, value_len(place));
     *bytes.first_mut().expect(rt, "a byte") = high;
@@ -126,15 +126,8 @@ impl PlainStore {
         }
     }
 
-    /// Only the batches up to this number are left.
-    pub fn keep(&mut self, last: u64) {
-        for versions in &mut self.keys {
-            versions.retain(|it| it.number <= last);
-        }
-    }
-
-    /// The value of a key after so many batches.
-    pub fn get(&self, place: u16, at: u64) -> Option<u16> {
+    // The value of a key after so many batches.
+    fn get(&self, place: u16, at: u64) -> Option<u16> {
         let versions = self.keys.get(place as usize)?;
         for version in versions.iter().rev() {
             if version.number <= at {
@@ -207,66 +200,35 @@ fn limits(rt: &impl Abort, log: u64) -> Limits {
 
 /// A new store on this disk, whose log is flushed where it is longer than so many bytes.
 pub fn created<D: Disk + Drop>(rt: &impl Abort, alloc: Global, disk: D, log: u64) -> Engine<D> {
-    created_with(rt, alloc, disk, &limits(rt, log))
+    let config = config_of(rt, alloc, &[1]);
+    let created = Engine::create(alloc, disk, node(rt, 1), &config, &limits(rt, log));
+    created.ok().expect(rt, "an engine")
 }
 
-/// A new store of these limits on this disk.
-pub fn created_with<D: Disk + Drop>(
-    rt: &impl Abort,
-    alloc: Global,
-    disk: D,
-    limits: &Limits,
-) -> Engine<D> {
-    let (_epoch, id) = origin(rt, 0, 1);
-    let config = config_of(rt, alloc, &[1]);
-    let created = Engine::create(alloc, disk, id, &config, limits);
-    created.ok().expect(rt, "an engine")
+// All batches of the store are committed.
+fn commit<D: Disk + Drop>(engine: &mut Engine<D>) {
+    let count = engine.count();
+    engine.set_committed(count);
 }
 
 /// The store of this disk, all of whose batches are committed.
 pub fn opened<D: Disk + Drop>(rt: &impl Abort, alloc: Global, disk: D, log: u64) -> Engine<D> {
-    opened_with(rt, alloc, disk, &limits(rt, log))
-}
-
-/// The store of this disk, with these limits, all of whose batches are committed.
-pub fn opened_with<D: Disk + Drop>(
-    rt: &impl Abort,
-    alloc: Global,
-    disk: D,
-    limits: &Limits,
-) -> Engine<D> {
-    let opened = Engine::open(alloc, disk, limits);
+    let opened = Engine::open(alloc, disk, &limits(rt, log));
     let mut engine = opened.ok().expect(rt, "an engine");
     commit(&mut engine);
     engine
 }
 
-/// Tells the store that all its batches are committed.
-pub fn commit<D: Disk + Drop>(engine: &mut Engine<D>) {
-    let count = engine.count();
-    engine.set_committed(count);
-}
-
-/// Appends this batch, which is not committed.
-pub fn append_late<D: Disk + Drop>(rt: &impl Abort, engine: &mut Engine<D>, batch: &Batch) {
-    let appended = engine.append(batch);
-    is_so(rt, appended.is_ok(), "a batch more");
-}
-
 /// Appends this batch, which is committed.
 pub fn append<D: Disk + Drop>(rt: &impl Abort, engine: &mut Engine<D>, batch: &Batch) {
-    append_late(rt, engine, batch);
+    let appended = engine.append(batch);
+    is_so(rt, appended.is_ok(), "a batch more");
     commit(engine);
-}
-
-/// What a tend of the store does.
-pub fn tend<D: Disk + Drop>(rt: &impl Abort, alloc: Global, engine: &mut Engine<D>) -> Tended {
-    engine.tend(alloc).expect(rt, "a tend")
 }
 
 /// Whether a tend of the store works.
 pub fn tends<D: Disk + Drop>(rt: &impl Abort, alloc: Global, engine: &mut Engine<D>) -> bool {
-    tend(rt, alloc, engine) == Tended::Worked
+    engine.tend(alloc).expect(rt, "a tend") == Tended::Worked
 }
 
 // Whether this is the value of a place, or none.
@@ -284,19 +246,6 @@ fn is_value(
     is_same(found.as_bytes(), want.as_bytes())
 }
 
-/// Whether the key has this value after so many batches.
-pub fn has_at<D: Disk + Drop>(
-    rt: &impl Abort,
-    alloc: Global,
-    engine: &mut Engine<D>,
-    (place, want): Change,
-    at: u64,
-) -> bool {
-    let key = key_at(rt, alloc, place);
-    let found = engine.get(alloc, number(at), &key).expect(rt, "a read");
-    is_value(rt, alloc, found.as_ref(), place, want)
-}
-
 /// Whether the key has, after so many batches, the value that the plain store has.
 pub fn get_agrees<D: Disk + Drop>(
     rt: &impl Abort,
@@ -305,7 +254,9 @@ pub fn get_agrees<D: Disk + Drop>(
     plain: &PlainStore,
     (place, at): (u16, u64),
 ) -> bool {
-    has_at(rt, alloc, engine, (place, plain.get(place, at)), at)
+    let key = key_at(rt, alloc, place);
+    let found = engine.get(alloc, number(at), &key).expect(rt, "a read");
+    is_value(rt, alloc, found.as_ref(), place, plain.get(place, at))
 }
 
 // Whether the page of a range has these rows, and whether it says so that more are left.

@@ -18,8 +18,6 @@ pub struct WatchedDisk {
     disk: MemDisk,
     /// How many calls each of the first files had.
     pub calls: [u64; 16],
-    /// How many calls there were.
-    pub total: u64,
     pub damage: Option<Spot>,
 }
 
@@ -29,14 +27,12 @@ impl WatchedDisk {
         WatchedDisk {
             disk,
             calls: [0; 16],
-            total: 0,
             damage: None,
         }
     }
 }
 
-fn count(calls: &mut [u64; 16], total: &mut u64, file: u64) {
-    *total = total.saturating_add(1);
+fn count(calls: &mut [u64; 16], file: u64) {
     if file < 16 {
         let count = &mut calls[file as usize];
         *count = count.saturating_add(1);
@@ -72,39 +68,38 @@ impl Disk for WatchedDisk {
     ghost allocates = { ⊥ };
 
     fn files(&mut self) -> Result<Vec<u64>, DiskError> {
-        self.total = self.total.saturating_add(1);
         self.disk.files()
     }
 
     fn length(&mut self, file: u64) -> Result<u64, DiskError> {
-        count(&mut self.calls, &mut self.total, file);
+        count(&mut self.calls, file);
         self.disk.length(file)
     }
 
     fn read(&mut self, file: u64, at: u64, into: &mut [u8]) -> Result<(), DiskError> {
-        count(&mut self.calls, &mut self.total, file);
+        count(&mut self.calls, file);
         self.disk.read(file, at, into)?;
         damage(self.damage, file, at, into);
         Ok(())
     }
 
     fn write_at(&mut self, file: u64, at: u64, bytes: &[u8]) -> Result<(), DiskError> {
-        count(&mut self.calls, &mut self.total, file);
+        count(&mut self.calls, file);
         self.disk.write_at(file, at, bytes)
     }
 
     fn cut(&mut self, file: u64, length: u64) -> Result<(), DiskError> {
-        count(&mut self.calls, &mut self.total, file);
+        count(&mut self.calls, file);
         self.disk.cut(file, length)
     }
 
     fn sync(&mut self, file: u64) -> Result<(), DiskError> {
-        count(&mut self.calls, &mut self.total, file);
+        count(&mut self.calls, file);
         self.disk.sync(file)
     }
 
     fn remove(&mut self, file: u64) -> Result<(), DiskError> {
-        count(&mut self.calls, &mut self.total, file);
+        count(&mut self.calls, file);
         self.disk.remove(file)
     }
 }

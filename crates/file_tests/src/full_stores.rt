@@ -2,7 +2,7 @@
 use crate::cases::{Case, all_hold, is_so};
 use crate::files::next_behind;
 use crate::items::{number, put};
-use crate::plain_store::{Change, append, batch_at, created_with, has_at, tend, tends};
+use crate::stores::{self, Change, append, batch_at, has_at, tend, tends};
 use disk::MemDisk;
 use engine::{Engine, Tended};
 use kv_types::Limits;
@@ -16,7 +16,7 @@ pub fn limits(rt: &impl Abort, l0: u64) -> Limits {
 }
 
 pub fn created(rt: &impl Abort, alloc: Global) -> Engine<MemDisk> {
-    created_with(rt, alloc, MemDisk::new(alloc), &limits(rt, 0))
+    stores::created(rt, alloc, MemDisk::new(alloc), &limits(rt, 0))
 }
 
 pub fn put_one(rt: &impl Abort, alloc: Global, engine: &mut Engine<MemDisk>, change: Change) {

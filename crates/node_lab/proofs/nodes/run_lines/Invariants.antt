@@ -1,5 +1,5 @@
 use Rattle.node.specs.{IsReady}
-use Rattle.damage_lab.proofs.nodes.run_lines.Given as goal
+use Rattle.node_lab.proofs.nodes.run_lines.Given as goal
 
 -- the node may take another step
 abbrev pub invariant-loop : goal.invariant-loop

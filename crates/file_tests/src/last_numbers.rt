@@ -3,9 +3,8 @@
 use crate::cases::{Case, all_hold, is_so};
 use crate::files::next_behind;
 use crate::full_stores::{created, has, has_tables, limits};
-use crate::items::{config_of, copy_of, origin, put};
-use crate::levels::write;
-use crate::plain_store::{Change, append, batch_at, opened_with, tend};
+use crate::items::{config_of, copy_of, node, put, write};
+use crate::stores::{Change, append, batch_at, opened, tend};
 use disk::{Disk, MemDisk};
 use engine::{Engine, Tended};
 use record_log::Log;
@@ -183,7 +182,7 @@ impl Case for Ended {
         let mut disk = created(rt, alloc).into_disk();
         self.0.fill(rt, alloc, &mut disk);
         let limits = limits(rt, self.0.flushed());
-        let mut engine = opened_with(rt, alloc, disk, &limits);
+        let mut engine = opened(rt, alloc, disk, &limits);
         let is_met = self.is_met(rt, alloc, &mut engine);
         next_behind(rt, alloc, engine).is_some() && is_met
     }
@@ -253,9 +252,8 @@ static FILES: [Ended; 8] = [
 // Whether the first free file of a new store is the one behind its log, and then the one that it is
 // told.
 fn has_free_files(rt: &impl Abort, alloc: Global) -> bool {
-    let (_epoch, id) = origin(rt, 0, 1);
     let config = config_of(rt, alloc, &[1]);
-    let created = StoreFiles::create(alloc, &mut MemDisk::new(alloc), id, &config);
+    let created = StoreFiles::create(alloc, &mut MemDisk::new(alloc), node(rt, 1), &config);
     let mut store = created.expect(rt, "a store");
     let first = store.free_file();
     store.set_free_file(9);

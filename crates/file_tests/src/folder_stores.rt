@@ -1,21 +1,25 @@
 // A store in a folder: the bytes of its files, what an opening finds, and an opening that leaves
 // each byte as it was.
 use crate::cases::{holds_at, is_so};
-use crate::plain_store::{PlainStore, append, batch_at, created, get_agrees, opened, tends};
 use crate::scratch_folders::{Text, are_same, disk_over, empty_folder, remove_folder, texts};
+use crate::stores::{append, batch_at, created, has_at, opened, tends};
 use dir_disk::{DirDisk, Unchanged};
 use disk::{Disk, DiskError, MemDisk};
 use engine::Engine;
+use kv_types::Limits;
 use std::alloc::Global;
 use std::process::Abort;
-
-// With this limit each log that has a batch is due for a flush, and five tables for a merge.
-const LOG: u64 = 16;
 
 const BATCHES: u16 = 60;
 
 // No version names this file.
 const UNNAMED: u64 = 900;
+
+// With these each log that has a batch is due for a flush, and five tables for a merge.
+fn limits(rt: &impl Abort) -> Limits {
+    let limits = Limits::new(16, 4, 2_097_152, 10_485_760, 1_024);
+    limits.ok().expect(rt, "limits")
+}
 
 // Count, floor, kept number and the tables of each level.
 type Facts = ([u64; 3], [u64; 7]);
@@ -41,7 +45,7 @@ fn settle<D: Disk + Drop>(rt: &impl Abort, alloc: Global, engine: &mut Engine<D>
 
 // A store of 60 batches of one put each, whose last log is not flushed.
 fn filled_store<D: Disk + Drop>(rt: &impl Abort, alloc: Global, disk: D) -> Engine<D> {
-    let mut engine = created(rt, alloc, disk, LOG);
+    let mut engine = created(rt, alloc, disk, &limits(rt));
     for place in 0..BATCHES {
         settle(rt, alloc, &mut engine);
         let batch = batch_at(rt, alloc, &[(place, Some(place))]);
@@ -50,23 +54,13 @@ fn filled_store<D: Disk + Drop>(rt: &impl Abort, alloc: Global, disk: D) -> Engi
     engine
 }
 
-// The plain store of these batches.
-fn plain(rt: &impl Abort, alloc: Global) -> PlainStore {
-    let mut plain = PlainStore::new(rt, alloc);
-    for place in 0..BATCHES {
-        plain.add(rt, place as u64 + 1, &[(place, Some(place))]);
-    }
-    plain
-}
-
 // Whether each key has its value.
 fn has_all<D: Disk + Drop>(rt: &impl Abort, alloc: Global, engine: &mut Engine<D>) -> bool {
-    let plain = plain(rt, alloc);
-    let mut agree = true;
+    let mut all = true;
     for place in 0..BATCHES {
-        agree = agree && get_agrees(rt, alloc, engine, &plain, (place, BATCHES as u64));
+        all = all && has_at(rt, alloc, engine, (place, Some(place)), BATCHES as u64);
     }
-    agree
+    all
 }
 
 // The facts of a store in this folder, after its creation.
@@ -100,7 +94,12 @@ fn a_store_in_a_folder_is_opened_again(rt: HostRuntime) {
         is_as_in_memory(&rt, &rt, folder.as_str()),
         "the bytes of each file",
     );
-    let mut engine = opened(&rt, rt.alloc(), disk_over(&rt, &rt, folder.as_str()), LOG);
+    let mut engine = opened(
+        &rt,
+        rt.alloc(),
+        disk_over(&rt, &rt, folder.as_str()),
+        &limits(&rt),
+    );
     is_so(&rt, facts_of(&engine) == facts, "the same numbers");
     is_so(
         &rt,
@@ -115,7 +114,7 @@ fn a_store_in_a_folder_is_opened_again(rt: HostRuntime) {
 fn look_at(rt: &impl Abort, host: &HostRuntime, folder: &str) -> Facts {
     let alloc = host.alloc();
     let disk = DirDisk::to_read(*host, folder).expect(rt, "memory");
-    let mut engine = opened(rt, alloc, Unchanged::new(alloc, disk), LOG);
+    let mut engine = opened(rt, alloc, Unchanged::new(alloc, disk), &limits(rt));
     is_so(rt, has_all(rt, alloc, &mut engine), "the value of each key");
     let facts = facts_of(&engine);
     drop(engine.into_disk());
@@ -152,7 +151,7 @@ fn file_count(rt: &impl Abort, host: &HostRuntime, folder: &str) -> usize {
 // Fails the test unless an opening removes one file.
 fn removes_one(rt: &impl Abort, host: &HostRuntime, folder: &str) {
     let before = file_count(rt, host, folder);
-    let engine = opened(rt, host.alloc(), disk_over(rt, host, folder), LOG);
+    let engine = opened(rt, host.alloc(), disk_over(rt, host, folder), &limits(rt));
     drop(engine.into_disk());
     let after = file_count(rt, host, folder).saturating_add(1);
     is_so(rt, after == before, "the file without a name is gone");

@@ -1,14 +1,11 @@
-// What a node drops, sends and replies, its numbers and its files, as lines. Each has the number of
-// a line of the input.
-use crate::shown::put_bytes;
-use anyhow::Result;
-use client::{RowText, StoreText};
+// What a node drops, sends and replies, and its numbers, as lines. Each has the number of a line of
+// the input.
 use configurations::NodeId;
-use disk::{Disk, MemDisk};
+use disk::MemDisk;
 use kv_types::{Number, Page, Value};
 use link_messages::Frame;
-use node::{Node, Output, Reply};
-use std::alloc::{AllocError, Global};
+use node::{Node, Numbers, Output, Reply};
+use std::alloc::AllocError;
 
 // Puts a frame, by its sender, its addressee and its numbers.
 fn put_frame(text: &mut String, line: u64, to: NodeId, frame: &Frame) -> Result<(), AllocError> {
@@ -37,6 +34,11 @@ fn put_frame(text: &mut String, line: u64, to: NodeId, frame: &Frame) -> Result<
     }
 }
 
+// Bytes as text.
+fn text_of(bytes: &[u8]) -> &str {
+    str::from_utf8(bytes).unwrap_or("no text")
+}
+
 // Puts a word and a number, for a request.
 fn put_numbered(
     text: &mut String,
@@ -57,7 +59,7 @@ fn put_value(
 ) -> Result<(), AllocError> {
     match value {
         Some(value) => {
-            let value = str::from_utf8(value.as_bytes()).unwrap_or("no text");
+            let value = text_of(value.as_bytes());
             writeln!(text, "{}: value {value} at {}", request.get(), number.get())
         }
         None => put_numbered(text, request, "none at", number),
@@ -68,8 +70,8 @@ fn put_value(
 fn put_rows(text: &mut String, request: Number, page: &Page) -> Result<(), AllocError> {
     let request = request.get();
     for row in page.rows() {
-        let row = RowText(row);
-        writeln!(text, "{request}: {row}")?;
+        let (key, value) = (text_of(row.key().as_bytes()), text_of(row.value()));
+        writeln!(text, "{request}: row {key}={value}")?;
     }
     Ok(())
 }
@@ -113,38 +115,28 @@ pub fn put_output(text: &mut String, line: u64, output: &Output) -> Result<(), A
     Ok(())
 }
 
+// Puts the numbers of the node of an identifier, and how many tables each level has.
+fn put_numbers(text: &mut String, id: NodeId, numbers: &Numbers) -> Result<(), AllocError> {
+    let (id, epoch, count) = (id.get(), numbers.epoch.get(), numbers.count.get());
+    let (floor, kept) = (numbers.floor.get(), numbers.kept.get());
+    write!(
+        text,
+        "node {id} epoch {epoch} count {count} floor {floor} kept {kept} tables"
+    )?;
+    for tables in &numbers.tables {
+        write!(text, " {tables}")?;
+    }
+    Ok(())
+}
+
 /// Puts the numbers of a node, how many tables each level has, and its configuration.
 pub fn put_node(text: &mut String, line: u64, node: &Node<MemDisk>) -> Result<(), AllocError> {
     let numbers = node.numbers();
-    let (store, committed) = (StoreText(node.id(), &numbers), numbers.committed.get());
-    write!(text, "{line}: {store} committed {committed} of")?;
+    write!(text, "{line}: ")?;
+    put_numbers(text, node.id(), &numbers)?;
+    write!(text, " committed {} of", numbers.committed.get())?;
     for id in node.config().ids() {
         write!(text, " {}", id.get())?;
     }
     text.push_str("\n")
-}
-
-// Puts a file: its number, and its bytes.
-fn put_file(
-    alloc: Global,
-    text: &mut String,
-    line: u64,
-    disk: &mut MemDisk,
-    file: u64,
-) -> Result<()> {
-    let length = disk.length(file)?;
-    let mut bytes = vec![in alloc; 0u8; length as usize]?;
-    disk.read(file, 0, &mut bytes)?;
-    write!(text, "{line}: file {file} ")?;
-    put_bytes(alloc, text, &bytes)?;
-    text.push_str("\n")?;
-    Ok(())
-}
-
-/// Puts the files of a disk, each with its bytes.
-pub fn put_files(alloc: Global, text: &mut String, line: u64, disk: &mut MemDisk) -> Result<()> {
-    for file in &disk.files()? {
-        put_file(alloc, text, line, disk, *file)?;
-    }
-    Ok(())
 }

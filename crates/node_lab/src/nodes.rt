@@ -1,17 +1,16 @@
-// One node by itself on a disk in memory: what it does with each line of the standard input.
+// One node by itself on a disk in memory: what it does with each line of the input.
 ghost use Rattle.std.specs.Prelude.{IfOk, OnOk};
 ghost use Rattle.node.specs.{IsReady};
 
-use crate::files::put_words;
-use crate::node_inputs::input_in;
-use crate::node_lines::{put_files, put_node, put_output};
+use crate::files::{put_files, write_words};
+use crate::inputs::input_in;
+use crate::lines::{put_node, put_output};
 use anyhow::{Context, Result, bail};
 use configurations::{Config, NodeId};
 use disk::{Crash, Junk, JunkBytes, MemDisk};
 use kv_types::Limits;
 use node::{Node, Stop};
 use std::alloc::{AllocError, Global};
-use std::io::Read;
 use std::str::Split;
 
 // The lines that are left, and the number of the last that was taken.
@@ -149,7 +148,7 @@ fn act_at_rest(
         "causes" => Ok(put_causes(text, line)?),
         "crash" => crash(alloc, disk, words),
         "disk" => put_files(alloc, text, line, disk),
-        "files" => put_words(alloc, disk, words),
+        "files" => write_words(alloc, disk, words),
         _ => bail!("a line of no known kind, where no node runs"),
     }
 }
@@ -175,8 +174,8 @@ fn follow(
     }
 }
 
-// Puts what is done with each line.
-fn put_all(alloc: Global, text: &mut String, input: &str) -> Result<()> {
+/// Puts what is done with each line.
+pub fn put_all(alloc: Global, text: &mut String, input: &str) -> Result<()> {
     let mut lines = Lines {
         left: input.split('\n'),
         number: 0,
@@ -189,15 +188,5 @@ fn put_all(alloc: Global, text: &mut String, input: &str) -> Result<()> {
         disk = follow(alloc, text, &mut lines, disk, line.split(' '))?;
     }
     drop(disk);
-    Ok(())
-}
-
-/// Does what the lines of the standard input say to a node and its disk, and prints what it does.
-pub fn run_node(rt: &HostRuntime) -> Result<()> {
-    let mut input = Vec::new(rt.alloc());
-    rt.stdin().read_to_end(&mut input)?;
-    let mut text = String::new(rt.alloc());
-    put_all(rt.alloc(), &mut text, str::from_utf8(&input)?)?;
-    print!(rt; "{text}")?;
     Ok(())
 }
