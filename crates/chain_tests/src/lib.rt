@@ -1,4 +1,4 @@
-//! Tests of whole runs, of a carrier over a connection, and of the program's streams.
+//! Tests of whole runs, and of a carrier over a connection.
 #![tactic(auto)]
 
 #[cfg(test)]
@@ -9,9 +9,5 @@ mod example;
 mod items;
 #[cfg(test)]
 mod listeners;
-#[cfg(test)]
-mod program_streams;
-#[cfg(test)]
-mod streams;
 #[cfg(test)]
 mod worlds;
