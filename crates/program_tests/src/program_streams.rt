@@ -1,10 +1,10 @@
 // The program where a script can't be read to its end, or has none, where an output takes no more,
 // and where streams are slow or keep what they get.
 use crate::cases::{is_same, is_so};
-use crate::streams::{Broken, Endless, Flushed, Full, SlowReader, SlowWriter};
+use crate::streams::{Output, Source, Way};
 use program::serve;
 use std::alloc::Global;
-use std::io::{BufWriter, ErrorKind, Read, Write};
+use std::io::ErrorKind;
 use std::process::Abort;
 use std::{env, fs};
 
@@ -31,15 +31,15 @@ const CHAIN_ENDS: &[usize] = &[22, 57, 73, 73, 99];
 const UNWRITTEN: &[u8] = b"output: write\n";
 
 // Whether the program ends with this status, and reports this.
-fn ends<R: Read, O: Write>(
+fn ends(
     host: &HostRuntime,
     words: &[&str],
-    (input, out): (&mut R, &mut O),
+    (input, out): (&mut Source, &mut Output),
     (status, told): (u8, &[u8]),
 ) -> bool {
-    let mut err = Vec::new(host.alloc());
+    let mut err = Output::new(host.alloc(), Way::All);
     let answer = serve(host, words, input, out, &mut err);
-    let is_told = is_same(&err, told);
+    let is_told = is_same(&err.taken, told);
     drop(err);
     answer == status && is_told
 }
@@ -68,13 +68,11 @@ static UNREADABLE: [(&[u8], ErrorKind, &[u8]); 4] = [
 #[test]
 fn a_script_that_breaks_off_is_not_run(rt: HostRuntime) {
     for (bytes, kind, told) in &UNREADABLE {
-        let mut out = Vec::new(rt.alloc());
-        let mut input = Broken {
-            bytes: *bytes,
-            kind: *kind,
-        };
+        let mut out = Output::new(rt.alloc(), Way::All);
+        let mut input = Source::Broken(*bytes, *kind);
         let has_ended = ends(&rt, WORDS, (&mut input, &mut out), (1, *told));
-        is_so(&rt, has_ended && out.is_empty(), "a script without its end");
+        let is_well = has_ended && out.taken.is_empty();
+        is_so(&rt, is_well, "a script without its end");
     }
 }
 
@@ -87,21 +85,19 @@ static ENDLESS: [(u8, usize, &[u8]); 2] = [
 #[test]
 fn a_script_without_an_end_is_read_as_far_as_its_fault(rt: HostRuntime) {
     for (byte, most, told) in &ENDLESS {
-        let mut out = Vec::new(rt.alloc());
-        let mut input = Endless {
-            byte: *byte,
-            given: 0,
-        };
+        let mut out = Output::new(rt.alloc(), Way::All);
+        let mut input = Source::Endless(*byte, 0);
         let has_ended = ends(&rt, WORDS, (&mut input, &mut out), (1, *told));
-        let is_read = has_ended && out.is_empty() && input.given <= *most;
+        let is_short = matches!(&input, Source::Endless(_, given) if *given <= *most);
+        let is_read = has_ended && out.taken.is_empty() && is_short;
         is_so(&rt, is_read, "a script without an end");
     }
 }
 
 // Whether an output that takes so many bytes gets a beginning of the text, and the failure is told.
 fn accepts(host: &HostRuntime, words: &[&str], script: &[u8], text: &[u8], room: usize) -> bool {
-    let taken = Vec::new(host.alloc());
-    let (mut input, mut out) = (script, Full { taken, room });
+    let mut out = Output::new(host.alloc(), Way::Room(room));
+    let mut input = Source::Sound(script);
     let has_ended = ends(host, words, (&mut input, &mut out), (1, UNWRITTEN));
     let is_beginning = out.taken.len() == room && text.starts_with(&out.taken);
     drop(out);
@@ -118,10 +114,10 @@ fn an_output_accepts_a_beginning(rt: HostRuntime) {
 
 // Whether the output is flushed with so many bytes, and at no other place.
 fn is_flushed(host: &HostRuntime, words: &[&str], script: &[u8], places: &[usize]) -> bool {
-    let (taken, at) = (Vec::new(host.alloc()), Vec::new(host.alloc()));
-    let (mut input, mut out) = (script, Flushed { taken, at });
+    let mut out = Output::new(host.alloc(), Way::All);
+    let mut input = Source::Sound(script);
     let has_ended = ends(host, words, (&mut input, &mut out), (0, b""));
-    let is_there = out.at.as_slice() == places;
+    let is_there = out.flushes.as_slice() == places;
     drop(out);
     has_ended && is_there
 }
@@ -138,12 +134,10 @@ fn each_statement_is_flushed(rt: HostRuntime) {
 #[test]
 fn an_output_is_flushed(rt: HostRuntime) {
     for (room, status, told) in [(8, 1, UNWRITTEN), (TEXT.len(), 0, b"".as_slice())] {
-        let taken = Vec::new(rt.alloc());
-        let made = BufWriter::new(rt.alloc(), Full { taken, room });
-        let (mut input, mut out) = (SCRIPT, made.expect(&rt, "memory"));
+        let mut out = Output::new(rt.alloc(), Way::AtFlush(room));
+        let mut input = Source::Sound(SCRIPT);
         let has_ended = ends(&rt, WORDS, (&mut input, &mut out), (status, told));
-        let taken = &out.get_ref().taken;
-        let is_beginning = taken.len() == room && TEXT.starts_with(taken);
+        let is_beginning = out.taken.len() == room && TEXT.starts_with(&out.taken);
         is_so(&rt, has_ended && is_beginning, "a flush");
     }
 }
@@ -151,11 +145,11 @@ fn an_output_is_flushed(rt: HostRuntime) {
 // A call that is interrupted is made again, and less than was asked for is no end.
 #[test]
 fn a_slow_reader_is_read_to_its_end(rt: HostRuntime) {
-    let mut out = Vec::new(rt.alloc());
-    let (bytes, is_ready) = (SCRIPT, false);
-    let mut input = SlowReader { bytes, is_ready };
+    let mut out = Output::new(rt.alloc(), Way::All);
+    let mut input = Source::Slow(SCRIPT, false);
     let has_ended = ends(&rt, WORDS, (&mut input, &mut out), (0, b""));
-    is_so(&rt, has_ended && is_same(&out, TEXT), "all of the script");
+    let is_all = has_ended && is_same(&out.taken, TEXT);
+    is_so(&rt, is_all, "all of the script");
 }
 
 // Scripts, and what slow writers get of them: the status, and what stands on either output.
@@ -164,24 +158,18 @@ static SLOW: [(&[u8], u8, &[u8], &[u8]); 2] = [
     (b"fly", 1, b"", b"line 1: unknown statement\n"),
 ];
 
-// Whether a slow writer has got this.
-fn has_got(writer: &SlowWriter, want: &[u8]) -> bool {
-    is_same(&writer.taken, want)
-}
-
-fn slow_writer(host: &HostRuntime) -> SlowWriter {
-    let (taken, is_ready) = (Vec::new(host.alloc()), false);
-    SlowWriter { taken, is_ready }
+fn slow_writer(host: &HostRuntime) -> Output {
+    Output::new(host.alloc(), Way::Slow(false))
 }
 
 #[test]
 fn a_slow_writer_gets_all(rt: HostRuntime) {
     for (script, status, text, told) in &SLOW {
         let (mut out, mut err) = (slow_writer(&rt), slow_writer(&rt));
-        let mut input = *script;
+        let mut input = Source::Sound(*script);
         let answer = serve(&rt, WORDS, &mut input, &mut out, &mut err);
-        let is_all = answer == *status && has_got(&out, *text) && has_got(&err, *told);
-        is_so(&rt, is_all, "all that is written");
+        let has_all = is_same(&out.taken, *text) && is_same(&err.taken, *told);
+        is_so(&rt, answer == *status && has_all, "all that is written");
     }
 }
 
@@ -205,7 +193,8 @@ fn run_in_folders(rt: &impl Abort, host: &HostRuntime, name: &str, script: &[u8]
     let place = below(rt, host, room.as_str(), name);
     clear(rt, host, place.as_str());
     let words = ["chainstore", "loop", "-", "--dir", place.as_str()];
-    let (mut input, mut out) = (script, Vec::new(host.alloc()));
+    let mut out = Output::new(host.alloc(), Way::All);
+    let mut input = Source::Sound(script);
     let is_run = ends(host, &words, (&mut input, &mut out), (0, b""));
     is_so(rt, is_run, "a run");
     place
