@@ -6,7 +6,6 @@ use program::serve;
 use std::alloc::Global;
 use std::io::ErrorKind;
 use std::process::Abort;
-use std::{env, fs};
 
 const WORDS: &[&str] = &["chainstore", "lab", "-"];
 
@@ -171,84 +170,4 @@ fn a_slow_writer_gets_all(rt: HostRuntime) {
         let has_all = is_same(&out.taken, *text) && is_same(&err.taken, *told);
         is_so(&rt, answer == *status && has_all, "all that is written");
     }
-}
-
-// ---- what is written of a store
-
-// A path below this one.
-fn below(rt: &impl Abort, host: &HostRuntime, place: &str, name: &str) -> String {
-    format!(in host.alloc(); "{place}/{name}").expect(rt, "memory")
-}
-
-// Removes a folder with all that is in it.
-fn clear(rt: &impl Abort, host: &HostRuntime, place: &str) {
-    if fs::exists(host, place).expect(rt, "a path") {
-        fs::remove_dir_all(host, place).expect(rt, "a removal");
-    }
-}
-
-// Runs the script at nodes in the folders below one of this name, which it answers.
-fn run_in_folders(rt: &impl Abort, host: &HostRuntime, name: &str, script: &[u8]) -> String {
-    let room = env::temp_dir(host).expect(rt, "a folder for files of tests");
-    let place = below(rt, host, room.as_str(), name);
-    clear(rt, host, place.as_str());
-    let words = ["chainstore", "loop", "-", "--dir", place.as_str()];
-    let mut out = Output::new(host.alloc(), Way::All);
-    let mut input = Source::Sound(script);
-    let is_run = ends(host, &words, (&mut input, &mut out), (0, b""));
-    is_so(rt, is_run, "a run");
-    place
-}
-
-const STORE: &[u8] = b"node 7 epoch 0 count 1 floor 0 kept 0 tables 0 0 0 0 0 0 0
-row a=1
-row b=%20
-rows 2 at 1
-";
-
-// Whether an output gets a beginning of what the store has, however much it takes.
-fn accepts_store(host: &HostRuntime, folder: &str) -> bool {
-    let words = ["chainstore", "dump", folder];
-    for room in 0..STORE.len() {
-        if !accepts(host, &words, b"", STORE, room) {
-            return false;
-        }
-    }
-    true
-}
-
-#[test]
-fn an_output_accepts_a_beginning_of_a_store(rt: HostRuntime) {
-    let script = b"config 7\nsubmit 7 a=1 b=%20\n";
-    let place = run_in_folders(&rt, &rt, "mudtwill_short_dump", script);
-    let folder = below(&rt, &rt, place.as_str(), "7");
-    let is_accepted = accepts_store(&rt, folder.as_str());
-    is_so(&rt, is_accepted, "a beginning of the store");
-    clear(&rt, &rt, place.as_str());
-}
-
-// How many bytes are there at each flush of a dump of eleven rows of 17,414 bytes: after the line
-// of the numbers, after each page, with five new rows, four and two, and after the last line.
-const LONG_ENDS: &[usize] = &[60, 87_130, 156_786, 191_614, 191_628];
-
-fn long_script(rt: &impl Abort, alloc: Global) -> String {
-    let mut script = String::from_str(alloc, "config 1\n").expect(rt, "memory");
-    let key = "z".repeat(alloc, 1023).expect(rt, "memory");
-    let value = "v".repeat(alloc, 16384).expect(rt, "memory");
-    for end in ["0", "1", "2", "3", "4", "5", "6", "7", "8", "9", "a"] {
-        let (key, value) = (key.as_str(), value.as_str());
-        let line = format!(in alloc; "submit 1 {key}{end}={value}\n").expect(rt, "memory");
-        script.push_str(line.as_str()).expect(rt, "memory");
-    }
-    script
-}
-
-#[test]
-fn each_page_of_a_store_is_flushed(rt: HostRuntime) {
-    let script = long_script(&rt, rt.alloc());
-    let place = run_in_folders(&rt, &rt, "mudtwill_long_dump", script.as_bytes());
-    let folder = below(&rt, &rt, place.as_str(), "1");
-    let words = ["chainstore", "dump", folder.as_str()];
-    is_so(&rt, is_flushed(&rt, &words, b"", LONG_ENDS), "the pages");
-    clear(&rt, &rt, place.as_str());
 }

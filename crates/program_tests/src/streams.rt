@@ -1,5 +1,7 @@
 // A reader that fails, never ends or is slow, and a writer that is full, is slow, or keeps what it
-// gets until it is flushed. Each is one type, since the program is proved once for each type.
+// gets until it is flushed. Each is one type, since the program is linked once for each type.
+ghost use Rattle.std.specs.Prelude.{◌≤◌, IfOk, length};
+
 use std::alloc::Global;
 use std::io::{self, ErrorKind, Read, Write};
 
@@ -80,7 +82,9 @@ impl Output {
     }
 
     // Takes the first bytes, as many as there is room for.
-    fn take(&mut self, buf: &[u8], room: usize) -> io::Result<usize> {
+    fn take(&mut self, buf: &[u8], room: usize) -> io::Result<usize>
+        ensures { IfOk result (λ count. count ≤ length buf.now) }
+    {
         let count = buf.len().min(room);
         self.taken.extend_from_slice(&buf[..count])?;
         Ok(count)

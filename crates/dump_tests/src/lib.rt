@@ -1,0 +1,9 @@
+//! Tests of what the program writes of a store in a folder.
+#![tactic(auto)]
+
+#[cfg(test)]
+mod cases;
+#[cfg(test)]
+mod dumps;
+#[cfg(test)]
+mod streams;
