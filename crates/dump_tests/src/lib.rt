@@ -4,6 +4,6 @@
 #[cfg(test)]
 mod cases;
 #[cfg(test)]
-mod dumps;
+mod dump_outputs;
 #[cfg(test)]
 mod streams;
